@@ -1,10 +1,26 @@
 //! What can keep a call from its answer.
 
+ghost use Rattle.std.specs.Prelude.{◌≡◌};
+
+use std::alloc::{AllocError, AllocFailed};
+
 /// There was no memory for the call.
 #[derive(Clone, Copy, PartialEq, Eq, Debug)]
 pub struct NoMemory;
 
-/// A fetch from a shelf failed.
+impl From<AllocError> for NoMemory {
+    fn from(_error: AllocError) -> NoMemory {
+        NoMemory
+    }
+}
+
+impl<T: Drop> From<AllocFailed<T>> for NoMemory {
+    fn from(_refused: AllocFailed<T>) -> NoMemory {
+        NoMemory
+    }
+}
+
+/// A fetch from a shelf failed, and the shelf counted it.
 #[derive(Clone, Copy, PartialEq, Eq, Debug)]
 pub struct Failed;
 
@@ -15,4 +31,14 @@ pub enum PutFault {
     Failed,
     /// There was no memory for the piece.
     NoMemory,
+}
+
+impl From<AllocError> for PutFault {
+    ghost use Rattle.board_base.specs.declared.fault.PutFault.TheVariants.{NoMemory};
+
+    ghost from_gives = { λ _ fault. fault ≡ NoMemory };
+
+    fn from(_error: AllocError) -> PutFault {
+        PutFault::NoMemory
+    }
 }

@@ -3,10 +3,18 @@
 
 mod access;
 mod fault;
+mod memory_shelf;
+mod memory_sink;
 mod moment;
+mod outside;
+mod pieces;
 mod target;
 
 pub use access::{Access, Kind, PortAccess, Width};
 pub use fault::{Failed, NoMemory, PutFault};
+pub use memory_shelf::{MemShelf, SafeShelf};
+pub use memory_sink::{MemSink, SafeSink};
 pub use moment::Moment;
+pub use outside::{Gate, QuietGate, Shelf, Sink};
+pub use pieces::keep_name;
 pub use target::{Area, Denial, Dev, Reg, Target};

@@ -1,0 +1,92 @@
+//! Shelves in memory: one that can be made to fail, and one that never does.
+
+ghost use Rattle.std.specs.Prelude.{◌≡◌, ◌<◌, ◌≤◌, ◌↔◌, ◌⊎◌, ℕ, [], List, Some, None, length, take, drop, min, IfOk, OnOk, OnErr, IsErr, Contains};
+ghost use Rattle.board_base.specs.Files.{file_at, file_named, next_call, next_fault};
+
+use crate::fault::Failed;
+use crate::outside::Shelf;
+use crate::pieces::{copy_piece, count_call, find_file, keep_name};
+use arrayvec::ArrayVec;
+
+/// Files in memory. A fetch fails where its number, from 1 on, is in `failing`, and where no file
+/// has its name. `calls` and `faults` stand still at the last value of their types.
+#[derive(Drop)]
+pub struct MemShelf {
+    pub files: Vec<(String, Vec<u8>)>,
+    pub failing: Vec<u32>,
+    pub calls: u32,
+    pub faults: u64,
+    /// The first 255 bytes of the name of the last failed fetch.
+    pub last: ArrayVec<u8, 255>,
+}
+
+impl MemShelf {
+    /// A shelf of these files, from which nothing was fetched yet.
+    pub fn new(files: Vec<(String, Vec<u8>)>, failing: Vec<u32>) -> MemShelf
+        ensures files { result.files ≡ files }
+        ensures failing { result.failing ≡ failing }
+        ensures calls { result.calls ≡ 0 }
+        ensures faults { result.faults ≡ 0 }
+        ensures last { result.last.items ≡ [] }
+    {
+        MemShelf {
+            files,
+            failing,
+            calls: 0,
+            faults: 0,
+            last: ArrayVec::new(),
+        }
+    }
+
+    // Counts a fault, and keeps the name at which it rose.
+    fn fail(&mut self, name: &str) -> Failed
+        ensures faults { self.new.faults ≡ next_fault self.old.faults }
+        ensures never_falls { self.old.faults ≤ self.new.faults }
+        ensures last { self.new.last.items ≡ take 255 name.now }
+        ensures files { self.new.files ≡ self.old.files }
+        ensures failing { self.new.failing ≡ self.old.failing }
+        ensures calls { self.new.calls ≡ self.old.calls }
+    {
+        self.faults = self.faults.saturating_add(1);
+        keep_name(&mut self.last, name);
+        Failed
+    }
+}
+
+impl Shelf for MemShelf {
+    ghost files = { λ shelf. Some (file_named shelf.files.items) };
+
+    ghost faults = { λ shelf. shelf.faults };
+
+    ghost failed_name = { λ shelf. shelf.last.items };
+
+    fn fetch(&mut self, name: &str, at: u64, into: &mut [u8]) -> Result<usize, Failed> {
+        if count_call(&mut self.calls, &self.failing) {
+            return Err(self.fail(name));
+        }
+        match find_file(&self.files, name) {
+            Some(file) => Ok(copy_piece(file, at, into)),
+            None => Err(self.fail(name)),
+        }
+    }
+}
+
+/// Files in memory, of which a fetch never fails. A name that is not there stands for an empty
+/// file.
+#[derive(Drop)]
+pub struct SafeShelf {
+    pub files: Vec<(String, Vec<u8>)>,
+}
+
+impl Shelf for SafeShelf {
+    ghost files = { λ shelf. Some (file_named shelf.files.items) };
+
+    ghost faults = { λ _. 0 };
+
+    ghost failed_name = { λ _. [] };
+
+    fn fetch(&mut self, name: &str, at: u64, into: &mut [u8]) -> Result<usize, Failed> {
+        let file = find_file(&self.files, name).unwrap_or(&[]);
+        Ok(copy_piece(file, at, into))
+    }
+}

@@ -1,0 +1,79 @@
+//! Sinks in memory: one that can be made to fail, and one that never does.
+
+ghost use Rattle.std.specs.Prelude.{◌≡◌, ◌<◌, ◌≤◌, ◌↔◌, ◌⊎◌, ℕ, [], List, Some, None, length, take, IfOk, IfErr, OnOk, OnErr, IsErr, Contains};
+ghost use Rattle.board_base.specs.Files.{next_call, next_fault};
+
+use crate::fault::PutFault;
+use crate::outside::Sink;
+use crate::pieces::count_call;
+use std::alloc::Global;
+
+/// Bytes in memory. A put fails where its number, from 1 on, is in `failing`. `calls` and `faults`
+/// stand still at the last value of their types.
+#[derive(Drop)]
+pub struct MemSink {
+    pub bytes: Vec<u8>,
+    pub failing: Vec<u32>,
+    pub calls: u32,
+    pub faults: u64,
+}
+
+impl MemSink {
+    /// A sink that took nothing yet.
+    pub fn new(alloc: Global, failing: Vec<u32>) -> MemSink
+        ensures bytes { result.bytes.items ≡ [] }
+        ensures failing { result.failing ≡ failing }
+        ensures calls { result.calls ≡ 0 }
+        ensures faults { result.faults ≡ 0 }
+    {
+        MemSink {
+            bytes: Vec::new(alloc),
+            failing,
+            calls: 0,
+            faults: 0,
+        }
+    }
+}
+
+impl Sink for MemSink {
+    ghost taken = { λ sink. Some sink.bytes.items };
+
+    ghost faults = { λ sink. sink.faults };
+
+    fn put(&mut self, piece: &[u8]) -> Result<usize, PutFault> {
+        if count_call(&mut self.calls, &self.failing) {
+            self.faults = self.faults.saturating_add(1);
+            return Err(PutFault::Failed);
+        }
+        self.bytes.extend_from_slice(piece)?;
+        Ok(piece.len())
+    }
+}
+
+/// Bytes in memory. A put never fails.
+#[derive(Drop)]
+pub struct SafeSink {
+    pub bytes: Vec<u8>,
+}
+
+impl SafeSink {
+    /// A sink that took nothing yet.
+    pub fn new(alloc: Global) -> SafeSink
+        ensures bytes { result.bytes.items ≡ [] }
+    {
+        SafeSink {
+            bytes: Vec::new(alloc),
+        }
+    }
+}
+
+impl Sink for SafeSink {
+    ghost taken = { λ sink. Some sink.bytes.items };
+
+    ghost faults = { λ _. 0 };
+
+    fn put(&mut self, piece: &[u8]) -> Result<usize, PutFault> {
+        self.bytes.extend_from_slice(piece)?;
+        Ok(piece.len())
+    }
+}

@@ -1,0 +1,75 @@
+//! The outside: where bytes come from, where they go, and what watches a run.
+
+ghost use Rattle.std.specs.Prelude.{◌≡◌, ◌<◌, ◌≤◌, ℕ, List, Option, length, take, drop, IfOk, IfErr, OnOk, OnErr};
+ghost use Rattle.std.specs.Io.KnownBytes.{Appends, Keeps};
+ghost use Rattle.board_base.specs.Outside.{Rose, OfFile};
+
+use crate::fault::{Failed, PutFault};
+
+/// Files that are read in pieces. A shelf counts its faults, and keeps the first 255 bytes of the
+/// name of its last failed fetch.
+pub trait Shelf {
+    // The bytes of each name, where the shelf tells them.
+    ghost files: { Self → Option (List ℕ → List ℕ) };
+
+    ghost faults: { Self → ℕ };
+
+    ghost failed_name: { Self → List ℕ };
+
+    /// Reads bytes of a file, from its byte `at` on, into the front of `into`, and answers how
+    /// many. It answers 0 only at the end of the file or past it.
+    fn fetch(&mut self, name: &str, at: u64, into: &mut [u8]) -> Result<usize, Failed>
+        requires room { 0 < length into.old }
+        ensures fits { IfOk result (λ k. k ≤ length into.new) }
+        ensures bytes { IfOk result (λ k. OfFile (files self.old) name.now
+            (λ file. take k into.new ≡ take k (drop at file))) }
+        ensures end { IfOk result (λ k. k ≡ 0 → OfFile (files self.old) name.now
+            (λ file. length file ≤ at)) }
+        ensures same_files { files self.new ≡ files self.old }
+        ensures never_falls { faults self.old ≤ faults self.new }
+        ensures failed { OnErr result (Rose (faults self.old) (faults self.new)) }
+        ensures quiet { OnOk result (faults self.new ≡ faults self.old) }
+        ensures names { OnErr result (failed_name self.new ≡ take 255 name.now) }
+        ensures still { OnOk result (failed_name self.new ≡ failed_name self.old) };
+}
+
+/// Takes bytes in pieces. A sink counts its faults.
+pub trait Sink {
+    // All bytes that the sink took, where it tells them.
+    ghost taken: { Self → Option (List ℕ) };
+
+    ghost faults: { Self → ℕ };
+
+    /// Takes bytes from the front of a piece, at least one, and answers how many. Where it does
+    /// not answer Ok it takes none.
+    fn put(&mut self, piece: &[u8]) -> Result<usize, PutFault>
+        requires some { 0 < length piece.now }
+        ensures progress { IfOk result (λ k. 0 < k) }
+        ensures fits { IfOk result (λ k. k ≤ length piece.now) }
+        ensures appends { IfOk result (λ k. Appends (taken self.old) (taken self.new) (take k piece.now)) }
+        ensures refused { OnErr result (Keeps (taken self.old) (taken self.new)) }
+        ensures never_falls { faults self.old ≤ faults self.new }
+        ensures failed { IfErr result (λ fault. fault ≡ PutFault.Failed →
+            Rose (faults self.old) (faults self.new)) }
+        ensures no_fault { IfErr result (λ fault. fault ≡ PutFault.NoMemory →
+            faults self.new ≡ faults self.old) };
+}
+
+/// Is told when an actor begins and ends its `k`-th statement, from 1 on, and may hold it up there.
+pub trait Gate: Sync {
+    /// Actor `actor` is about to do its `k`-th statement.
+    fn before(&self, actor: u8, k: u32);
+
+    /// Actor `actor` has done its `k`-th statement.
+    fn after(&self, actor: u8, k: u32);
+}
+
+/// A gate that holds nobody up.
+#[derive(Clone, Copy, Debug)]
+pub struct QuietGate;
+
+impl Gate for QuietGate {
+    fn before(&self, _actor: u8, _k: u32) {}
+
+    fn after(&self, _actor: u8, _k: u32) {}
+}

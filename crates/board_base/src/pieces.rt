@@ -1,0 +1,68 @@
+//! The small steps that shelves and sinks share.
+
+ghost use Rattle.std.specs.Prelude.{◌≡◌, ◌-◌, ◌≤◌, ◌↔◌, ℕ, List, Option, None, Some, length, take, drop, min, IsTrue, Contains};
+ghost use Rattle.std.specs.Option.{option_copied, option_map};
+ghost use Rattle.board_base.specs.Files.{file_at, next_call};
+
+use arrayvec::ArrayVec;
+
+/// Puts the first 255 bytes of `name` in the place of those that were kept.
+pub fn keep_name(kept: &mut ArrayVec<u8, 255>, name: &str)
+    ensures name { kept.new.items ≡ take 255 name.now }
+{
+    kept.clear();
+    kept.try_extend_from_slice(front(name.as_bytes(), 255))
+        .unwrap();
+}
+
+// The first `count` bytes, or all where there are fewer.
+fn front(bytes: &[u8], count: usize) -> &[u8]
+    ensures front { result.now ≡ take count bytes.now }
+    ensures fits { length result.now ≤ count }
+{
+    if bytes.len() < count {
+        return bytes;
+    }
+    &bytes[..count]
+}
+
+// The bytes of the first file of this name.
+pub(crate) fn find_file<'a>(files: &'a [(String, Vec<u8>)], name: &str) -> Option<&'a [u8]>
+    ensures found { option_map (λ file. file.now) result ≡ file_at files.now name.now }
+{
+    files
+        .iter()
+        .find(|file| file.0.as_str() == name)
+        .map(|file| file.1.as_slice())
+}
+
+// Copies what `file` has from its byte `at` on into the front of `into`, as much as fits, and
+// answers how many bytes that were.
+pub(crate) fn copy_piece(file: &[u8], at: u64, into: &mut [u8]) -> usize
+    ensures count { result ≡ min (length file.now - at) (length into.old) }
+    ensures bytes { take result into.new ≡ take result (drop at file.now) }
+{
+    let rest = after(file, at);
+    let count = rest.len().min(into.len());
+    into[..count].copy_from_slice(&rest[..count]);
+    count
+}
+
+// What comes after the first `at` bytes.
+fn after(bytes: &[u8], at: u64) -> &[u8]
+    ensures rest { result.now ≡ drop at bytes.now }
+{
+    if at >= bytes.len() as u64 {
+        return &[];
+    }
+    &bytes[at as usize..]
+}
+
+// Counts a call, and says whether it is one of those that fail.
+pub(crate) fn count_call(calls: &mut u32, failing: &[u32]) -> bool
+    ensures counted { calls.new ≡ next_call calls.old }
+    ensures listed { IsTrue result ↔ Contains failing.now calls.new }
+{
+    *calls = calls.saturating_add(1);
+    failing.contains(calls)
+}
