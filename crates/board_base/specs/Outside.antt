@@ -1,5 +1,5 @@
 -- What a shelf and a sink tell of themselves, and when a fault rose in a call.
-use Rattle.std.specs.Prelude.{◌≡◌, ℕ, ◌+◌, ◌-◌, ◌^◌, ◌<◌, ◌⊎◌, List, Option, Some, None}
+use Rattle.std.specs.Prelude.{◌≡◌, ℕ, ◌-◌, ◌^◌, ◌<◌, ◌⊎◌, List, Option, Some, None}
 
 -- the last value of a count that a u64 keeps
 abbrev pub last_count : ℕ

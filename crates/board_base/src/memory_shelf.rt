@@ -1,7 +1,7 @@
 //! Shelves in memory: one that can be made to fail, and one that never does.
 
-ghost use Rattle.std.specs.Prelude.{◌≡◌, ◌<◌, ◌≤◌, ◌↔◌, ◌⊎◌, ℕ, [], List, Some, None, length, take, drop, min, IfOk, OnOk, OnErr, IsErr, Contains};
-ghost use Rattle.board_base.specs.Files.{file_at, file_named, next_call, next_fault};
+ghost use Rattle.std.specs.Prelude.{◌≡◌, IsOk, ◌<◌, ◌≤◌, ◌↔◌, ◌⊎◌, ℕ, [], List, Some, None, length, take, drop, min, IfOk, OnOk, OnErr, IsErr, Contains};
+ghost use Rattle.board_base.specs.Files.{file_at, file_named, piece_length, next_call, next_fault};
 
 use crate::fault::Failed;
 use crate::outside::Shelf;
@@ -60,7 +60,22 @@ impl Shelf for MemShelf {
 
     ghost failed_name = { λ shelf. shelf.last.items };
 
-    fn fetch(&mut self, name: &str, at: u64, into: &mut [u8]) -> Result<usize, Failed> {
+    // More than a shelf has to promise: when it fails, and that it otherwise fills what it can.
+    fn fetch(&mut self, name: &str, at: u64, into: &mut [u8]) -> Result<usize, Failed>
+        ensures calls { self.new.calls ≡ next_call self.old.calls }
+        ensures files { self.new.files ≡ self.old.files }
+        ensures failing { self.new.failing ≡ self.old.failing }
+        ensures fails { IsErr result ↔ (Contains self.old.failing.items self.new.calls
+            ⊎ (file_at self.old.files.items name.now ≡ None)) }
+        ensures count { IfOk result (λ k. k ≡ piece_length (file_named self.old.files.items name.now) at into.old) }
+        ensures bytes { IfOk result (λ k. take k into.new
+            ≡ take k (drop at (file_named self.old.files.items name.now))) }
+        ensures fault { OnErr result (self.new.faults ≡ next_fault self.old.faults) }
+        ensures no_fault { OnOk result (self.new.faults ≡ self.old.faults) }
+        ensures never_falls { self.old.faults ≤ self.new.faults }
+        ensures names { OnErr result (self.new.last.items ≡ take 255 name.now) }
+        ensures still { OnOk result (self.new.last ≡ self.old.last) }
+    {
         if count_call(&mut self.calls, &self.failing) {
             return Err(self.fail(name));
         }
@@ -85,7 +100,14 @@ impl Shelf for SafeShelf {
 
     ghost failed_name = { λ _. [] };
 
-    fn fetch(&mut self, name: &str, at: u64, into: &mut [u8]) -> Result<usize, Failed> {
+    // More than a shelf has to promise: it never fails, and fills what it can.
+    fn fetch(&mut self, name: &str, at: u64, into: &mut [u8]) -> Result<usize, Failed>
+        ensures only { IsOk result }
+        ensures files { self.new ≡ self.old }
+        ensures count { IfOk result (λ k. k ≡ piece_length (file_named self.old.files.items name.now) at into.old) }
+        ensures bytes { IfOk result (λ k. take k into.new
+            ≡ take k (drop at (file_named self.old.files.items name.now))) }
+    {
         let file = find_file(&self.files, name).unwrap_or(&[]);
         Ok(copy_piece(file, at, into))
     }

@@ -1,6 +1,6 @@
 //! Sinks in memory: one that can be made to fail, and one that never does.
 
-ghost use Rattle.std.specs.Prelude.{◌≡◌, ◌<◌, ◌≤◌, ◌↔◌, ◌⊎◌, ℕ, [], List, Some, None, length, take, IfOk, IfErr, OnOk, OnErr, IsErr, Contains};
+ghost use Rattle.std.specs.Prelude.{◌≡◌, ◌≢◌, ◌++◌, IsErrOf, IsOkUnless, ◌<◌, ◌≤◌, ◌↔◌, ◌⊎◌, ℕ, [], List, Some, None, length, take, IfOk, IfErr, OnOk, OnErr, IsErr, Contains};
 ghost use Rattle.board_base.specs.Files.{next_call, next_fault};
 
 use crate::fault::PutFault;
@@ -40,7 +40,18 @@ impl Sink for MemSink {
 
     ghost faults = { λ sink. sink.faults };
 
-    fn put(&mut self, piece: &[u8]) -> Result<usize, PutFault> {
+    // More than a sink has to promise: when it fails, and that it otherwise takes the whole piece.
+    fn put(&mut self, piece: &[u8]) -> Result<usize, PutFault>
+        ensures calls { self.new.calls ≡ next_call self.old.calls }
+        ensures failing { self.new.failing ≡ self.old.failing }
+        ensures fails { IsErrOf result PutFault.Failed ↔ Contains self.old.failing.items self.new.calls }
+        ensures whole { IfOk result (λ k. k ≡ length piece.now) }
+        ensures takes { OnOk result (self.new.bytes.items ≡ self.old.bytes.items ++ piece.now) }
+        ensures refuses { OnErr result (self.new.bytes.items ≡ self.old.bytes.items) }
+        ensures fault { IsErrOf result PutFault.Failed → self.new.faults ≡ next_fault self.old.faults }
+        ensures no_fault { result ≢ Err PutFault.Failed → self.new.faults ≡ self.old.faults }
+        ensures never_falls { self.old.faults ≤ self.new.faults }
+    {
         if count_call(&mut self.calls, &self.failing) {
             self.faults = self.faults.saturating_add(1);
             return Err(PutFault::Failed);
@@ -72,7 +83,13 @@ impl Sink for SafeSink {
 
     ghost faults = { λ _. 0 };
 
-    fn put(&mut self, piece: &[u8]) -> Result<usize, PutFault> {
+    // More than a sink has to promise: want of memory alone keeps it from the whole piece.
+    fn put(&mut self, piece: &[u8]) -> Result<usize, PutFault>
+        ensures only { IsOkUnless result PutFault.NoMemory }
+        ensures whole { IfOk result (λ k. k ≡ length piece.now) }
+        ensures takes { OnOk result (self.new.bytes.items ≡ self.old.bytes.items ++ piece.now) }
+        ensures refuses { OnErr result (self.new.bytes.items ≡ self.old.bytes.items) }
+    {
         self.bytes.extend_from_slice(piece)?;
         Ok(piece.len())
     }

@@ -2,7 +2,7 @@
 
 ghost use Rattle.std.specs.Prelude.{◌≡◌, ◌-◌, ◌≤◌, ◌↔◌, ℕ, List, Option, None, Some, length, take, drop, min, IsTrue, Contains};
 ghost use Rattle.std.specs.Option.{option_copied, option_map};
-ghost use Rattle.board_base.specs.Files.{file_at, next_call};
+ghost use Rattle.board_base.specs.Files.{file_at, piece_length, next_call};
 
 use arrayvec::ArrayVec;
 
@@ -39,7 +39,7 @@ pub(crate) fn find_file<'a>(files: &'a [(String, Vec<u8>)], name: &str) -> Optio
 // Copies what `file` has from its byte `at` on into the front of `into`, as much as fits, and
 // answers how many bytes that were.
 pub(crate) fn copy_piece(file: &[u8], at: u64, into: &mut [u8]) -> usize
-    ensures count { result ≡ min (length file.now - at) (length into.old) }
+    ensures count { result ≡ piece_length file.now at into.old }
     ensures bytes { take result into.new ≡ take result (drop at file.now) }
 {
     let rest = after(file, at);
