@@ -1,0 +1,2 @@
+mod Latches
+mod Pulses

@@ -1,0 +1,189 @@
+//! The 8254 programmable interval timer: three counters behind ports 40h to 43h.
+//!
+//! `specs/Pit.antt` describes the chip in the terms of its datasheet, and each call of a `Pit` is one step of it.
+#![tactic(auto)]
+
+ghost use Rattle.std.specs.Prelude.{◌≡◌, ◌+◌, ◌<◌, ◌≤◌};
+ghost use Rattle.pit_8254.specs.Pit.{IsTimerPort, reset, port_read, port_write, read_back_chosen, write_control, set_gate2, out_of, pulse_all, pulses, rises};
+
+mod counting;
+mod latch;
+pub mod laws;
+mod word;
+
+use counting::Counter;
+use std::marker::Model;
+
+/// The port of counter 0; those of counters 1 and 2 follow.
+pub const COUNTER_0: u16 = 0x40;
+/// The port of counter 1.
+pub const COUNTER_1: u16 = 0x41;
+/// The port of counter 2.
+pub const COUNTER_2: u16 = 0x42;
+/// The port of the control word register, which reads FFh.
+pub const CONTROL_WORD: u16 = 0x43;
+
+/// The 8254: three counters, of which contracts see the state of the datasheet's machine.
+///
+/// The gates of counters 0 and 1 are always 1.
+#[derive(Drop)]
+pub struct Pit {
+    counter0: Counter,
+    counter1: Counter,
+    counter2: Counter,
+}
+
+impl Model for Pit {
+    ghost use Rattle.pit_8254.specs.Pit.{PitState};
+
+    ghost Value = { PitState };
+
+    ghost view = { λ p. record { counter0 = p.counter0; counter1 = p.counter1; counter2 = p.counter2 } };
+}
+
+/// How often OUT of counter 0 rose, and the level that it has after.
+#[derive(Clone, Copy, Debug, PartialEq, Eq)]
+pub struct Rises {
+    pub rose: u32,
+    pub out0: bool,
+}
+
+impl Pit {
+    /// A timer at reset, with the gate of counter 2 at 0.
+    #[tactic(auto, unfolding(crate::specs::Pit::reset))]
+    pub fn new() -> Pit
+        ensures state { result ≡ reset }
+    {
+        Pit {
+            counter0: Counter::at_reset(true),
+            counter1: Counter::at_reset(true),
+            counter2: Counter::at_reset(false),
+        }
+    }
+
+    /// Puts the timer back to its reset state.
+    pub fn reset(&mut self)
+        ensures state { self.new ≡ reset }
+    {
+        *self = Pit::new();
+    }
+
+    /// A read of a byte at one of ports 40h to 43h.
+    #[tactic(auto, unfolding(crate::specs::Pit::port_read))]
+    pub fn port_read(&mut self, port: u16) -> u8
+        requires { IsTimerPort port }
+        ensures byte { result ≡ (port_read port self.old).0 }
+        ensures state { self.new ≡ (port_read port self.old).1 }
+    {
+        match port {
+            COUNTER_0 => self.counter0.read(),
+            COUNTER_1 => self.counter1.read(),
+            COUNTER_2 => self.counter2.read(),
+            _ => 0xFF,
+        }
+    }
+
+    /// A write of a byte at one of ports 40h to 43h.
+    #[tactic(auto, unfolding(crate::specs::Pit::port_write))]
+    pub fn port_write(&mut self, port: u16, byte: u8)
+        requires { IsTimerPort port }
+        ensures state { self.new ≡ port_write port byte self.old }
+    {
+        match port {
+            COUNTER_0 => self.counter0.write(byte),
+            COUNTER_1 => self.counter1.write(byte),
+            COUNTER_2 => self.counter2.write(byte),
+            _ => self.write_control(byte),
+        }
+    }
+
+    /// A control word: SC 0 to 2 names the counter, SC 3 is read-back.
+    #[tactic(auto, unfolding(crate::specs::Pit::write_control))]
+    fn write_control(&mut self, word: u8)
+        ensures state { self.new ≡ write_control word self.old }
+    {
+        match word / 64 {
+            0 => self.counter0.control(word),
+            1 => self.counter1.control(word),
+            2 => self.counter2.control(word),
+            _ => self.read_back_chosen(word),
+        }
+    }
+
+    /// A read-back command, whose bits 3 to 1 choose counters 2 to 0.
+    #[tactic(auto, unfolding(crate::specs::Pit::read_back_chosen))]
+    fn read_back_chosen(&mut self, word: u8)
+        ensures state { self.new ≡ read_back_chosen word self.old }
+    {
+        if word / 2 % 2 == 1 {
+            self.counter0.read_back(word);
+        }
+        if word / 4 % 2 == 1 {
+            self.counter1.read_back(word);
+        }
+        if word / 8 % 2 == 1 {
+            self.counter2.read_back(word);
+        }
+    }
+
+    /// Sets the gate of counter 2.
+    #[tactic(auto, unfolding(crate::specs::Pit::set_gate2))]
+    pub fn gate2(&mut self, on: bool)
+        ensures state { self.new ≡ set_gate2 on self.old }
+    {
+        self.counter2.set_gate(on);
+    }
+
+    /// Runs the clock for `n` pulses.
+    #[tactic(auto, unfolding(crate::specs::Pit::pulses, crate::specs::Pit::rises))]
+    pub fn pulses(&mut self, n: u32) -> Rises
+        ensures state { self.new ≡ pulses n self.old }
+        ensures rose { result.rose ≡ rises n self.old }
+        ensures out0 { result.out0 ≡ self.new.counter0.out }
+    {
+        let mut rose = 0;
+        for _ in 0..n {
+            let was = self.counter0.out();
+            self.pulse();
+            if self.counter0.out() && !was {
+                rose += 1;
+            }
+        }
+        Rises {
+            rose,
+            out0: self.counter0.out(),
+        }
+    }
+
+    /// One pulse of the clock, which all counters share.
+    #[tactic(auto, unfolding(crate::specs::Pit::pulse_all))]
+    fn pulse(&mut self)
+        ensures state { self.new ≡ pulse_all self.old }
+    {
+        self.counter0.pulse();
+        self.counter1.pulse();
+        self.counter2.pulse();
+    }
+
+    /// The level of OUT of counter 0, 1 or 2.
+    #[tactic(auto, unfolding(crate::specs::Pit::out_of))]
+    pub fn out(&self, counter: u8) -> bool
+        requires { counter < 3 }
+        ensures level { result ≡ out_of counter self.now }
+    {
+        match counter {
+            0 => self.counter0.out(),
+            1 => self.counter1.out(),
+            _ => self.counter2.out(),
+        }
+    }
+}
+
+impl Default for Pit {
+    ghost use Rattle.pit_8254.specs.Pit.{PitState};
+    ghost is_default = { λ p. p ≡ reset };
+
+    fn default() -> Pit {
+        Pit::new()
+    }
+}
