@@ -1,0 +1,212 @@
+ghost use Rattle.std.specs.Prelude.{◌≡◌, ◌<◌, length, slice_index};
+ghost use Rattle.cmos_clock.specs.Clock.{after_moment, after_read, after_reset, after_write, alarm_fits, alarm_rings, data_byte, flags_byte, interrupt_line, power_on, put, read_value, time_bytes};
+ghost use Rattle.cmos_clock.specs.Moment.{IsMoment};
+ghost use Rattle.cmos_clock.specs.View.{civil_time};
+
+use crate::control::Control;
+use crate::register::{DATA_PORT, DAY, HOUR, HOUR_ALARM, INDEX_PORT, MINUTE, MINUTE_ALARM, MONTH, REGISTER_A, REGISTER_B, REGISTER_C, REGISTER_D, SECOND, SECOND_ALARM, WEEKDAY, YEAR};
+use crate::Moment;
+use std::marker::Model;
+
+/// The bytes of the clock.
+const SIZE: usize = 128;
+
+/// What a read of a port gives where nothing answers.
+const NOTHING: u8 = 0xFF;
+
+/// The divider that register A holds at power-on, for a crystal of 32,768 Hz.
+const DIVIDER_32768_HZ: u8 = 0x26;
+
+/// The hours of register B at power-on, 0 to 23.
+const POWER_ON_CONTROL: u8 = 0x02;
+
+/// Register D: the memory and the time are valid.
+const VALID: u8 = 0x80;
+
+/// The flags of register C.
+const INTERRUPT_REQUEST: u8 = 0x80;
+const ALARM_FLAG: u8 = 0x20;
+const UPDATE_FLAG: u8 = 0x10;
+
+/// An alarm byte from here on fits each time.
+const ANY_TIME: u8 = 0xC0;
+
+/// The MC146818 real time clock, which runs only by the moments that it is told.
+#[derive(Drop)]
+pub struct Cmos {
+    index: u8,
+    bytes: [u8; SIZE],
+    alarm_flag: bool,
+    update_flag: bool,
+}
+
+impl Model for Cmos {
+    ghost use Rattle.std.specs.Prelude.{◌<◌};
+    ghost use Rattle.cmos_clock.specs.Clock.{Clock};
+
+    ghost Value = { Clock };
+
+    ghost view = { λ c. record { index = c.index; bytes = c.bytes; alarm_flag = c.alarm_flag; update_flag = c.update_flag } };
+
+    ghost invariant = { λ c. c.index < 128 };
+}
+
+impl Cmos {
+    #[tactic(auto, unfolding(crate::specs::Clock::power_on))]
+    /// The clock at power-on: hours are 0 to 23, numbers are binary-coded decimal.
+    pub fn new() -> Cmos
+        ensures state { result ≡ power_on }
+    {
+        let mut bytes = [0; SIZE];
+        bytes[REGISTER_A] = DIVIDER_32768_HZ;
+        bytes[REGISTER_B] = POWER_ON_CONTROL;
+        Cmos {
+            index: 0,
+            bytes,
+            alarm_flag: false,
+            update_flag: false,
+        }
+    }
+
+    /// Reads port 71h, the byte at the index; every other port reads FFh. A read of register C
+    /// clears its flags.
+    pub fn port_read(&mut self, port: u16) -> u8
+        ensures value { result ≡ read_value self.old port }
+        ensures state { self.new ≡ after_read self.old port }
+    {
+        if port != DATA_PORT {
+            return NOTHING;
+        }
+        let byte = self.data();
+        if self.index as usize == REGISTER_C {
+            self.alarm_flag = false;
+            self.update_flag = false;
+        }
+        byte
+    }
+
+    /// Writes port 70h, the index, or port 71h, the byte at the index.
+    pub fn port_write(&mut self, port: u16, byte: u8)
+        ensures state { self.new ≡ after_write self.old port byte }
+    {
+        match port {
+            INDEX_PORT => self.index = byte % 128,
+            DATA_PORT => self.write_data(byte),
+            _ => {}
+        }
+    }
+
+    /// Shows this moment, unless register B holds the time still.
+    pub fn moment(&mut self, m: Moment)
+        requires { IsMoment m }
+        ensures state { self.new ≡ after_moment self.old (civil_time m) }
+    {
+        let control = self.control();
+        if control.is_set() {
+            return;
+        }
+        put_time(&mut self.bytes, control, m);
+        self.update_flag = true;
+        self.alarm_flag = self.alarm_flag || rings(&self.bytes);
+    }
+
+    /// The level of the interrupt line.
+    pub fn irq(&self) -> bool
+        ensures value { result ≡ interrupt_line self.now }
+    {
+        let control = self.control();
+        self.alarm_flag && control.alarm_interrupts()
+            || self.update_flag && control.update_interrupts()
+    }
+
+    /// A hard reset: the time and the memory stay.
+    pub fn reset(&mut self)
+        ensures state { self.new ≡ after_reset self.old }
+    {
+        self.index = 0;
+        let control = Control {
+            byte: self.bytes[REGISTER_B],
+        };
+        self.bytes[REGISTER_B] = control.after_reset().byte;
+        self.alarm_flag = false;
+        self.update_flag = false;
+    }
+
+    fn control(&self) -> Control
+        ensures byte { result.byte ≡ slice_index self.now.bytes 11 }
+    {
+        Control {
+            byte: self.bytes[REGISTER_B],
+        }
+    }
+
+    /// The byte at the index.
+    fn data(&self) -> u8
+        ensures value { result ≡ data_byte self.now }
+    {
+        match self.index as usize {
+            REGISTER_C => self.flags(),
+            REGISTER_D => VALID,
+            address => self.bytes[address],
+        }
+    }
+
+    /// Register C.
+    fn flags(&self) -> u8
+        ensures value { result ≡ flags_byte self.now }
+    {
+        let mut flags = 0;
+        if self.irq() {
+            flags |= INTERRUPT_REQUEST;
+        }
+        if self.alarm_flag {
+            flags |= ALARM_FLAG;
+        }
+        if self.update_flag {
+            flags |= UPDATE_FLAG;
+        }
+        flags
+    }
+
+    fn write_data(&mut self, byte: u8)
+        ensures state { self.new ≡ after_write self.old 0x71 byte }
+    {
+        let address = self.index as usize;
+        match address {
+            REGISTER_A => self.bytes[address] = byte % 128,
+            REGISTER_B => self.bytes[address] = Control::written(byte).byte,
+            REGISTER_C | REGISTER_D => {}
+            _ => self.bytes[address] = byte,
+        }
+    }
+}
+
+#[tactic(auto, using(crate::proofs::CalendarLemmas::weekday_of_bound, crate::proofs::CalendarLemmas::days_in_month_bound))]
+/// Stores the time and the calendar in the format of register B.
+fn put_time(bytes: &mut [u8; SIZE], control: Control, m: Moment)
+    requires { IsMoment m }
+    ensures bytes { bytes.new ≡ put (time_bytes control.byte (civil_time m)) bytes.old }
+{
+    bytes[SECOND] = control.number(m.second);
+    bytes[MINUTE] = control.number(m.minute);
+    bytes[HOUR] = control.hour(m.hour);
+    bytes[WEEKDAY] = control.number(m.weekday);
+    bytes[DAY] = control.number(m.day);
+    bytes[MONTH] = control.number(m.month);
+    bytes[YEAR] = control.number((m.year % 100) as u8);
+}
+
+/// Whether the time of day fits its three alarm bytes.
+fn rings(bytes: &[u8; SIZE]) -> bool
+    ensures value { result ≡ alarm_rings bytes.now }
+{
+    fits(bytes[SECOND_ALARM], bytes[SECOND])
+        && fits(bytes[MINUTE_ALARM], bytes[MINUTE])
+        && fits(bytes[HOUR_ALARM], bytes[HOUR])
+}
+
+fn fits(alarm: u8, time: u8) -> bool
+    ensures value { result ≡ alarm_fits alarm time }
+{
+    alarm >= ANY_TIME || alarm == time
+}

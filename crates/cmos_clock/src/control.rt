@@ -1,0 +1,114 @@
+// Register B: what the clock does and how it writes its time.
+ghost use Rattle.std.specs.Prelude.{◌≡◌, ◌<◌};
+ghost use Rattle.cmos_clock.specs.Clock.{alarm_interrupts, bcd, control_reset, control_written, has_bit, hour_byte, is_24_hour, is_binary, is_set, number_byte, update_interrupts};
+
+// The places of its bits.
+const SET: u32 = 7;
+const UPDATE_INTERRUPT: u32 = 4;
+const ALARM_INTERRUPT: u32 = 5;
+const BINARY: u32 = 2;
+const HOURS_24: u32 = 1;
+
+/// What a hard reset keeps: all but the three interrupts and the square wave, bits 6 to 3.
+const KEPT_OVER_RESET: u8 = 0x87;
+
+/// The bit that says "after noon" beside an hour of a clock face.
+const AFTERNOON: u8 = 0x80;
+
+/// The byte of register B (MC146818 datasheet, "Register B").
+#[derive(Clone, Copy)]
+pub struct Control {
+    pub byte: u8,
+}
+
+impl Control {
+    /// The byte as a write leaves it: with SET no update can interrupt.
+    pub fn written(byte: u8) -> Control
+        ensures byte { result.byte ≡ control_written byte }
+    {
+        let as_given = Control { byte };
+        if as_given.is_set() && as_given.update_interrupts() {
+            Control {
+                byte: byte - (1 << UPDATE_INTERRUPT),
+            }
+        } else {
+            as_given
+        }
+    }
+
+    /// The byte after a hard reset, with all interrupts and the square wave off.
+    pub fn after_reset(self) -> Control
+        ensures byte { result.byte ≡ control_reset self.byte }
+    {
+        Control {
+            byte: self.byte & KEPT_OVER_RESET,
+        }
+    }
+
+    /// Whether the time stands still.
+    pub fn is_set(self) -> bool
+        ensures value { result ≡ is_set self.byte }
+    {
+        has_bit(self.byte, SET)
+    }
+
+    /// Whether the alarm's flag raises the interrupt line.
+    pub fn alarm_interrupts(self) -> bool
+        ensures value { result ≡ alarm_interrupts self.byte }
+    {
+        has_bit(self.byte, ALARM_INTERRUPT)
+    }
+
+    /// Whether the update's flag raises the interrupt line.
+    pub fn update_interrupts(self) -> bool
+        ensures value { result ≡ update_interrupts self.byte }
+    {
+        has_bit(self.byte, UPDATE_INTERRUPT)
+    }
+
+    /// A number of at most two digits as the clock writes it.
+    pub fn number(self, number: u8) -> u8
+        requires { number < 100 }
+        ensures value { result ≡ number_byte self.byte number }
+    {
+        if has_bit(self.byte, BINARY) {
+            number
+        } else {
+            bcd(number)
+        }
+    }
+
+    /// An hour from 0 to 23 as the clock writes it.
+    pub fn hour(self, hour: u8) -> u8
+        requires { hour < 24 }
+        ensures value { result ≡ hour_byte self.byte hour }
+    {
+        if has_bit(self.byte, HOURS_24) {
+            return self.number(hour);
+        }
+        let face = match hour % 12 {
+            0 => 12,
+            hour => hour,
+        };
+        if hour < 12 {
+            self.number(face)
+        } else {
+            self.number(face) + AFTERNOON
+        }
+    }
+}
+
+fn has_bit(byte: u8, place: u32) -> bool
+    requires { place < 8 }
+    ensures value { result ≡ has_bit byte place }
+{
+    byte >> place & 1 == 1
+}
+
+/// Two decimal digits, the tens in the high four bits.
+fn bcd(number: u8) -> u8
+    requires { number < 100 }
+    ensures value { result ≡ bcd number }
+{
+    number / 10 * 16 + number % 10
+}

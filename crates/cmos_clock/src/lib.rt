@@ -1,0 +1,10 @@
+//! The MC146818 real time clock with its 128 bytes, at ports 70h and 71h.
+#![tactic(auto)]
+
+mod cmos;
+mod control;
+mod moment_draft;
+mod register;
+
+pub use cmos::Cmos;
+pub use moment_draft::Moment;

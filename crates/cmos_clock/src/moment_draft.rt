@@ -1,0 +1,61 @@
+//! A date and a time of day, as the clock keeps it.
+ghost use Rattle.std.specs.Prelude.{◌≡◌, IfSome, IsSome};
+ghost use Rattle.std.specs.Option.{SomeIff};
+ghost use Rattle.cmos_clock.specs.Calendar.{IsDate, IsTime, weekday_of};
+
+use jiff::civil::Date;
+
+/// The years that a moment may have.
+const FIRST_YEAR: u16 = 1980;
+const LAST_YEAR: u16 = 2099;
+
+/// A second of the calendar. `weekday` 1 is Sunday.
+#[derive(Clone, Copy, PartialEq, Eq, Debug)]
+pub struct Moment {
+    pub year: u16,
+    pub month: u8,
+    pub day: u8,
+    pub weekday: u8,
+    pub hour: u8,
+    pub minute: u8,
+    pub second: u8,
+}
+
+impl Moment {
+    ghost use Rattle.cmos_clock.specs.Moment.{IsMoment};
+
+    /// The moment with these parts and its weekday. `None` exactly where the year is not 1980 to
+    /// 2099, the calendar has no such date, or the hour, the minute or the second is past 23, 59 or
+    /// 59.
+    pub fn new(year: u16, month: u8, day: u8, hour: u8, minute: u8, second: u8) -> Option<Moment>
+        ensures exact { SomeIff result (IsDate year month day × IsTime hour minute second) (record { year = year; month = month; day = day; weekday = weekday_of year month day; hour = hour; minute = minute; second = second }) }
+        ensures moment { IfSome result IsMoment }
+    {
+        if hour > 23 || minute > 59 || second > 59 {
+            return None;
+        }
+        let weekday = weekday(year, month, day)?;
+        Some(Moment {
+            year,
+            month,
+            day,
+            weekday,
+            hour,
+            minute,
+            second,
+        })
+    }
+}
+
+/// The weekday of a date, from 1 for Sunday, where the calendar has the date.
+fn weekday(year: u16, month: u8, day: u8) -> Option<u8>
+    ensures exact { SomeIff result (IsDate year month day) (weekday_of year month day) }
+{
+    if year < FIRST_YEAR || year > LAST_YEAR || month > 12 || day > 31 {
+        return None;
+    }
+    let Ok(date) = Date::new(year as i16, month as i8, day as i8) else {
+        return None;
+    };
+    Some(date.weekday().to_sunday_one_offset() as u8)
+}
