@@ -1,0 +1,117 @@
+-- The answer to an event after a history.
+use Rattle.std.specs.Prelude.{ℕ, ◌≡◌, ◌%◌, ◌^◌, ◌==◌, Bool, if◌then◌else◌, List, length, slice_get, slice_index, Option, Some, None, is_some}
+use Rattle.board_base.specs.declared.access.Width.{Width}
+use Rattle.board_base.specs.declared.access.Access.{Access}
+use Rattle.board_base.specs.declared.access.PortAccess.{PortAccess}
+use Rattle.board_base.specs.declared.target.Area.{Area}
+use Rattle.board_base.specs.declared.target.Area.TheVariants.{Dram as DramArea, Shadow as ShadowArea, Smram as SmramArea, Rom as RomArea, Card as CardArea, Abort as AbortArea}
+use Rattle.board_base.specs.declared.target.Dev.{Dev}
+use Rattle.board_base.specs.declared.target.Dev.TheVariants.{Confadd, Reset, Pit, Keyboard, Clock, Ata, Wires}
+use Rattle.board_base.specs.declared.target.Target.{Target}
+use Rattle.board_base.specs.declared.target.Target.TheVariants.{Dram, Shadow, Smram, Rom, Card, Device, Config, Abort}
+use Rattle.board_base.specs.declared.target.Denial.{Denial}
+use Rattle.board_base.specs.Access.{largest_of}
+use Rattle.board_spec.specs.declared.event.Event.{Event}
+use Rattle.board_spec.specs.declared.event.Event.TheVariants.{Memory, Port, Look as LookAt, Ack, Pulses, Time, Wire, Line, BadSector}
+use Rattle.board_spec.specs.declared.event.Look.{Look}
+use Rattle.board_spec.specs.declared.event.Reply.{Reply}
+use Rattle.board_spec.specs.declared.event.Reply.TheVariants.{Bus, Saw}
+use Rattle.board_spec.specs.declared.event.Entry.{Entry}
+use Rattle.board_spec.specs.Setup.{Base, MemoryBase, IoBase, FittedCard, Setup, card_at}
+use Rattle.board_spec.specs.Bits.{wide}
+use Rattle.board_spec.specs.Registers.{reset_control, config_address, byte_of}
+use Rattle.board_spec.specs.MapWrites.{version_of}
+use Rattle.board_spec.specs.Decode.{area_of, denial_of}
+use Rattle.board_spec.specs.Ports.{port_target_of}
+use Rattle.board_spec.specs.FlatMap.{IsSpan}
+use Rattle.board_spec.specs.Stored.{CardCell, stored_of, dram_byte, is_write}
+use Rattle.board_spec.specs.Devices.{device_value, vector_of, acknowledged_by}
+
+-- ---- targets
+
+-- a card's base of 2 ^ bits bytes. Base 7 is the VGA window of 128 KiB
+abbrev pub bits_of_base : Option Base → ℕ
+bits_of_base None = 0
+bits_of_base (Some (MemoryBase bits)) = bits
+bits_of_base (Some (IoBase bits)) = bits
+
+abbrev pub base_of_card : Option FittedCard → ℕ → Option Base
+base_of_card None base = None
+base_of_card (Some card) base = slice_get card.bases base
+
+abbrev pub window_bits : Setup → ℕ → ℕ → ℕ
+window_bits setup dev base = if base == 7 then 17 else bits_of_base (base_of_card (card_at setup dev) base)
+
+-- what an access to an area reaches: ROM and cards by the address modulo their size
+abbrev pub target_at : Setup → Area → ℕ → Target
+target_at setup (DramArea row) addr = Dram row
+target_at setup (ShadowArea row) addr = Shadow row
+target_at setup SmramArea addr = Smram
+target_at setup RomArea addr = Rom (addr % length setup.rom)
+target_at setup (CardArea dev base) addr = Card dev base (addr % 2 ^ window_bits setup dev base)
+target_at setup AbortArea addr = Abort
+
+-- ---- values
+
+-- what a device's port reads. The socket of the keyboard controller is empty
+abbrev pub port_value : Setup → List Entry → Dev → ℕ → Width → ℕ
+port_value setup before Confadd port width = config_address before
+port_value setup before Reset port width = reset_control before
+port_value setup before Keyboard port width = 0xFF
+port_value setup before dev port width = device_value setup before dev port width
+
+-- what a read gives that has this target, at this address or port. Nobody's reads give all ones
+abbrev pub value_at : Setup → List Entry → Target → ℕ → Width → ℕ
+value_at setup before (Dram row) addr width = wide (dram_byte setup before) addr width
+value_at setup before (Shadow row) addr width = wide (dram_byte setup before) addr width
+value_at setup before Smram addr width = wide (dram_byte setup before) addr width
+value_at setup before (Rom off) addr width = wide (slice_index setup.rom) off width
+value_at setup before (Card dev base off) addr width = wide (λ at. stored_of before (CardCell dev base at)) off width
+value_at setup before (Config reg) port width = wide (λ off. byte_of setup before (record reg { off = off })) reg.off width
+value_at setup before (Device dev) port width = port_value setup before dev port width
+value_at setup before Abort addr width = largest_of width
+
+-- ---- replies
+
+-- an access that writes gives no value
+abbrev pub bus_reply : Setup → List Entry → (writes : Bool) → Target → Option Denial → ℕ → Width → Reply
+bus_reply setup before writes target denial place width =
+    Bus (if writes then None else Some (value_at setup before target place width)) target denial
+
+unfoldable pub memory_answer : Setup → List Entry → Access → Reply
+memory_answer setup before access =
+    bus_reply setup before (is_write access.kind)
+    (target_at setup (area_of setup (byte_of setup before) access.addr access.kind access.smm) access.addr)
+    (denial_of setup (byte_of setup before) access.addr access.kind access.smm)
+    access.addr access.width
+
+unfoldable pub port_answer : Setup → List Entry → PortAccess → Reply
+port_answer setup before access =
+    let decoded = port_target_of setup (byte_of setup before) (config_address before) (is_some setup.disk) access.port access.width in
+    bus_reply setup before access.write decoded.target decoded.denial access.port access.width
+
+-- an event from outside the bus
+abbrev pub outside_answer : Dev → Reply
+outside_answer dev = Bus None (Device dev) None
+
+-- a look gives the version and the span of the map of the registers as they stand
+pub record IsLookAnswer (setup : Setup) (before : List Entry) (kind : _) (addr : ℕ) (smm : Bool) (look : Look) : Type 0 where
+  pub version : look.version ≡ version_of setup before
+  pub span : IsSpan setup (byte_of setup before) addr kind smm look.lo look.hi look.area
+
+abbrev pub IsSeen : (Look → Type 0) → Reply → Type 0
+IsSeen P (Saw look) = P look
+IsSeen P (Bus value target denial) = ⊥
+
+-- the reply to an event after a history. There is exactly one (`law_one_answer`)
+abbrev pub IsAnswer : Setup → List Entry → Event → Reply → Type 0
+IsAnswer setup before (Memory access) reply = reply ≡ memory_answer setup before access
+IsAnswer setup before (Port access) reply = reply ≡ port_answer setup before access
+IsAnswer setup before (LookAt kind addr smm) reply = IsSeen (IsLookAnswer setup before kind addr smm) reply
+IsAnswer setup before Ack reply =
+    reply ≡ Bus (Some (vector_of setup before)) (Device (acknowledged_by setup before)) None
+IsAnswer setup before (Pulses count) reply = reply ≡ outside_answer Pit
+IsAnswer setup before (Time moment) reply = reply ≡ outside_answer Clock
+IsAnswer setup before (Wire dev on) reply = reply ≡ outside_answer Wires
+IsAnswer setup before (Line irq on) reply = reply ≡ outside_answer Wires
+IsAnswer setup before (BadSector sector) reply = reply ≡ outside_answer Ata

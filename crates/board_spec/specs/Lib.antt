@@ -1,0 +1,17 @@
+pub mod Setup
+pub mod Bits
+pub mod RegisterTable
+pub mod Registers
+pub mod MapWrites
+pub mod Decode
+pub mod Ports
+pub mod FlatMap
+pub mod Stored
+pub mod Devices
+pub mod Answer
+pub mod Legal
+pub mod Orders
+pub mod LockLaw
+pub mod Text
+pub mod LogText
+pub mod MapText

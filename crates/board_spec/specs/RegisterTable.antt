@@ -1,0 +1,105 @@
+-- The registers in PCI configuration space, one line a register or a run of them, as the datasheets
+-- of the 82441FX (00.0) and the 82371SB (01.0 and 01.1) list them, and the cards' by PCI Local Bus
+-- 2.1, section 6.2. What no line lists reads 00 and ignores writes.
+use Rattle.std.specs.Prelude.{ℕ, ◌+◌, ◌-◌, ◌^◌, ◌==◌, Bool, ◌&&◌, ◌||◌, nat_lt, nat_le, if◌then◌else◌, List, [], ◌∷◌, get_or, length, replicate, flat_map, Option, Some, None, is_some}
+use Rattle.board_base.specs.declared.target.Reg.{Reg}
+use Rattle.board_spec.specs.Setup.{Base, MemoryBase, IoBase, FittedCard, Setup, card_at}
+use Rattle.board_spec.specs.Bits.{long_bytes}
+
+-- one line: the first offset, the bytes from there on after a reset, and their writable bits.
+-- Where the list of writable bits is shorter, the rest is read-only
+pub record Line : Type 0 where
+  pub first : ℕ
+  pub reset : List ℕ
+  pub writable : List ℕ
+
+abbrev pub line : ℕ → List ℕ → List ℕ → Line
+line first reset writable = record { first = first; reset = reset; writable = writable }
+
+abbrev pub read_only : List ℕ
+read_only = []
+
+-- 00.0, the 82441FX host bridge
+unfoldable pub host_bridge : List Line
+host_bridge =
+    line 0x00 (0x86 ∷ 0x80 ∷ 0x37 ∷ 0x12 ∷ []) read_only  -- vendor 8086h, device 1237h
+    ∷ line 0x04 (0x06 ∷ 0x00 ∷ 0x80 ∷ 0x02 ∷ []) read_only  -- command, status
+    ∷ line 0x08 (0x00 ∷ 0x00 ∷ 0x00 ∷ 0x06 ∷ []) read_only  -- class 060000h
+    ∷ line 0x59 (0x00 ∷ []) (0x30 ∷ [])  -- PAM0
+    ∷ line 0x5A (replicate 6 0x00) (replicate 6 0x33)  -- PAM1 to PAM6
+    ∷ line 0x60 (replicate 8 0x01) (replicate 8 0xFF)  -- DRB0 to DRB7
+    ∷ line 0x68 (0x00 ∷ []) (0xC0 ∷ [])  -- FDHC
+    ∷ line 0x72 (0x02 ∷ []) read_only  -- SMRAM, written by the lock rule
+    ∷ []
+
+-- 01.0, the ISA bridge of the 82371SB
+unfoldable pub isa_bridge : List Line
+isa_bridge =
+    line 0x00 (0x86 ∷ 0x80 ∷ 0x00 ∷ 0x70 ∷ []) read_only  -- vendor 8086h, device 7000h
+    ∷ line 0x04 (0x07 ∷ 0x00 ∷ 0x80 ∷ 0x02 ∷ []) read_only  -- command, status
+    ∷ line 0x08 (0x00 ∷ 0x00 ∷ 0x01 ∷ 0x06 ∷ []) read_only  -- class 060100h
+    ∷ line 0x0E (0x80 ∷ []) read_only  -- header type: several functions
+    ∷ line 0x4E (0x03 ∷ 0x00 ∷ []) (0xC7 ∷ 0x00 ∷ [])  -- XBCS
+    ∷ line 0x60 (replicate 4 0x80) (replicate 4 0x8F)  -- PIRQRCA to PIRQRCD
+    ∷ []
+
+-- 01.1, the IDE function of the 82371SB
+unfoldable pub ide_function : List Line
+ide_function =
+    line 0x00 (0x86 ∷ 0x80 ∷ 0x10 ∷ 0x70 ∷ []) read_only  -- vendor 8086h, device 7010h
+    ∷ line 0x04 (0x00 ∷ 0x00 ∷ 0x80 ∷ 0x02 ∷ []) (0x05 ∷ [])  -- command, status
+    ∷ line 0x08 (0x00 ∷ 0x80 ∷ 0x01 ∷ 0x01 ∷ []) read_only  -- class 010180h
+    ∷ line 0x40 (0x00 ∷ 0x00 ∷ []) (0xFF ∷ 0xFF ∷ [])  -- IDETIM of the primary channel
+    ∷ []
+
+-- a base register after a reset: bit 0 tells memory from I/O
+abbrev pub base_reset : Base → ℕ
+base_reset (MemoryBase bits) = 0
+base_reset (IoBase bits) = 1
+
+-- the writable bits of a base register of 2 ^ bits bytes: 31 down to `bits`
+abbrev pub base_writable : Base → ℕ
+base_writable (MemoryBase bits) = 0x1_0000_0000 - 2 ^ bits
+base_writable (IoBase bits) = 0x1_0000_0000 - 2 ^ bits
+
+-- a card. Its bases fill the registers at 10h, 14h and so on
+unfoldable pub card_function : FittedCard → List Line
+card_function card =
+    line 0x00 (0x5A ∷ 0xA5 ∷ card.dev ∷ 0x01 ∷ []) read_only  -- vendor A55Ah, device
+    ∷ line 0x04 (0x00 ∷ 0x00 ∷ 0x80 ∷ 0x02 ∷ []) (0x07 ∷ [])  -- command, status
+    ∷ line 0x08 (0x00 ∷ 0x00 ∷ 0x00 ∷ (if card.vga then 0x03 else 0xFF) ∷ []) read_only  -- class
+    ∷ line 0x10 (flat_map (λ base. long_bytes (base_reset base)) card.bases) (flat_map (λ base. long_bytes (base_writable base)) card.bases)  -- base addresses
+    ∷ line 0x3C (0x00 ∷ 0x01 ∷ []) (0xFF ∷ [])  -- interrupt line, pin INTA#
+    ∷ []
+
+abbrev pub lines_of_card : Option FittedCard → List Line
+lines_of_card None = []
+lines_of_card (Some card) = card_function card
+
+-- the lines of a function of bus 0
+abbrev pub function_lines : Setup → ℕ → ℕ → List Line
+function_lines setup dev fun =
+    if dev == 0 && fun == 0 then host_bridge else
+    if dev == 1 && fun == 0 then isa_bridge else
+    if dev == 1 && fun == 1 then ide_function else
+    if fun == 0 then lines_of_card (card_at setup dev) else []
+
+-- bus 0 alone exists, with the functions above
+abbrev pub function_exists : Setup → ℕ → ℕ → ℕ → Bool
+function_exists setup bus dev fun =
+    bus == 0 && (dev == 0 && fun == 0 || dev == 1 && nat_le fun 1 || is_some (card_at setup dev) && fun == 0)
+
+-- a column of the table at an offset
+abbrev pub listed : (Line → List ℕ) → List Line → ℕ → ℕ
+listed column [] off = 0
+listed column (entry ∷ later) off =
+    if nat_le entry.first off && nat_lt off (entry.first + length entry.reset)
+    then get_or (column entry) (off - entry.first) 0
+    else listed column later off
+
+-- a register byte after a reset, and the bits of it that a write changes
+unfoldable pub reset_byte : Setup → Reg → ℕ
+reset_byte setup reg = listed (λ entry. entry.reset) (function_lines setup reg.dev reg.fun) reg.off
+
+unfoldable pub writable_bits : Setup → Reg → ℕ
+writable_bits setup reg = listed (λ entry. entry.writable) (function_lines setup reg.dev reg.fun) reg.off

@@ -1,0 +1,92 @@
+-- Words of the texts: hexadecimal digits in upper case, areas, registers, targets and denials.
+use Rattle.std.specs.Prelude.{ℕ, ◌+◌, ◌/◌, ◌%◌, ◌++◌, List, [], ◌∷◌, nat_lt, if◌then◌else◌, Option, Some, None, codes, decimal}
+use Rattle.board_base.specs.declared.access.Width.{Width}
+use Rattle.board_base.specs.declared.access.Width.TheVariants.{One, Two, Four}
+use Rattle.board_base.specs.declared.target.Reg.{Reg}
+use Rattle.board_base.specs.declared.target.Dev.{Dev}
+use Rattle.board_base.specs.declared.target.Dev.TheVariants.{Confadd as AddressPort, Reset, Pic0, Pic1, Pit, System, Keyboard, Clock, Elcr, Ata, Wires, Vector, Spurious}
+use Rattle.board_base.specs.declared.target.Area.{Area}
+use Rattle.board_base.specs.declared.target.Area.TheVariants.{Dram as DramArea, Shadow as ShadowArea, Smram as SmramArea, Rom as RomArea, Card as CardArea, Abort as AbortArea}
+use Rattle.board_base.specs.declared.target.Target.{Target}
+use Rattle.board_base.specs.declared.target.Target.TheVariants.{Dram, Shadow, Smram, Rom, Card, Device, Config, Abort}
+use Rattle.board_base.specs.declared.target.Denial.{Denial}
+use Rattle.board_base.specs.declared.target.Denial.TheVariants.{Register, Confadd, NoRegister}
+use Rattle.board_spec.specs.Bits.{byte}
+
+abbrev pub space : ℕ
+space = 0x20
+
+abbrev pub line_feed : ℕ
+line_feed = 0x0A
+
+-- ---- numbers in hexadecimal
+
+abbrev pub hex_digit : ℕ → ℕ
+hex_digit n = if nat_lt (n % 0x10) 10 then 0x30 + n % 0x10 else 0x37 + n % 0x10
+
+abbrev pub hex_byte : ℕ → List ℕ
+hex_byte n = hex_digit (n / 0x10) ∷ hex_digit n ∷ []
+
+abbrev pub hex_word : ℕ → List ℕ
+hex_word n = hex_byte (byte n 1) ++ hex_byte (byte n 0)
+
+abbrev pub hex_long : ℕ → List ℕ
+hex_long n = hex_byte (byte n 3) ++ hex_byte (byte n 2) ++ hex_byte (byte n 1) ++ hex_byte (byte n 0)
+
+-- a value with the digits of its width
+abbrev pub hex_value : Width → ℕ → List ℕ
+hex_value One n = hex_byte (byte n 0)
+hex_value Two n = hex_word n
+hex_value Four n = hex_long n
+
+-- an offset in a ROM of at most 512 KiB, in five digits
+abbrev pub hex_offset : ℕ → List ℕ
+hex_offset n = hex_digit (byte n 2) ∷ hex_word n
+
+-- ---- what answers
+
+-- a register as device, function and offset, like 00.0.72
+abbrev pub register_text : Reg → List ℕ
+register_text reg = hex_byte reg.dev ++ codes "." ++ hex_digit reg.fun ∷ [] ++ codes "." ++ hex_byte reg.off
+
+abbrev pub base_text : ℕ → ℕ → List ℕ
+base_text dev base = codes "card:" ++ decimal dev ++ codes "." ++ decimal base
+
+abbrev pub area_text : Area → List ℕ
+area_text (DramArea row) = codes "dram:" ++ decimal row
+area_text (ShadowArea row) = codes "shadow:" ++ decimal row
+area_text SmramArea = codes "smram"
+area_text RomArea = codes "rom"
+area_text (CardArea dev base) = base_text dev base
+area_text AbortArea = codes "abort"
+
+abbrev pub device_text : Dev → List ℕ
+device_text AddressPort = codes "confadd"
+device_text Reset = codes "reset"
+device_text Pic0 = codes "pic0"
+device_text Pic1 = codes "pic1"
+device_text Pit = codes "pit"
+device_text System = codes "sys"
+device_text Keyboard = codes "kbd"
+device_text Clock = codes "clock"
+device_text Elcr = codes "elcr"
+device_text Ata = codes "ata"
+device_text Wires = codes "wires"
+device_text (Vector chip) = codes "vec" ++ decimal chip
+device_text (Spurious chip) = codes "spur" ++ decimal chip
+
+abbrev pub target_text : Target → List ℕ
+target_text (Dram row) = codes "dram:" ++ decimal row
+target_text (Shadow row) = codes "shadow:" ++ decimal row
+target_text Smram = codes "smram"
+target_text (Rom off) = codes "rom:" ++ hex_offset off
+target_text (Card dev base off) = base_text dev base ++ codes ":" ++ hex_long off
+target_text (Device dev) = device_text dev
+target_text (Config reg) = codes "config:" ++ register_text reg
+target_text Abort = codes "abort"
+
+abbrev pub denial_text : Option Denial → List ℕ
+denial_text None = codes "-"
+denial_text (Some (Register reg)) = register_text reg
+denial_text (Some Confadd) = codes "confadd"
+denial_text (Some NoRegister) = codes "none"

@@ -1,0 +1,66 @@
+//! One statement of a script, what it asks of the board, and what the board replies.
+
+use board_base::{Access, Area, Denial, Kind, Moment, PortAccess, Target};
+
+/// What one statement asks of the board.
+#[derive(Clone, Copy, PartialEq, Eq, Debug)]
+pub enum Event {
+    /// An access to memory.
+    Memory(Access),
+    /// An access to an I/O port.
+    Port(PortAccess),
+    /// A look at the address map, which is no access: where would this kind of access at `addr` land?
+    Look { kind: Kind, addr: u32, smm: bool },
+    /// An interrupt acknowledge.
+    Ack,
+    /// As many pulses of the 8254's clock input, 1 to 1,000,000.
+    Pulses(u32),
+    /// A moment for the clock.
+    Time(Moment),
+    /// INTA# of the card at `dev` takes a level.
+    Wire { dev: u8, on: bool },
+    /// An interrupt request line takes a level.
+    Line { irq: u8, on: bool },
+    /// A sector of the disk goes bad.
+    BadSector(u32),
+}
+
+/// What a look at the address map shows: how many map writes came before, and the longest interval
+/// `lo` to `hi`, both included, round the address in which such an access has this area.
+#[derive(Clone, Copy, PartialEq, Eq, Debug)]
+pub struct Look {
+    pub version: u32,
+    pub lo: u32,
+    pub hi: u32,
+    pub area: Area,
+}
+
+/// What the board answers to an event.
+#[derive(Clone, Copy, PartialEq, Eq, Debug)]
+pub enum Reply {
+    /// The value of an access that reads, what answered, and the register that denied the access.
+    Bus {
+        value: Option<u32>,
+        target: Target,
+        denial: Option<Denial>,
+    },
+    /// What a look saw.
+    Saw(Look),
+}
+
+/// One entry of a history: who, the how manieth of that processor's entries (from 1), what it asked
+/// and what was replied.
+#[derive(Clone, Copy, PartialEq, Eq, Debug)]
+pub struct Entry {
+    pub actor: u8,
+    pub seq: u32,
+    pub event: Event,
+    pub reply: Reply,
+}
+
+/// One statement of a script: a processor and what it asks.
+#[derive(Clone, Copy, PartialEq, Eq, Debug)]
+pub struct Statement {
+    pub actor: u8,
+    pub event: Event,
+}

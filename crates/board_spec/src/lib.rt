@@ -1,0 +1,9 @@
+//! What the board's answers mean: the events of a history and their replies as plain types, and in
+//! `specs/` the definitions that every contract above cites. `laws` proves what shows them right.
+#![tactic(auto)]
+
+mod event;
+mod map_change;
+
+pub use event::{Entry, Event, Look, Reply, Statement};
+pub use map_change::MapChange;
