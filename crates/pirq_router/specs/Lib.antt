@@ -1,0 +1,2 @@
+pub mod Elcr
+pub mod Routing

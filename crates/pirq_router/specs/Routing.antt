@@ -1,0 +1,66 @@
+-- The routing of the four PCI interrupt pins to the sixteen interrupt lines: the PIRQ route control
+-- registers of the PIIX3 (PIRQRC[A:D], offsets 60h to 63h of its function 0).
+use Rattle.std.specs.Prelude.{◌≡◌, ℕ, Bool, true, false, Option, Some, None, List, zero, suc, ◌-◌, ◌%◌, ◌==◌, ◌&&◌, ◌||◌, not, nat_lt, nat_le, if◌then◌else◌, bit_and, bit_or, slice_index, slice_index_or, slice_set}
+
+-- a register byte after a write: the bits of the mask as written, the others as they were
+abbrev pub merged : ℕ → ℕ → ℕ → ℕ
+merged mask old byte = bit_or (bit_and byte mask) (bit_and old (255 - mask))
+
+-- the bits of a route control register that can be written: 7, and 3 to 0
+abbrev pub route_mask : ℕ
+route_mask = 0x8F
+
+-- the routing disabled, as after a reset
+abbrev pub route_reset : ℕ
+route_reset = 0x80
+
+-- The registers are the list of their four bytes, A to D.
+abbrev pub Routes : Type 0
+Routes = List ℕ
+
+-- whether an offset of the function's configuration space is that of a route control register
+abbrev pub is_route_offset : ℕ → Bool
+is_route_offset offset = nat_le 0x60 offset && nat_lt offset 0x64
+
+-- the byte at an offset: 0 where no register is
+abbrev pub route_byte : Routes → ℕ → ℕ
+route_byte routes offset = if is_route_offset offset then slice_index routes (offset - 0x60) else 0
+
+-- the registers after a write at an offset
+abbrev pub routes_after_write : Routes → ℕ → ℕ → Routes
+routes_after_write routes offset byte =
+    if is_route_offset offset
+    then slice_set routes (offset - 0x60) (merged route_mask (route_byte routes offset) byte)
+    else routes
+
+-- the lines that no pin can be routed to: the timer's, the keyboard's, the cascade, the clock's and 13
+abbrev pub is_reserved_line : ℕ → Bool
+is_reserved_line line = line == 0 || line == 1 || line == 2 || line == 8 || line == 13
+
+-- The line that a route control byte routes its pin to: the one in bits 3 to 0, where bit 7 is 0 and
+-- that line is not reserved.
+abbrev pub line_of_route : ℕ → Option ℕ
+line_of_route byte =
+    if nat_lt byte 0x80 && not (is_reserved_line (byte % 16)) then Some (byte % 16) else None
+
+-- whether a pin at this level, with this route, holds the line at 1
+abbrev pub drives : Option ℕ → Bool → ℕ → Bool
+drives None level line = false
+drives (Some routed) level line = level && (routed == line)
+
+-- whether one of the first pins holds the line at 1
+unfoldable pub drives_among : ℕ → Routes → List Bool → ℕ → Bool
+drives_among zero routes pins line = false
+drives_among (suc k) routes pins line =
+    drives_among k routes pins line
+    || drives (line_of_route (slice_index routes k)) (slice_index_or pins k false) line
+
+-- whether the pins, at these levels, hold the line at 1: where a pin that is routed to it is 1
+abbrev pub is_line_driven : Routes → List Bool → ℕ → Bool
+is_line_driven = drives_among 4
+
+-- the law that no route reaches a reserved line
+abbrev pub ReservedLinesRest : Type 0
+ReservedLinesRest =
+    (routes : Routes) (pins : List Bool) (line : ℕ) → is_reserved_line line ≡ true
+    → is_line_driven routes pins line ≡ false

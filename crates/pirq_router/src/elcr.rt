@@ -1,0 +1,77 @@
+//! The edge/level control registers of the PIIX3, ports 4D0h and 4D1h.
+ghost use Rattle.std.specs.Prelude.{◌≡◌};
+ghost use Rattle.pirq_router.specs.Elcr.{trigger_byte, triggers_after_write, triggers_at_reset};
+
+use std::marker::Model;
+
+/// The bits of 4D0h that can be written: lines 0, 1 and 2 stay edge triggered.
+const WRITABLE_LOW: u8 = 0xF8;
+/// The bits of 4D1h that can be written: lines 8 and 13 stay edge triggered.
+const WRITABLE_HIGH: u8 = 0xDE;
+
+/// The edge/level control registers: a bit at 1 makes its line level triggered.
+#[derive(Drop)]
+pub struct Elcr {
+    low: u8,
+    high: u8,
+}
+
+impl Model for Elcr {
+    ghost use Rattle.pirq_router.specs.Elcr.{Triggers};
+
+    ghost Value = { Triggers };
+
+    ghost view = { λ elcr. record { low = elcr.low; high = elcr.high } };
+}
+
+impl Elcr {
+    /// The registers after a reset, with each line edge triggered.
+    pub fn new() -> Elcr
+        ensures edges { result ≡ triggers_at_reset }
+    {
+        Elcr { low: 0, high: 0 }
+    }
+
+    /// The byte of lines 8 to 15 (4D1h) where `high`, else that of lines 0 to 7 (4D0h).
+    pub fn read(&self, high: bool) -> u8
+        ensures byte { result ≡ trigger_byte self.now high }
+    {
+        if high { self.high } else { self.low }
+    }
+
+    /// Writes the byte of lines 8 to 15 (4D1h) where `high`, else that of lines 0 to 7 (4D0h).
+    pub fn write(&mut self, high: bool, byte: u8)
+        ensures written { self.new ≡ triggers_after_write self.old high byte }
+    {
+        if high {
+            self.high = byte & WRITABLE_HIGH | self.high & !WRITABLE_HIGH;
+        } else {
+            self.low = byte & WRITABLE_LOW | self.low & !WRITABLE_LOW;
+        }
+    }
+
+    /// Makes each line edge triggered.
+    pub fn reset(&mut self)
+        ensures edges { self.new ≡ triggers_at_reset }
+    {
+        *self = Elcr::new();
+    }
+}
+
+#[cfg(test)]
+mod tests {
+    use super::*;
+
+    #[test]
+    fn registers_keep_the_writable_bits(rt: HostRuntime) {
+        let mut elcr = Elcr::new();
+        for (high, byte, kept) in [(false, 0xFF, 0xF8), (true, 0xFF, 0xDE), (true, 0x08, 0x08)] {
+            elcr.write(high, byte);
+            assert_eq!(rt; elcr.read(high), kept, "of {byte}");
+        }
+        assert_eq!(rt; elcr.read(false), 0xF8);
+        elcr.reset();
+        assert_eq!(rt; elcr.read(false), 0);
+        assert_eq!(rt; elcr.read(true), 0);
+    }
+}

@@ -1,0 +1,8 @@
+//! The PIIX3's routing of PCI interrupt pins to interrupt lines, and its edge/level control registers.
+#![tactic(auto)]
+
+mod elcr;
+mod pirq;
+
+pub use elcr::Elcr;
+pub use pirq::{Pirq, reserved_lines_rest};

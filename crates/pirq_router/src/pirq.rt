@@ -1,0 +1,158 @@
+//! The PIRQ route control registers, PIRQRC[A:D] of the PIIX3.
+ghost use Rattle.std.specs.Prelude.{◌≡◌, ℕ, ◌<◌, ◌-◌, if◌then◌else◌, replicate, IfSome, slice_index_or, false};
+ghost use Rattle.pirq_router.specs.Routing.{route_byte, routes_after_write, route_reset, is_line_driven, is_route_offset, line_of_route, ReservedLinesRest};
+
+use std::marker::Model;
+
+/// How many PCI interrupt pins are routed, PIRQA# to PIRQD#.
+pub const PINS: usize = 4;
+/// How many interrupt lines the two interrupt controllers have.
+pub const LINES: usize = 16;
+
+/// The offset of the first register in the configuration space of function 0.
+const FIRST_OFFSET: u8 = 0x60;
+/// The bits that can be written: the disable bit and the number of the line.
+const WRITABLE: u8 = 0x8F;
+/// The bit that disables the routing.
+const DISABLED: u8 = 0x80;
+/// The bits that name the line.
+const LINE: u8 = 0x0F;
+
+/// The four PIRQ route control registers of the PIIX3, offsets 60h to 63h of its function 0.
+///
+/// Contracts see the list of their four bytes.
+#[derive(Drop)]
+pub struct Pirq {
+    bytes: [u8; 4],
+}
+
+impl Model for Pirq {
+    ghost use Rattle.pirq_router.specs.Routing.{Routes};
+
+    ghost Value = { Routes };
+
+    ghost view = { λ pirq. pirq.bytes };
+}
+
+impl Pirq {
+    /// The registers after a reset, with every routing disabled.
+    pub fn new() -> Pirq
+        ensures disabled { result ≡ replicate 4 route_reset }
+    {
+        Pirq {
+            bytes: [DISABLED; 4],
+        }
+    }
+
+    /// The byte at an offset of function 0: 0 at each other offset than 60h to 63h.
+    pub fn read(&self, offset: u8) -> u8
+        ensures byte { result ≡ route_byte self.now offset }
+    {
+        match pin_at(offset) {
+            Some(pin) => self.bytes[pin],
+            None => 0,
+        }
+    }
+
+    /// Writes the byte at an offset of function 0; other offsets than 60h to 63h are ignored.
+    pub fn write(&mut self, offset: u8, byte: u8)
+        ensures written { self.new ≡ routes_after_write self.old offset byte }
+    {
+        if let Some(pin) = pin_at(offset) {
+            self.bytes[pin] = byte & WRITABLE | self.bytes[pin] & !WRITABLE;
+        }
+    }
+
+    /// Disables every routing.
+    pub fn reset(&mut self)
+        ensures disabled { self.new ≡ replicate 4 route_reset }
+    {
+        self.bytes = [DISABLED; 4];
+    }
+
+    /// The lines that the pins hold at 1: each one that a pin at 1 is routed to.
+    pub fn route(&self, pins: [bool; 4]) -> [bool; 16]
+        ensures lines { (line : ℕ) → line < 16 → slice_index_or result line false ≡ is_line_driven self.now pins line }
+    {
+        let mut lines = [false; 16];
+        for pin in 0..PINS {
+            match line_of_route(self.bytes[pin]) {
+                Some(line) => lines[line] |= pins[pin],
+                None => {}
+            }
+        }
+        lines
+    }
+}
+
+/// The pin whose register stands at the offset.
+fn pin_at(offset: u8) -> Option<usize>
+    ensures pin { result ≡ (if is_route_offset offset then Some (offset - 0x60) else None) }
+{
+    match offset {
+        0x60..=0x63 => Some((offset - FIRST_OFFSET) as usize),
+        _ => None,
+    }
+}
+
+/// The line that a register's byte routes its pin to: not 0, 1, 2, 8 or 13.
+fn line_of_route(byte: u8) -> Option<usize>
+    ensures line { result ≡ line_of_route byte }
+    ensures small { IfSome result (λ line. line < 16) }
+{
+    let line = byte & LINE;
+    match line {
+        0 | 1 | 2 | 8 | 13 => None,
+        _ if byte & DISABLED != 0 => None,
+        _ => Some(line as usize),
+    }
+}
+
+/// No pin can hold the lines 0, 1, 2, 8 and 13, whatever the registers.
+pub fn reserved_lines_rest()
+    ensures { ReservedLinesRest }
+{}
+
+#[cfg(test)]
+mod tests {
+    use super::*;
+
+    #[test]
+    fn registers_keep_the_writable_bits(rt: HostRuntime) {
+        let mut pirq = Pirq::new();
+        for (offset, byte, kept) in [
+            (0x60, 0x0B, 0x0B),
+            (0x61, 0xFF, 0x8F),
+            (0x62, 0x7A, 0x0A),
+            (0x63, 0x70, 0x00),
+            (0x64, 0x05, 0x00),
+        ] {
+            pirq.write(offset, byte);
+            assert_eq!(rt; pirq.read(offset), kept, "at offset {offset}");
+        }
+        pirq.reset();
+        assert_eq!(rt; pirq.read(0x60), 0x80);
+        assert_eq!(rt; pirq.read(0x63), 0x80);
+    }
+
+    #[test]
+    fn pins_reach_the_lines_they_are_routed_to(rt: HostRuntime) {
+        for (byte, line) in [
+            (0x0B, Some(11)),
+            (0x8B, None),
+            (0x03, Some(3)),
+            (0x0D, None),
+            (0x08, None),
+            (0x00, None),
+            (0x0F, Some(15)),
+        ] {
+            let mut pirq = Pirq::new();
+            pirq.write(0x63, byte);
+            let lines = pirq.route([true, true, false, true]);
+            for (number, is_driven) in lines.iter().enumerate() {
+                assert_eq!(rt; *is_driven, line == Some(number), "line {number} at {byte}");
+            }
+            assert_eq!(rt; pirq.route([true, true, true, false]), [false; LINES]);
+        }
+    }
+}
