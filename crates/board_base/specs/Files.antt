@@ -1,5 +1,5 @@
 -- A list of files with their names, as the shelves in memory keep it.
-use Rattle.std.specs.Prelude.{ℕ, ◌+◌, ◌-◌, ◌^◌, min, List, [], length, Option, String, string_bytes, bytes_eq, find, unwrap_or}
+use Rattle.std.specs.Prelude.{ℕ, ◌-◌, min, List, [], length, Option, String, string_bytes, bytes_eq, find, unwrap_or}
 use Rattle.std.specs.Option.{option_map}
 use Rattle.std.specs.Global.{Vec, Global}
 
@@ -14,11 +14,3 @@ file_named files name = unwrap_or (file_at files name) []
 -- how much of a file there is from a byte on, and no more than there is room for
 abbrev pub piece_length : List ℕ → ℕ → List ℕ → ℕ
 piece_length file at room = min (length file - at) (length room)
-
--- one more, in a count that stands still at the last value of a u32
-abbrev pub next_call : ℕ → ℕ
-next_call calls = min (calls + 1) (2 ^ 32 - 1)
-
--- one more, in a count that stands still at the last value of a u64
-abbrev pub next_fault : ℕ → ℕ
-next_fault faults = min (faults + 1) (2 ^ 64 - 1)

@@ -1,3 +1,4 @@
 pub mod Access
-pub mod Outside
+pub mod Counts
 pub mod Files
+pub mod Outside

@@ -1,9 +1,6 @@
 -- What a shelf and a sink tell of themselves, and when a fault rose in a call.
-use Rattle.std.specs.Prelude.{◌≡◌, ℕ, ◌-◌, ◌^◌, ◌<◌, ◌⊎◌, List, Option, Some, None}
-
--- the last value of a count that a u64 keeps
-abbrev pub last_count : ℕ
-last_count = 2 ^ 64 - 1
+use Rattle.std.specs.Prelude.{◌≡◌, ℕ, ◌<◌, ◌⊎◌, List, Option, Some, None}
+use Rattle.board_base.specs.Counts.{last_count}
 
 -- a fault rose in a call: the count is greater than before, or stands at the last value of a u64
 abbrev pub Rose : ℕ → ℕ → Type 0

@@ -18,3 +18,6 @@ pub use moment::Moment;
 pub use outside::{Gate, QuietGate, Shelf, Sink};
 pub use pieces::keep_name;
 pub use target::{Area, Denial, Dev, Reg, Target};
+
+#[cfg(test)]
+mod tests;

@@ -1,7 +1,8 @@
 //! Shelves in memory: one that can be made to fail, and one that never does.
 
-ghost use Rattle.std.specs.Prelude.{◌≡◌, IsOk, ◌<◌, ◌≤◌, ◌↔◌, ◌⊎◌, ℕ, [], List, Some, None, length, take, drop, min, IfOk, OnOk, OnErr, IsErr, Contains};
-ghost use Rattle.board_base.specs.Files.{file_at, file_named, piece_length, next_call, next_fault};
+ghost use Rattle.std.specs.Prelude.{◌≡◌, IsOk, ◌≤◌, ◌↔◌, ◌⊎◌, [], Some, None, take, drop, IfOk, OnOk, OnErr, IsErr, Contains};
+ghost use Rattle.board_base.specs.Files.{file_at, file_named, piece_length};
+ghost use Rattle.board_base.specs.Counts.{next_call, next_fault};
 
 use crate::fault::Failed;
 use crate::outside::Shelf;

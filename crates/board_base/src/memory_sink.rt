@@ -1,11 +1,11 @@
 //! Sinks in memory: one that can be made to fail, and one that never does.
 
-ghost use Rattle.std.specs.Prelude.{◌≡◌, ◌≢◌, ◌++◌, IsErrOf, IsOkUnless, ◌<◌, ◌≤◌, ◌↔◌, ◌⊎◌, ℕ, [], List, Some, None, length, take, IfOk, IfErr, OnOk, OnErr, IsErr, Contains};
-ghost use Rattle.board_base.specs.Files.{next_call, next_fault};
+ghost use Rattle.std.specs.Prelude.{◌≡◌, ◌≢◌, ◌++◌, IsErrOf, IsOkUnless, ◌≤◌, ◌↔◌, [], Some, length, IfOk, OnOk, OnErr, Contains};
+ghost use Rattle.board_base.specs.Counts.{next_call, next_fault};
 
 use crate::fault::PutFault;
 use crate::outside::Sink;
-use crate::pieces::count_call;
+use crate::pieces::{append_piece, count_call};
 use std::alloc::Global;
 
 /// Bytes in memory. A put fails where its number, from 1 on, is in `failing`. `calls` and `faults`
@@ -56,8 +56,7 @@ impl Sink for MemSink {
             self.faults = self.faults.saturating_add(1);
             return Err(PutFault::Failed);
         }
-        self.bytes.extend_from_slice(piece)?;
-        Ok(piece.len())
+        append_piece(&mut self.bytes, piece)
     }
 }
 
@@ -90,7 +89,6 @@ impl Sink for SafeSink {
         ensures takes { OnOk result (self.new.bytes.items ≡ self.old.bytes.items ++ piece.now) }
         ensures refuses { OnErr result (self.new.bytes.items ≡ self.old.bytes.items) }
     {
-        self.bytes.extend_from_slice(piece)?;
-        Ok(piece.len())
+        append_piece(&mut self.bytes, piece)
     }
 }

@@ -1,9 +1,11 @@
 //! The small steps that shelves and sinks share.
 
-ghost use Rattle.std.specs.Prelude.{◌≡◌, ◌-◌, ◌≤◌, ◌↔◌, ℕ, List, Option, None, Some, length, take, drop, min, IsTrue, Contains};
-ghost use Rattle.std.specs.Option.{option_copied, option_map};
-ghost use Rattle.board_base.specs.Files.{file_at, piece_length, next_call};
+ghost use Rattle.std.specs.Prelude.{◌≡◌, ◌≤◌, ◌↔◌, length, take, drop, IsTrue, Contains, ◌++◌, IsOkUnless, IfOk, OnOk, OnErr};
+ghost use Rattle.std.specs.Option.{option_map};
+ghost use Rattle.board_base.specs.Files.{file_at, piece_length};
+ghost use Rattle.board_base.specs.Counts.{next_call};
 
+use crate::fault::PutFault;
 use arrayvec::ArrayVec;
 
 /// Puts the first 255 bytes of `name` in the place of those that were kept.
@@ -56,6 +58,17 @@ fn after(bytes: &[u8], at: u64) -> &[u8]
         return &[];
     }
     &bytes[at as usize..]
+}
+
+// Appends a whole piece, and answers its length.
+pub(crate) fn append_piece(bytes: &mut Vec<u8>, piece: &[u8]) -> Result<usize, PutFault>
+    ensures only { IsOkUnless result PutFault.NoMemory }
+    ensures whole { IfOk result (λ k. k ≡ length piece.now) }
+    ensures takes { OnOk result (bytes.new.items ≡ bytes.old.items ++ piece.now) }
+    ensures refuses { OnErr result (bytes.new.items ≡ bytes.old.items) }
+{
+    bytes.extend_from_slice(piece)?;
+    Ok(piece.len())
 }
 
 // Counts a call, and says whether it is one of those that fail.
