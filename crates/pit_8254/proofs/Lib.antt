@@ -1,2 +1,3 @@
 mod Latches
 mod Pulses
+mod ReadBacks
