@@ -6,7 +6,7 @@ use Rattle.jiff_core.specs.Calendar.{days_in_month as jiff_days_in_month, days_i
 use Rattle.jiff_core.proofs.CalendarLemmas.{days_from_civil-day_count, day_count-day_of_year, day_count-next_year, weekday_number-parts}
 use Rattle.jiff_core.proofs.MarchLemmas.{day_count-early}
 use Rattle.jiff_core.proofs.SignedLemmas.{signed_arith}
-use Rattle.cmos_clock.specs.Calendar.{days_in_month, days_in_year, days_of_months, days_of_years, days_since_1980, weekday_of, IsDate}
+use Rattle.cmos_clock.specs.Calendar.{days_in_month, days_in_year, days_of_months, days_of_years, days_since_1980, weekday_of, IsDate, WeekdaysFollow}
 use borrow.Author.Differences.{up, down}
 
 -- the months of a year have as many days
@@ -60,3 +60,51 @@ weekday_of_bound year month day = omega arith
 -- and a month at most 31
 pub days_in_month_bound : (year month : ℕ) → days_in_month year month ≤ 31
 days_in_month_bound year month = grind (arith, nat_tests)
+
+months_add : (year months : ℕ) → 1 ≤ months → days_of_months year months ≡ days_of_months year (months - 1) + days_in_month year months
+unfolding days_of_months
+months_add year zero h = absurd (omega arith)
+months_add year (suc months) h = let back : suc months - 1 ≡ months = omega arith in rw back
+
+-- the months of a year make up the year
+twelve_months : (year : ℕ) → days_of_months year 12 ≡ days_in_year year
+unfolding days_of_months
+twelve_months year = grind (arith, nat_tests)
+
+years_add : (year : ℕ) → 1980 ≤ year → days_of_years (year + 1 - 1980) ≡ days_of_years (year - 1980) + days_in_year year
+unfolding days_of_years
+years_add year h =
+    let next : year + 1 - 1980 ≡ suc (year - 1980) = omega arith in
+    let back : 1980 + (year - 1980) ≡ year = omega arith in
+    rw (next, back) refl
+
+days_in_month_low : (year month : ℕ) → 28 ≤ days_in_month year month
+days_in_month_low year month = grind (arith, nat_tests)
+
+no_months : (year : ℕ) → days_of_months year 0 ≡ 0
+unfolding days_of_months
+no_months year = refl
+
+next_day : (year month day : ℕ) → 1 ≤ day → days_since_1980 year month (day + 1) ≡ days_since_1980 year month day + 1
+unfolding days_since_1980
+next_day year month day h = omega arith
+
+next_month : (year month : ℕ) → 1 ≤ month → days_since_1980 year (month + 1) 1 ≡ days_since_1980 year month (days_in_month year month) + 1
+unfolding days_since_1980
+next_month year month h =
+    let same : month + 1 - 1 ≡ month = omega arith in
+    rw same (omega (arith, months_add year month h, days_in_month_low year month))
+
+next_year : (year : ℕ) → 1980 ≤ year → days_since_1980 (year + 1) 1 1 ≡ days_since_1980 year 12 31 + 1
+unfolding days_since_1980
+next_year year h =
+    omega (arith, years_add year h, no_months (year + 1), months_add year 12 (omega arith), twelve_months year)
+
+pub weekdays_follow : WeekdaysFollow
+unfolding weekday_of days_since_1980 days_of_years days_of_months
+weekdays_follow =
+    record
+      { first = refl
+      ; next_day = λ year month day h. omega (arith, next_day year month day h)
+      ; next_month = λ year month h. omega (arith, next_month year month h)
+      ; next_year = λ year h. omega (arith, next_year year h) }

@@ -1,6 +1,7 @@
 -- The Gregorian calendar in the years 1980 to 2099, with the days of the week counted on from
 -- Tuesday, 1 January 1980.
 use Rattle.std.specs.Prelude.{◌≡◌, ℕ, zero, suc, ◌+◌, ◌-◌, ◌%◌, ◌≤◌, Bool, not, ◌&&◌, ◌||◌, ◌==◌, if◌then◌else◌}
+use Rattle.cmos_clock.specs.declared.moment_draft.Moment.{Moment}
 
 -- every fourth year, but of the centuries only every fourth
 abbrev pub is_leap : (year : ℕ) → Bool
@@ -48,3 +49,32 @@ days_since_1980 year month day =
 -- the day of the week, from 1 for Sunday: 1 January 1980 was a Tuesday, which is 3
 unfoldable pub weekday_of : (year month day : ℕ) → ℕ
 weekday_of year month day = (days_since_1980 year month day + 2) % 7 + 1
+
+-- the moment with these parts and the calendar's weekday
+abbrev pub moment_of : (year month day hour minute second : ℕ) → Moment
+moment_of year month day hour minute second =
+    record
+      { year = year
+      ; month = month
+      ; day = day
+      ; weekday = weekday_of year month day
+      ; hour = hour
+      ; minute = minute
+      ; second = second }
+
+-- a moment that there is: the calendar has the date, with this weekday, and the day has the time
+pub record IsMoment (m : Moment) : Type 0 where
+  pub date : IsDate m.year m.month m.day
+  pub weekday : m.weekday ≡ weekday_of m.year m.month m.day
+  pub time : IsTime m.hour m.minute m.second
+
+-- the weekdays go on by one from each day to the next: within a month, from the last day of a month
+-- to the first of the next, and from 31 December to 1 January
+pub record WeekdaysFollow : Type 0 where
+  pub first : weekday_of 1980 1 1 ≡ 3
+  pub next_day : (year month day : ℕ) → 1 ≤ day →
+    weekday_of year month (day + 1) ≡ weekday_of year month day % 7 + 1
+  pub next_month : (year month : ℕ) → 1 ≤ month →
+    weekday_of year (month + 1) 1 ≡ weekday_of year month (days_in_month year month) % 7 + 1
+  pub next_year : (year : ℕ) → 1980 ≤ year →
+    weekday_of (year + 1) 1 1 ≡ weekday_of year 12 31 % 7 + 1

@@ -1,4 +1,4 @@
 pub mod Calendar
 pub mod Clock
-pub mod Moment
+pub mod Laws
 pub mod View

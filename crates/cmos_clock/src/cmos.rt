@@ -1,6 +1,6 @@
 ghost use Rattle.std.specs.Prelude.{◌≡◌, ◌<◌, length, slice_index};
 ghost use Rattle.cmos_clock.specs.Clock.{after_moment, after_read, after_reset, after_write, alarm_fits, alarm_rings, data_byte, flags_byte, interrupt_line, power_on, put, read_value, time_bytes};
-ghost use Rattle.cmos_clock.specs.Moment.{IsMoment};
+ghost use Rattle.cmos_clock.specs.Calendar.{IsMoment};
 ghost use Rattle.cmos_clock.specs.View.{civil_time};
 
 use crate::control::Control;

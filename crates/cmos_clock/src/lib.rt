@@ -3,6 +3,7 @@
 
 mod cmos;
 mod control;
+pub mod laws;
 mod moment_draft;
 mod register;
 

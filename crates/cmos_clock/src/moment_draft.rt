@@ -1,7 +1,7 @@
 //! A date and a time of day, as the clock keeps it.
-ghost use Rattle.std.specs.Prelude.{◌≡◌, IfSome, IsSome};
+ghost use Rattle.std.specs.Prelude.{IfSome};
 ghost use Rattle.std.specs.Option.{SomeIff};
-ghost use Rattle.cmos_clock.specs.Calendar.{IsDate, IsTime, weekday_of};
+ghost use Rattle.cmos_clock.specs.Calendar.{IsDate, IsMoment, IsTime, moment_of, weekday_of, WeekdaysFollow};
 
 use jiff::civil::Date;
 
@@ -22,13 +22,13 @@ pub struct Moment {
 }
 
 impl Moment {
-    ghost use Rattle.cmos_clock.specs.Moment.{IsMoment};
-
     /// The moment with these parts and its weekday. `None` exactly where the year is not 1980 to
     /// 2099, the calendar has no such date, or the hour, the minute or the second is past 23, 59 or
     /// 59.
     pub fn new(year: u16, month: u8, day: u8, hour: u8, minute: u8, second: u8) -> Option<Moment>
-        ensures exact { SomeIff result (IsDate year month day × IsTime hour minute second) (record { year = year; month = month; day = day; weekday = weekday_of year month day; hour = hour; minute = minute; second = second }) }
+        ensures exact {
+            SomeIff result (IsDate year month day × IsTime hour minute second)
+              (moment_of year month day hour minute second) }
         ensures moment { IfSome result IsMoment }
     {
         if hour > 23 || minute > 59 || second > 59 {
@@ -44,6 +44,12 @@ impl Moment {
             minute,
             second,
         })
+    }
+
+    /// A law of the calendar: each day has the weekday after that of the day before it.
+    pub fn weekdays_follow()
+        ensures law { WeekdaysFollow }
+    {
     }
 }
 
