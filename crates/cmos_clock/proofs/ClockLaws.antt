@@ -4,8 +4,8 @@ use Rattle.std.proofs.lemmas.Bool.{cases_Bool, cases_eq, eq-eqb, ne_eqb}
 use Rattle.std.proofs.lemmas.Bool.Decides.{nat_tests}
 use Rattle.std.proofs.lemmas.Grind.{get_or-set_at, common_steps}
 use Rattle.std.proofs.lemmas.List.{length-set}
-use Rattle.cmos_clock.specs.Clock.{CivilTime, Clock, bcd, number_byte, hour_byte, control_of, is_set, is_binary, is_24_hour, time_bytes, put, tell, byte_at, alarm_fits, alarm_rings, has_bit, control_reset, written, data_byte, after_moment, register_c, read_value, after_read, interrupt_line}
-use Rattle.cmos_clock.specs.Laws.{number_read, hour_read, Shows, IsShowable, ShowsTheMoment, HasAlarm, same_time_of_day, RingsAtItsTime, IsQuiet, ReadingQuiets, IsReset, ResetKeepsTheTime, Keeps, MemoryKeeps}
+use Rattle.cmos_clock.specs.Clock.{CivilTime, Clock, bcd, number_byte, hour_byte, control_of, is_set, is_binary, is_24_hour, time_bytes, put, tell, byte_at, alarm_fits, alarm_rings, has_bit, control_reset, written, data_byte, control_written, update_interrupts, power_on, after_write, after_reset, after_moment, register_c, read_value, after_read, interrupt_line}
+use Rattle.cmos_clock.specs.Laws.{number_read, hour_read, Shows, IsShowable, ShowsTheMoment, HasAlarm, same_time_of_day, RingsAtItsTime, IsQuiet, ReadingQuiets, IsReset, ResetKeepsTheTime, Keeps, MemoryKeeps, IsSound, StaysSound}
 
 -- two digits are read as they were written
 bcd_back : (n : ℕ) → n < 100 → bcd n / 16 * 10 + bcd n % 16 ≡ n
@@ -176,3 +176,97 @@ memory_keeps clock address byte size past_registers within =
     rw (back, plain) (record
       { read = plain_data after past_registers ∙ get_or-set_same clock.bytes address byte 0 there
       ; others = λ other apart. get_or-set_other clock.bytes address other _ 0 apart })
+
+written_stopped : (byte : ℕ) → is_set (control_written byte) ≡ true → update_interrupts (control_written byte) ≡ false
+written_stopped byte set_now = grind (arith, nat_tests)
+
+size_kept : (bytes : List ℕ) (k byte : ℕ) → length bytes ≡ 128 → length (set bytes k byte) ≡ 128
+size_kept bytes k byte size = simp length-set size
+
+timed-size : (bytes : List ℕ) (s m h w d n y : ℕ) → length bytes ≡ 128 → length (timed bytes s m h w d n y) ≡ 128
+timed-size bytes s m h w d n y size = simp length-set size
+
+sound_power_on : IsSound power_on
+unfolding power_on
+sound_power_on = record { size = refl; within = omega arith; no_update = omega arith; stopped = λ never. refl }
+
+-- a byte of register A or B as written, and any other byte
+written_no_update : (bytes : List ℕ) (k byte : ℕ) → length bytes ≡ 128 → get_or bytes 10 0 < 128 → get_or (set bytes k (written k (get_or bytes k 0) byte)) 10 0 < 128
+written_no_update bytes k byte size was =
+    elim (cases_eq 10 k) [
+      | inl e ↦ rw (← e, get_or-set_same bytes 10 (byte % 128) 0 (omega arith)) (omega arith)
+      | inr e ↦ rw (get_or-set_other bytes k 10 (written k (get_or bytes k 0) byte) 0 e) was
+    ]
+
+abbrev stops : ℕ → Type 0
+stops control = is_set control ≡ true → update_interrupts control ≡ false
+
+written_stops : (bytes : List ℕ) (k byte : ℕ) → length bytes ≡ 128 → stops (get_or bytes 11 0) → stops (get_or (set bytes k (written k (get_or bytes k 0) byte)) 11 0)
+written_stops bytes k byte size was =
+    elim (cases_eq 11 k) [
+      | inl e ↦ rw (← e, get_or-set_same bytes 11 (control_written byte) 0 (omega arith)) (written_stopped byte)
+      | inr e ↦ rw (get_or-set_other bytes k 11 (written k (get_or bytes k 0) byte) 0 e) was
+    ]
+
+sound_read : (clock : Clock) (port : ℕ) → IsSound clock → IsSound (after_read clock port)
+sound_read clock port was =
+    elim (cases_Bool ((port == 0x71) && (clock.index == register_c))) [
+      | inl e ↦ rw e (record { size = was.size; within = was.within; no_update = was.no_update; stopped = was.stopped })
+      | inr e ↦ rw e was
+    ]
+
+sound_write : (clock : Clock) (port byte : ℕ) → IsSound clock → IsSound (after_write clock port byte)
+sound_write clock port byte was =
+    elim (cases_Bool (port == 0x70)) [
+      | inl e ↦ rw e (record { size = was.size; within = omega arith; no_update = was.no_update; stopped = was.stopped })
+      | inr e ↦ elim (cases_Bool (port == 0x71)) [
+        | inl f ↦ rw (e, f) (record
+          { size = size_kept clock.bytes clock.index _ was.size
+          ; within = was.within
+          ; no_update = written_no_update clock.bytes clock.index byte was.size was.no_update
+          ; stopped = written_stops clock.bytes clock.index byte was.size was.stopped })
+        | inr f ↦ rw (e, f) was
+      ]
+    ]
+
+sound_moment : (clock : Clock) (time : CivilTime) → IsSound clock → IsSound (after_moment clock time)
+sound_moment clock time was =
+    let c = control_of clock in
+    let b = clock.bytes in
+    let s = number_byte c time.second in
+    let m = number_byte c time.minute in
+    let h = hour_byte c time.hour in
+    let w = number_byte c time.weekday in
+    let d = number_byte c time.day in
+    let n = number_byte c time.month in
+    let y = number_byte c (time.year % 100) in
+    let a_same = timed-other b s m h w d n y 10 was.size (omega arith) (omega arith) (omega arith) (omega arith) (omega arith) (omega arith) (omega arith) in
+    let b_same = timed-other b s m h w d n y 11 was.size (omega arith) (omega arith) (omega arith) (omega arith) (omega arith) (omega arith) (omega arith) in
+    elim (cases_Bool (is_set c)) [
+      | inl e ↦ rw e was
+      | inr e ↦ rw e (record
+        { size = timed-size b s m h w d n y was.size
+        ; within = was.within
+        ; no_update = rw a_same was.no_update
+        ; stopped = rw b_same was.stopped })
+    ]
+
+sound_reset : (clock : Clock) → IsSound clock → IsSound (after_reset clock)
+sound_reset clock was =
+    let b = control_of clock in
+    let there = get_or-set_same clock.bytes 11 (control_reset b) 0 (omega (arith, was.size)) in
+    let a_same = get_or-set_other clock.bytes 11 10 (control_reset b) 0 (omega arith) in
+    record
+      { size = size_kept clock.bytes 11 (control_reset b) was.size
+      ; within = omega arith
+      ; no_update = rw a_same was.no_update
+      ; stopped = λ set_now. ap update_interrupts there ∙ reset_bit b 4 (omega arith) }
+
+pub stays_sound : StaysSound
+stays_sound =
+    record
+      { at_power_on = sound_power_on
+      ; at_read = sound_read
+      ; at_write = sound_write
+      ; at_moment = sound_moment
+      ; at_reset = sound_reset }

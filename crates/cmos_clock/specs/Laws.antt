@@ -1,6 +1,6 @@
 -- Laws of the clock's machine, in the words of someone who uses the clock.
 use Rattle.std.specs.Prelude.{◌≡◌, ◌≢◌, ℕ, ◌+◌, ◌*◌, ◌/◌, ◌%◌, ◌^◌, ◌<◌, ◌≤◌, Bool, true, false, ◌&&◌, ◌||◌, ◌==◌, nat_le, if◌then◌else◌, List, length}
-use Rattle.cmos_clock.specs.Clock.{CivilTime, Clock, has_bit, worth, byte_at, control_of, is_set, is_binary, is_24_hour, number_byte, hour_byte, interrupt_line, read_value, after_read, after_write, after_moment, after_reset, second_at, second_alarm_at, minute_at, minute_alarm_at, hour_at, hour_alarm_at, weekday_at, day_at, month_at, year_at, register_b, register_c}
+use Rattle.cmos_clock.specs.Clock.{CivilTime, Clock, has_bit, worth, byte_at, control_of, is_set, is_binary, is_24_hour, number_byte, hour_byte, interrupt_line, read_value, after_read, after_write, after_moment, after_reset, second_at, second_alarm_at, minute_at, minute_alarm_at, hour_at, hour_alarm_at, weekday_at, day_at, month_at, year_at, register_a, register_b, register_c, update_interrupts, power_on}
 
 -- The time is shown
 
@@ -98,3 +98,23 @@ MemoryKeeps =
     (clock : Clock) (address byte : ℕ) →
     length clock.bytes ≡ 128 → 14 ≤ address → address < 128 →
     Keeps clock (after_write (after_write clock 0x70 address) 0x71 byte) address byte
+
+-- What always holds
+
+-- a clock as every run from power-on leaves it: register A shows no update in progress, and while
+-- the time stands still no update can interrupt
+pub record IsSound (clock : Clock) : Type 0 where
+  pub size : length clock.bytes ≡ 128
+  pub within : clock.index < 128
+  pub no_update : byte_at clock register_a < 128
+  pub stopped :
+    is_set (control_of clock) ≡ true → update_interrupts (control_of clock) ≡ false
+
+pub record StaysSound : Type 0 where
+  pub at_power_on : IsSound power_on
+  pub at_read : (clock : Clock) (port : ℕ) → IsSound clock → IsSound (after_read clock port)
+  pub at_write : (clock : Clock) (port byte : ℕ) →
+    IsSound clock → IsSound (after_write clock port byte)
+  pub at_moment : (clock : Clock) (time : CivilTime) →
+    IsSound clock → IsSound (after_moment clock time)
+  pub at_reset : (clock : Clock) → IsSound clock → IsSound (after_reset clock)

@@ -1,5 +1,5 @@
 //! Laws of the clock's machine. Each function does nothing: what it ensures is the law.
-ghost use Rattle.cmos_clock.specs.Laws.{MemoryKeeps, ReadingQuiets, ResetKeepsTheTime, RingsAtItsTime, ShowsTheMoment};
+ghost use Rattle.cmos_clock.specs.Laws.{MemoryKeeps, ReadingQuiets, ResetKeepsTheTime, RingsAtItsTime, ShowsTheMoment, StaysSound};
 
 /// After a moment the time bytes show it, in each of the four formats.
 pub fn shows_the_moment()
@@ -28,5 +28,12 @@ pub fn reset_keeps_the_time()
 /// A byte written past the registers is read there, and no other byte changes.
 pub fn memory_keeps()
     ensures law { MemoryKeeps }
+{
+}
+
+/// What holds at power-on and after each step: 128 bytes, an index among them, no update in
+/// progress in register A, and no interrupt of updates while the time stands still.
+pub fn stays_sound()
+    ensures law { StaysSound }
 {
 }
