@@ -15,3 +15,4 @@ pub mod LockLaw
 pub mod Text
 pub mod LogText
 pub mod MapText
+pub mod Laws

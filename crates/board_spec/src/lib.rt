@@ -3,6 +3,7 @@
 #![tactic(auto)]
 
 mod event;
+pub mod laws;
 mod map_change;
 
 pub use event::{Entry, Event, Look, Reply, Statement};

@@ -1,0 +1,5 @@
+mod FlatMapLaws
+mod SpanLaws
+mod MapWriteLaws
+mod LockLaws
+mod ReplayLaws

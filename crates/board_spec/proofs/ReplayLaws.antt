@@ -1,0 +1,151 @@
+-- Every event has one answer, and every list of statements one replay.
+use Rattle.std.proofs.Common.{◌≡◌, ℕ, ◌+◌, Bool, List, [], ◌∷◌, ◌++◌, refl, sym, ◌∙◌, ap, length, append_assoc}
+use Rattle.std.specs.Prelude.{map, reverse}
+use Rattle.std.specs.List.{AllByRecursion}
+use Rattle.std.proofs.lemmas.List.{append-nil, reverse-reverse, reverse-append, map-append}
+use Rattle.std.proofs.lemmas.List.Elements.{recursion_from_All}
+use Rattle.board_base.specs.declared.access.Kind.{Kind}
+use Rattle.board_base.specs.declared.target.Area.{Area}
+use Rattle.board_spec.specs.declared.event.Event.{Event}
+use Rattle.board_spec.specs.declared.event.Event.TheVariants.{Memory, Port, Look as LookAt, Ack, Pulses, Time, Wire, Line, BadSector}
+use Rattle.board_spec.specs.declared.event.Look.{Look}
+use Rattle.board_spec.specs.declared.event.Reply.{Reply}
+use Rattle.board_spec.specs.declared.event.Reply.TheVariants.{Bus, Saw}
+use Rattle.board_spec.specs.declared.event.Entry.{Entry}
+use Rattle.board_spec.specs.declared.event.Statement.{Statement}
+use Rattle.board_spec.specs.Setup.{Setup}
+use Rattle.board_spec.specs.Registers.{byte_of}
+use Rattle.board_spec.specs.MapWrites.{version_of}
+use Rattle.board_spec.specs.Answer.{IsLookAnswer, IsAnswer}
+use Rattle.board_spec.specs.Legal.{entries_by, IsNext, IsLegal}
+use Rattle.board_spec.specs.Orders.{statement_of, statements_of}
+use Rattle.board_spec.specs.Laws.{IsAddressed, SomeAnswer, OneAnswer, SomeReplay, OneReplay}
+use Rattle.board_spec.proofs.SpanLaws.{some_span, one_span}
+
+-- ---- answers
+
+pub some_answer : SomeAnswer
+some_answer setup before (Memory access) addressed = record { reply = _; answer = refl }
+some_answer setup before (Port access) addressed = record { reply = _; answer = refl }
+some_answer setup before (LookAt kind addr smm) addressed =
+    let span = some_span setup (byte_of setup before) addr kind smm addressed in
+    record {
+      reply = Saw (record { version = version_of setup before; lo = span.lo; hi = span.hi; area = span.area });
+      answer = record { version = refl; span = span.span };
+    }
+some_answer setup before Ack addressed = record { reply = _; answer = refl }
+some_answer setup before (Pulses count) addressed = record { reply = _; answer = refl }
+some_answer setup before (Time moment) addressed = record { reply = _; answer = refl }
+some_answer setup before (Wire dev on) addressed = record { reply = _; answer = refl }
+some_answer setup before (Line irq on) addressed = record { reply = _; answer = refl }
+some_answer setup before (BadSector sector) addressed = record { reply = _; answer = refl }
+
+look_made : ℕ → ℕ → ℕ → Area → Look
+look_made version lo hi area = record { version = version; lo = lo; hi = hi; area = area }
+
+same_look : (left right : Look) → left.version ≡ right.version → left.lo ≡ right.lo → left.hi ≡ right.hi → left.area ≡ right.area → Saw left ≡ Saw right
+unfolding look_made
+same_look left right v l h a =
+    let same : look_made left.version left.lo left.hi left.area ≡ look_made right.version right.lo right.hi right.area = cc in
+    ap Saw same
+
+one_look :
+    (setup : Setup) (before : List Entry) (kind : Kind) (addr : ℕ) (smm : Bool) (left right : Look) →
+    IsLookAnswer setup before kind addr smm left → IsLookAnswer setup before kind addr smm right → Saw left ≡ Saw right
+one_look setup before kind addr smm left right l r =
+    let same = one_span setup (byte_of setup before) addr kind smm left.lo left.hi right.lo right.hi left.area right.area l.span r.span in
+    same_look left right (l.version ∙ sym r.version) same.0 same.1 same.2
+
+pub one_answer : OneAnswer
+one_answer setup before (Memory access) left right l r = l ∙ sym r
+one_answer setup before (Port access) left right l r = l ∙ sym r
+one_answer setup before (LookAt kind addr smm) (Saw left) (Saw right) l r = one_look setup before kind addr smm left right l r
+one_answer setup before (LookAt kind addr smm) (Bus value target denial) right l r = absurd l
+one_answer setup before (LookAt kind addr smm) (Saw left) (Bus value target denial) l r = absurd r
+one_answer setup before Ack left right l r = l ∙ sym r
+one_answer setup before (Pulses count) left right l r = l ∙ sym r
+one_answer setup before (Time moment) left right l r = l ∙ sym r
+one_answer setup before (Wire dev on) left right l r = l ∙ sym r
+one_answer setup before (Line irq on) left right l r = l ∙ sym r
+one_answer setup before (BadSector sector) left right l r = l ∙ sym r
+
+-- ---- replays
+
+entry_made : ℕ → ℕ → Event → Reply → Entry
+entry_made actor seq event reply = record { actor = actor; seq = seq; event = event; reply = reply }
+
+statements-newest : (entry : Entry) (before : List Entry) → statements_of (entry ∷ before) ≡ statements_of before ++ statement_of entry ∷ []
+statements-newest entry before =
+    ap (map statement_of) (reverse-append (entry ∷ []) before) ∙ map-append statement_of (reverse before) (entry ∷ [])
+
+record Extended (setup : Setup) (before : List Entry) (statements : List Statement) : Type 0 where
+  pub history : List Entry
+  pub legal : IsLegal setup history
+  pub same : statements_of history ≡ statements_of before ++ statements
+
+extended :
+    (setup : Setup) (before : List Entry) (statements : List Statement) → IsLegal setup before →
+    AllByRecursion (λ statement. IsAddressed statement.event) statements → Extended setup before statements
+unfolding entry_made
+extended setup before [] legal addressed = record { history = before; legal = legal; same = sym (append-nil (statements_of before)) }
+extended setup before (statement ∷ later) legal addressed =
+    let answered = some_answer setup before statement.event addressed.0 in
+    let seq : ℕ = length (entries_by statement.actor before) + 1 in
+    let entry : Entry = entry_made statement.actor seq statement.event answered.reply in
+    let next : IsNext setup before entry = record { number = refl; answer = answered.answer } in
+    let more = extended setup (entry ∷ before) later (next, legal) addressed.1 in
+    record {
+      history = more.history;
+      legal = more.legal;
+      same =
+          more.same
+          ∙ ap (λ (said : List Statement). said ++ later) (statements-newest entry before)
+          ∙ append_assoc (statements_of before) (statement ∷ []) later;
+    }
+
+pub some_replay : SomeReplay
+some_replay setup statements addressed =
+    let more = extended setup [] statements tt (recursion_from_All (λ statement. IsAddressed statement.event) statements addressed) in
+    record { history = more.history; replay = record { legal = more.legal; same = more.same } }
+
+same_entry :
+    (setup : Setup) (before : List Entry) (left right : Entry) → IsNext setup before left → IsNext setup before right →
+    statement_of left ≡ statement_of right → left ≡ right
+unfolding entry_made
+same_entry setup before left right l r same =
+    let actor : left.actor ≡ right.actor = ap (λ (s : Statement). s.actor) same in
+    let event : left.event ≡ right.event = ap (λ (s : Statement). s.event) same in
+    let number : left.seq ≡ right.seq = l.number ∙ ap (λ (a : ℕ). length (entries_by a before) + 1) actor ∙ sym r.number in
+    let answer : IsAnswer setup before left.event right.reply = rw event r.answer in
+    let reply : left.reply ≡ right.reply = one_answer setup before left.event left.reply right.reply l.answer answer in
+    let whole : entry_made left.actor left.seq left.event left.reply ≡ entry_made right.actor right.seq right.event right.reply = cc in
+    whole
+
+same_history :
+    (setup : Setup) (left right : List Entry) → IsLegal setup left → IsLegal setup right →
+    map statement_of left ≡ map statement_of right → left ≡ right
+same_history setup [] [] l r same = refl
+same_history setup [] (entry ∷ right) l r same = cc
+same_history setup (entry ∷ left) [] l r same = cc
+same_history setup (entry ∷ left) (entry' ∷ right) l r same =
+    let head : statement_of entry ≡ statement_of entry' = cc in
+    let rest : map statement_of left ≡ map statement_of right = cc in
+    let tail : left ≡ right = same_history setup left right l.1 r.1 rest in
+    let next : IsNext setup left entry' = rw tail r.0 in
+    let first : entry ≡ entry' = same_entry setup left entry entry' l.0 next head in
+    cc
+
+map-reverse : (history : List Entry) → map statement_of (reverse history) ≡ reverse (map statement_of history)
+map-reverse [] = refl
+map-reverse (entry ∷ before) =
+    statements-newest entry before
+    ∙ ap (λ (said : List Statement). said ++ statement_of entry ∷ []) (map-reverse before)
+    ∙ sym (reverse-append (statement_of entry ∷ []) (map statement_of before))
+
+newest_first : (history : List Entry) → map statement_of history ≡ reverse (statements_of history)
+newest_first history = sym (ap reverse (map-reverse history) ∙ reverse-reverse (map statement_of history))
+
+pub one_replay : OneReplay
+one_replay setup statements left right l r =
+    same_history setup left right l.legal r.legal
+    (newest_first left ∙ ap reverse (l.same ∙ sym r.same) ∙ sym (newest_first right))

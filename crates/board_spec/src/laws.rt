@@ -1,0 +1,36 @@
+//! Laws of the definitions. Each function does nothing: its clause is the law.
+
+ghost use Rattle.board_spec.specs.Laws.{LegalKeepsLock, MapWritesDecide, OneAnswer, OneFlatMap, OneReplay, OneSpan, SomeAnswer, SomeReplay, SomeSpan};
+
+/// The registers that the address map depends on are those after the map writes alone.
+pub fn law_map_registers()
+    ensures decided { MapWritesDecide }
+{}
+
+/// Two flat maps of the same registers are one list of ranges.
+pub fn law_one_flat_map()
+    ensures one { OneFlatMap }
+{}
+
+/// Every address lies in exactly one span of each column of the map.
+pub fn law_one_span()
+    ensures some { SomeSpan }
+    ensures one { OneSpan }
+{}
+
+/// Once DLCK is set, nothing outside SMM reaches SMRAM until a hard reset, in every legal history.
+pub fn law_lock()
+    ensures kept { LegalKeepsLock }
+{}
+
+/// Every event has an answer after every history, and only one.
+pub fn law_one_answer()
+    ensures some { SomeAnswer }
+    ensures one { OneAnswer }
+{}
+
+/// Every list of statements has a replay, and only one.
+pub fn law_one_replay()
+    ensures some { SomeReplay }
+    ensures one { OneReplay }
+{}
