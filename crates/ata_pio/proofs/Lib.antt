@@ -1,0 +1,4 @@
+pub mod Bits
+pub mod Stores
+pub mod Verifies
+pub mod Words

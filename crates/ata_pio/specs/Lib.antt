@@ -1,0 +1,2 @@
+pub mod Ata
+pub mod View

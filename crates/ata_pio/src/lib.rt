@@ -1,0 +1,14 @@
+//! The ATA disk of the board: one drive behind the ports 1F0h to 1F7h and 3F6h, moved by programmed
+//! input and output as AT Attachment describes it.
+#![tactic(auto)]
+
+mod ata;
+mod command;
+mod controller;
+mod fault;
+mod identify;
+mod port;
+mod sectors;
+mod task_file;
+
+pub use ata::{Ata, AtaOpen};
