@@ -1,5 +1,5 @@
 -- Pulses of the whole chip.
-use Rattle.std.proofs.Common.{◌≡◌, ℕ, zero, suc, ◌+◌, refl, ap, sym, ◌∙◌, arith, add-zero, add-suc, add_assoc}
+use Rattle.std.proofs.Common.{◌≡◌, ℕ, zero, suc, ◌+◌, refl, ap, sym, add-zero, add-suc, add_assoc}
 use Rattle.pit_8254.specs.Pit.{PitState, pulses, rises, rise_of, pulse_all}
 use Rattle.pit_8254.specs.PitLaws.{PulsesAddUp}
 

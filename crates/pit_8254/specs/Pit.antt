@@ -171,22 +171,24 @@ programmed access mode notation gate = record {
   stopped = false;
   expired = false;
   trigger = false;
-  gate = gate }
+  gate = gate;
+}
 
 -- LATCHES
 
 -- the bytes of CE that a latch of the count holds, in the order of reading
 unfoldable pub element_bytes : CounterState → List ℕ
 element_bytes c = elim c.access [
-    LowByte ↦ low_byte c.notation c.element ∷ []
+  | LowByte ↦ low_byte c.notation c.element ∷ []
   | HighByte ↦ high_byte c.notation c.element ∷ []
-  | LowThenHigh ↦ low_byte c.notation c.element ∷ high_byte c.notation c.element ∷ [] ]
+  | LowThenHigh ↦ low_byte c.notation c.element ∷ high_byte c.notation c.element ∷ []
+]
 
 -- the status byte: OUT, null count, RW, mode, BCD from bit 7 down
 unfoldable pub status_byte : CounterState → ℕ
 status_byte c =
     (if c.out then 128 else 0) + (if c.null_count then 64 else 0) + 16 * access_number c.access
-        + 2 * mode_number c.mode + notation_number c.notation
+    + 2 * mode_number c.mode + notation_number c.notation
 
 -- a latch that is held stays
 unfoldable pub latch_count : CounterState → CounterState
@@ -198,8 +200,9 @@ latch_status c = elim c.status_latch [ None ↦ record c { status_latch = Some (
 -- a control word for this counter: the counter latch command, or the counter anew
 unfoldable pub control : ℕ → CounterState → CounterState
 control word c = elim (access_numbered (word / 16 % 4)) [
-    None ↦ latch_count c
-  | Some access ↦ programmed access (mode_numbered (word / 2 % 8)) (notation_of_bit (is_bit word 0)) c.gate ]
+  | None ↦ latch_count c
+  | Some access ↦ programmed access (mode_numbered (word / 2 % 8)) (notation_of_bit (is_bit word 0)) c.gate
+]
 
 -- a read-back command for this counter: bit 5 at 0 latches the count, bit 4 at 0 the status
 unfoldable pub read_back : ℕ → CounterState → CounterState
@@ -212,19 +215,23 @@ read_back word c =
 -- with no latch held CE is read live, by RW 3 low and high in turn
 unfoldable pub read_live : CounterState → ℕ × CounterState
 read_live c = elim c.access [
-    LowByte ↦ (low_byte c.notation c.element, c)
+  | LowByte ↦ (low_byte c.notation c.element, c)
   | HighByte ↦ (high_byte c.notation c.element, c)
-  | LowThenHigh ↦
-      (if c.reads_high then high_byte c.notation c.element else low_byte c.notation c.element,
-       record c { reads_high = not c.reads_high }) ]
+  | LowThenHigh ↦ (
+    if c.reads_high then high_byte c.notation c.element else low_byte c.notation c.element,
+    record c { reads_high = not c.reads_high },
+  )
+]
 
 -- a latched status comes first, then a latched count, each dropped as it is read
 unfoldable pub read : CounterState → ℕ × CounterState
 read c = elim c.status_latch [
-    Some status ↦ (status, record c { status_latch = None })
+  | Some status ↦ (status, record c { status_latch = None })
   | None ↦ elim c.count_latch [
-        byte ∷ rest ↦ (byte, record c { count_latch = rest })
-      | [] ↦ read_live c ] ]
+    | byte ∷ rest ↦ (byte, record c { count_latch = rest })
+    | [] ↦ read_live c
+  ]
+]
 
 -- WRITING A COUNT
 
@@ -244,7 +251,8 @@ complete low high c = record c {
   null_count = true;
   low_written = None;
   load_asked = c.load_asked || asks_for_load c.mode c.started;
-  stopped = false }
+  stopped = false;
+}
 
 -- the low byte of two: in mode 0 the counter stops until the high one
 unfoldable pub take_low : ℕ → CounterState → CounterState
@@ -253,9 +261,10 @@ take_low byte c = record c { low_written = Some byte; stopped = is_terminal_coun
 -- RW 1 sets the low byte and clears the high one, RW 2 the other way round, RW 3 takes low and then high
 unfoldable pub take_byte : ℕ → CounterState → CounterState
 take_byte byte c = elim c.access [
-    LowByte ↦ complete byte 0 c
+  | LowByte ↦ complete byte 0 c
   | HighByte ↦ complete 0 byte c
-  | LowThenHigh ↦ elim c.low_written [ None ↦ take_low byte c | Some low ↦ complete low byte c ] ]
+  | LowThenHigh ↦ elim c.low_written [ None ↦ take_low byte c | Some low ↦ complete low byte c ]
+]
 
 -- in mode 0 every byte written sets OUT to 0
 unfoldable pub write : ℕ → CounterState → CounterState
@@ -286,14 +295,16 @@ first_element _ n = n
 -- to load the count written last
 unfoldable pub load : CounterState → CounterState
 load c = elim c.count [
-    None ↦ c
+  | None ↦ c
   | Some n ↦ record c {
-      element = first_element c.mode n;
-      in_use = n;
-      null_count = false;
-      load_asked = false;
-      started = true;
-      expired = false } ]
+    element = first_element c.mode n;
+    in_use = n;
+    null_count = false;
+    load_asked = false;
+    started = true;
+    expired = false;
+  }
+]
 
 -- a load that leaves OUT at a level
 abbrev pub load_with : Bool → CounterState → CounterState
@@ -397,7 +408,8 @@ unfoldable pub read_back_chosen : ℕ → PitState → PitState
 read_back_chosen word p = record {
   counter0 = if is_bit word 1 then read_back word p.counter0 else p.counter0;
   counter1 = if is_bit word 2 then read_back word p.counter1 else p.counter1;
-  counter2 = if is_bit word 3 then read_back word p.counter2 else p.counter2 }
+  counter2 = if is_bit word 3 then read_back word p.counter2 else p.counter2;
+}
 
 -- a control word: SC 0 to 2 names the counter, SC 3 is read-back
 unfoldable pub write_control : ℕ → PitState → PitState

@@ -1,6 +1,6 @@
 -- Laws of the 8254's machine.
-use Rattle.std.specs.Prelude.{◌≡◌, ℕ, zero, suc, ◌+◌, Bool, true, false, if◌then◌else◌, List, [], ◌∷◌, Option, None, length}
-use Rattle.pit_8254.specs.Pit.{CounterState, PitState, element_bytes, latch_count, latch_status, read_back, read, write, set_gate, pulse, write_control, pulses, rises}
+use Rattle.std.specs.Prelude.{◌≡◌, ℕ, zero, suc, ◌+◌, Bool, true, false, if◌then◌else◌, List, [], ◌∷◌, None, length}
+use Rattle.pit_8254.specs.Pit.{CounterState, PitState, element_bytes, latch_count, read_back, read, write, set_gate, pulse, write_control, pulses, rises}
 
 -- A LATCHED COUNT
 
@@ -48,7 +48,7 @@ LatchedCountIsRead =
 abbrev pub read_back_word : Bool → Bool → Bool → Bool → Bool → ℕ
 read_back_word takes_count takes_status of_0 of_1 of_2 =
     192 + (if takes_count then 0 else 32) + (if takes_status then 0 else 16)
-        + (if of_2 then 8 else 0) + (if of_1 then 4 else 0) + (if of_0 then 2 else 0)
+    + (if of_2 then 8 else 0) + (if of_1 then 4 else 0) + (if of_0 then 2 else 0)
 
 abbrev pub when : Bool → (PitState → PitState) → PitState → PitState
 when chosen f p = if chosen then f p else p
@@ -59,8 +59,8 @@ ReadBackIsOneByOne =
     (takes_count takes_status of_0 of_1 of_2 : Bool) (p : PitState)
     → write_control (read_back_word takes_count takes_status of_0 of_1 of_2) p
     ≡ when of_2 (write_control (read_back_word takes_count takes_status false false true))
-        (when of_1 (write_control (read_back_word takes_count takes_status false true false))
-          (when of_0 (write_control (read_back_word takes_count takes_status true false false)) p))
+    (when of_1 (write_control (read_back_word takes_count takes_status false true false))
+    (when of_0 (write_control (read_back_word takes_count takes_status true false false)) p))
 
 -- a read-back of one counter's count is its counter latch command
 pub record ReadBackIsLatch : Type 0 where
@@ -73,9 +73,9 @@ abbrev pub ReadBackOfBoth : Type 0
 ReadBackOfBoth =
     (of_0 of_1 of_2 : Bool) (p : PitState)
     → let count_of = write_control (read_back_word true false of_0 of_1 of_2) in
-      let status_of = write_control (read_back_word false true of_0 of_1 of_2) in
-      let both_of = write_control (read_back_word true true of_0 of_1 of_2) in
-      (both_of p ≡ status_of (count_of p)) × (both_of p ≡ count_of (status_of p))
+    let status_of = write_control (read_back_word false true of_0 of_1 of_2) in
+    let both_of = write_control (read_back_word true true of_0 of_1 of_2) in
+    (both_of p ≡ status_of (count_of p)) × (both_of p ≡ count_of (status_of p))
 
 -- PULSES
 

@@ -38,24 +38,24 @@ impl Model for Counter {
     ghost Value = { CounterState };
 
     ghost view = { λ c. record {
-        element = c.element;
-        count = c.count;
-        in_use = c.in_use;
-        mode = mode_view c.mode;
-        access = access_view c.access;
-        notation = notation_view c.notation;
-        null_count = c.null_count;
-        out = c.out;
-        count_latch = latch_view c.count_latch;
-        status_latch = c.status_latch;
-        reads_high = c.reads_high;
-        low_written = c.low_written;
-        load_asked = c.load_asked;
-        started = c.started;
-        stopped = c.stopped;
-        expired = c.expired;
-        trigger = c.trigger;
-        gate = c.gate
+      element = c.element;
+      count = c.count;
+      in_use = c.in_use;
+      mode = mode_view c.mode;
+      access = access_view c.access;
+      notation = notation_view c.notation;
+      null_count = c.null_count;
+      out = c.out;
+      count_latch = latch_view c.count_latch;
+      status_latch = c.status_latch;
+      reads_high = c.reads_high;
+      low_written = c.low_written;
+      load_asked = c.load_asked;
+      started = c.started;
+      stopped = c.stopped;
+      expired = c.expired;
+      trigger = c.trigger;
+      gate = c.gate;
     } };
 }
 

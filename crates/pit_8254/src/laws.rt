@@ -5,19 +5,16 @@ ghost use Rattle.pit_8254.specs.PitLaws.{LatchedCountStays, LatchedCountIsRead, 
 pub fn latched_count_stays()
     ensures held { LatchedCountStays }
     ensures read { LatchedCountIsRead }
-{
-}
+{}
 
 /// A read-back of several counters, or of count and status, equals the single latches.
 pub fn read_back_is_single_latches()
     ensures counters { ReadBackIsOneByOne }
     ensures latch { ReadBackIsLatch }
     ensures both { ReadBackOfBoth }
-{
-}
+{}
 
 /// `n + m` pulses are `n` and then `m` pulses, and their rises add up.
 pub fn pulses_add_up()
     ensures sum { PulsesAddUp }
-{
-}
+{}

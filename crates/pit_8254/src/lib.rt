@@ -181,9 +181,13 @@ impl Pit {
 
 impl Default for Pit {
     ghost use Rattle.pit_8254.specs.Pit.{PitState};
+
     ghost is_default = { λ p. p ≡ reset };
 
     fn default() -> Pit {
         Pit::new()
     }
 }
+
+#[cfg(test)]
+mod tests;

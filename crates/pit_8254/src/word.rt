@@ -72,7 +72,10 @@ impl CountingMode {
     pub fn is_triggered_by_gate(self) -> bool
         ensures triggered { result ≡ is_triggered_by_gate (mode_view self) }
     {
-        !matches!(self, CountingMode::TerminalCount | CountingMode::SoftwareStrobe)
+        !matches!(
+            self,
+            CountingMode::TerminalCount | CountingMode::SoftwareStrobe
+        )
     }
 
     /// Whether a complete count asks for a load, by whether the counter was started.

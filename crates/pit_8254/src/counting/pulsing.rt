@@ -183,7 +183,11 @@ impl Counter {
     fn half_end(&self) -> u32
         ensures end { result ≡ half_end self.now }
     {
-        if self.out && self.in_use % 2 == 1 { 0 } else { 2 }
+        if self.out && self.in_use % 2 == 1 {
+            0
+        } else {
+            2
+        }
     }
 
     /// Counts, and sets OUT to 0 where 0 is reached for the first time since the load.

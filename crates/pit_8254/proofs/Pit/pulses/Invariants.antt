@@ -6,4 +6,5 @@ abbrev pub invariant-loop : goal.invariant-loop
 invariant-loop l = record {
   state : l.self ≡ pulses l.counter l.initial.self;
   rose : l.rose ≡ rises l.counter l.initial.self;
-  bound : l.rose ≤ l.counter }
+  bound : l.rose ≤ l.counter;
+}
