@@ -71,6 +71,8 @@ impl Shelf for MemShelf {
         ensures count { IfOk result (λ k. k ≡ piece_length (file_named self.old.files.items name.now) at into.old) }
         ensures bytes { IfOk result (λ k. take k into.new
             ≡ take k (drop at (file_named self.old.files.items name.now))) }
+        ensures beyond { IfOk result (λ k. drop k into.new ≡ drop k into.old) }
+        ensures unread { OnErr result (into.new ≡ into.old) }
         ensures fault { OnErr result (self.new.faults ≡ next_fault self.old.faults) }
         ensures no_fault { OnOk result (self.new.faults ≡ self.old.faults) }
         ensures never_falls { self.old.faults ≤ self.new.faults }
@@ -108,6 +110,7 @@ impl Shelf for SafeShelf {
         ensures count { IfOk result (λ k. k ≡ piece_length (file_named self.old.files.items name.now) at into.old) }
         ensures bytes { IfOk result (λ k. take k into.new
             ≡ take k (drop at (file_named self.old.files.items name.now))) }
+        ensures beyond { IfOk result (λ k. drop k into.new ≡ drop k into.old) }
     {
         let file = find_file(&self.files, name).unwrap_or(&[]);
         Ok(copy_piece(file, at, into))

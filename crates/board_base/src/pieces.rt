@@ -43,6 +43,7 @@ pub(crate) fn find_file<'a>(files: &'a [(String, Vec<u8>)], name: &str) -> Optio
 pub(crate) fn copy_piece(file: &[u8], at: u64, into: &mut [u8]) -> usize
     ensures count { result ≡ piece_length file.now at into.old }
     ensures bytes { take result into.new ≡ take result (drop at file.now) }
+    ensures beyond { drop result into.new ≡ drop result into.old }
 {
     let rest = after(file, at);
     let count = rest.len().min(into.len());
