@@ -1,6 +1,7 @@
 -- The answer to an event after a history.
 use Rattle.std.specs.Prelude.{ℕ, ◌≡◌, ◌%◌, ◌^◌, ◌==◌, Bool, if◌then◌else◌, List, length, slice_get, slice_index, Option, Some, None, is_some}
 use Rattle.board_base.specs.declared.access.Width.{Width}
+use Rattle.board_base.specs.declared.access.Kind.{Kind}
 use Rattle.board_base.specs.declared.access.Access.{Access}
 use Rattle.board_base.specs.declared.access.PortAccess.{PortAccess}
 use Rattle.board_base.specs.declared.target.Area.{Area}
@@ -95,7 +96,7 @@ abbrev pub outside_answer : Dev → Reply
 outside_answer dev = Bus None (Device dev) None
 
 -- a look gives the version and the span of the map of the registers as they stand
-pub record IsLookAnswer (setup : Setup) (before : List Entry) (kind : _) (addr : ℕ) (smm : Bool) (look : Look) : Type 0 where
+pub record IsLookAnswer (setup : Setup) (before : List Entry) (kind : Kind) (addr : ℕ) (smm : Bool) (look : Look) : Type 0 where
   pub version : look.version ≡ version_of setup before
   pub span : IsSpan setup (byte_of setup before) addr kind smm look.lo look.hi look.area
 

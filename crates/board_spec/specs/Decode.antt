@@ -125,33 +125,33 @@ is_rom_selected xbcs addr =
 
 -- ---- cards (PCI Local Bus 2.1, sections 6.2.2 and 6.2.5)
 
--- a place that a card decodes: its device, the number of its base, and the first of the addresses
--- that agree with it in all bits from `bits` on. The VGA window counts as base 7
+-- what a card decodes: its device, the number of its base, a place inside, and how many low bits do
+-- not count. The VGA window counts as base 7
 pub record Window : Type 0 where
   pub dev : ℕ
   pub base : ℕ
-  pub first : ℕ
+  pub inside : ℕ
   pub bits : ℕ
 
 abbrev pub is_covered : ℕ → Window → Bool
-is_covered place window = window.first / 2 ^ window.bits == place / 2 ^ window.bits
+is_covered place window = window.inside / 2 ^ window.bits == place / 2 ^ window.bits
 
 -- what base number k of a card holds
 abbrev pub base_value : Bytes → ℕ → ℕ → ℕ
 base_value bytes dev k = wide (λ off. bytes (card_register dev off)) (0x10 + 4 * k) Four
 
 abbrev pub memory_window : Bytes → ℕ → ℕ → Base → List Window
-memory_window bytes dev k (MemoryBase bits) = record { dev = dev; base = k; first = base_value bytes dev k; bits = bits } ∷ []
+memory_window bytes dev k (MemoryBase bits) = record { dev = dev; base = k; inside = base_value bytes dev k; bits = bits } ∷ []
 memory_window bytes dev k (IoBase bits) = []
 
 abbrev pub io_window : Bytes → ℕ → ℕ → Base → List Window
 io_window bytes dev k (MemoryBase bits) = []
-io_window bytes dev k (IoBase bits) = record { dev = dev; base = k; first = base_value bytes dev k; bits = bits } ∷ []
+io_window bytes dev k (IoBase bits) = record { dev = dev; base = k; inside = base_value bytes dev k; bits = bits } ∷ []
 
 -- A0000h-BFFFFh
 abbrev pub vga_window : FittedCard → List Window
 vga_window card =
-    if card.vga then record { dev = card.dev; base = 7; first = 0xA_0000; bits = 17 } ∷ [] else []
+    if card.vga then record { dev = card.dev; base = 7; inside = 0xA_0000; bits = 17 } ∷ [] else []
 
 -- the windows of a card in the order of their base numbers
 abbrev pub memory_windows : Bytes → FittedCard → List Window

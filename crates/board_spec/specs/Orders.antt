@@ -30,12 +30,12 @@ pub record BeginsWith (longer shorter : List Event) : Type 0 where
 
 -- a part of a history has every processor's statements of a phase, each processor's in its own order
 pub record IsWholePhase (phase part : List Statement) : Type 0 where
-  pub length : length part ≡ length phase
+  pub size : length part ≡ length phase
   pub each : (actor : ℕ) → events_by actor part ≡ events_by actor phase
 
 -- a part of a history has the first of each processor's statements of a phase
 pub record IsFrontOfPhase (phase part : List Statement) : Type 0 where
-  pub length : length part ≤ length phase
+  pub size : length part ≤ length phase
   pub each : (actor : ℕ) → BeginsWith (events_by actor phase) (events_by actor part)
 
 -- cut into parts as long as the phases, each part is its phase, with nothing after the last

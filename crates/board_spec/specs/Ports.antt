@@ -37,8 +37,8 @@ config_port address None = nobody (if is_enabled address then NoRegister else Co
 
 -- the ports of the primary IDE channel: data in words, the other registers in bytes
 abbrev pub is_ata_port : ℕ → ℕ → Bool
-is_ata_port port bytes =
-    port == 0x1F0 && (bytes == 2 || bytes == 4) || (is_within 0x1F1 0x1F7 port || port == 0x3F6) && bytes == 1
+is_ata_port port size =
+    port == 0x1F0 && (size == 2 || size == 4) || (is_within 0x1F1 0x1F7 port || port == 0x3F6) && size == 1
 
 -- the device registers of a byte that always answer
 abbrev pub byte_device : ℕ → Option Dev

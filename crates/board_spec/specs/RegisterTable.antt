@@ -1,7 +1,7 @@
 -- The registers in PCI configuration space, one line a register or a run of them, as the datasheets
 -- of the 82441FX (00.0) and the 82371SB (01.0 and 01.1) list them, and the cards' by PCI Local Bus
 -- 2.1, section 6.2. What no line lists reads 00 and ignores writes.
-use Rattle.std.specs.Prelude.{ℕ, ◌+◌, ◌-◌, ◌^◌, ◌==◌, Bool, ◌&&◌, ◌||◌, nat_lt, nat_le, if◌then◌else◌, List, [], ◌∷◌, get_or, length, replicate, flat_map, Option, Some, None, is_some}
+use Rattle.std.specs.Prelude.{ℕ, ◌+◌, ◌-◌, ◌^◌, ◌==◌, Bool, ◌&&◌, ◌||◌, nat_lt, nat_le, if◌then◌else◌, List, [], ◌∷◌, get_or, length, replicate, flat_map, Option, Some, None, is_some, option_map, unwrap_or}
 use Rattle.board_base.specs.declared.target.Reg.{Reg}
 use Rattle.board_spec.specs.Setup.{Base, MemoryBase, IoBase, FittedCard, Setup, card_at}
 use Rattle.board_spec.specs.Bits.{long_bytes}
@@ -72,22 +72,19 @@ card_function card =
     ∷ line 0x3C (0x00 ∷ 0x01 ∷ []) (0xFF ∷ [])  -- interrupt line, pin INTA#
     ∷ []
 
-abbrev pub lines_of_card : Option FittedCard → List Line
-lines_of_card None = []
-lines_of_card (Some card) = card_function card
+-- the functions of bus 0, which alone exists, each with its lines
+abbrev pub function_at : Setup → ℕ → ℕ → Option (List Line)
+function_at setup dev fun =
+    if dev == 0 && fun == 0 then Some host_bridge else
+    if dev == 1 && fun == 0 then Some isa_bridge else
+    if dev == 1 && fun == 1 then Some ide_function else
+    if fun == 0 then option_map card_function (card_at setup dev) else None
 
--- the lines of a function of bus 0
-abbrev pub function_lines : Setup → ℕ → ℕ → List Line
-function_lines setup dev fun =
-    if dev == 0 && fun == 0 then host_bridge else
-    if dev == 1 && fun == 0 then isa_bridge else
-    if dev == 1 && fun == 1 then ide_function else
-    if fun == 0 then lines_of_card (card_at setup dev) else []
-
--- bus 0 alone exists, with the functions above
 abbrev pub function_exists : Setup → ℕ → ℕ → ℕ → Bool
-function_exists setup bus dev fun =
-    bus == 0 && (dev == 0 && fun == 0 || dev == 1 && nat_le fun 1 || is_some (card_at setup dev) && fun == 0)
+function_exists setup bus dev fun = bus == 0 && is_some (function_at setup dev fun)
+
+abbrev pub function_lines : Setup → ℕ → ℕ → List Line
+function_lines setup dev fun = unwrap_or (function_at setup dev fun) []
 
 -- a column of the table at an offset
 abbrev pub listed : (Line → List ℕ) → List Line → ℕ → ℕ

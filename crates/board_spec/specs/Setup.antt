@@ -1,5 +1,5 @@
 -- What a board is fitted with. Every definition here is for one fixed setup.
-use Rattle.std.specs.Prelude.{ℕ, ◌==◌, ◌*◌, Bool, List, Option, find}
+use Rattle.std.specs.Prelude.{ℕ, ◌≡◌, ◌<◌, ◌≤◌, ◌==◌, ◌*◌, ◌^◌, ◌⊎◌, Bool, List, [], ◌∷◌, length, All, sum_by, flat_map, Option, Some, None, find}
 
 -- a base address register of a card, for memory or for I/O ports, of 2 ^ bits bytes
 -- (PCI Local Bus 2.1, section 6.2.5.1)
@@ -28,3 +28,54 @@ installed setup = setup.mib * 0x100000
 -- the card at a device number
 abbrev pub card_at : Setup → ℕ → Option FittedCard
 card_at setup dev = find (λ card. card.dev == dev) setup.cards
+
+-- ---- what a board can be fitted with
+
+-- a memory base has 16 bytes to 16 MiB, an I/O base 4 to 256 ports
+abbrev pub IsBase : Base → Type 0
+IsBase (MemoryBase bits) = (4 ≤ bits) × (bits ≤ 24)
+IsBase (IoBase bits) = (2 ≤ bits) × (bits ≤ 8)
+
+pub record IsCard (card : FittedCard) : Type 0 where
+  pub first : 2 ≤ card.dev
+  pub last : card.dev ≤ 9
+  pub count : length card.bases ≤ 6
+  pub each : All IsBase card.bases
+
+-- the devices rise
+abbrev pub Rises : List FittedCard → Type 0
+Rises [] = Unit {0}
+Rises (card ∷ later) = All (λ other. card.dev < other.dev) later × Rises later
+
+pub record IsCardList (cards : List FittedCard) : Type 0 where
+  pub count : length cards ≤ 8
+  pub each : All IsCard cards
+  pub rises : Rises cards
+
+-- the bytes of memory that a base decodes
+abbrev pub memory_size : Base → ℕ
+memory_size (MemoryBase bits) = 2 ^ bits
+memory_size (IoBase bits) = 0
+
+abbrev pub memory_of_cards : List FittedCard → ℕ
+memory_of_cards cards = sum_by memory_size (flat_map (λ card. card.bases) cards)
+
+-- a ROM of 64, 128, 256 or 512 KiB
+abbrev pub IsRomSize : ℕ → Type 0
+IsRomSize size = (size ≡ 0x1_0000) ⊎ (size ≡ 0x2_0000) ⊎ (size ≡ 0x4_0000) ⊎ (size ≡ 0x8_0000)
+
+-- a disk of 1 to 65,536 whole sectors of 512 bytes
+abbrev pub IsDiskSize : ℕ → Type 0
+IsDiskSize size = (sectors : ℕ) × (1 ≤ sectors) × (sectors ≤ 0x1_0000) × (size ≡ sectors * 512)
+
+abbrev pub IsDisk : Option (List ℕ) → Type 0
+IsDisk None = Unit {0}
+IsDisk (Some sectors) = IsDiskSize (length sectors)
+
+pub record IsSetup (setup : Setup) : Type 0 where
+  pub some_memory : 1 ≤ setup.mib
+  pub most_memory : setup.mib ≤ 64
+  pub cards : IsCardList setup.cards
+  pub windows : memory_of_cards setup.cards ≤ 0x400_0000
+  pub rom : IsRomSize (length setup.rom)
+  pub disk : IsDisk setup.disk
