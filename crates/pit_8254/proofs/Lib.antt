@@ -1,3 +1,4 @@
+mod Bytes
 mod Latches
 mod Pulses
 mod ReadBacks

@@ -1,7 +1,7 @@
 -- Pulses of the whole chip.
 use Rattle.std.proofs.Common.{◌≡◌, ℕ, zero, suc, ◌+◌, refl, ap, sym, add-zero, add-suc, add_assoc}
 use Rattle.pit_8254.specs.Pit.{PitState, pulses, rises, rise_of, pulse_all}
-use Rattle.pit_8254.specs.PitLaws.{PulsesAddUp}
+use Rattle.pit_8254.specs.PitLaws.{PulsesAddUp, CountersAreApart, pulses_of}
 
 pulses-add : (n m : ℕ) (p : PitState) → pulses (n + m) p ≡ pulses m (pulses n p)
 unfolding pulses
@@ -16,3 +16,8 @@ rises-add n (suc m) p =
 
 pub pulses_add_up : PulsesAddUp
 pulses_add_up n m p = (pulses-add n m p, rises-add n m p)
+
+pub counters_apart : CountersAreApart
+unfolding pulses pulses_of pulse_all
+counters_apart zero p = refl
+counters_apart (suc n) p = ap pulse_all (counters_apart n p)

@@ -1,6 +1,6 @@
 -- Laws of the 8254's machine.
-use Rattle.std.specs.Prelude.{◌≡◌, ℕ, zero, suc, ◌+◌, Bool, true, false, if◌then◌else◌, List, [], ◌∷◌, None, length}
-use Rattle.pit_8254.specs.Pit.{CounterState, PitState, element_bytes, latch_count, read_back, read, write, set_gate, pulse, write_control, pulses, rises}
+use Rattle.std.specs.Prelude.{◌≡◌, ℕ, zero, suc, ◌+◌, ◌<◌, ◌/◌, ◌%◌, Bool, true, false, if◌then◌else◌, List, [], ◌∷◌, None, length}
+use Rattle.pit_8254.specs.Pit.{Mode, Notation, Binary, Decimal, is_periodic, count_of_bytes, low_byte, high_byte, CounterState, PitState, element_bytes, latch_count, read_back, read, write, set_gate, pulse, write_control, pulses, rises}
 
 -- A LATCHED COUNT
 
@@ -84,3 +84,35 @@ abbrev pub PulsesAddUp : Type 0
 PulsesAddUp =
     (n m : ℕ) (p : PitState)
     → (pulses (n + m) p ≡ pulses m (pulses n p)) × (rises (n + m) p ≡ rises n p + rises m (pulses n p))
+
+-- n pulses of one counter
+unfoldable pub pulses_of : ℕ → CounterState → CounterState
+pulses_of zero c = c
+pulses_of (suc n) c = pulse (pulses_of n c)
+
+-- the counters do not see one another
+abbrev pub CountersAreApart : Type 0
+CountersAreApart =
+    (n : ℕ) (p : PitState)
+    → pulses n p
+    ≡ record {
+        counter0 = pulses_of n p.counter0;
+        counter1 = pulses_of n p.counter1;
+        counter2 = pulses_of n p.counter2 }
+
+-- THE BYTES OF A COUNT
+
+-- a byte whose digits are digits
+abbrev pub IsByteOf : Notation → ℕ → Type 0
+IsByteOf Binary byte = byte < 256
+IsByteOf Decimal byte = (byte / 16 < 10) × (byte % 16 < 10)
+
+-- a count reads as the bytes that were written; 0 too, which is M. Only the count 1 of a periodic mode reads as 2
+abbrev pub CountReadsAsWritten : Type 0
+CountReadsAsWritten =
+    (mode : Mode) (notation : Notation) (low high : ℕ)
+    → is_periodic mode ≡ false
+    → IsByteOf notation low
+    → IsByteOf notation high
+    → let count = count_of_bytes mode notation low high in
+      (low_byte notation count ≡ low) × (high_byte notation count ≡ high)

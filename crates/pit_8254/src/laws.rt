@@ -1,5 +1,5 @@
 //! Laws of the timer's machine: each is the contract of a function that does nothing.
-ghost use Rattle.pit_8254.specs.PitLaws.{LatchedCountStays, LatchedCountIsRead, ReadBackIsOneByOne, ReadBackIsLatch, ReadBackOfBoth, PulsesAddUp};
+ghost use Rattle.pit_8254.specs.PitLaws.{LatchedCountStays, LatchedCountIsRead, ReadBackIsOneByOne, ReadBackIsLatch, ReadBackOfBoth, PulsesAddUp, CountersAreApart, CountReadsAsWritten};
 
 /// A latched count is what was in CE when it was latched, whatever happens after it, and the reads give it.
 pub fn latched_count_stays()
@@ -18,3 +18,15 @@ pub fn read_back_is_single_latches()
 pub fn pulses_add_up()
     ensures sum { PulsesAddUp }
 {}
+
+/// Pulses of the chip are pulses of each counter by itself.
+pub fn counters_are_apart()
+    ensures apart { CountersAreApart }
+{
+}
+
+/// A count that is written low byte and high byte is read as these bytes.
+pub fn count_reads_as_written()
+    ensures bytes { CountReadsAsWritten }
+{
+}
