@@ -1,0 +1,182 @@
+-- Sets of levels and the bits of their bytes.
+use Rattle.std.proofs.Common.{◌≡◌, ℕ, zero, suc, ◌+◌, ◌-◌, ◌*◌, ◌/◌, ◌%◌, ◌^◌, ◌<◌, ◌≤◌, ◌≢◌, min, max, Bool, true, false, not, eqb, ltb, ◌||◌, ◌&&◌, List, [], ◌∷◌, length, get_or, refl, sym, ap, ◌∙◌, inl, inr, arith, lit<, add-one}
+use Rattle.std.specs.Prelude.{bit_or, bit_and}
+use Rattle.std.specs.Int.{bit_at, bit_not}
+use mir.Syntax.{w8}
+use Rattle.std.proofs.lemmas.Bool.{cases_eq, cases_order, eq-eqb, ne_eqb, lt-ltb, le-ltb, agree_below, agree_below_at, eqb-true}
+use Rattle.std.proofs.lemmas.Nat.Bits.{bit_at-lt, bit_at_or, bit_at_and, bit_at_not, bit_at_set_same, bit_at_set_other, bit_at_clear_same, bit_at_clear_other, shr_and_one}
+use Rattle.pic_pair.specs.Levels.{Levels, has, levels_where, no_levels, with_level, without_level, is_bit, levels_of_byte, byte_of_levels}
+
+-- tests that agree on the levels give one set
+pub levels_where-same : (p q : ℕ → Bool) → ((l : ℕ) → l < 8 → p l ≡ q l) → levels_where p ≡ levels_where q
+unfolding levels_where
+levels_where-same p q same =
+    let e0 = same 0 (lit< tt) in
+    let e1 = same 1 (lit< tt) in
+    let e2 = same 2 (lit< tt) in
+    let e3 = same 3 (lit< tt) in
+    let e4 = same 4 (lit< tt) in
+    let e5 = same 5 (lit< tt) in
+    let e6 = same 6 (lit< tt) in
+    let e7 = same 7 (lit< tt) in
+    cc
+
+-- a set has the levels that pass its test
+pub has-levels_where : (p : ℕ → Bool) (l : ℕ) → l < 8 → has (levels_where p) l ≡ p l
+unfolding levels_where
+has-levels_where p zero h = refl
+has-levels_where p (suc zero) h = refl
+has-levels_where p (suc (suc zero)) h = refl
+has-levels_where p (suc (suc (suc zero))) h = refl
+has-levels_where p (suc (suc (suc (suc zero)))) h = refl
+has-levels_where p (suc (suc (suc (suc (suc zero))))) h = refl
+has-levels_where p (suc (suc (suc (suc (suc (suc zero)))))) h = refl
+has-levels_where p (suc (suc (suc (suc (suc (suc (suc zero))))))) h = refl
+has-levels_where p (suc (suc (suc (suc (suc (suc (suc (suc l)))))))) h = absurd (omega arith)
+
+-- a list of eight Booleans is the set of the levels at which it is true
+pub levels_where-has : (set : Levels) → length set ≡ 8 → levels_where (λ l. has set l) ≡ set
+unfolding levels_where
+levels_where-has (a ∷ b ∷ c ∷ d ∷ e ∷ f ∷ g ∷ h ∷ []) all = refl
+levels_where-has [] all = absurd (omega arith)
+levels_where-has (a ∷ []) all = absurd (omega arith)
+levels_where-has (a ∷ b ∷ []) all = absurd (omega arith)
+levels_where-has (a ∷ b ∷ c ∷ []) all = absurd (omega arith)
+levels_where-has (a ∷ b ∷ c ∷ d ∷ []) all = absurd (omega arith)
+levels_where-has (a ∷ b ∷ c ∷ d ∷ e ∷ []) all = absurd (omega arith)
+levels_where-has (a ∷ b ∷ c ∷ d ∷ e ∷ f ∷ []) all = absurd (omega arith)
+levels_where-has (a ∷ b ∷ c ∷ d ∷ e ∷ f ∷ g ∷ []) all = absurd (omega arith)
+levels_where-has (a ∷ b ∷ c ∷ d ∷ e ∷ f ∷ g ∷ h ∷ i ∷ more) all = absurd (omega arith)
+
+-- ---- bits
+
+max-bits : (x y : ℕ) → x < 2 → y < 2 → eqb (max x y) 1 ≡ (eqb x 1 || eqb y 1)
+max-bits zero zero p q = refl
+max-bits zero (suc zero) p q = refl
+max-bits (suc zero) zero p q = refl
+max-bits (suc zero) (suc zero) p q = refl
+max-bits (suc (suc x)) y p q = absurd (omega arith)
+max-bits x (suc (suc y)) p q = absurd (omega arith)
+
+min-bits : (x y : ℕ) → x < 2 → y < 2 → eqb (min x y) 1 ≡ (eqb x 1 && eqb y 1)
+min-bits zero zero p q = refl
+min-bits zero (suc zero) p q = refl
+min-bits (suc zero) zero p q = refl
+min-bits (suc zero) (suc zero) p q = refl
+min-bits (suc (suc x)) y p q = absurd (omega arith)
+min-bits x (suc (suc y)) p q = absurd (omega arith)
+
+not-bit : (x : ℕ) → x < 2 → eqb (1 - x) 1 ≡ not (eqb x 1)
+not-bit zero p = refl
+not-bit (suc zero) p = refl
+not-bit (suc (suc x)) p = absurd (omega arith)
+
+-- bit l of a byte after a bit operation
+pub is_bit-or : (a b l : ℕ) → is_bit (bit_or a b) l ≡ (is_bit a l || is_bit b l)
+is_bit-or a b l = ap (λ x. eqb x 1) (bit_at_or a b l) ∙ max-bits (bit_at a l) (bit_at b l) (bit_at-lt a l) (bit_at-lt b l)
+
+pub is_bit-and : (a b l : ℕ) → is_bit (bit_and a b) l ≡ (is_bit a l && is_bit b l)
+is_bit-and a b l = ap (λ x. eqb x 1) (bit_at_and a b l) ∙ min-bits (bit_at a l) (bit_at b l) (bit_at-lt a l) (bit_at-lt b l)
+
+pub is_bit-not : (b l : ℕ) → b < 256 → l < 8 → is_bit (255 - b) l ≡ not (is_bit b l)
+is_bit-not b l small h = ap (λ x. eqb x 1) (bit_at_not w8 b l small h) ∙ not-bit (bit_at b l) (bit_at-lt b l)
+
+pub is_bit-set : (n k l : ℕ) → k < 8 → l < 8 → is_bit (bit_or n (1 * 2 ^ k % 256)) l ≡ (eqb l k || is_bit n l)
+is_bit-set n k l hk hl =
+    elim (cases_eq l k) [
+      | inl same ↦ rw (same, eq-eqb k k refl) (ap (λ x. eqb x 1) (bit_at_set_same w8 n k hk))
+      | inr other ↦ rw (ne_eqb l k other) (ap (λ x. eqb x 1) (bit_at_set_other w8 n k hk l other))
+    ]
+
+pub is_bit-clear : (n k l : ℕ) → k < 8 → l < 8 → is_bit (bit_and n (255 - 1 * 2 ^ k % 256)) l ≡ (not (eqb l k) && is_bit n l)
+is_bit-clear n k l hk hl =
+    elim (cases_eq l k) [
+      | inl same ↦ rw (same, eq-eqb k k refl) (ap (λ x. eqb x 1) (bit_at_clear_same w8 n k hk))
+      | inr other ↦ rw (ne_eqb l k other) (ap (λ x. eqb x 1) (bit_at_clear_other w8 n k hk l hl other))
+    ]
+
+-- ---- what the operations on masks do to the sets
+
+pub levels-union : (a b : ℕ) → levels_of_byte (bit_or a b) ≡ levels_where (λ l. has (levels_of_byte a) l || has (levels_of_byte b) l)
+levels-union a b =
+    levels_where-same _ (λ l. has (levels_of_byte a) l || has (levels_of_byte b) l) (λ l h. rw (has-levels_where (is_bit a) l h, has-levels_where (is_bit b) l h) (is_bit-or a b l))
+
+pub levels-both : (a b : ℕ) → levels_of_byte (bit_and a b) ≡ levels_where (λ l. has (levels_of_byte a) l && has (levels_of_byte b) l)
+levels-both a b =
+    levels_where-same _ (λ l. has (levels_of_byte a) l && has (levels_of_byte b) l) (λ l h. rw (has-levels_where (is_bit a) l h, has-levels_where (is_bit b) l h) (is_bit-and a b l))
+
+pub levels-rest : (a b : ℕ) → b < 256 → levels_of_byte (bit_and a (255 - b)) ≡ levels_where (λ l. has (levels_of_byte a) l && not (has (levels_of_byte b) l))
+levels-rest a b small =
+    levels_where-same _ (λ l. has (levels_of_byte a) l && not (has (levels_of_byte b) l)) (λ l h. rw (has-levels_where (is_bit a) l h, has-levels_where (is_bit b) l h) (is_bit-and a (255 - b) l ∙ ap (λ x. is_bit a l && x) (is_bit-not b l small h)))
+
+pub levels-set : (n k : ℕ) → k < 8 → levels_of_byte (bit_or n (1 * 2 ^ k % 256)) ≡ with_level (levels_of_byte n) k
+levels-set n k hk =
+    levels_where-same _ (λ l. eqb l k || has (levels_of_byte n) l) (λ l h. rw (has-levels_where (is_bit n) l h) (is_bit-set n k l hk h))
+
+pub levels-cleared : (n k : ℕ) → k < 8 → levels_of_byte (bit_and n (255 - 1 * 2 ^ k % 256)) ≡ without_level (levels_of_byte n) k
+levels-cleared n k hk =
+    levels_where-same _ (λ l. not (eqb l k) && has (levels_of_byte n) l) (λ l h. rw (has-levels_where (is_bit n) l h) (is_bit-clear n k l hk h))
+
+-- a bit tested by a shift and a mask
+pub has-shifted : (n k : ℕ) → k < 8 → eqb (bit_and (n / 2 ^ k) 1) 1 ≡ has (levels_of_byte n) k
+has-shifted n k hk = rw (has-levels_where (is_bit n) k hk) (ap (λ x. eqb x 1) (shr_and_one n k))
+
+-- the byte of a byte's set
+is_own_byte : ℕ → Bool
+is_own_byte n = eqb n (byte_of_levels (levels_of_byte n))
+
+pub byte-levels : (n : ℕ) → n < 256 → n ≡ byte_of_levels (levels_of_byte n)
+unfolding is_own_byte byte_of_levels levels_where
+byte-levels n small =
+    eqb-true n (byte_of_levels (levels_of_byte n)) (agree_below_at is_own_byte (λ _. true) 256 n refl small)
+
+-- ---- a set made level by level
+
+-- the levels below i of a list
+unfoldable pub front_levels : Levels → ℕ → Levels
+front_levels levels i = levels_where (λ k. ltb k i && has levels k)
+
+front-here : (levels : Levels) (i k : ℕ) → has levels i ≡ true → (eqb k i || (ltb k i && has levels k)) ≡ (ltb k (i + 1) && has levels k)
+front-here levels i k here =
+    elim (cases_order k i) [
+      | inl same ↦ rw (same, eq-eqb i i refl, lt-ltb i (i + 1) (omega arith), here) refl
+      | inr apart ↦ elim apart [
+        | inl below ↦ rw (ne_eqb k i (λ e. omega arith), lt-ltb k i below, lt-ltb k (i + 1) (omega arith)) refl
+        | inr above ↦ rw (ne_eqb k i (λ e. omega arith), le-ltb k i (omega arith), le-ltb k (i + 1) (omega arith)) refl
+      ]
+    ]
+
+front-absent : (levels : Levels) (i k : ℕ) → has levels i ≡ false → (ltb k i && has levels k) ≡ (ltb k (i + 1) && has levels k)
+front-absent levels i k absent =
+    elim (cases_order k i) [
+      | inl same ↦ rw (same, le-ltb i i (omega arith), lt-ltb i (i + 1) (omega arith), absent) refl
+      | inr apart ↦ elim apart [
+        | inl below ↦ rw (lt-ltb k i below, lt-ltb k (i + 1) (omega arith)) refl
+        | inr above ↦ rw (le-ltb k i (omega arith), le-ltb k (i + 1) (omega arith)) refl
+      ]
+    ]
+
+pub front_levels-with : (levels : Levels) (i : ℕ) → i < 8 → has levels i ≡ true → with_level (front_levels levels i) i ≡ front_levels levels (i + 1)
+unfolding front_levels
+front_levels-with levels i small here =
+    levels_where-same (λ k. eqb k i || has (front_levels levels i) k) (λ k. ltb k (i + 1) && has levels k) (λ k h. rw (has-levels_where (λ k. ltb k i && has levels k) k h) (front-here levels i k here))
+
+pub front_levels-without : (levels : Levels) (i : ℕ) → has levels i ≡ false → front_levels levels i ≡ front_levels levels (i + 1)
+unfolding front_levels
+front_levels-without levels i absent =
+    levels_where-same (λ k. ltb k i && has levels k) (λ k. ltb k (i + 1) && has levels k) (λ k h. front-absent levels i k absent)
+
+pub front_levels-all : (levels : Levels) (i : ℕ) → length levels ≡ 8 → 8 ≤ i → front_levels levels i ≡ levels
+unfolding front_levels
+front_levels-all levels i all h =
+    levels_where-same (λ k. ltb k i && has levels k) (λ k. has levels k) (λ k small. rw (lt-ltb k i (omega arith)) refl)
+    ∙ levels_where-has levels all
+
+pub front_levels-none : (levels : Levels) → no_levels ≡ front_levels levels 0
+unfolding front_levels
+front_levels-none levels =
+    levels_where-same (λ _. false) (λ k. ltb k 0 && has levels k) (λ k small. rw (le-ltb k 0 (omega arith)) refl)
+
+-- a bit of a byte, tested by a shift and a mask
+pub is_bit-shifted : (n k : ℕ) → eqb (bit_and (n / 2 ^ k) 1) 1 ≡ is_bit n k
+is_bit-shifted n k = ap (λ x. eqb x 1) (shr_and_one n k)

@@ -1,0 +1,4 @@
+pub mod Levels
+pub mod Pair
+pub mod Pic
+pub mod View

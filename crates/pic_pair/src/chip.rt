@@ -1,0 +1,451 @@
+//! One 8259A interrupt controller.
+ghost use Rattle.std.specs.Prelude.{◌≡◌, ◌+◌, ◌++◌, ◌<◌, ◌&&◌, ◌||◌, not, IfSome, EachIndex, slice_index, false};
+ghost use Rattle.pic_pair.specs.Levels.{with_level, is_bit};
+ghost use Rattle.pic_pair.specs.View.{awaited_words, cascade_words, mode_words};
+ghost use Rattle.pic_pair.specs.Pic.{acknowledged_if, byte_polled, is_complete, chip_at_reset, chip_after_inputs, pending, priority_order, is_blocking, blocks_itself, is_requested, request, interrupt, acknowledged, chip_after_icw1, first_blocking, ended, chip_after_ocw2, chip_after_ocw3, chip_after_even_write, chip_after_odd_write, chip_after_write, byte_read, chip_after_read};
+
+use crate::level_set::LevelSet;
+use std::marker::Model;
+
+/// The input of the master that a slave sits on.
+pub const CASCADE: u8 = 2;
+/// The level of lowest priority after a reset or ICW1.
+const LAST_LEVEL: u8 = 7;
+/// The levels, IR0 to IR7.
+const LEVELS: [u8; 8] = [0, 1, 2, 3, 4, 5, 6, 7];
+
+/// ICW1: the bit that marks it among the words of the even port.
+const ICW1: u8 = 4;
+/// ICW1: the chip is alone, so that ICW3 does not come.
+const SINGLE: u8 = 1;
+/// ICW1: ICW4 is to come.
+const NEEDS_ICW4: u8 = 0;
+/// ICW2: the bits that give the base of the vectors.
+const VECTOR_BASE: u8 = 0xF8;
+/// ICW4: automatic end of interrupt.
+const AUTO_EOI: u8 = 1;
+/// ICW4: special fully nested mode.
+const FULLY_NESTED: u8 = 4;
+
+/// OCW2: the bits that name a level.
+const LEVEL: u8 = 7;
+/// OCW2: where its command, the bits R, SL and EOI, begins.
+const COMMAND: u8 = 5;
+/// The commands of OCW2.
+const NON_SPECIFIC_EOI: u8 = 0b001;
+
+const SPECIFIC_EOI: u8 = 0b011;
+
+const ROTATE_ON_NON_SPECIFIC_EOI: u8 = 0b101;
+
+const ROTATE_ON_SPECIFIC_EOI: u8 = 0b111;
+
+const SET_ROTATE_IN_AUTO_EOI: u8 = 0b100;
+
+const CLEAR_ROTATE_IN_AUTO_EOI: u8 = 0b000;
+
+const SET_PRIORITY: u8 = 0b110;
+
+/// OCW3: the bit that marks it, where that of ICW1 is 0.
+const OCW3: u8 = 3;
+/// OCW3: special mask mode is to be taken from `SPECIAL_MASK`.
+const ENABLE_SPECIAL_MASK: u8 = 6;
+/// OCW3: special mask mode.
+const SPECIAL_MASK: u8 = 5;
+/// OCW3: the next read polls.
+const POLL: u8 = 2;
+/// OCW3: what a read gives is to be taken from `READ_IN_SERVICE`.
+const READ_REGISTER: u8 = 1;
+/// OCW3: a read gives the levels in service.
+const READ_IN_SERVICE: u8 = 0;
+
+/// What a poll adds to the level that it found.
+const POLLED: u8 = 0x80;
+
+/// The initialisation command words that are awaited.
+#[derive(Clone, Copy)]
+pub enum Awaited {
+    /// None: the odd port takes the mask.
+    Nothing,
+    /// ICW2, then ICW3 unless `single`, and ICW4 where `mode`.
+    Vector { single: bool, mode: bool },
+    /// ICW3, then ICW4 where `mode`.
+    Cascade { mode: bool },
+    /// ICW4.
+    Mode,
+}
+
+/// One 8259A: its registers, the levels of its inputs and its modes.
+#[derive(Drop)]
+pub struct Pic {
+    has_slave: bool,
+    base: u8,
+    masked: LevelSet,
+    in_service: LevelSet,
+    latches: LevelSet,
+    inputs: LevelSet,
+    triggers: LevelSet,
+    awaited: Awaited,
+    is_ready: bool,
+    auto_eoi: bool,
+    fully_nested: bool,
+    rotates: bool,
+    special_mask: bool,
+    lowest: u8,
+    polls: bool,
+    reads_in_service: bool,
+}
+
+impl Model for Pic {
+    ghost use Rattle.std.specs.Prelude.{◌≤◌, ◌<◌};
+    ghost use Rattle.pic_pair.specs.Pic.{Chip};
+
+    ghost Value = { Chip };
+
+    ghost use Rattle.pic_pair.specs.View.{awaited_words};
+
+    ghost view = { λ pic. record {
+      has_slave = pic.has_slave;
+      base = pic.base;
+      masked = pic.masked;
+      in_service = pic.in_service;
+      latches = pic.latches;
+      inputs = pic.inputs;
+      triggers = pic.triggers;
+      awaited = awaited_words pic.awaited;
+      is_ready = pic.is_ready;
+      auto_eoi = pic.auto_eoi;
+      fully_nested = pic.fully_nested;
+      rotates = pic.rotates;
+      special_mask = pic.special_mask;
+      lowest = pic.lowest;
+      polls = pic.polls;
+      reads_in_service = pic.reads_in_service;
+    } };
+
+    ghost invariant = { λ pic. (pic.base ≤ 248) × (pic.lowest < 8) };
+}
+
+impl Pic {
+    /// A chip after a reset, with its inputs at these levels; the master `has_slave`.
+    pub fn new(has_slave: bool, inputs: LevelSet) -> Pic
+        ensures reset { result ≡ chip_at_reset has_slave inputs }
+    {
+        Pic {
+            has_slave,
+            base: 0,
+            masked: LevelSet::empty(),
+            in_service: LevelSet::empty(),
+            latches: LevelSet::empty(),
+            inputs,
+            triggers: LevelSet::empty(),
+            awaited: Awaited::Nothing,
+            is_ready: false,
+            auto_eoi: false,
+            fully_nested: false,
+            rotates: false,
+            special_mask: false,
+            lowest: LAST_LEVEL,
+            polls: false,
+            reads_in_service: false,
+        }
+    }
+
+    /// Gives the inputs their levels, with those that are level triggered: rises are latched.
+    pub fn set_inputs(&mut self, inputs: LevelSet, triggers: LevelSet)
+        ensures inputs { self.new ≡ chip_after_inputs self.old inputs triggers }
+    {
+        let rises = inputs.difference(&self.inputs);
+        let falls = self.inputs.difference(&inputs);
+        self.latches = self.latches.union(&rises).difference(&falls);
+        self.inputs = inputs;
+        self.triggers = triggers;
+    }
+
+    /// Latches the slave's request at the input that it sits on.
+    pub fn latch_slave(&mut self)
+        ensures latched { self.new ≡ record self.old { latches = with_level self.old.latches 2 } }
+    {
+        self.latches.insert(CASCADE);
+    }
+
+    /// The level that the output INT stands for, where it is 1.
+    pub fn interrupt(&self) -> Option<u8>
+        ensures interrupt { result ≡ interrupt self.now }
+        ensures level { IfSome result (λ level. level < 8) }
+    {
+        if self.is_ready { self.request() } else { None }
+    }
+
+    /// The vector of a level.
+    pub fn vector(&self, level: u8) -> u8
+        requires { level < 8 }
+        ensures vector { result ≡ self.now.base + level }
+    {
+        self.base + level
+    }
+
+    /// Takes a level into service, or with automatic end of interrupt only clears its latch.
+    pub fn acknowledge(&mut self, level: u8)
+        requires { level < 8 }
+        ensures acknowledged { self.new ≡ acknowledged self.old level }
+    {
+        self.latches.remove(level);
+        if !self.auto_eoi {
+            self.in_service.insert(level);
+        } else if self.rotates {
+            self.lowest = level;
+        }
+    }
+
+    /// Reads the even or the odd port.
+    #[tactic(auto, unfolding(crate::specs::Pic::byte_read, crate::specs::Pic::chip_after_read))]
+    pub fn read(&mut self, is_odd: bool) -> u8
+        ensures byte { result ≡ byte_read self.old is_odd }
+        ensures after { self.new ≡ chip_after_read self.old }
+    {
+        if self.polls {
+            return self.poll();
+        }
+        if is_odd {
+            self.masked.byte()
+        } else if self.reads_in_service {
+            self.in_service.byte()
+        } else {
+            self.pending().byte()
+        }
+    }
+
+    /// Writes the even or the odd port.
+    #[tactic(auto, unfolding(crate::specs::Pic::chip_after_write))]
+    pub fn write(&mut self, is_odd: bool, byte: u8)
+        ensures written { self.new ≡ chip_after_write self.old is_odd byte }
+    {
+        if is_odd {
+            self.write_odd(byte);
+        } else if is_bit(byte, ICW1) {
+            self.initialise(byte);
+        } else if is_bit(byte, OCW3) {
+            self.operate_modes(byte);
+        } else {
+            self.operate(byte >> COMMAND, byte & LEVEL);
+        }
+    }
+
+    /// Acknowledges a request by a read.
+    fn poll(&mut self) -> u8
+        ensures byte { result ≡ byte_polled (interrupt self.old) }
+        ensures after { self.new ≡ record (acknowledged_if self.old (interrupt self.old)) { polls = false } }
+    {
+        match self.interrupt() {
+            Some(level) => {
+                self.acknowledge(level);
+                self.polls = false;
+                POLLED + level
+            }
+            None => {
+                self.polls = false;
+                0
+            }
+        }
+    }
+
+    /// The levels that ask for service.
+    fn pending(&self) -> LevelSet
+        ensures pending { result ≡ pending self.now }
+    {
+        let high = self.inputs.intersection(&self.triggers);
+        let latched = self.latches.difference(&self.triggers);
+        high.union(&latched)
+    }
+
+    /// The levels from the highest priority to the lowest.
+    fn order(&self) -> [u8; 8]
+        ensures order { result ≡ priority_order self.now.lowest }
+        ensures levels { EachIndex result (λ place. slice_index result place < 8) }
+    {
+        let mut order = LEVELS;
+        order.rotate_left(self.lowest as usize + 1);
+        order
+    }
+
+    /// Whether a level in service blocks those after it.
+    fn is_blocking(&self, level: u8) -> bool
+        requires { level < 8 }
+        ensures blocking { result ≡ is_blocking self.now level }
+    {
+        self.in_service.contains(level) && !(self.special_mask && self.masked.contains(level))
+    }
+
+    /// Whether a level in service blocks itself: not that of a slave in special fully nested mode.
+    fn blocks_itself(&self, level: u8) -> bool
+        requires { level < 8 }
+        ensures blocking { result ≡ blocks_itself self.now level }
+    {
+        self.is_blocking(level) && !(self.fully_nested && self.has_slave && level == CASCADE)
+    }
+
+    /// Whether a level is pending, not masked and not blocked by itself.
+    fn asks(&self, level: u8) -> bool
+        requires { level < 8 }
+        ensures asks { result ≡ (is_requested self.now level && not (blocks_itself self.now level)) }
+    {
+        self.pending().contains(level) && !self.masked.contains(level) && !self.blocks_itself(level)
+    }
+
+    /// The first level that can be selected.
+    fn request(&self) -> Option<u8>
+        ensures request { result ≡ request self.now }
+        ensures level { IfSome result (λ level. level < 8) }
+    {
+        for level in self.order() {
+            if self.asks(level) {
+                return Some(level);
+            }
+            if self.is_blocking(level) {
+                return None;
+            }
+        }
+        None
+    }
+
+    /// The first level that blocks, which a non-specific end of interrupt is for.
+    fn first_blocking(&self) -> Option<u8>
+        ensures first { result ≡ first_blocking self.now }
+        ensures level { IfSome result (λ level. level < 8) }
+    {
+        for level in self.order() {
+            if self.is_blocking(level) {
+                return Some(level);
+            }
+        }
+        None
+    }
+
+    /// ICW1.
+    fn initialise(&mut self, byte: u8)
+        ensures initialised { self.new ≡ chip_after_icw1 self.old byte }
+    {
+        self.masked = LevelSet::empty();
+        self.in_service = LevelSet::empty();
+        self.latches = LevelSet::empty();
+        self.awaited = Awaited::Vector {
+            single: is_bit(byte, SINGLE),
+            mode: is_bit(byte, NEEDS_ICW4),
+        };
+        self.auto_eoi = false;
+        self.fully_nested = false;
+        self.rotates = false;
+        self.special_mask = false;
+        self.lowest = LAST_LEVEL;
+        self.polls = false;
+        self.reads_in_service = false;
+    }
+
+    /// OCW2: ends of interrupts, and priorities.
+    fn operate(&mut self, command: u8, level: u8)
+        requires { level < 8 }
+        ensures operated { self.new ≡ chip_after_ocw2 self.old command level }
+    {
+        match command {
+            NON_SPECIFIC_EOI => self.end(false, self.first_blocking()),
+            SPECIFIC_EOI => self.end(false, Some(level)),
+            ROTATE_ON_NON_SPECIFIC_EOI => self.end(true, self.first_blocking()),
+            ROTATE_ON_SPECIFIC_EOI => self.end(true, Some(level)),
+            SET_ROTATE_IN_AUTO_EOI => self.rotates = true,
+            CLEAR_ROTATE_IN_AUTO_EOI => self.rotates = false,
+            SET_PRIORITY => self.lowest = level,
+            _ => {}
+        }
+    }
+
+    /// Takes a level out of service, and makes it the lowest where the priorities rotate.
+    fn end(&mut self, rotates: bool, level: Option<u8>)
+        requires { IfSome level (λ level. level < 8) }
+        ensures ended { self.new ≡ ended rotates self.old level }
+    {
+        if let Some(level) = level {
+            self.in_service.remove(level);
+            if rotates {
+                self.lowest = level;
+            }
+        }
+    }
+
+    /// OCW3: special mask mode, poll, and what a read gives.
+    fn operate_modes(&mut self, byte: u8)
+        ensures operated { self.new ≡ chip_after_ocw3 self.old byte }
+    {
+        self.polls = is_bit(byte, POLL) || self.polls;
+        if is_bit(byte, ENABLE_SPECIAL_MASK) {
+            self.special_mask = is_bit(byte, SPECIAL_MASK);
+        }
+        if is_bit(byte, READ_REGISTER) {
+            self.reads_in_service = is_bit(byte, READ_IN_SERVICE);
+        }
+    }
+
+    /// The word that is awaited, or else the mask.
+    fn write_odd(&mut self, byte: u8)
+        ensures written { self.new ≡ chip_after_odd_write self.old self.old.awaited byte }
+    {
+        match self.awaited {
+            Awaited::Nothing => self.masked = LevelSet::from_byte(byte),
+            Awaited::Vector { single, mode } => {
+                self.base = byte & VECTOR_BASE;
+                self.await_words(Awaited::after_vector(single, mode));
+            }
+            Awaited::Cascade { mode } => self.await_words(Awaited::after_cascade(mode)),
+            Awaited::Mode => {
+                self.auto_eoi = is_bit(byte, AUTO_EOI);
+                self.fully_nested = is_bit(byte, FULLY_NESTED);
+                self.await_words(Awaited::Nothing);
+            }
+        }
+    }
+
+    /// Awaits these words; where there are none, a sequence is complete and the chip is ready.
+    fn await_words(&mut self, awaited: Awaited)
+        ensures awaits { self.new ≡ record self.old {
+          awaited = awaited_words awaited;
+          is_ready = self.old.is_ready || is_complete (awaited_words awaited);
+        } }
+    {
+        if let Awaited::Nothing = awaited {
+            self.is_ready = true;
+        }
+        self.awaited = awaited;
+    }
+}
+
+impl Awaited {
+    /// The words awaited after ICW2.
+    fn after_vector(single: bool, mode: bool) -> Awaited
+        ensures words { awaited_words result ≡ cascade_words single ++ mode_words mode }
+    {
+        if single {
+            Awaited::after_cascade(mode)
+        } else {
+            Awaited::Cascade { mode }
+        }
+    }
+
+    /// The words awaited after ICW3.
+    fn after_cascade(mode: bool) -> Awaited
+        ensures words { awaited_words result ≡ mode_words mode }
+    {
+        if mode {
+            Awaited::Mode
+        } else {
+            Awaited::Nothing
+        }
+    }
+}
+
+/// Whether a bit of a byte is 1.
+fn is_bit(byte: u8, bit: u8) -> bool
+    requires { bit < 8 }
+    ensures bit { result ≡ is_bit byte bit }
+{
+    byte >> bit & 1 == 1
+}

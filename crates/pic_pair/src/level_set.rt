@@ -1,0 +1,109 @@
+//! Sets of the eight levels of an interrupt controller, as bit masks.
+ghost use Rattle.std.specs.Prelude.{◌≡◌, ◌<◌, ◌&&◌, ◌||◌, not, length};
+ghost use Rattle.pic_pair.specs.Levels.{has, levels_where, no_levels, with_level, without_level, levels_of_byte, byte_of_levels};
+
+use std::marker::Model;
+
+/// A set of levels, IR0 to IR7.
+///
+/// Contracts see the list of eight Booleans that say which levels it has.
+#[derive(Drop)]
+pub struct LevelSet {
+    bits: u8,
+}
+
+impl Model for LevelSet {
+    ghost use Rattle.pic_pair.specs.Levels.{Levels, levels_of_byte};
+
+    ghost Value = { Levels };
+
+    ghost view = { λ set. levels_of_byte set.bits };
+}
+
+impl LevelSet {
+    /// The set of no levels.
+    pub fn empty() -> LevelSet
+        ensures none { result ≡ no_levels }
+    {
+        LevelSet { bits: 0 }
+    }
+
+    /// The set of the levels whose bit is 1.
+    pub fn from_byte(byte: u8) -> LevelSet
+        ensures levels { result ≡ levels_of_byte byte }
+    {
+        LevelSet { bits: byte }
+    }
+
+    /// The set of the levels that are `true`.
+    pub fn from_levels(levels: &[bool]) -> LevelSet
+        requires { length levels.now ≡ 8 }
+        ensures levels { result ≡ levels.now }
+    {
+        let mut set = LevelSet::empty();
+        for (level, is_in) in levels.iter().enumerate() {
+            if *is_in {
+                set.insert(level as u8);
+            }
+        }
+        set
+    }
+
+    /// The byte with the bits of the set's levels.
+    pub fn byte(&self) -> u8
+        ensures byte { result ≡ byte_of_levels self.now }
+    {
+        self.bits
+    }
+
+    /// Whether the set has the level.
+    pub fn contains(&self, level: u8) -> bool
+        requires { level < 8 }
+        ensures has { result ≡ has self.now level }
+    {
+        self.bits >> level & 1 == 1
+    }
+
+    /// Adds a level.
+    pub fn insert(&mut self, level: u8)
+        requires { level < 8 }
+        ensures added { self.new ≡ with_level self.old level }
+    {
+        self.bits |= 1 << level;
+    }
+
+    /// Takes a level away.
+    pub fn remove(&mut self, level: u8)
+        requires { level < 8 }
+        ensures removed { self.new ≡ without_level self.old level }
+    {
+        self.bits &= !(1 << level);
+    }
+
+    /// The levels of one set or the other.
+    pub fn union(&self, other: &LevelSet) -> LevelSet
+        ensures either { result ≡ levels_where (λ level. has self.now level || has other.now level) }
+    {
+        LevelSet {
+            bits: self.bits | other.bits,
+        }
+    }
+
+    /// The levels of both sets.
+    pub fn intersection(&self, other: &LevelSet) -> LevelSet
+        ensures both { result ≡ levels_where (λ level. has self.now level && has other.now level) }
+    {
+        LevelSet {
+            bits: self.bits & other.bits,
+        }
+    }
+
+    /// The levels of this set that the other has not.
+    pub fn difference(&self, other: &LevelSet) -> LevelSet
+        ensures rest { result ≡ levels_where (λ level. has self.now level && not (has other.now level)) }
+    {
+        LevelSet {
+            bits: self.bits & !other.bits,
+        }
+    }
+}
