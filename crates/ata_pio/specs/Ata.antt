@@ -7,5 +7,6 @@
 pub mod Address
 pub mod Commands
 pub mod Identify
+pub mod Laws
 pub mod State
 pub mod Steps

@@ -7,8 +7,12 @@ mod command;
 mod controller;
 mod fault;
 mod identify;
+pub mod laws;
 mod port;
 mod sectors;
 mod task_file;
+
+#[cfg(test)]
+mod tests;
 
 pub use ata::{Ata, AtaOpen};
