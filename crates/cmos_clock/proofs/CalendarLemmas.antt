@@ -44,13 +44,14 @@ pub dates_agree : (year month day : ℕ) (y : ℤ) (m d : ℕ) → y ≡ pos yea
 dates_agree year month day y m d same_year same_month same_day first last in_year in_month =
     let months = rw same_month at in_year in
     let days = rw (same_year, same_month, same_day) at in_month in
-    record
-      { year_low = first
-      ; year_high = last
-      ; month_low = months.0
-      ; month_high = months.1
-      ; day_low = days.0
-      ; day_high = days.1 }
+    record {
+      year_low = first;
+      year_high = last;
+      month_low = months.0;
+      month_high = months.1;
+      day_low = days.0;
+      day_high = days.1;
+    }
 
 -- a week has seven days
 pub weekday_of_bound : (year month day : ℕ) → weekday_of year month day ≤ 7
@@ -103,8 +104,9 @@ next_year year h =
 pub weekdays_follow : WeekdaysFollow
 unfolding weekday_of days_since_1980 days_of_years days_of_months
 weekdays_follow =
-    record
-      { first = refl
-      ; next_day = λ year month day h. omega (arith, next_day year month day h)
-      ; next_month = λ year month h. omega (arith, next_month year month h)
-      ; next_year = λ year h. omega (arith, next_year year h) }
+    record {
+      first = refl;
+      next_day = λ year month day h. omega (arith, next_day year month day h);
+      next_month = λ year month h. omega (arith, next_month year month h);
+      next_year = λ year h. omega (arith, next_year year h);
+    }

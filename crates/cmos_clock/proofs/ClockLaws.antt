@@ -79,14 +79,15 @@ shows clock time size showable =
     let n = number_byte c time.month in
     let y = number_byte c (time.year % 100) in
     let same = timed-other b s m h w d n y 11 size (omega arith) (omega arith) (omega arith) (omega arith) (omega arith) (omega arith) (omega arith) in
-    record
-      { seconds = read_as _ _ c time.second same (timed-second b s m h w d n y size) (omega (arith, showable.seconds))
-      ; minutes = read_as _ _ c time.minute same (timed-minute b s m h w d n y size) (omega (arith, showable.minutes))
-      ; hours = hour_read_as _ _ c time.hour same (timed-hour b s m h w d n y size) showable.hours
-      ; weekdays = read_as _ _ c time.weekday same (timed-weekday b s m h w d n y size) showable.weekdays
-      ; days = read_as _ _ c time.day same (timed-day b s m h w d n y size) showable.days
-      ; months = read_as _ _ c time.month same (timed-month b s m h w d n y size) showable.months
-      ; years = read_as _ _ c (time.year % 100) same (timed-year b s m h w d n y size) (omega arith) }
+    record {
+      seconds = read_as _ _ c time.second same (timed-second b s m h w d n y size) (omega (arith, showable.seconds));
+      minutes = read_as _ _ c time.minute same (timed-minute b s m h w d n y size) (omega (arith, showable.minutes));
+      hours = hour_read_as _ _ c time.hour same (timed-hour b s m h w d n y size) showable.hours;
+      weekdays = read_as _ _ c time.weekday same (timed-weekday b s m h w d n y size) showable.weekdays;
+      days = read_as _ _ c time.day same (timed-day b s m h w d n y size) showable.days;
+      months = read_as _ _ c time.month same (timed-month b s m h w d n y size) showable.months;
+      years = read_as _ _ c (time.year % 100) same (timed-year b s m h w d n y size) (omega arith);
+    }
 
 pub shows_the_moment : ShowsTheMoment
 shows_the_moment clock time size let_in showable = rw let_in (shows clock time size showable)
@@ -152,11 +153,12 @@ pub reset_keeps_the_time : ResetKeepsTheTime
 reset_keeps_the_time clock size =
     let there : 11 < length clock.bytes = omega arith in
     let b = control_of clock in
-    record
-      { bytes = λ address other. get_or-set_other clock.bytes 11 address _ 0 other
-      ; switches = λ k h. ap (λ byte. has_bit byte k) (get_or-set_same clock.bytes 11 (control_reset b) 0 there) ∙ reset_bit b k h
-      ; index = refl
-      ; line = refl }
+    record {
+      bytes = λ address other. get_or-set_other clock.bytes 11 address _ 0 other;
+      switches = λ k h. ap (λ byte. has_bit byte k) (get_or-set_same clock.bytes 11 (control_reset b) 0 there) ∙ reset_bit b k h;
+      index = refl;
+      line = refl;
+    }
 
 plain_written : (address old byte : ℕ) → 14 ≤ address → written address old byte ≡ byte
 plain_written address old byte h = grind (arith, nat_tests)
@@ -173,9 +175,10 @@ memory_keeps clock address byte size past_registers within =
     let plain = plain_written address (get_or clock.bytes address 0) byte past_registers in
     let there : address < length clock.bytes = omega arith in
     let after : Clock = record clock { index = address; bytes = set clock.bytes address byte } in
-    rw (back, plain) (record
-      { read = plain_data after past_registers ∙ get_or-set_same clock.bytes address byte 0 there
-      ; others = λ other apart. get_or-set_other clock.bytes address other _ 0 apart })
+    rw (back, plain) (record {
+      read = plain_data after past_registers ∙ get_or-set_same clock.bytes address byte 0 there;
+      others = λ other apart. get_or-set_other clock.bytes address other _ 0 apart;
+    })
 
 written_stopped : (byte : ℕ) → is_set (control_written byte) ≡ true → update_interrupts (control_written byte) ≡ false
 written_stopped byte set_now = grind (arith, nat_tests)
@@ -220,11 +223,12 @@ sound_write clock port byte was =
     elim (cases_Bool (port == 0x70)) [
       | inl e ↦ rw e (record { size = was.size; within = omega arith; no_update = was.no_update; stopped = was.stopped })
       | inr e ↦ elim (cases_Bool (port == 0x71)) [
-        | inl f ↦ rw (e, f) (record
-          { size = size_kept clock.bytes clock.index _ was.size
-          ; within = was.within
-          ; no_update = written_no_update clock.bytes clock.index byte was.size was.no_update
-          ; stopped = written_stops clock.bytes clock.index byte was.size was.stopped })
+        | inl f ↦ rw (e, f) (record {
+          size = size_kept clock.bytes clock.index _ was.size;
+          within = was.within;
+          no_update = written_no_update clock.bytes clock.index byte was.size was.no_update;
+          stopped = written_stops clock.bytes clock.index byte was.size was.stopped;
+        })
         | inr f ↦ rw (e, f) was
       ]
     ]
@@ -244,11 +248,12 @@ sound_moment clock time was =
     let b_same = timed-other b s m h w d n y 11 was.size (omega arith) (omega arith) (omega arith) (omega arith) (omega arith) (omega arith) (omega arith) in
     elim (cases_Bool (is_set c)) [
       | inl e ↦ rw e was
-      | inr e ↦ rw e (record
-        { size = timed-size b s m h w d n y was.size
-        ; within = was.within
-        ; no_update = rw a_same was.no_update
-        ; stopped = rw b_same was.stopped })
+      | inr e ↦ rw e (record {
+        size = timed-size b s m h w d n y was.size;
+        within = was.within;
+        no_update = rw a_same was.no_update;
+        stopped = rw b_same was.stopped;
+      })
     ]
 
 sound_reset : (clock : Clock) → IsSound clock → IsSound (after_reset clock)
@@ -256,17 +261,19 @@ sound_reset clock was =
     let b = control_of clock in
     let there = get_or-set_same clock.bytes 11 (control_reset b) 0 (omega (arith, was.size)) in
     let a_same = get_or-set_other clock.bytes 11 10 (control_reset b) 0 (omega arith) in
-    record
-      { size = size_kept clock.bytes 11 (control_reset b) was.size
-      ; within = omega arith
-      ; no_update = rw a_same was.no_update
-      ; stopped = λ set_now. ap update_interrupts there ∙ reset_bit b 4 (omega arith) }
+    record {
+      size = size_kept clock.bytes 11 (control_reset b) was.size;
+      within = omega arith;
+      no_update = rw a_same was.no_update;
+      stopped = λ set_now. ap update_interrupts there ∙ reset_bit b 4 (omega arith);
+    }
 
 pub stays_sound : StaysSound
 stays_sound =
-    record
-      { at_power_on = sound_power_on
-      ; at_read = sound_read
-      ; at_write = sound_write
-      ; at_moment = sound_moment
-      ; at_reset = sound_reset }
+    record {
+      at_power_on = sound_power_on;
+      at_read = sound_read;
+      at_write = sound_write;
+      at_moment = sound_moment;
+      at_reset = sound_reset;
+    }

@@ -53,14 +53,15 @@ weekday_of year month day = (days_since_1980 year month day + 2) % 7 + 1
 -- the moment with these parts and the calendar's weekday
 abbrev pub moment_of : (year month day hour minute second : ℕ) → Moment
 moment_of year month day hour minute second =
-    record
-      { year = year
-      ; month = month
-      ; day = day
-      ; weekday = weekday_of year month day
-      ; hour = hour
-      ; minute = minute
-      ; second = second }
+    record {
+      year = year;
+      month = month;
+      day = day;
+      weekday = weekday_of year month day;
+      hour = hour;
+      minute = minute;
+      second = second;
+    }
 
 -- a moment that there is: the calendar has the date, with this weekday, and the day has the time
 pub record IsMoment (m : Moment) : Type 0 where
@@ -73,8 +74,8 @@ pub record IsMoment (m : Moment) : Type 0 where
 pub record WeekdaysFollow : Type 0 where
   pub first : weekday_of 1980 1 1 ≡ 3
   pub next_day : (year month day : ℕ) → 1 ≤ day →
-    weekday_of year month (day + 1) ≡ weekday_of year month day % 7 + 1
+      weekday_of year month (day + 1) ≡ weekday_of year month day % 7 + 1
   pub next_month : (year month : ℕ) → 1 ≤ month →
-    weekday_of year (month + 1) 1 ≡ weekday_of year month (days_in_month year month) % 7 + 1
+      weekday_of year (month + 1) 1 ≡ weekday_of year month (days_in_month year month) % 7 + 1
   pub next_year : (year : ℕ) → 1980 ≤ year →
-    weekday_of (year + 1) 1 1 ≡ weekday_of year 12 31 % 7 + 1
+      weekday_of (year + 1) 1 1 ≡ weekday_of year 12 31 % 7 + 1

@@ -197,20 +197,24 @@ written address old byte =
     else if (address == register_c) || (address == register_d) then old
     else byte
 
--- after a write: port 70h takes the index from bits 6:0, and port 71h puts the byte there
+-- the clock with this byte written at its index
+abbrev pub store : Clock → (byte : ℕ) → Clock
+store clock byte =
+    let at_index = written clock.index (byte_at clock clock.index) byte in
+    record clock { bytes = slice_set clock.bytes clock.index at_index }
+
+-- after a write: port 70h takes the index from bits 6:0, and port 71h stores the byte
 abbrev pub after_write : Clock → (port byte : ℕ) → Clock
 after_write clock port byte =
     if port == 0x70 then record clock { index = byte % 128 }
-    else if port == 0x71 then
-      record clock
-        { bytes = slice_set clock.bytes clock.index (written clock.index (byte_at clock clock.index) byte) }
+    else if port == 0x71 then store clock byte
     else clock
 
 -- a moment: the time is stored, the update's flag set, and the alarm's where the alarm rings
 abbrev pub tell : Clock → List ℕ → Clock
 tell clock bytes =
     record clock
-      { bytes = bytes; update_flag = true; alarm_flag = clock.alarm_flag || alarm_rings bytes }
+    { bytes = bytes; update_flag = true; alarm_flag = clock.alarm_flag || alarm_rings bytes }
 
 -- after a moment: nothing happens while SET is 1
 abbrev pub after_moment : Clock → CivilTime → Clock
@@ -225,17 +229,19 @@ control_reset control = worth (is_set control) 0x80 + control % 8
 -- after a hard reset: the index is 0, no interrupt is on and no flag set; all other bytes stay
 abbrev pub after_reset : Clock → Clock
 after_reset clock =
-    record clock
-      { index = 0
-      ; bytes = slice_set clock.bytes register_b (control_reset (control_of clock))
-      ; alarm_flag = false
-      ; update_flag = false }
+    record clock {
+      index = 0;
+      bytes = slice_set clock.bytes register_b (control_reset (control_of clock));
+      alarm_flag = false;
+      update_flag = false;
+    }
 
 -- at power-on: the divider of register A is that of a 32,768 Hz crystal, hours are 0 to 23
 unfoldable pub power_on : Clock
 power_on =
-    record
-      { index = 0
-      ; bytes = slice_set (slice_set (replicate 128 0) register_a 0x26) register_b 0x02
-      ; alarm_flag = false
-      ; update_flag = false }
+    record {
+      index = 0;
+      bytes = slice_set (slice_set (replicate 128 0) register_a 0x26) register_b 0x02;
+      alarm_flag = false;
+      update_flag = false;
+    }

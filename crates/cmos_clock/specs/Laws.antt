@@ -77,8 +77,8 @@ ReadingQuiets = (clock : Clock) → clock.index ≡ register_c → IsQuiet (afte
 pub record IsReset (before after : Clock) : Type 0 where
   pub bytes : (address : ℕ) → address ≢ register_b → byte_at after address ≡ byte_at before address
   pub switches : (k : ℕ) → k < 8 →
-    has_bit (control_of after) k
-    ≡ (if nat_le 3 k && nat_le k 6 then false else has_bit (control_of before) k)
+      has_bit (control_of after) k
+      ≡ (if nat_le 3 k && nat_le k 6 then false else has_bit (control_of before) k)
   pub index : after.index ≡ 0
   pub line : interrupt_line after ≡ false
 
@@ -108,13 +108,13 @@ pub record IsSound (clock : Clock) : Type 0 where
   pub within : clock.index < 128
   pub no_update : byte_at clock register_a < 128
   pub stopped :
-    is_set (control_of clock) ≡ true → update_interrupts (control_of clock) ≡ false
+      is_set (control_of clock) ≡ true → update_interrupts (control_of clock) ≡ false
 
 pub record StaysSound : Type 0 where
   pub at_power_on : IsSound power_on
   pub at_read : (clock : Clock) (port : ℕ) → IsSound clock → IsSound (after_read clock port)
   pub at_write : (clock : Clock) (port byte : ℕ) →
-    IsSound clock → IsSound (after_write clock port byte)
+      IsSound clock → IsSound (after_write clock port byte)
   pub at_moment : (clock : Clock) (time : CivilTime) →
-    IsSound clock → IsSound (after_moment clock time)
+      IsSound clock → IsSound (after_moment clock time)
   pub at_reset : (clock : Clock) → IsSound clock → IsSound (after_reset clock)

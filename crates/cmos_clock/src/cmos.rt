@@ -1,11 +1,14 @@
-ghost use Rattle.std.specs.Prelude.{◌≡◌, ◌<◌, length, slice_index};
-ghost use Rattle.cmos_clock.specs.Clock.{after_moment, after_read, after_reset, after_write, alarm_fits, alarm_rings, data_byte, flags_byte, interrupt_line, power_on, put, read_value, time_bytes};
+ghost use Rattle.std.specs.Prelude.{◌≡◌};
+ghost use Rattle.cmos_clock.specs.Clock.{after_moment, after_read, after_reset, after_write, alarm_fits, alarm_rings, control_of, data_byte, flags_byte, interrupt_line, power_on, put, read_value, store, time_bytes, without_flags};
 ghost use Rattle.cmos_clock.specs.Calendar.{IsMoment};
 ghost use Rattle.cmos_clock.specs.View.{civil_time};
 
-use crate::control::Control;
-use crate::register::{DATA_PORT, DAY, HOUR, HOUR_ALARM, INDEX_PORT, MINUTE, MINUTE_ALARM, MONTH, REGISTER_A, REGISTER_B, REGISTER_C, REGISTER_D, SECOND, SECOND_ALARM, WEEKDAY, YEAR};
 use crate::Moment;
+use crate::control::Control;
+use crate::register::{
+    DATA_PORT, DAY, HOUR, HOUR_ALARM, INDEX_PORT, MINUTE, MINUTE_ALARM, MONTH, REGISTER_A,
+    REGISTER_B, REGISTER_C, REGISTER_D, SECOND, SECOND_ALARM, WEEKDAY, YEAR,
+};
 use std::marker::Model;
 
 /// The bytes of the clock.
@@ -20,12 +23,20 @@ const DIVIDER_32768_HZ: u8 = 0x26;
 /// The hours of register B at power-on, 0 to 23.
 const POWER_ON_CONTROL: u8 = 0x02;
 
+/// The bits of port 70h that are the index.
+const INDEX_BITS: u8 = 0x7F;
+
+/// The bits of register A that a write changes: bit 7, an update in progress, is never set.
+const WRITABLE_A: u8 = 0x7F;
+
 /// Register D: the memory and the time are valid.
 const VALID: u8 = 0x80;
 
 /// The flags of register C.
 const INTERRUPT_REQUEST: u8 = 0x80;
+
 const ALARM_FLAG: u8 = 0x20;
+
 const UPDATE_FLAG: u8 = 0x10;
 
 /// An alarm byte from here on fits each time.
@@ -52,8 +63,8 @@ impl Model for Cmos {
 }
 
 impl Cmos {
-    #[tactic(auto, unfolding(crate::specs::Clock::power_on))]
     /// The clock at power-on: hours are 0 to 23, numbers are binary-coded decimal.
+    #[tactic(auto, unfolding(crate::specs::Clock::power_on))]
     pub fn new() -> Cmos
         ensures state { result ≡ power_on }
     {
@@ -79,8 +90,7 @@ impl Cmos {
         }
         let byte = self.data();
         if self.index as usize == REGISTER_C {
-            self.alarm_flag = false;
-            self.update_flag = false;
+            self.clear_flags();
         }
         byte
     }
@@ -90,7 +100,7 @@ impl Cmos {
         ensures state { self.new ≡ after_write self.old port byte }
     {
         match port {
-            INDEX_PORT => self.index = byte % 128,
+            INDEX_PORT => self.index = byte & INDEX_BITS,
             DATA_PORT => self.write_data(byte),
             _ => {}
         }
@@ -123,17 +133,23 @@ impl Cmos {
     pub fn reset(&mut self)
         ensures state { self.new ≡ after_reset self.old }
     {
+        let control = self.control().after_reset();
         self.index = 0;
-        let control = Control {
-            byte: self.bytes[REGISTER_B],
-        };
-        self.bytes[REGISTER_B] = control.after_reset().byte;
+        self.bytes[REGISTER_B] = control.byte;
+        self.clear_flags();
+    }
+
+    /// Clears the flags of register C.
+    fn clear_flags(&mut self)
+        ensures state { self.new ≡ without_flags self.old }
+    {
         self.alarm_flag = false;
         self.update_flag = false;
     }
 
+    /// Register B.
     fn control(&self) -> Control
-        ensures byte { result.byte ≡ slice_index self.now.bytes 11 }
+        ensures byte { result.byte ≡ control_of self.now }
     {
         Control {
             byte: self.bytes[REGISTER_B],
@@ -168,12 +184,13 @@ impl Cmos {
         flags
     }
 
+    /// Writes the byte at the index.
     fn write_data(&mut self, byte: u8)
-        ensures state { self.new ≡ after_write self.old 0x71 byte }
+        ensures state { self.new ≡ store self.old byte }
     {
         let address = self.index as usize;
         match address {
-            REGISTER_A => self.bytes[address] = byte % 128,
+            REGISTER_A => self.bytes[address] = byte & WRITABLE_A,
             REGISTER_B => self.bytes[address] = Control::written(byte).byte,
             REGISTER_C | REGISTER_D => {}
             _ => self.bytes[address] = byte,
@@ -181,8 +198,8 @@ impl Cmos {
     }
 }
 
-#[tactic(auto, using(crate::proofs::CalendarLemmas::weekday_of_bound, crate::proofs::CalendarLemmas::days_in_month_bound))]
 /// Stores the time and the calendar in the format of register B.
+#[tactic(auto, using(crate::proofs::CalendarLemmas::weekday_of_bound, crate::proofs::CalendarLemmas::days_in_month_bound))]
 fn put_time(bytes: &mut [u8; SIZE], control: Control, m: Moment)
     requires { IsMoment m }
     ensures bytes { bytes.new ≡ put (time_bytes control.byte (civil_time m)) bytes.old }

@@ -4,9 +4,13 @@ ghost use Rattle.cmos_clock.specs.Clock.{alarm_interrupts, bcd, control_reset, c
 
 // The places of its bits.
 const SET: u32 = 7;
+
 const UPDATE_INTERRUPT: u32 = 4;
+
 const ALARM_INTERRUPT: u32 = 5;
+
 const BINARY: u32 = 2;
+
 const HOURS_24: u32 = 1;
 
 /// What a hard reset keeps: all but the three interrupts and the square wave, bits 6 to 3.

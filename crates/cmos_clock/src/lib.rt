@@ -9,3 +9,6 @@ mod register;
 
 pub use cmos::Cmos;
 pub use moment_draft::Moment;
+
+#[cfg(test)]
+mod tests;

@@ -15,7 +15,7 @@ returns c =
     let day : date.day ≡ c.args.day = ap unsigned_abs (same.2 ∙ to_z_pos w8 c.args.day (omega arith)) in
     let is_date = dates_agree c.args.year c.args.month c.args.day date.year date.month date.day year month day (omega arith) (omega arith) date.month_in date.day_in in
     let number : weekday_number (days_from_civil date.year date.month date.day) ≡ weekday_number (days_from_civil (pos c.args.year) c.args.month c.args.day) =
-      rw (year, month, day) refl in
+    rw (year, month, day) refl in
     let weekday = weekdays_agree c.args.year c.args.month c.args.day (omega arith) is_date.day_low in
     let fits : FitsSigned w8 c.to_sunday_one_offset.result = omega (arith, signed_arith) in
     let value = ap unsigned_abs c.to_sunday_one_offset.ensures.value in
