@@ -1,4 +1,5 @@
 mod Bytes
 mod Latches
+mod Periods
 mod Pulses
 mod ReadBacks

@@ -1,3 +1,4 @@
 pub mod Pit
 pub mod PitLaws
+pub mod PitPeriods
 pub mod View

@@ -1,5 +1,6 @@
 //! Laws of the timer's machine: each is the contract of a function that does nothing.
 ghost use Rattle.pit_8254.specs.PitLaws.{LatchedCountStays, LatchedCountIsRead, ReadBackIsOneByOne, ReadBackIsLatch, ReadBackOfBoth, PulsesAddUp, CountersAreApart, CountReadsAsWritten};
+ghost use Rattle.pit_8254.specs.PitPeriods.{RateRepeats, SquareRepeats};
 
 /// A latched count is what was in CE when it was latched, whatever happens after it, and the reads give it.
 pub fn latched_count_stays()
@@ -28,5 +29,13 @@ pub fn counters_are_apart()
 /// A count that is written low byte and high byte is read as these bytes.
 pub fn count_reads_as_written()
     ensures bytes { CountReadsAsWritten }
+{
+}
+
+/// In modes 2 and 3 a count of `n` gives a period of `n` pulses, of which OUT is 0 for the last one,
+/// or for the second half.
+pub fn periods_repeat()
+    ensures rate { RateRepeats }
+    ensures square { SquareRepeats }
 {
 }
