@@ -1,10 +1,10 @@
 -- The rate generator and the square wave repeat.
-use Rattle.std.proofs.Common.{◌≡◌, ℕ, zero, suc, ◌+◌, ◌-◌, ◌*◌, ◌/◌, ◌%◌, ◌<◌, ◌≤◌, ◌==◌, ◌&&◌, not, Bool, true, false, cond, ◌⊎◌, inl, inr, refl, ap, sym, subst, ◌∙◌, arith}
+use Rattle.std.proofs.Common.{◌≡◌, ℕ, zero, suc, ◌+◌, ◌-◌, ◌*◌, ◌/◌, ◌%◌, ◌<◌, ◌≤◌, ◌==◌, ◌&&◌, not, Bool, true, false, cond, inl, inr, refl, ap, sym, subst, ◌∙◌, arith}
 use Rattle.std.proofs.lemmas.Bool.{cases_Bool}
 use Rattle.std.proofs.lemmas.Bool.Decides.{nat_tests}
 use Rattle.pit_8254.specs.Pit.{RateGenerator, SquareWave, CounterState, load, count_down, count_to_reload, count_half, pulse_by_mode, pulse}
 use Rattle.pit_8254.specs.PitLaws.{pulses_of}
-use Rattle.pit_8254.specs.PitPeriods.{IsAtLoad, HasRatePeriod, HasSquarePeriod, RateRepeats, SquareRepeats}
+use Rattle.pit_8254.specs.PitPeriods.{IsAtLoad, RateRepeats, SquareRepeats}
 
 -- the counter at another place of its period
 abbrev phase : CounterState → ℕ → Bool → CounterState
@@ -37,7 +37,7 @@ unfolding pulses_of
 rate-high n c s zero h = sym (phase-self c (n - 0) true (s.element ∙ omega arith) s.out)
 rate-high n c s (suc k) h =
     ap pulse (rate-high n c s k (omega arith))
-      ∙ (rate_counts n (n - k) c s (omega arith) ∙ ap (λ e. phase c e true) (omega arith))
+    ∙ (rate_counts n (n - k) c s (omega arith) ∙ ap (λ e. phase c e true) (omega arith))
 
 rate-low : (n j : ℕ) (c : CounterState) → IsAtLoad RateGenerator n c → n ≡ suc (suc j) → pulses_of (suc j) c ≡ phase c 1 false
 unfolding pulses_of
@@ -58,7 +58,8 @@ rate_repeats n c s =
     record {
       high = λ k h. ap (λ x. x.out) (rate-high n c s k h);
       low = ap (λ k. (pulses_of k c).out) before ∙ ap (λ x. x.out) (rate-low n (n - 2) c s is_suc);
-      again = ap (λ k. pulses_of k c) is_suc ∙ rate-again n (n - 2) c s is_suc }
+      again = ap (λ k. pulses_of k c) is_suc ∙ rate-again n (n - 2) c s is_suc;
+    }
 
 -- THE SQUARE WAVE
 
@@ -78,45 +79,47 @@ square_flips n e level c s h =
 -- the end of the first half by whether n is odd
 at_end : (n e : ℕ) → (n % 2 ≡ 1 → e ≡ 0) → (n % 2 ≡ 0 → e ≡ 2) → (e == end_of true n) ≡ true
 at_end n e odd even = elim (cases_Bool (n % 2 == 1)) [
-    inl h ↦ rw h (grind (arith, nat_tests))
-  | inr h ↦ rw h (grind (arith, nat_tests)) ]
+  | inl h ↦ rw h (grind (arith, nat_tests))
+  | inr h ↦ rw h (grind (arith, nat_tests))
+]
 
 before_end : (n e : ℕ) → (n % 2 ≡ 1 → 0 < e) → (n % 2 ≡ 0 → 2 < e) → (e == end_of true n) ≡ false
 before_end n e odd even = elim (cases_Bool (n % 2 == 1)) [
-    inl h ↦ rw h (grind (arith, nat_tests))
-  | inr h ↦ rw h (grind (arith, nat_tests)) ]
+  | inl h ↦ rw h (grind (arith, nat_tests))
+  | inr h ↦ rw h (grind (arith, nat_tests))
+]
 
 square-high : (n : ℕ) (c : CounterState) → IsAtLoad SquareWave n c → (k : ℕ) → k < n - n / 2 → pulses_of k c ≡ phase c (n - n % 2 - 2 * k) true
 unfolding pulses_of
 square-high n c s zero h = sym (phase-self c (n - n % 2 - 2 * 0) true (s.element ∙ omega arith) s.out)
 square-high n c s (suc k) h =
     ap pulse (square-high n c s k (omega arith))
-      ∙ (square_counts n (n - n % 2 - 2 * k) true c s (before_end n (n - n % 2 - 2 * k) (λ o. omega arith) (λ o. omega arith))
-        ∙ ap (λ e. phase c e true) (omega arith))
+    ∙ (square_counts n (n - n % 2 - 2 * k) true c s (before_end n (n - n % 2 - 2 * k) (λ o. omega arith) (λ o. omega arith))
+    ∙ ap (λ e. phase c e true) (omega arith))
 
 square-low : (n a : ℕ) (c : CounterState) → IsAtLoad SquareWave n c → n - n / 2 ≡ suc a → (j : ℕ) → j < n / 2 → pulses_of (suc a + j) c ≡ phase c (n - n % 2 - 2 * j) false
 unfolding pulses_of
 square-low n a c s q zero h =
     let here : suc a + zero ≡ suc a = omega arith in
     ap (λ k. pulses_of k c) here
-      ∙ (ap pulse (square-high n c s a (omega arith))
-        ∙ (square_flips n (n - n % 2 - 2 * a) true c s (at_end n (n - n % 2 - 2 * a) (λ o. omega arith) (λ o. omega arith))
-          ∙ ap (λ e. phase c e false) (omega arith)))
+    ∙ (ap pulse (square-high n c s a (omega arith))
+    ∙ (square_flips n (n - n % 2 - 2 * a) true c s (at_end n (n - n % 2 - 2 * a) (λ o. omega arith) (λ o. omega arith))
+    ∙ ap (λ e. phase c e false) (omega arith)))
 square-low n a c s q (suc j) h =
     let ahead : 2 < n - n % 2 - 2 * j = omega arith in
     let next : suc a + suc j ≡ suc (suc a + j) = omega arith in
     ap (λ k. pulses_of k c) next
-      ∙ (ap pulse (square-low n a c s q j (omega arith))
-        ∙ (square_counts n (n - n % 2 - 2 * j) false c s (grind (arith, nat_tests))
-          ∙ ap (λ e. phase c e false) (omega arith)))
+    ∙ (ap pulse (square-low n a c s q j (omega arith))
+    ∙ (square_counts n (n - n % 2 - 2 * j) false c s (grind (arith, nat_tests))
+    ∙ ap (λ e. phase c e false) (omega arith)))
 
 square-again : (n a j : ℕ) (c : CounterState) → IsAtLoad SquareWave n c → n - n / 2 ≡ suc a → n / 2 ≡ suc j → pulses_of n c ≡ c
 unfolding pulses_of
 square-again n a j c s q r =
     let two : n - n % 2 - 2 * j ≡ 2 = omega arith in
     ap (λ k. pulses_of k c) (let e : n ≡ suc (suc a + j) = omega arith in e)
-      ∙ (ap pulse (square-low n a c s q j (omega arith) ∙ ap (λ e. phase c e false) two)
-        ∙ (square_flips n 2 false c s refl ∙ phase-self c (n - n % 2) true s.element s.out))
+    ∙ (ap pulse (square-low n a c s q j (omega arith) ∙ ap (λ e. phase c e false) two)
+    ∙ (square_flips n 2 false c s refl ∙ phase-self c (n - n % 2) true s.element s.out))
 
 pub square_repeats : SquareRepeats
 square_repeats n c s =
@@ -128,6 +131,7 @@ square_repeats n c s =
     record {
       high = λ k h. ap (λ x. x.out) (square-high n c s k h);
       low = λ k g h.
-        ap (λ i. (pulses_of i c).out) (let e : k ≡ suc a + (k - suc a) = omega arith in e)
+          ap (λ i. (pulses_of i c).out) (let e : k ≡ suc a + (k - suc a) = omega arith in e)
           ∙ ap (λ x. x.out) (square-low n a c s q (k - suc a) (omega arith));
-      again = square-again n a j c s q r }
+      again = square-again n a j c s q r;
+    }

@@ -96,9 +96,10 @@ CountersAreApart =
     (n : ℕ) (p : PitState)
     → pulses n p
     ≡ record {
-        counter0 = pulses_of n p.counter0;
-        counter1 = pulses_of n p.counter1;
-        counter2 = pulses_of n p.counter2 }
+      counter0 = pulses_of n p.counter0;
+      counter1 = pulses_of n p.counter1;
+      counter2 = pulses_of n p.counter2;
+    }
 
 -- THE BYTES OF A COUNT
 
@@ -115,4 +116,4 @@ CountReadsAsWritten =
     → IsByteOf notation low
     → IsByteOf notation high
     → let count = count_of_bytes mode notation low high in
-      (low_byte notation count ≡ low) × (high_byte notation count ≡ high)
+    (low_byte notation count ≡ low) × (high_byte notation count ≡ high)

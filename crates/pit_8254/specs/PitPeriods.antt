@@ -1,5 +1,5 @@
 -- Whole periods of the 8254's rate generator and square wave.
-use Rattle.std.specs.Prelude.{◌≡◌, ℕ, ◌+◌, ◌-◌, ◌/◌, ◌<◌, ◌≤◌, Bool, true, false, Some}
+use Rattle.std.specs.Prelude.{◌≡◌, ℕ, ◌+◌, ◌-◌, ◌/◌, ◌<◌, ◌≤◌, true, false, Some}
 use Rattle.pit_8254.specs.Pit.{Mode, RateGenerator, SquareWave, CounterState, first_element}
 use Rattle.pit_8254.specs.PitLaws.{pulses_of}
 

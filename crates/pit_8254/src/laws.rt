@@ -23,19 +23,16 @@ pub fn pulses_add_up()
 /// Pulses of the chip are pulses of each counter by itself.
 pub fn counters_are_apart()
     ensures apart { CountersAreApart }
-{
-}
+{}
 
 /// A count that is written low byte and high byte is read as these bytes.
 pub fn count_reads_as_written()
     ensures bytes { CountReadsAsWritten }
-{
-}
+{}
 
 /// In modes 2 and 3 a count of `n` gives a period of `n` pulses, of which OUT is 0 for the last one,
 /// or for the second half.
 pub fn periods_repeat()
     ensures rate { RateRepeats }
     ensures square { SquareRepeats }
-{
-}
+{}
