@@ -74,7 +74,7 @@ end_over m d (Ok s) h = subst (λ (y : Drive). IsOver y.activity) (sym (verified
 end_over m d (Err e) h = subst (λ (y : Drive). IsOver y.activity) (sym (verified-fails m 0 e d h)) tt
 
 next_over : (m : Medium) (left : ℕ) (d : Drive) → ((s : ℕ) → IsOver (verified m left (moved_to (s + 1) (counted_down d))).activity)
-  → (x : Result ℕ ℕ) → readable m (named d.registers) ≡ x → IsOver (verified m (suc left) d).activity
+    → (x : Result ℕ ℕ) → readable m (named d.registers) ≡ x → IsOver (verified m (suc left) d).activity
 next_over m left d rest (Ok s) h = subst (λ (y : Drive). IsOver y.activity) (sym (verified-next m s left d h)) (rest s)
 next_over m left d rest (Err e) h = subst (λ (y : Drive). IsOver y.activity) (sym (verified-fails m (suc left) e d h)) tt
 

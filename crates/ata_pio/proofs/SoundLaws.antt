@@ -24,17 +24,17 @@ either_keeps before false x y p q = q
 -- a sector that has all its bytes is stored
 bytes_written-keeps : (disk : Disk) (s : ℕ) (bytes : List ℕ) → IsSound disk → s < sectors_of disk.medium → Keeps disk (bytes_written s bytes disk)
 bytes_written-keeps disk s bytes h l = elim (cases_Bool (eqb (length bytes) 512)) [
-    inl e ↦
+  | inl e ↦
       let m = stored disk.medium s bytes in
       let same : sectors_of m ≡ sectors_of disk.medium = length-set disk.medium.bad s false in
       let under : IsUnderWay (sectors_of m) (sector_written m s (ended disk.drive)).activity = sector_written-under_way m s (ended disk.drive) in
       let kept : Keeps disk (record { medium = m; drive = sector_written m s (ended disk.drive) }) =
-        (record { whole = stored-whole disk.medium s bytes h.whole l (eqb-true (length bytes) 512 e); under_way = under }, same) in
+      (record { whole = stored-whole disk.medium s bytes h.whole l (eqb-true (length bytes) 512 e); under_way = under }, same) in
       subst (λ (x : Disk). Keeps disk x) (sym (cond-true (eqb (length bytes) 512) _ _ e)) kept
   | inr e ↦
       let kept : Keeps disk (record disk { drive = record disk.drive { activity = Writing s bytes } }) = same_medium disk (record disk.drive { activity = Writing s bytes }) h l in
       subst (λ (x : Disk). Keeps disk x) (sym (cond-false (eqb (length bytes) 512) _ _ e)) kept
-  ]
+]
 
 activity_written-keeps : (a : Activity) (word : ℕ) (disk : Disk) → IsSound disk → IsUnderWay (sectors_of disk.medium) a → Keeps disk (activity_written a word disk)
 activity_written-keeps Ready word disk h u = (h, refl)
@@ -47,6 +47,9 @@ word_written-keeps : (word : ℕ) (disk : Disk) → IsSound disk → Keeps disk 
 unfolding word_written
 word_written-keeps word disk h =
     either_keeps disk (is_drq disk.drive) _ _ (activity_written-keeps disk.drive.activity word disk h h.under_way) (h, refl)
+
+pub word_written-sound : (word : ℕ) (disk : Disk) → IsSound disk → IsSound (word_written word disk)
+word_written-sound word disk h = (word_written-keeps word disk h).0
 
 word_read-keeps : (disk : Disk) → IsSound disk → Keeps disk (word_read disk)
 word_read-keeps disk h = same_medium disk (after_word disk.medium disk.drive) h (after_word-under_way disk.medium disk.drive h.under_way)
@@ -73,11 +76,13 @@ step_keeps (Write port Four value) disk h =
     let first = word_written-keeps (value % 65536) disk h in
     then_keeps disk (word_written (value % 65536) disk) _ first (word_written-keeps (value / 65536) (word_written (value % 65536) disk) first.0)
 step_keeps (Spoil s) disk h =
-    let same : sectors_of (stepped (Spoil s) disk).medium ≡ sectors_of disk.medium = length-set disk.medium.bad s true in
-    (record {
-      whole = h.whole ∙ ap (λ n. 512 * n) (sym same);
-      under_way = subst (λ n. IsUnderWay n disk.drive.activity) (sym same) h.under_way
-    }, same)
+    let same : sectors_of (stepped (Spoil s) disk).medium ≡ sectors_of disk.medium = length-set disk.medium.bad s true in (
+      record {
+        whole = h.whole ∙ ap (λ n. 512 * n) (sym same);
+        under_way = subst (λ n. IsUnderWay n disk.drive.activity) (sym same) h.under_way;
+      },
+      same,
+    )
 step_keeps Restart disk h = same_medium disk _ h tt
 
 pub stays_sound : StaysSound
@@ -93,11 +98,11 @@ either_same t before false x y p q = q
 
 bytes_written-same : (t s : ℕ) (bytes : List ℕ) (disk : Disk) → IsSound disk → s < sectors_of disk.medium → (length bytes ≡ 512 → s ≢ t) → SameBytes t disk (bytes_written s bytes disk)
 bytes_written-same t s bytes disk h l ne = elim (cases_Bool (eqb (length bytes) 512)) [
-    inl e ↦
+  | inl e ↦
       subst (λ (x : Disk). SameBytes t disk x) (sym (cond-true (eqb (length bytes) 512) _ _ e))
       (stored-other disk.medium s t bytes h.whole l (eqb-true (length bytes) 512 e) (ne (eqb-true (length bytes) 512 e)))
   | inr e ↦ subst (λ (x : Disk). SameBytes t disk x) (sym (cond-false (eqb (length bytes) 512) _ _ e)) refl
-  ]
+]
 
 not_both : (x y : Bool) → (x && y) ≡ false → x ≡ true → y ≡ false
 not_both true y e h = e
@@ -107,7 +112,7 @@ not_stored : (s t n : ℕ) → (eqb n 510 && eqb s t) ≡ false → n ≡ 510 �
 not_stored s t n e h = eqb-false s t (not_both (eqb n 510) (eqb s t) e (ap (λ k. eqb k 510) h))
 
 activity_written-same : (t : ℕ) (a : Activity) (word : ℕ) (disk : Disk) → IsSound disk → IsUnderWay (sectors_of disk.medium) a → activity_stores a t ≡ false
-  → SameBytes t disk (activity_written a word disk)
+    → SameBytes t disk (activity_written a word disk)
 activity_written-same t Ready word disk h u n = refl
 activity_written-same t Failed word disk h u n = refl
 activity_written-same t (Reading s w) word disk h u n = refl
@@ -119,11 +124,11 @@ activity_written-same t (Identifying w) word disk h u n = refl
 word_written-same : (t word : ℕ) (disk : Disk) → IsSound disk → word_stores disk t ≡ false → SameBytes t disk (word_written word disk)
 unfolding word_written
 word_written-same t word disk h n = elim (cases_Bool (is_drq disk.drive)) [
-    inl e ↦
+  | inl e ↦
       subst (λ (x : Disk). SameBytes t disk x) (sym (cond-true (is_drq disk.drive) _ _ e))
       (activity_written-same t disk.drive.activity word disk h h.under_way (not_both (is_drq disk.drive) _ n e))
   | inr e ↦ subst (λ (x : Disk). SameBytes t disk x) (sym (cond-false (is_drq disk.drive) _ _ e)) refl
-  ]
+]
 
 step_same : (access : Access) (disk : Disk) (t : ℕ) → IsSound disk → stores access disk t ≡ false → SameBytes t disk (stepped access disk)
 step_same (Read port One) disk t h n = either_same t disk (eqb port 0x1F7) _ _ refl refl
@@ -143,7 +148,7 @@ only_stores_change access disk t h n = step_same access disk t h n
 
 -- along a run
 pub run_keeps : (accesses : List Access) (disk : Disk) (t : ℕ) → IsSound disk → NoneStores accesses disk t
-  → IsSound (after_all accesses disk) × SameBytes t disk (after_all accesses disk)
+    → IsSound (after_all accesses disk) × SameBytes t disk (after_all accesses disk)
 run_keeps [] disk t h n = (h, refl)
 run_keeps (access ∷ rest) disk t h n =
     let later = run_keeps rest (stepped access disk) t (step_keeps access disk h).0 n.1 in

@@ -42,9 +42,9 @@ below m s t ys h l =
 
 pub stored-other : (m : Medium) (s t : ℕ) (ys : List ℕ) → IsWhole m → s < sectors_of m → length ys ≡ 512 → s ≢ t → sector_bytes (stored m s ys) t ≡ sector_bytes m t
 stored-other m s t ys w h e ne = elim (cases_lt s t) [
-    inl l ↦ above m s t ys (room m s w h) e l
+  | inl l ↦ above m s t ys (room m s w h) e l
   | inr g ↦ below m s t ys (room m s w h) (omega arith)
-  ]
+]
 
 pub stored-whole : (m : Medium) (s : ℕ) (ys : List ℕ) → IsWhole m → s < sectors_of m → length ys ≡ 512 → IsWhole (stored m s ys)
 stored-whole m s ys w h e =

@@ -1,29 +1,62 @@
 //! What holds of the disk beyond its rules: each law is the contract of a function that does nothing.
 
-ghost use Rattle.ata_pio.specs.Ata.Laws.{AlternateStatusReads, OnlyStoresChange, StaysSound, WrittenBackNames};
+ghost use Rattle.ata_pio.specs.Ata.Laws.{AlternateStatusReads, MovesOn, OnlyStoresChange, ReadMovesItsSectors, ReadsBack, SectorIsRead, SectorIsWritten, StaysSound, VerifyLooksAtItsSectors, WriteMovesItsSectors, WrittenBackNames};
 
 /// A read of the alternate status changes nothing.
 pub fn alternate_status_reads()
     ensures law { AlternateStatusReads }
-{
-}
+{}
 
 /// The address registers that were written back for a sector name it, by LBA and by cylinder, head
 /// and sector.
 pub fn written_back_names()
     ensures law { WrittenBackNames }
-{
-}
+{}
 
 /// Every access leaves a disk whose sectors are whole, as many as before, and of which none that it
 /// has not is under way.
 pub fn stays_sound()
     ensures law { StaysSound }
-{
-}
+{}
 
 /// No access changes the bytes of a sector but the one that brings the last word of it.
 pub fn only_stores_change()
     ensures law { OnlyStoresChange }
-{
-}
+{}
+
+/// A sector that is read moves as its 256 words, and then the drive goes on.
+pub fn sector_is_read()
+    ensures law { SectorIsRead }
+{}
+
+/// A sector that is written holds the 256 words that came, and then the drive goes on.
+pub fn sector_is_written()
+    ensures law { SectorIsWritten }
+{}
+
+/// A sector that was written and not stored again reads back the same, whatever happens between.
+pub fn reads_back()
+    ensures law { ReadsBack }
+{}
+
+/// As the address moves on over sectors it names each in turn, and the count falls by one at each.
+pub fn moves_on()
+    ensures law { MovesOn }
+{}
+
+/// A read moves the words of exactly its sectors, in order, or stops at the first that cannot be read,
+/// naming it and what is left.
+pub fn read_moves_its_sectors()
+    ensures law { ReadMovesItsSectors }
+{}
+
+/// A verify looks at exactly its sectors, or stops at the first that cannot be read.
+pub fn verify_looks_at_its_sectors()
+    ensures law { VerifyLooksAtItsSectors }
+{}
+
+/// A write stores exactly its sectors, in order, or stops at the first that is not there, and changes
+/// no other.
+pub fn write_moves_its_sectors()
+    ensures law { WriteMovesItsSectors }
+{}

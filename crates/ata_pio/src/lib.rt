@@ -11,7 +11,6 @@ pub mod laws;
 mod port;
 mod sectors;
 mod task_file;
-
 #[cfg(test)]
 mod tests;
 

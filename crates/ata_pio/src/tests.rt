@@ -3,13 +3,12 @@
 ghost use Rattle.std.specs.Prelude.{◌≡◌};
 ghost use Rattle.ata_pio.specs.Ata.Steps.{is_ata_port};
 
+use crate::identify::identify_word;
+use crate::{Ata, AtaOpen};
 use board_base::Width;
 use std::alloc::Global;
 use std::process::Abort;
 use std::test::Fail;
-
-use crate::identify::identify_word;
-use crate::{Ata, AtaOpen};
 
 /// One step: a byte to or from a port, words or double words by programmed input and output, and what
 /// the board does besides. A number before a value says how often.
@@ -316,7 +315,11 @@ fn take(rt: &impl Abort, disk: &mut Ata, step: Step) {
         }
         In(port, byte) => {
             if is_register(port) {
-                assert_eq!(rt; disk.port_read(port, Width::One), u32::from(byte), "at {port:X}");
+                assert_eq!(rt;
+                    disk.port_read(port, Width::One),
+                    u32::from(byte),
+                    "at {port:X}"
+                );
             }
         }
         InWord(word) => assert_eq!(rt; disk.port_read(0x1F0, Width::Two), u32::from(word)),
@@ -373,7 +376,15 @@ fn tracks_and_cylinders(rt: HostRuntime) -> Result<(), Fail> {
 
 #[test]
 fn lengths(rt: HostRuntime) -> Result<(), Fail> {
-    for (length, sectors) in [(0, 0), (1, 0), (511, 0), (512, 1), (513, 0), (2048, 4), (2049, 0)] {
+    for (length, sectors) in [
+        (0, 0),
+        (1, 0),
+        (511, 0),
+        (512, 1),
+        (513, 0),
+        (2048, 4),
+        (2049, 0),
+    ] {
         let bytes = vec![in rt.alloc(); 0u8; length]?;
         match Ata::open(rt.alloc(), &bytes) {
             Ok(disk) => assert_eq!(rt; disk.sectors(), sectors, "at {length}"),
@@ -432,14 +443,21 @@ const IDENTIFY_WORDS: [(u32, u8, u16); 40] = [
 fn identify(rt: HostRuntime) -> Result<(), Fail> {
     for (sectors, index, word) in IDENTIFY_WORDS {
         if sectors <= 65_536 {
-            assert_eq!(rt; identify_word(sectors, index), word, "word {index} of {sectors}");
+            assert_eq!(rt;
+                identify_word(sectors, index),
+                word,
+                "word {index} of {sectors}"
+            );
         }
     }
     let mut disk = disk_of(rt.alloc(), 4)?;
     disk.port_write(0x1F7, Width::One, 0xEC);
     assert_eq!(rt; disk.port_read(0x1F7, Width::One), 0x58);
     for index in 0..=255u8 {
-        assert_eq!(rt; disk.port_read(0x1F0, Width::Two), u32::from(identify_word(4, index)));
+        assert_eq!(rt;
+            disk.port_read(0x1F0, Width::Two),
+            u32::from(identify_word(4, index))
+        );
     }
     assert!(rt; !disk.irq());
     assert_eq!(rt; disk.port_read(0x1F7, Width::One), 0x50);

@@ -133,7 +133,7 @@ SectorIsRead =
 abbrev pub written_disk : Disk → ℕ → List ℕ → Disk
 written_disk disk sector bytes = record {
   medium = stored disk.medium sector bytes;
-  drive = sector_written (stored disk.medium sector bytes) sector (ended disk.drive)
+  drive = sector_written (stored disk.medium sector bytes) sector (ended disk.drive);
 }
 
 abbrev pub SectorIsWritten : Type 0
@@ -148,7 +148,7 @@ ReadsBack =
     → disk.drive.activity ≡ Writing sector [] → length words ≡ 256 → AreWords words
     → NoneStores accesses (after_words_written words disk) sector
     → let later = after_all accesses (after_words_written words disk) in
-      IsChosen later.drive → later.drive.activity ≡ Reading sector 0 → words_read 256 later ≡ words
+    IsChosen later.drive → later.drive.activity ≡ Reading sector 0 → words_read 256 later ≡ words
 
 -- The drive once the address moved on over n sectors from a sector on, and the count fell by n.
 unfoldable pub moved_on : ℕ → ℕ → Drive → Drive
@@ -181,16 +181,16 @@ reading_disk disk drive = with_drive disk (begin_read disk.medium drive)
 
 -- A read of which n sectors can be read gives their words, and then looks at the sector after them: it
 -- stops there where that one fails, with the error that this sector has. Where none is left after it,
--- its words are the last.
+-- its words are the last; the request is the one that came with it.
 pub record ReadsSectors (disk : Disk) (sector n : ℕ) : Type 0 where
   pub words : words_read (n * 256) (reading_disk disk disk.drive) ≡ words_of_sectors disk.medium sector n
   pub rest : after_words_read (n * 256) (reading_disk disk disk.drive) ≡ reading_disk disk (moved_on sector n disk.drive)
   pub fails :
-    (error : ℕ) → readable disk.medium (Some (sector + n)) ≡ Err error
-    → after_words_read (n * 256) (reading_disk disk disk.drive) ≡ with_drive disk (failed error (moved_on sector n disk.drive))
+      (error : ℕ) → readable disk.medium (Some (sector + n)) ≡ Err error
+      → after_words_read (n * 256) (reading_disk disk disk.drive) ≡ with_drive disk (failed error (moved_on sector n disk.drive))
   pub ends :
-    readable disk.medium (Some (sector + n)) ≡ Ok (sector + n) → n ≡ left_of disk.drive.registers
-    → after_words_read (suc n * 256) (reading_disk disk disk.drive) ≡ with_drive disk (ended (counted_down (moved_on sector n disk.drive)))
+      readable disk.medium (Some (sector + n)) ≡ Ok (sector + n) → n ≡ left_of disk.drive.registers
+      → after_words_read (suc n * 256) (reading_disk disk disk.drive) ≡ with_drive disk (finished (counted_down (moved_on sector n disk.drive)))
 
 abbrev pub ReadMovesItsSectors : Type 0
 ReadMovesItsSectors =
@@ -200,11 +200,11 @@ ReadMovesItsSectors =
 -- Verify looks at as many sectors, and stops at the first that cannot be read.
 pub record VerifiesSectors (medium : Medium) (sector n : ℕ) (drive : Drive) : Type 0 where
   pub fails :
-    (error : ℕ) → readable medium (Some (sector + n)) ≡ Err error
-    → verified medium (left_of drive.registers) drive ≡ failed error (moved_on sector n drive)
+      (error : ℕ) → readable medium (Some (sector + n)) ≡ Err error
+      → verified medium (left_of drive.registers) drive ≡ failed error (moved_on sector n drive)
   pub ends :
-    readable medium (Some (sector + n)) ≡ Ok (sector + n) → n ≡ left_of drive.registers
-    → verified medium (left_of drive.registers) drive ≡ finished (counted_down (moved_on sector n drive))
+      readable medium (Some (sector + n)) ≡ Ok (sector + n) → n ≡ left_of drive.registers
+      → verified medium (left_of drive.registers) drive ≡ finished (counted_down (moved_on sector n drive))
 
 abbrev pub VerifyLooksAtItsSectors : Type 0
 VerifyLooksAtItsSectors =
@@ -238,17 +238,17 @@ request_of (words ∷ rest) request = true
 -- its words are the last. No other sector changes.
 pub record WritesSectors (medium : Medium) (sector : ℕ) (sectors : List (List ℕ)) (request : Bool) (drive : Drive) : Type 0 where
   pub rest :
-    after_words_written (all_words sectors) (writing_disk medium request drive)
-    ≡ writing_disk (all_stored medium sector sectors) (request_of sectors request) (moved_on sector (length sectors) drive)
+      after_words_written (all_words sectors) (writing_disk medium request drive)
+      ≡ writing_disk (all_stored medium sector sectors) (request_of sectors request) (moved_on sector (length sectors) drive)
   pub others :
-    (other : ℕ) → ((other < sector) ⊎ (sector + length sectors ≤ other))
-    → sector_bytes (all_stored medium sector sectors) other ≡ sector_bytes medium other
+      (other : ℕ) → ((other < sector) ⊎ (sector + length sectors ≤ other))
+      → sector_bytes (all_stored medium sector sectors) other ≡ sector_bytes medium other
   pub ends :
-    (last : List ℕ) → length last ≡ 256 → sector + length sectors < sectors_of medium → length sectors ≡ left_of drive.registers
-    → after_words_written (all_words sectors ++ last) (writing_disk medium request drive)
+      (last : List ℕ) → length last ≡ 256 → sector + length sectors < sectors_of medium → length sectors ≡ left_of drive.registers
+      → after_words_written (all_words sectors ++ last) (writing_disk medium request drive)
       ≡ record {
         medium = stored (all_stored medium sector sectors) (sector + length sectors) (bytes_of_words last);
-        drive = finished (counted_down (moved_on sector (length sectors) drive))
+        drive = finished (counted_down (moved_on sector (length sectors) drive));
       }
 
 abbrev pub WriteMovesItsSectors : Type 0
