@@ -1,0 +1,108 @@
+-- Words of the worked examples: what is asked of a board, and what it replies, line by line.
+use Rattle.std.specs.Prelude.{ℕ, ◌+◌, List, [], ◌∷◌, length, Bool, true, false, Some, None}
+use Rattle.board_base.specs.declared.access.Width.{Width}
+use Rattle.board_base.specs.declared.access.Width.TheVariants.{Four}
+use Rattle.board_base.specs.declared.access.Kind.{Kind}
+use Rattle.board_base.specs.declared.access.Kind.TheVariants.{Fetch, Read, Write}
+use Rattle.board_base.specs.declared.target.Dev.TheVariants.{Confadd as AddressPort}
+use Rattle.board_base.specs.declared.target.Area.{Area}
+use Rattle.board_base.specs.declared.target.Target.{Target}
+use Rattle.board_base.specs.declared.target.Target.TheVariants.{Config, Device, Abort}
+use Rattle.board_base.specs.declared.target.Denial.{Denial}
+use Rattle.board_base.specs.declared.target.Denial.TheVariants.{Register}
+use Rattle.board_spec.specs.declared.event.Event.{Event}
+use Rattle.board_spec.specs.declared.event.Event.TheVariants.{Memory, Port, Look as LookAt}
+use Rattle.board_spec.specs.declared.event.Reply.{Reply}
+use Rattle.board_spec.specs.declared.event.Reply.TheVariants.{Bus, Saw}
+use Rattle.board_spec.specs.declared.event.Entry.{Entry}
+
+-- one line of an example: what is asked, and the reply
+pub record Said : Type 0 where
+  pub asked : Event
+  pub replied : Reply
+
+-- a history with further lines of processor 0. The lines stand in reading order, a history has the newest first
+abbrev pub continued : List Entry → List Said → List Entry
+continued before [] = before
+continued before (said ∷ later) =
+    continued (record { actor = 0; seq = length before + 1; event = said.asked; reply = said.replied } ∷ before) later
+
+-- the history of the lines
+abbrev pub from_reset : List Said → List Entry
+from_reset lines = continued [] lines
+
+-- ---- what is asked
+
+abbrev pub memory_access : Kind → Bool → Width → ℕ → ℕ → Reply → Said
+memory_access kind smm width addr value reply =
+    record { asked = Memory (record { kind = kind; addr = addr; width = width; smm = smm; value = value }); replied = reply }
+
+abbrev pub reads : Width → ℕ → Reply → Said
+reads width addr reply = memory_access Read false width addr 0 reply
+
+abbrev pub fetches : Width → ℕ → Reply → Said
+fetches width addr reply = memory_access Fetch false width addr 0 reply
+
+abbrev pub writes : Width → ℕ → ℕ → Reply → Said
+writes width addr value reply = memory_access Write false width addr value reply
+
+abbrev pub reads_in_smm : Width → ℕ → Reply → Said
+reads_in_smm width addr reply = memory_access Read true width addr 0 reply
+
+abbrev pub fetches_in_smm : Width → ℕ → Reply → Said
+fetches_in_smm width addr reply = memory_access Fetch true width addr 0 reply
+
+abbrev pub writes_in_smm : Width → ℕ → ℕ → Reply → Said
+writes_in_smm width addr value reply = memory_access Write true width addr value reply
+
+abbrev pub inputs : Width → ℕ → Reply → Said
+inputs width port reply =
+    record { asked = Port (record { write = false; port = port; width = width; value = 0 }); replied = reply }
+
+abbrev pub outputs : Width → ℕ → ℕ → Reply → Said
+outputs width port value reply =
+    record { asked = Port (record { write = true; port = port; width = width; value = value }); replied = reply }
+
+abbrev pub looks : Kind → ℕ → Reply → Said
+looks kind addr reply = record { asked = LookAt kind addr false; replied = reply }
+
+-- ---- replies
+
+-- a read's value and who gave it
+abbrev pub gives : ℕ → Target → Reply
+gives value target = Bus (Some value) target None
+
+-- a write and who took it
+abbrev pub goes_to : Target → Reply
+goes_to target = Bus None target None
+
+-- a write that is lost, and what denied it
+abbrev pub lost_in : Target → Denial → Reply
+lost_in target denial = Bus None target (Some denial)
+
+-- a read or a write that nobody answers, and what denied it
+abbrev pub floats : ℕ → Denial → Reply
+floats value denial = Bus (Some value) Abort (Some denial)
+
+abbrev pub lost : Denial → Reply
+lost denial = lost_in Abort denial
+
+abbrev pub register : ℕ → ℕ → ℕ → Target
+register dev fun off = Config (record { dev = dev; fun = fun; off = off })
+
+abbrev pub host : ℕ → Target
+host off = register 0 0 off
+
+abbrev pub denied_by : ℕ → ℕ → ℕ → Denial
+denied_by dev fun off = Register (record { dev = dev; fun = fun; off = off })
+
+abbrev pub denied_by_host : ℕ → Denial
+denied_by_host off = denied_by 0 0 off
+
+-- the configuration address port is written
+abbrev pub selects : ℕ → Said
+selects address = outputs Four 0xCF8 address (goes_to (Device AddressPort))
+
+-- the version of the map, and the interval round the address with its area
+abbrev pub sees : ℕ → ℕ → ℕ → Area → Reply
+sees version lo hi area = Saw (record { version = version; lo = lo; hi = hi; area = area })
