@@ -3,3 +3,8 @@ mod SpanLaws
 mod MapWriteLaws
 mod LockLaws
 mod ReplayLaws
+mod ExampleSpans
+mod ExampleRuns
+mod ExampleTexts
+mod ExampleOrderRuns
+mod ExampleMapRuns

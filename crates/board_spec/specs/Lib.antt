@@ -16,3 +16,8 @@ pub mod Text
 pub mod LogText
 pub mod MapText
 pub mod Laws
+pub mod ExampleWords
+pub mod Examples
+pub mod ExampleLogs
+pub mod ExampleOrders
+pub mod ExampleMaps
