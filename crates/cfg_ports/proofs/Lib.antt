@@ -1,0 +1,4 @@
+pub mod AddressLemmas
+pub mod MergedLemmas
+pub mod StoreLemmas
+pub mod SpaceLemmas

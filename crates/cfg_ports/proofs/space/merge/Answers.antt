@@ -1,0 +1,6 @@
+use Rattle.cfg_ports.proofs.MergedLemmas.{merged_bits}
+use Rattle.cfg_ports.proofs.space.merge.Goals as goal
+
+pub returns-clause-bits : goal.returns-clause-bits
+returns-clause-bits c =
+    λ k below. merged_bits c.args.mask c.args.old c.args.written k c.ranges.mask.fits c.ranges.old.fits c.ranges.written.fits below

@@ -1,0 +1,3 @@
+pub mod MergedBits
+pub mod Selection
+pub mod Space

@@ -1,0 +1,131 @@
+//! The configuration address register, CONFADD of the 82441FX (PCI Local Bus 2.1, section 3.7.4.1).
+ghost use Rattle.std.specs.Prelude.{◌≡◌, ◌↔◌, false, IsTrue, IsNone, IfSome};
+ghost use Rattle.board_spec.specs.Setup.{Setup};
+ghost use Rattle.board_spec.specs.Registers.{kept_address, is_enabled, is_config_port, config_register};
+ghost use Rattle.cfg_ports.specs.Selection.{selected_at, existing};
+
+use board_base::Reg;
+use std::marker::Model;
+
+/// The bits that the register keeps: enable, bus, device, function and register. The others read 0.
+const KEPT: u32 = 0x80FF_FFFC;
+/// The bit that turns an access to the configuration data ports into a configuration access.
+const ENABLE: u32 = 0x8000_0000;
+
+/// What the configuration address selects at a configuration data port: a bus, and a register there.
+#[derive(Clone, Copy, PartialEq, Eq, Debug)]
+pub struct Selected {
+    pub bus: u8,
+    pub reg: Reg,
+}
+
+/// The configuration address register at port 0CF8h. Contracts see the number that it holds.
+#[derive(Drop)]
+pub struct ConfAdd {
+    value: u32,
+}
+
+impl Model for ConfAdd {
+    ghost use Rattle.std.specs.Prelude.{◌≡◌, ℕ};
+    ghost use Rattle.board_spec.specs.Registers.{kept_address};
+
+    ghost Value = { ℕ };
+
+    ghost view = { λ conf_add. conf_add.value };
+
+    ghost invariant = { λ conf_add. kept_address conf_add.value ≡ conf_add.value };
+}
+
+impl ConfAdd {
+    /// The register after a reset: 0, so nothing is selected.
+    pub fn new() -> ConfAdd
+        ensures zero { result ≡ 0 }
+    {
+        ConfAdd { value: 0 }
+    }
+
+    /// Writes the four bytes of the register. Reserved bits stay 0.
+    pub fn write(&mut self, value: u32)
+        ensures kept { self.new ≡ kept_address value }
+    {
+        self.value = value & KEPT;
+    }
+
+    /// The four bytes of the register.
+    pub fn read(&self) -> u32
+        ensures value { result ≡ self.now }
+        ensures kept { kept_address result ≡ result }
+    {
+        self.value
+    }
+
+    /// Sets the register to 0.
+    pub fn reset(&mut self)
+        ensures zero { self.new ≡ 0 }
+    {
+        self.value = 0;
+    }
+
+    /// The register that an access at one of the ports 0CFCh to 0CFFh reaches, whether or not its
+    /// function exists. None where the enable bit is 0.
+    pub fn select(&self, port: u16) -> Option<Selected>
+        requires config_port { IsTrue (is_config_port port) }
+        ensures none { IsNone result ↔ (is_enabled self.now ≡ false) }
+        ensures selected { IfSome result (λ selected. selected ≡ selected_at self.now port) }
+        ensures register { (setup : Setup) → config_register setup self.now port ≡ existing setup result }
+    {
+        if self.value & ENABLE == 0 {
+            return None;
+        }
+        Some(Selected {
+            bus: (self.value >> 16 & 0xFF) as u8,
+            reg: Reg {
+                dev: (self.value >> 11 & 0x1F) as u8,
+                fun: (self.value >> 8 & 0x07) as u8,
+                off: (self.value & 0xFF) as u8 + (port & 0x03) as u8,
+            },
+        })
+    }
+}
+
+#[cfg(test)]
+mod tests {
+    use super::*;
+
+    #[test]
+    fn reserved_bits_read_zero(rt: HostRuntime) {
+        let mut conf_add = ConfAdd::new();
+        assert_eq!(rt; conf_add.read(), 0);
+        for (written, read) in [
+            (0xFFFF_FFFF, 0x80FF_FFFC),
+            (0x8000_0058, 0x8000_0058),
+            (0x7F00_0003, 0x0000_0000),
+        ] {
+            conf_add.write(written);
+            assert_eq!(rt; conf_add.read(), read, "of {written}");
+        }
+        conf_add.write(0x8000_0058);
+        conf_add.reset();
+        assert_eq!(rt; conf_add.read(), 0);
+    }
+
+    #[test]
+    fn a_port_selects_the_register_of_the_address(rt: HostRuntime) {
+        for (address, byte, expected) in [
+            (0x8000_0058, 3, Some((0, 0x00, 0, 0x5B))),
+            (0x8000_0070, 2, Some((0, 0x00, 0, 0x72))),
+            (0x8000_0904, 0, Some((0, 0x01, 1, 0x04))),
+            (0x8000_1810, 0, Some((0, 0x03, 0, 0x10))),
+            (0x8000_F800, 1, Some((0, 0x1F, 0, 0x01))),
+            (0xFFFF_FFFF, 3, Some((0xFF, 0x1F, 7, 0xFF))),
+            (0x0000_0058, 0, None),
+        ] {
+            let mut conf_add = ConfAdd::new();
+            conf_add.write(address);
+            let selected = conf_add
+                .select(0xCFC + byte % 4)
+                .map(|s| (s.bus, s.reg.dev, s.reg.fun, s.reg.off));
+            assert_eq!(rt; selected, expected, "by {address} at byte {byte}");
+        }
+    }
+}

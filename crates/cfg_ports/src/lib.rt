@@ -1,0 +1,11 @@
+//! Configuration mechanism one of PCI Local Bus 2.1: the configuration address register at port
+//! 0CF8h, and a function's 256 bytes of configuration space.
+#![tactic(auto)]
+
+mod conf_add;
+mod laws;
+mod space;
+
+pub use conf_add::{ConfAdd, Selected};
+pub use laws::law_merged;
+pub use space::Space;

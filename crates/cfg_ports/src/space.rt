@@ -1,0 +1,109 @@
+//! A function's 256 bytes of configuration space (PCI Local Bus 2.1, section 6.1).
+ghost use Rattle.std.specs.Prelude.{◌≡◌, ◌==◌, ◌<◌, ℕ, false, if◌then◌else◌};
+ghost use Rattle.board_base.specs.declared.access.Width.TheVariants.{One};
+ghost use Rattle.board_base.specs.declared.target.Reg.{Reg};
+ghost use Rattle.board_spec.specs.declared.map_change.MapChange.TheVariants.{Store};
+ghost use Rattle.board_spec.specs.Setup.{Setup};
+ghost use Rattle.board_spec.specs.Bits.{bit, is_bit, merged};
+ghost use Rattle.board_spec.specs.RegisterTable.{writable_bits};
+ghost use Rattle.board_spec.specs.Registers.{is_smram_register, changed_byte};
+ghost use Rattle.cfg_ports.specs.Space.{byte_at, mask_at, reset_at, SameTable};
+
+use std::marker::Model;
+
+/// The 256 bytes of a function's configuration space. Each has a value after a reset, and bits that
+/// can be written.
+#[derive(Drop)]
+pub struct Space {
+    reset: [u8; 256],
+    mask: [u8; 256],
+    bytes: [u8; 256],
+}
+
+impl Model for Space {
+    ghost use Rattle.cfg_ports.specs.Space.{SpaceBytes};
+
+    ghost Value = { SpaceBytes };
+
+    ghost view = { λ space. record { reset = space.reset; mask = space.mask; bytes = space.bytes } };
+}
+
+impl Space {
+    /// A space with these bytes after a reset and these writable bits, just reset.
+    pub fn new(reset: [u8; 256], mask: [u8; 256]) -> Space
+        ensures space { result ≡ record { reset = reset; mask = mask; bytes = reset } }
+    {
+        Space {
+            reset,
+            mask,
+            bytes: reset,
+        }
+    }
+
+    /// The byte at an offset.
+    pub fn read(&self, off: u8) -> u8
+        ensures byte { result ≡ byte_at self.now off }
+    {
+        self.bytes[usize::from(off)]
+    }
+
+    /// Writes the byte at an offset: its writable bits become those written, and nothing else changes.
+    pub fn write(&mut self, off: u8, byte: u8)
+        ensures bytes { (at : ℕ) → byte_at self.new at
+            ≡ (if at == off then merged (mask_at self.old at) (byte_at self.old at) byte else byte_at self.old at) }
+        ensures mask_alone { (k : ℕ) → k < 8 → bit (byte_at self.new off) k
+            ≡ (if is_bit (mask_at self.old off) k then bit byte k else bit (byte_at self.old off) k) }
+        ensures same_table { SameTable self.old self.new }
+
+        // For the registers of a function that the registers' table lists, this is a store of one byte.
+        ensures stored { (setup : Setup) (reg : Reg) → mask_at self.old reg.off ≡ writable_bits setup reg
+            → is_smram_register reg ≡ false
+            → byte_at self.new reg.off
+            ≡ changed_byte setup (Store (record reg { off = off }) One byte) reg (byte_at self.old reg.off) }
+    {
+        let at = usize::from(off);
+        self.bytes[at] = merge(self.mask[at], self.bytes[at], byte);
+    }
+
+    /// Gives each byte its value after a reset.
+    pub fn reset(&mut self)
+        ensures bytes { (at : ℕ) → byte_at self.new at ≡ reset_at self.old at }
+        ensures same_table { SameTable self.old self.new }
+    {
+        self.bytes = self.reset;
+    }
+}
+
+/// The bits of `mask` as written, and the others as they were.
+fn merge(mask: u8, old: u8, written: u8) -> u8
+    ensures merged { result ≡ merged mask old written }
+    ensures bits { (k : ℕ) → k < 8 → bit result k ≡ (if is_bit mask k then bit written k else bit old k) }
+{
+    written & mask | old & !mask
+}
+
+#[cfg(test)]
+mod tests {
+    use super::*;
+
+    #[test]
+    fn writes_change_the_bits_of_the_mask(rt: HostRuntime) {
+        for (off, reset, mask, written, read) in [
+            (0x00, 0x86, 0x00, 0xFF, 0x86),
+            (0x59, 0x00, 0x30, 0xFF, 0x30),
+            (0x5B, 0x00, 0x33, 0x20, 0x20),
+            (0x60, 0x01, 0xFF, 0x02, 0x02),
+            (0x68, 0x00, 0xC0, 0x7F, 0x40),
+            (0x4E, 0x03, 0xC7, 0x38, 0x00),
+            (0xFF, 0x80, 0x8F, 0x7A, 0x0A),
+        ] {
+            let mut space = Space::new([reset; 256], [mask; 256]);
+            assert_eq!(rt; space.read(off), reset, "at {off}");
+            space.write(off, written);
+            assert_eq!(rt; space.read(off), read, "at {off}");
+            assert_eq!(rt; space.read(off ^ 1), reset, "beside {off}");
+            space.reset();
+            assert_eq!(rt; space.read(off), reset, "at {off} after a reset");
+        }
+    }
+}

@@ -1,0 +1,3 @@
+pub mod PamLemmas
+pub mod StoreLemmas
+pub mod WindowLemmas

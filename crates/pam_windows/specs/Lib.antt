@@ -1,0 +1,2 @@
+pub mod Pam
+pub mod Windows

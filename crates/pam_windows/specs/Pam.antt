@@ -1,0 +1,15 @@
+-- The PAM registers are the list of their seven bytes, the one at offset 59h first.
+use Rattle.std.specs.Prelude.{◌≡◌, ◌≤◌, ℕ, ◌-◌, List, slice_index}
+use Rattle.board_spec.specs.Decode.{Bytes, bridge}
+
+-- the offsets of the PAM registers
+abbrev pub IsPamOffset : ℕ → Type 0
+IsPamOffset off = (0x59 ≤ off) × (off ≤ 0x5F)
+
+-- the register at an offset
+abbrev pub pam_byte : List ℕ → ℕ → ℕ
+pam_byte pam off = slice_index pam (off - 0x59)
+
+-- these are the PAM registers among a board's register bytes
+abbrev pub IsPamOf : Bytes → List ℕ → Type 0
+IsPamOf bytes pam = (off : ℕ) → IsPamOffset off → pam_byte pam off ≡ bytes (bridge off)

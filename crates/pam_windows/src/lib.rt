@@ -1,0 +1,9 @@
+//! The shadow windows of the 82441FX: the PAM registers, and the windows of C0000h to FFFFFh that they
+//! open for reads and for writes.
+#![tactic(auto)]
+
+mod pam;
+mod window;
+
+pub use pam::Pam;
+pub use window::{Window, window_of};

@@ -1,0 +1,116 @@
+//! The thirteen windows between C0000h and FFFFFh, and the PAM register of each.
+ghost use Rattle.std.specs.Prelude.{◌≡◌, ◌≤◌, ◌↔◌, ℕ, false, IsNone, IfSome};
+ghost use Rattle.board_spec.specs.Decode.{bridge, pam_register, is_high_window, nibble, is_open, is_shadow_range};
+ghost use Rattle.pam_windows.specs.Windows.{first_address, last_address, register_offset};
+
+use board_base::Kind;
+
+/// The offset of the first PAM register, which governs the last window alone.
+pub const PAM0: u8 = 0x59;
+/// The offset of the second PAM register. From here on each governs two windows.
+const PAM1: u8 = 0x5A;
+
+/// The first address of the first window.
+const FIRST: u32 = 0xC_0000;
+/// How many bytes each window has but the last.
+const SIZE: u32 = 0x4000;
+/// The number of the last window, F0000h to FFFFFh.
+const LAST: u8 = 12;
+
+/// The bit of a window's nibble that sends reads and fetches to DRAM.
+const READ_ENABLE: u8 = 1 << 0;
+/// The bit of a window's nibble that sends writes to DRAM.
+const WRITE_ENABLE: u8 = 1 << 1;
+
+/// A window: its number, its first and last address, and the offset of its PAM register. Numbers 0 to
+/// 11 have 16 KiB each from C0000h on, and number 12 is F0000h to FFFFFh.
+#[derive(Clone, Copy, PartialEq, Eq, Debug)]
+pub struct Window {
+    pub index: u8,
+    pub lo: u32,
+    pub hi: u32,
+    pub off: u8,
+    ghost numbered: { index ≤ 12 },
+    ghost first: { lo ≡ first_address index },
+    ghost last: { hi ≡ last_address index },
+    ghost register: { off ≡ register_offset index },
+}
+
+impl Window {
+    /// Whether a byte of this window's PAM register opens it for a kind of access.
+    pub fn is_opened_by(&self, pam: u8, kind: Kind) -> bool
+        ensures opened { (addr : ℕ) → self.now.lo ≤ addr → addr ≤ self.now.hi
+            → result ≡ is_open (nibble pam (is_high_window addr)) kind }
+    {
+        let enables = self.enables(pam);
+        match kind {
+            Kind::Fetch | Kind::Read => enables & READ_ENABLE != 0,
+            Kind::Write => enables & WRITE_ENABLE != 0,
+        }
+    }
+
+    /// The nibble of the PAM register that governs this window.
+    fn enables(&self, pam: u8) -> u8
+        ensures nibble { (addr : ℕ) → self.now.lo ≤ addr → addr ≤ self.now.hi
+            → result ≡ nibble pam (is_high_window addr) }
+    {
+        if self.is_high() { pam >> 4 } else { pam & 0x0F }
+    }
+
+    /// Whether the high nibble of the PAM register governs this window.
+    fn is_high(&self) -> bool
+        ensures high { (addr : ℕ) → self.now.lo ≤ addr → addr ≤ self.now.hi → result ≡ is_high_window addr }
+    {
+        self.index == LAST || self.index % 2 == 1
+    }
+}
+
+/// The window of an address. None outside C0000h to FFFFFh.
+pub fn window_of(addr: u32) -> Option<Window>
+    ensures none { IsNone result ↔ (is_shadow_range addr ≡ false) }
+    ensures within { IfSome result (λ window. (window.lo ≤ addr) × (addr ≤ window.hi)) }
+    ensures register { IfSome result (λ window. bridge window.off ≡ pam_register addr) }
+{
+    match addr {
+        0xC_0000..=0xE_FFFF => {
+            let index = (addr - FIRST) / SIZE;
+            let lo = FIRST + index * SIZE;
+            Some(Window {
+                index: index as u8,
+                lo,
+                hi: lo + (SIZE - 1),
+                off: PAM1 + (index / 2) as u8,
+            })
+        }
+        0xF_0000..=0xF_FFFF => Some(Window {
+            index: LAST,
+            lo: 0xF_0000,
+            hi: 0xF_FFFF,
+            off: PAM0,
+        }),
+        _ => None,
+    }
+}
+
+#[cfg(test)]
+mod tests {
+    use super::*;
+
+    #[test]
+    fn addresses_have_their_windows(rt: HostRuntime) {
+        for (addr, expected) in [
+            (0xB_FFFF, None),
+            (0xC_0000, Some((0, 0xC_0000, 0xC_3FFF, 0x5A))),
+            (0xC_BFFF, Some((2, 0xC_8000, 0xC_BFFF, 0x5B))),
+            (0xC_C000, Some((3, 0xC_C000, 0xC_FFFF, 0x5B))),
+            (0xD_0000, Some((4, 0xD_0000, 0xD_3FFF, 0x5C))),
+            (0xE_FFFF, Some((11, 0xE_C000, 0xE_FFFF, 0x5F))),
+            (0xF_0000, Some((12, 0xF_0000, 0xF_FFFF, 0x59))),
+            (0xF_FFFF, Some((12, 0xF_0000, 0xF_FFFF, 0x59))),
+            (0x10_0000, None),
+        ] {
+            let window = window_of(addr).map(|w| (w.index, w.lo, w.hi, w.off));
+            assert_eq!(rt; window, expected, "at {addr}");
+        }
+    }
+}
