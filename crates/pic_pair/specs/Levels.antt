@@ -1,5 +1,5 @@
 -- Sets of the eight levels of an interrupt controller, IR0 to IR7.
-use Rattle.std.specs.Prelude.{ℕ, Bool, true, false, List, [], ◌∷◌, ◌+◌, ◌*◌, ◌/◌, ◌%◌, ◌^◌, ◌==◌, ◌&&◌, ◌||◌, not, map, if◌then◌else◌, slice_index_or}
+use Rattle.std.specs.Prelude.{ℕ, Bool, false, List, [], ◌∷◌, ◌+◌, ◌*◌, ◌/◌, ◌%◌, ◌^◌, ◌==◌, ◌&&◌, ◌||◌, not, map, if◌then◌else◌, slice_index_or}
 
 -- a set is the list of eight Booleans that say which levels it has
 abbrev pub Levels : Type 0

@@ -314,9 +314,9 @@ impl Pic {
         ensures first { result ≡ first_blocking self.now }
         ensures level { IfSome result (λ level. level < 8) }
     {
-        for level in self.order() {
-            if self.is_blocking(level) {
-                return Some(level);
+        for served in self.order() {
+            if self.is_blocking(served) {
+                return Some(served);
             }
         }
         None

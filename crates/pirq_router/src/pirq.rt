@@ -5,9 +5,9 @@ ghost use Rattle.pirq_router.specs.Routing.{route_byte, routes_after_write, rout
 use std::marker::Model;
 
 /// How many PCI interrupt pins are routed, PIRQA# to PIRQD#.
-pub const PINS: usize = 4;
+const PINS: usize = 4;
 /// How many interrupt lines the two interrupt controllers have.
-pub const LINES: usize = 16;
+const LINES: usize = 16;
 
 /// The offset of the first register in the configuration space of function 0.
 const FIRST_OFFSET: u8 = 0x60;
@@ -74,7 +74,7 @@ impl Pirq {
     pub fn route(&self, pins: [bool; 4]) -> [bool; 16]
         ensures lines { (line : ℕ) → line < 16 → slice_index_or result line false ≡ is_line_driven self.now pins line }
     {
-        let mut lines = [false; 16];
+        let mut lines = [false; LINES];
         for pin in 0..PINS {
             match line_of_route(self.bytes[pin]) {
                 Some(line) => lines[line] |= pins[pin],

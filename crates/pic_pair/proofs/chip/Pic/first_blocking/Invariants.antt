@@ -4,8 +4,8 @@ use Rattle.std.specs.List.{find}
 use Rattle.pic_pair.specs.Pic.{is_blocking, first_blocking}
 use Rattle.pic_pair.proofs.chip.Pic.first_blocking.Given as goal
 
-abbrev pub invariant-loop-level : goal.invariant-loop-level
-invariant-loop-level l = record {
-  small : (k : ℕ) → k < length l.level-items → get_or l.level-items k 0 < 8;
-  left : first_blocking l.self ≡ find (is_blocking l.self) (drop l.level-index l.level-items);
+abbrev pub invariant-loop-served : goal.invariant-loop-served
+invariant-loop-served l = record {
+  small : (k : ℕ) → k < length l.served-items → get_or l.served-items k 0 < 8;
+  left : first_blocking l.self ≡ find (is_blocking l.self) (drop l.served-index l.served-items);
 }

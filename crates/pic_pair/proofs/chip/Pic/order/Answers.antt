@@ -1,5 +1,5 @@
 -- The levels, rotated.
-use Rattle.std.proofs.Common.{◌≡◌, ◌<◌, length, arith}
+use Rattle.std.proofs.Common.{◌≡◌, ◌<◌, arith}
 use Rattle.pic_pair.specs.Pic.{priority_order}
 use Rattle.pic_pair.proofs.ChipLemmas.{priority_order-small}
 use Rattle.pic_pair.proofs.chip.Pic.order.Goals as goal

@@ -1,5 +1,5 @@
 -- The search ends at a level that asks, gives up behind one that blocks, and else goes on.
-use Rattle.std.proofs.Common.{◌≡◌, ◌<◌, length, sym, ◌∙◌, arith}
+use Rattle.std.proofs.Common.{sym, ◌∙◌, arith}
 use Rattle.pic_pair.proofs.ChipLemmas.{request-is, scan-found, scan-blocked, scan-past, scan-end}
 use Rattle.pic_pair.proofs.chip.Pic.request.Goals as goal
 

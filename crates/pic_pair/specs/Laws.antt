@@ -1,0 +1,67 @@
+-- What follows from the definitions of one chip and of the pair.
+use Rattle.std.specs.Prelude.{◌≡◌, ◌≢◌, ℕ, true, false, Some, List, ◌∷◌, ◌++◌, ◌+◌, ◌/◌, ◌%◌, ◌<◌, ◌&&◌, not, is_some, slice_index}
+use Rattle.std.specs.List.{list_all}
+use Rattle.pic_pair.specs.Levels.{has, is_bit}
+use Rattle.pic_pair.specs.Pic.{Chip, priority_order, is_blocking, blocks_itself, is_requested, interrupt, chip_after_write}
+use Rattle.pic_pair.specs.Pair.{Pair, settled, answer_of, pair_after_acknowledge}
+
+-- The priorities go round from the level after the lowest to the lowest.
+abbrev pub PrioritiesGoRound : Type 0
+PrioritiesGoRound =
+    (lowest place : ℕ) → lowest < 8 → place < 8
+    → slice_index (priority_order lowest) place ≡ (lowest + 1 + place) % 8
+
+-- A level stands in the order of priorities, is pending and not masked, does not block itself, and each
+-- level of higher priority is neither requested nor blocks it.
+pub record IsFirstInOrder (chip : Chip) (order : List ℕ) (level : ℕ) : Type 0 where
+  pub higher : List ℕ
+  pub lower : List ℕ
+  pub place : order ≡ higher ++ level ∷ lower
+  pub asks : is_requested chip level ≡ true
+  pub free : blocks_itself chip level ≡ false
+  pub first : list_all (λ other. not (is_requested chip other) && not (is_blocking chip other)) higher ≡ true
+
+-- INT stands for a level only where none of higher priority is to be served, or still is.
+abbrev pub InterruptIsFirst : Type 0
+InterruptIsFirst =
+    (chip : Chip) (level : ℕ) → interrupt chip ≡ Some level → IsFirstInOrder chip (priority_order chip.lowest) level
+
+-- INT never stands for a masked level.
+abbrev pub MaskedLevelsWait : Type 0
+MaskedLevelsWait = (chip : Chip) (level : ℕ) → interrupt chip ≡ Some level → has chip.masked level ≡ false
+
+-- Without automatic end of interrupt, the level that is acknowledged is in service from then on.
+abbrev pub AcknowledgedIsInService : Type 0
+AcknowledgedIsInService =
+    (pair : Pair) (level : ℕ) → interrupt pair.master ≡ Some level → pair.master.auto_eoi ≡ false
+    → has (pair_after_acknowledge pair).master.in_service level ≡ true
+
+abbrev pub AcknowledgedSlaveIsInService : Type 0
+AcknowledgedSlaveIsInService =
+    (pair : Pair) (level : ℕ) → interrupt pair.master ≡ Some 2 → interrupt pair.slave ≡ Some level
+    → pair.slave.auto_eoi ≡ false → has (pair_after_acknowledge pair).slave.in_service level ≡ true
+
+-- A specific end of interrupt takes its level out of service, and changes nothing else.
+pub record EndsOne (old new : Chip) (level : ℕ) : Type 0 where
+  pub ended : has new.in_service level ≡ false
+  pub others : (other : ℕ) → other < 8 → other ≢ level → has new.in_service other ≡ has old.in_service other
+  pub rest : new ≡ record old { in_service = new.in_service }
+
+abbrev pub SpecificEndEndsOne : Type 0
+SpecificEndEndsOne =
+    (chip : Chip) (byte : ℕ) → is_bit byte 4 ≡ false → is_bit byte 3 ≡ false → byte / 32 ≡ 0b011
+    → EndsOne chip (chip_after_write chip false byte) (byte % 8)
+
+-- A spurious answer has the vector of level 7, and leaves alone the chip that gives it; one of the
+-- master's leaves the slave alone too.
+pub record IsSpuriousAt (pair : Pair) : Type 0 where
+  pub master : (answer_of pair).chip ≡ 0 → (pair_after_acknowledge pair ≡ pair) × ((answer_of pair).vector ≡ pair.master.base + 7)
+  pub slave : (answer_of pair).chip ≡ 1 → ((pair_after_acknowledge pair).slave ≡ pair.slave) × ((answer_of pair).vector ≡ pair.slave.base + 7)
+
+abbrev pub SpuriousLeavesAlone : Type 0
+SpuriousLeavesAlone = (pair : Pair) → (answer_of pair).is_spurious ≡ true → IsSpuriousAt pair
+
+-- Whenever the slave's INT is 1, the latch of the master's input 2 is set.
+abbrev pub SlaveIsLatched : Type 0
+SlaveIsLatched =
+    (pair : Pair) → is_some (interrupt (settled pair).slave) ≡ true → has (settled pair).master.latches 2 ≡ true
