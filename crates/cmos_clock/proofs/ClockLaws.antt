@@ -1,11 +1,11 @@
 -- The laws of the clock's machine.
-use Rattle.std.proofs.Common.{◌≡◌, ◌≢◌, ℕ, ◌+◌, ◌*◌, ◌/◌, ◌%◌, ◌^◌, ◌<◌, ◌≤◌, ◌⊎◌, inl, inr, Bool, true, false, not, ◌&&◌, ◌||◌, cond, List, nat_le, ◌==◌, if◌then◌else◌, zero, suc, length, get_or, set, refl, sym, ap, ◌∙◌, arith, get_or-set_other, get_or-set_same}
+use Rattle.std.proofs.Common.{◌≡◌, ◌≢◌, ℕ, ◌+◌, ◌*◌, ◌/◌, ◌%◌, ◌<◌, ◌≤◌, inl, inr, Bool, true, false, ◌&&◌, ◌||◌, List, nat_le, ◌==◌, if◌then◌else◌, zero, suc, length, get_or, set, refl, sym, ap, ◌∙◌, arith, get_or-set_other, get_or-set_same}
 use Rattle.std.proofs.lemmas.Bool.{cases_Bool, cases_eq, eq-eqb, ne_eqb}
 use Rattle.std.proofs.lemmas.Bool.Decides.{nat_tests}
-use Rattle.std.proofs.lemmas.Grind.{get_or-set_at, common_steps}
+use Rattle.std.proofs.lemmas.Grind.{get_or-set_at}
 use Rattle.std.proofs.lemmas.List.{length-set}
-use Rattle.cmos_clock.specs.Clock.{CivilTime, Clock, bcd, number_byte, hour_byte, control_of, is_set, is_binary, is_24_hour, time_bytes, put, tell, byte_at, alarm_fits, alarm_rings, has_bit, control_reset, written, data_byte, control_written, update_interrupts, power_on, after_write, after_reset, after_moment, register_c, read_value, after_read, interrupt_line}
-use Rattle.cmos_clock.specs.Laws.{number_read, hour_read, Shows, IsShowable, ShowsTheMoment, HasAlarm, same_time_of_day, RingsAtItsTime, IsQuiet, ReadingQuiets, IsReset, ResetKeepsTheTime, Keeps, MemoryKeeps, IsSound, StaysSound}
+use Rattle.cmos_clock.specs.Clock.{CivilTime, Clock, bcd, number_byte, hour_byte, control_of, is_set, is_binary, is_24_hour, time_bytes, put, tell, byte_at, alarm_fits, alarm_rings, has_bit, control_reset, written, data_byte, control_written, update_interrupts, power_on, after_write, after_reset, after_moment, register_c, after_read}
+use Rattle.cmos_clock.specs.Laws.{number_read, hour_read, Shows, IsShowable, ShowsTheMoment, HasAlarm, same_time_of_day, RingsAtItsTime, ReadingQuiets, ResetKeepsTheTime, MemoryKeeps, IsSound, StaysSound}
 
 -- two digits are read as they were written
 bcd_back : (n : ℕ) → n < 100 → bcd n / 16 * 10 + bcd n % 16 ≡ n

@@ -1,6 +1,6 @@
 -- The MC146818 real time clock (Motorola MC146818 datasheet, "Address Map", "Time, Calendar and Alarm
 -- Locations" and "Registers"), as a machine: what a read gives, and the state after each step.
-use Rattle.std.specs.Prelude.{ℕ, ◌+◌, ◌-◌, ◌*◌, ◌/◌, ◌%◌, ◌^◌, Bool, true, false, not, ◌&&◌, ◌||◌, ◌==◌, nat_le, if◌then◌else◌, List, [], ◌∷◌, replicate, slice_index, slice_set}
+use Rattle.std.specs.Prelude.{ℕ, ◌+◌, ◌-◌, ◌*◌, ◌/◌, ◌%◌, ◌^◌, Bool, true, false, ◌&&◌, ◌||◌, ◌==◌, nat_le, if◌then◌else◌, List, [], ◌∷◌, replicate, slice_index, slice_set}
 
 -- a moment that the clock is told: the weekday 1 is Sunday
 pub record CivilTime : Type 0 where

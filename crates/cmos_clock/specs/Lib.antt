@@ -1,4 +1,3 @@
-pub mod Calendar
 pub mod Clock
 pub mod Laws
 pub mod View

@@ -1,5 +1,5 @@
 -- What a `Moment` stands for.
-use Rattle.cmos_clock.specs.declared.moment_draft.Moment.{Moment}
+use Rattle.board_base.specs.declared.moment.Moment.{Moment}
 use Rattle.cmos_clock.specs.Clock.{CivilTime}
 
 -- the moment, as the clock is told it

@@ -1,14 +1,14 @@
 ghost use Rattle.std.specs.Prelude.{◌≡◌};
 ghost use Rattle.cmos_clock.specs.Clock.{after_moment, after_read, after_reset, after_write, alarm_fits, alarm_rings, control_of, data_byte, flags_byte, interrupt_line, power_on, put, read_value, store, time_bytes, without_flags};
-ghost use Rattle.cmos_clock.specs.Calendar.{IsMoment};
+ghost use Rattle.board_base.specs.Calendar.{IsMoment};
 ghost use Rattle.cmos_clock.specs.View.{civil_time};
 
-use crate::Moment;
 use crate::control::Control;
 use crate::register::{
     DATA_PORT, DAY, HOUR, HOUR_ALARM, INDEX_PORT, MINUTE, MINUTE_ALARM, MONTH, REGISTER_A,
     REGISTER_B, REGISTER_C, REGISTER_D, SECOND, SECOND_ALARM, WEEKDAY, YEAR,
 };
+use board_base::Moment;
 use std::marker::Model;
 
 /// The bytes of the clock.
@@ -199,7 +199,7 @@ impl Cmos {
 }
 
 /// Stores the time and the calendar in the format of register B.
-#[tactic(auto, using(crate::proofs::CalendarLemmas::weekday_of_bound, crate::proofs::CalendarLemmas::days_in_month_bound))]
+#[tactic(auto, using(board_base::proofs::CalendarLemmas::weekday_of_bound, board_base::proofs::CalendarLemmas::days_in_month_bound))]
 fn put_time(bytes: &mut [u8; SIZE], control: Control, m: Moment)
     requires { IsMoment m }
     ensures bytes { bytes.new ≡ put (time_bytes control.byte (civil_time m)) bytes.old }

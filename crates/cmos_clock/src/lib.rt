@@ -4,11 +4,9 @@
 mod cmos;
 mod control;
 pub mod laws;
-mod moment_draft;
 mod register;
 
 pub use cmos::Cmos;
-pub use moment_draft::Moment;
 
 #[cfg(test)]
 mod tests;

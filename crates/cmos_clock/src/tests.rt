@@ -1,4 +1,5 @@
-use crate::{Cmos, Moment};
+use crate::Cmos;
+use board_base::Moment;
 
 const INDEX: u16 = 0x70;
 
