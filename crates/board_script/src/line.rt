@@ -1,0 +1,40 @@
+//! One line of text.
+
+ghost use Rattle.std.specs.Prelude.{◌≡◌, ℕ, List};
+ghost use Rattle.std.specs.String.{string_bytes};
+
+use std::marker::Model;
+
+/// A line of text without its line feed. Contracts see it as its bytes.
+#[derive(Drop, Debug)]
+pub struct Line {
+    text: String,
+}
+
+impl Model for Line {
+    ghost Value = { List ℕ };
+
+    ghost view = { λ line. string_bytes line.text };
+}
+
+impl Line {
+    pub(crate) fn new(text: String) -> Line
+        ensures bytes { result ≡ string_bytes text }
+    {
+        Line { text }
+    }
+
+    /// The line as text.
+    pub fn as_str(&self) -> &str
+        ensures text { result.now ≡ self.now }
+    {
+        self.text.as_str()
+    }
+
+    /// The bytes of the line.
+    pub fn as_bytes(&self) -> &[u8]
+        ensures bytes { result.now ≡ self.now }
+    {
+        self.text.as_bytes()
+    }
+}

@@ -1,0 +1,74 @@
+//! The log of a history: a heading, and a line for each entry.
+
+ghost use Rattle.std.specs.Prelude.{◌≡◌, ◌∷◌, ◌++◌, [], OnOk, OnErr, IfOk, reverse, decimal, codes};
+ghost use Rattle.board_spec.specs.Text.{space, line_feed};
+ghost use Rattle.board_spec.specs.LogText.{line_text, log_text};
+ghost use Rattle.board_script.specs.Adds.{Adds, KeepsFront};
+
+use crate::line::Line;
+use crate::reply::{push_reply, reply_width};
+use crate::statement::push_event;
+use crate::words::{push_decimal, push_words};
+use board_base::NoMemory;
+use board_spec::Entry;
+use std::alloc::Global;
+
+/// Appends the number of a line, the processor and the number of its entry, with a space after each.
+fn push_place(text: &mut String, n: u64, actor: u8, seq: u32) -> Result<(), NoMemory>
+    ensures appended { OnOk result (Adds text.old text.new
+        (decimal n ++ space ∷ decimal actor ++ codes "." ++ decimal seq ++ space ∷ [])) }
+    ensures front { OnErr result (KeepsFront text.old text.new) }
+{
+    push_decimal(text, n)?;
+    text.push(' ')?;
+    push_decimal(text, u64::from(actor))?;
+    text.push('.')?;
+    push_decimal(text, u64::from(seq))?;
+    text.push(' ')?;
+    Ok(())
+}
+
+/// Appends line `n`, without its line feed.
+#[tactic(auto, unfolding(board_spec::specs::LogText::line_text))]
+fn push_entry(text: &mut String, n: u64, entry: &Entry) -> Result<(), NoMemory>
+    ensures appended { OnOk result (Adds text.old text.new (line_text n entry.now)) }
+    ensures front { OnErr result (KeepsFront text.old text.new) }
+{
+    push_place(text, n, entry.actor, entry.seq)?;
+    push_event(text, &entry.event)?;
+    push_words(text, " = ")?;
+    push_reply(text, reply_width(&entry.event), &entry.reply)
+}
+
+/// Appends line `n` of the log with its line feed. Lines count from 1.
+pub fn push_line(text: &mut String, n: u32, entry: &Entry) -> Result<(), NoMemory>
+    ensures appended { OnOk result (Adds text.old text.new
+        (line_text n entry.now ++ line_feed ∷ [])) }
+    ensures front { OnErr result (KeepsFront text.old text.new) }
+{
+    push_entry(text, u64::from(n), entry)?;
+    text.push('\n')?;
+    Ok(())
+}
+
+/// Appends the log of a history, whose oldest entry comes first.
+pub fn push_log(text: &mut String, entries: &[Entry]) -> Result<(), NoMemory>
+    ensures appended { OnOk result (Adds text.old text.new (log_text (reverse entries.now))) }
+    ensures front { OnErr result (KeepsFront text.old text.new) }
+{
+    push_words(text, "access log 1\n")?;
+    for (index, entry) in entries.iter().enumerate() {
+        push_entry(text, index as u64 + 1, entry)?;
+        text.push('\n')?;
+    }
+    Ok(())
+}
+
+/// Line `n` of the log, without its line feed. Lines count from 1.
+pub fn log_line(alloc: Global, n: u32, entry: &Entry) -> Result<Line, NoMemory>
+    ensures line { IfOk result (λ line. line ≡ line_text n entry.now) }
+{
+    let mut text = String::new(alloc);
+    push_entry(&mut text, u64::from(n), entry)?;
+    Ok(Line::new(text))
+}

@@ -1,0 +1,44 @@
+//! Fixed words, and numbers in decimal.
+
+ghost use Rattle.std.specs.Prelude.{◌++◌, OnOk, OnErr, decimal};
+ghost use Rattle.board_spec.specs.LogText.{two_digits};
+ghost use Rattle.board_script.specs.Adds.{Adds, KeepsFront};
+
+use board_base::NoMemory;
+use itoa::Buffer;
+
+/// Appends words as they are.
+pub(crate) fn push_words(text: &mut String, words: &str) -> Result<(), NoMemory>
+    ensures appended { OnOk result (Adds text.old text.new words.now) }
+    ensures front { OnErr result (KeepsFront text.old text.new) }
+{
+    text.push_str(words)?;
+    Ok(())
+}
+
+/// Appends a number in decimal.
+pub fn push_decimal(text: &mut String, number: u64) -> Result<(), NoMemory>
+    ensures appended { OnOk result (Adds text.old text.new (decimal number)) }
+    ensures front { OnErr result (KeepsFront text.old text.new) }
+{
+    push_words(text, Buffer::new().format(number))
+}
+
+/// Appends words and the number that follows them.
+pub(crate) fn push_numbered(text: &mut String, words: &str, number: u8) -> Result<(), NoMemory>
+    ensures appended { OnOk result (Adds text.old text.new (words.now ++ decimal number)) }
+    ensures front { OnErr result (KeepsFront text.old text.new) }
+{
+    push_words(text, words)?;
+    push_decimal(text, u64::from(number))
+}
+
+/// Appends the last two digits of a number.
+pub(crate) fn push_two_digits(text: &mut String, number: u16) -> Result<(), NoMemory>
+    ensures appended { OnOk result (Adds text.old text.new (two_digits number)) }
+    ensures front { OnErr result (KeepsFront text.old text.new) }
+{
+    text.push((b'0' + (number / 10 % 10) as u8) as char)?;
+    text.push((b'0' + (number % 10) as u8) as char)?;
+    Ok(())
+}
