@@ -1,5 +1,5 @@
 -- Tests and fields of a byte, as the code masks them and as the definitions divide.
-use Rattle.std.proofs.Common.{◌≡◌, ℕ, zero, suc, ◌+◌, ◌-◌, ◌*◌, ◌/◌, ◌%◌, ◌^◌, ◌<◌, not, eqb, bit_and, bit_or, refl, ap, ◌∙◌, arith}
+use Rattle.std.proofs.Common.{◌≡◌, ℕ, zero, suc, ◌*◌, ◌/◌, ◌%◌, ◌^◌, ◌<◌, not, eqb, bit_and, bit_or, ap, ◌∙◌, arith}
 use Rattle.std.proofs.lemmas.Nat.{or_shifted}
 use Rattle.std.proofs.lemmas.Bool.Decides.{nat_tests}
 use Rattle.std.proofs.lemmas.Nat.Bits.{and_pow, and_high, bit_at-lt}

@@ -1,12 +1,12 @@
 -- A sound disk stays sound, and only a store changes a sector.
-use Rattle.std.proofs.Common.{◌≡◌, ◌≢◌, ℕ, zero, suc, ◌+◌, ◌-◌, ◌*◌, ◌/◌, ◌%◌, ◌<◌, ◌≤◌, Bool, true, false, cond, eqb, ◌||◌, ◌&&◌, List, [], ◌∷◌, ◌++◌, length, inl, inr, refl, ap, sym, subst, ◌∙◌, arith, length-set, length-append}
-use Rattle.std.proofs.lemmas.Bool.{cases_Bool, cond-true, cond-false, eqb-true, eqb-false, or_parts, true≢false}
-use Rattle.board_base.specs.declared.access.Width.{Width}
+use Rattle.std.proofs.Common.{ltb, leb, ◌≡◌, ◌≢◌, ℕ, ◌*◌, ◌/◌, ◌%◌, ◌<◌, ◌≤◌, Bool, true, false, cond, eqb, ◌&&◌, List, [], ◌∷◌, ◌++◌, length, inl, inr, refl, ap, sym, subst, ◌∙◌, arith, length-set, length-append}
+use Rattle.std.proofs.lemmas.Bool.{and_parts, ltb-true, leb-true, cases_Bool, cond-true, cond-false, eqb-true, eqb-false, or_parts, true≢false}
+use Rattle.std.proofs.lemmas.List.{length-replicate}
 use Rattle.board_base.specs.declared.access.Width.TheVariants.{One, Two, Four}
-use Rattle.ata_pio.specs.Ata.State.{Medium, Activity, Ready, Failed, Reading, Writing, Identifying, Drive, Disk, sectors_of, sector_bytes, stored, is_drq}
+use Rattle.ata_pio.specs.Ata.State.{power_on, Activity, Ready, Failed, Reading, Writing, Identifying, Drive, Disk, sectors_of, sector_bytes, stored, is_drq}
 use Rattle.ata_pio.specs.Ata.Commands.{ended, sector_written, commanded}
-use Rattle.ata_pio.specs.Ata.Steps.{bytes_written, activity_written, word_written, word_read, with_drive, after_word, register_read, byte_written, control_written, register_written}
-use Rattle.ata_pio.specs.Ata.Laws.{IsWhole, IsUnderWay, IsSound, Access, Read, Write, Spoil, Restart, stepped, activity_stores, word_stores, stores, KeepsSound, StaysSound, OnlyStoresChange, after_all, NoneStores}
+use Rattle.ata_pio.specs.Ata.Steps.{bytes_written, activity_written, word_written, word_read, with_drive, after_word, byte_written, control_written, register_written}
+use Rattle.ata_pio.specs.Ata.Laws.{PowerOnIsSound, IsUnderWay, IsSound, Access, Read, Write, Spoil, Restart, stepped, activity_stores, word_stores, stores, StaysSound, OnlyStoresChange, after_all, NoneStores}
 use Rattle.ata_pio.proofs.StoreLaws.{stored-whole, stored-other}
 use Rattle.ata_pio.proofs.DriveLaws.{sector_written-under_way, commanded-under_way, register_written-under_way, control_written-under_way, after_word-under_way}
 
@@ -153,3 +153,19 @@ run_keeps [] disk t h n = (h, refl)
 run_keeps (access ∷ rest) disk t h n =
     let later = run_keeps rest (stepped access disk) t (step_keeps access disk h).0 n.1 in
     (later.0, later.1 ∙ step_same access disk t h n.0)
+
+-- a length that is taken, and the sectors in it
+pub power_on_is_sound : PowerOnIsSound
+power_on_is_sound bytes h =
+    let n = length bytes in
+    let parts = and_parts (eqb (n % 512) 0) (ltb 0 n && leb n (512 * 65536)) h in
+    let range = and_parts (ltb 0 n) (leb n (512 * 65536)) parts.1 in
+    let whole : n % 512 ≡ 0 = eqb-true (n % 512) 0 parts.0 in
+    let low : 0 < n = ltb-true 0 n range.0 in
+    let high : n ≤ 512 * 65536 = leb-true n (512 * 65536) range.1 in
+    let count : sectors_of (power_on bytes).medium ≡ n / 512 = length-replicate (n / 512) false in
+    record {
+      sound = record { whole = omega arith; under_way = tt };
+      some = omega arith;
+      few = omega arith;
+    }

@@ -1,5 +1,5 @@
 -- One turn of verify: it fails, it was the last sector, or it goes on.
-use Rattle.std.proofs.Common.{◌≡◌, ◌≢◌, ℕ, zero, suc, ◌+◌, ◌-◌, ◌%◌, ◌<◌, cond, Bool, true, false, Result, Ok, Err, refl, ap, sym, ◌∙◌, arith}
+use Rattle.std.proofs.Common.{◌≡◌, ◌≢◌, ℕ, zero, suc, ◌+◌, ◌%◌, cond, Bool, true, false, Ok, Err, refl, ap, sym, ◌∙◌, arith}
 use Rattle.ata_pio.specs.Ata.State.{Medium, Registers, Drive, is_lba}
 use Rattle.ata_pio.specs.Ata.Address.{named, naming, counted, left_of}
 use Rattle.ata_pio.specs.Ata.Commands.{readable, failed, finished, counted_down, moved_to, verified}

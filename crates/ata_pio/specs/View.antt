@@ -1,5 +1,5 @@
 -- The state of the machine that the values of this crate stand for.
-use Rattle.std.specs.Prelude.{ℕ, ◌*◌, ◌<◌, List, [], take, Result, Ok, Err}
+use Rattle.std.specs.Prelude.{ℕ, ◌*◌, ◌<◌, List, take, Result, Ok, Err}
 use Rattle.ata_pio.specs.Ata.State.{Medium, Registers, Activity, Ready, Failed, Reading, Writing, Identifying, Drive}
 use Rattle.ata_pio.specs.Ata.Commands.{aborted, not_found, uncorrectable}
 use Rattle.ata_pio.specs.declared.fault.Fault.{Fault}

@@ -1,6 +1,6 @@
 //! What holds of the disk beyond its rules: each law is the contract of a function that does nothing.
 
-ghost use Rattle.ata_pio.specs.Ata.Laws.{AlternateStatusReads, MovesOn, OnlyStoresChange, ReadMovesItsSectors, ReadsBack, SectorIsRead, SectorIsWritten, StaysSound, VerifyLooksAtItsSectors, WriteMovesItsSectors, WrittenBackNames};
+ghost use Rattle.ata_pio.specs.Ata.Laws.{AlternateStatusReads, MovesOn, OnlyStoresChange, PowerOnIsSound, ReadMovesItsSectors, ReadsBack, SectorIsRead, SectorIsWritten, StaysSound, VerifyLooksAtItsSectors, WriteMovesItsSectors, WrittenBackNames};
 
 /// A read of the alternate status changes nothing.
 pub fn alternate_status_reads()
@@ -11,6 +11,11 @@ pub fn alternate_status_reads()
 /// and sector.
 pub fn written_back_names()
     ensures law { WrittenBackNames }
+{}
+
+/// A disk that was opened has 1 to 65,536 whole sectors.
+pub fn power_on_is_sound()
+    ensures law { PowerOnIsSound }
 {}
 
 /// Every access leaves a disk whose sectors are whole, as many as before, and of which none that it

@@ -1,5 +1,5 @@
 -- The sector that the address registers name, as a number, and how a number is written back.
-use Rattle.std.specs.Prelude.{ℕ, ◌+◌, ◌-◌, ◌*◌, ◌/◌, ◌%◌, ◌^◌, ◌==◌, nat_lt, ◌||◌, if◌then◌else◌, Option, Some, None}
+use Rattle.std.specs.Prelude.{ℕ, ◌+◌, ◌-◌, ◌*◌, ◌/◌, ◌%◌, ◌==◌, nat_lt, ◌||◌, if◌then◌else◌, Option, Some, None}
 use Rattle.ata_pio.specs.Ata.State.{Registers, is_lba}
 
 -- Every track has 63 sectors, which are counted from 1, and every cylinder has 16 heads.

@@ -1,5 +1,5 @@
 -- The words of IDENTIFY DEVICE for a disk of n sectors.
-use Rattle.std.specs.Prelude.{ℕ, ◌+◌, ◌-◌, ◌*◌, ◌/◌, ◌%◌, ◌==◌, nat_lt, nat_le, ◌&&◌, ◌||◌, min, max, if◌then◌else◌, List, slice_index_or, codes}
+use Rattle.std.specs.Prelude.{ℕ, ◌+◌, ◌-◌, ◌*◌, ◌/◌, ◌%◌, ◌==◌, nat_le, ◌&&◌, ◌||◌, min, max, if◌then◌else◌, List, slice_index_or, codes}
 
 -- the cylinders of the default geometry of 16 heads and 63 sectors
 abbrev pub cylinders_of : ℕ → ℕ

@@ -1,11 +1,11 @@
 -- What holds of the disk beyond its rules, said of whole transfers and of any run of accesses.
-use Rattle.std.specs.Prelude.{◌≡◌, ◌≢◌, ◌⊎◌, ℕ, zero, suc, ◌+◌, ◌-◌, ◌*◌, ◌/◌, ◌%◌, ◌<◌, ◌≤◌, ◌==◌, Bool, true, false, ◌&&◌, ◌||◌, if◌then◌else◌, List, [], ◌∷◌, ◌++◌, length, Option, Some, None, Ok, Err}
+use Rattle.std.specs.Prelude.{◌≡◌, ◌⊎◌, ℕ, zero, suc, ◌+◌, ◌*◌, ◌/◌, ◌%◌, ◌<◌, ◌≤◌, ◌==◌, Bool, true, false, ◌&&◌, ◌||◌, List, [], ◌∷◌, ◌++◌, length, Some, Ok, Err}
 use Rattle.board_base.specs.declared.access.Width.{Width}
 use Rattle.board_base.specs.declared.access.Width.TheVariants.{One, Two, Four}
-use Rattle.ata_pio.specs.Ata.State.{Medium, Registers, Activity, Ready, Failed, Reading, Writing, Identifying, Drive, Disk, sectors_of, is_bad, word_at, sector_bytes, stored, marked, is_drive_one, is_drq}
+use Rattle.ata_pio.specs.Ata.State.{power_on, is_disk_length, Medium, Registers, Activity, Ready, Failed, Reading, Writing, Identifying, Drive, Disk, sectors_of, word_at, sector_bytes, stored, is_drive_one, is_drq}
 use Rattle.ata_pio.specs.Ata.Address.{named, naming, left_of}
-use Rattle.ata_pio.specs.Ata.Commands.{readable, found, counted_down, moved_to, ended, failed, finished, begin_read, begin_write, verified, sector_read, sector_written}
-use Rattle.ata_pio.specs.Ata.Steps.{word_of, word_read, word_written, with_drive, after_read, after_write, after_bad, after_reset, is_ata_port}
+use Rattle.ata_pio.specs.Ata.Commands.{readable, counted_down, moved_to, ended, failed, finished, begin_read, begin_write, verified, sector_read, sector_written}
+use Rattle.ata_pio.specs.Ata.Steps.{word_of, word_read, word_written, with_drive, after_read, after_write, after_bad, after_reset}
 
 -- A read of the alternate status changes nothing.
 abbrev pub AlternateStatusReads : Type 0
@@ -30,6 +30,15 @@ IsUnderWay sectors (Identifying word) = Unit {0}
 pub record IsSound (disk : Disk) : Type 0 where
   pub whole : IsWhole disk.medium
   pub under_way : IsUnderWay (sectors_of disk.medium) disk.drive.activity
+
+-- A disk that was opened is sound, and has 1 to 65,536 sectors.
+pub record OpensSound (bytes : List ℕ) : Type 0 where
+  pub sound : IsSound (power_on bytes)
+  pub some : 1 ≤ sectors_of (power_on bytes).medium
+  pub few : sectors_of (power_on bytes).medium ≤ 65536
+
+abbrev pub PowerOnIsSound : Type 0
+PowerOnIsSound = (bytes : List ℕ) → is_disk_length (length bytes) ≡ true → OpensSound bytes
 
 -- One access to the disk, or what else happens to it.
 pub data Access : Type 0 where

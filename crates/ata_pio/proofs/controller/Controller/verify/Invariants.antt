@@ -1,4 +1,4 @@
-use Rattle.std.proofs.Common.{◌≡◌, ◌+◌}
+use Rattle.std.proofs.Common.{◌≡◌}
 use Rattle.ata_pio.specs.Ata.Commands.{verified}
 use Rattle.ata_pio.specs.Ata.Address.{left_of}
 use Rattle.ata_pio.specs.View.{medium_of, registers_of, drive_of}
