@@ -1,0 +1,92 @@
+//! A list of entries with room that was reserved for more.
+
+ghost use Rattle.std.specs.Prelude.{◌≡◌, ℕ, ◌+◌, ◌-◌, ◌<◌, ◌≤◌, List, [], ◌∷◌, length, max, reverse, slice_get, Some, OnOk, OnErr};
+
+use board_base::NoMemory;
+use board_spec::Entry;
+use std::alloc::Global;
+use std::marker::Model;
+
+/// A history. Contracts see its entries, the newest first, and how many more it has room for.
+#[derive(Drop)]
+pub struct History {
+    entries: Vec<Entry>,
+    spare: u32,
+}
+
+impl Model for History {
+    ghost use Rattle.std.specs.Prelude.{◌+◌, ◌<◌, ◌≤◌, reverse, vec_capacity, vec_len};
+    ghost use Rattle.access_history.specs.Past.{Past, most};
+
+    ghost Value = { Past };
+
+    ghost view = { λ history. record { entries = reverse history.entries.items; spare = history.spare } };
+
+    ghost invariant = { λ history. (vec_len history.entries + history.spare ≤ vec_capacity history.entries)
+        × (vec_len history.entries + history.spare < most) };
+}
+
+impl History {
+    ghost use Rattle.access_history.specs.Past.{Past, most};
+
+    /// A history without entries, and without room for any.
+    pub fn new(alloc: Global) -> History
+        ensures empty { result ≡ record { entries = []; spare = 0 } }
+    {
+        History {
+            entries: Vec::new(alloc),
+            spare: 0,
+        }
+    }
+
+    /// Makes room for at least `n` more entries, where the history with them stays below 4,000,000.
+    pub fn reserve(&mut self, n: u32) -> Result<(), NoMemory>
+        requires { length self.old.entries + n < most }
+        ensures ok { OnOk result (self.new ≡ record self.old { spare = max self.old.spare n }) }
+        ensures err { OnErr result (self.new ≡ self.old) }
+    {
+        if n > self.spare {
+            self.entries.reserve(n as usize)?;
+            self.spare = n;
+        }
+        Ok(())
+    }
+
+    /// Adds an entry in the room that was reserved.
+    pub fn push(&mut self, entry: Entry)
+        requires { 1 ≤ self.old.spare }
+        ensures pushed { self.new ≡ record { entries = entry ∷ self.old.entries; spare = self.old.spare - 1 } }
+    {
+        self.entries.push(entry).unwrap();
+        self.spare -= 1;
+    }
+
+    /// How many entries there are.
+    pub fn len(&self) -> u32
+        ensures length { result ≡ length self.now.entries }
+    {
+        self.entries.len() as u32
+    }
+
+    /// How many more entries there is room for.
+    pub fn spare(&self) -> u32
+        ensures spare { result ≡ self.now.spare }
+    {
+        self.spare
+    }
+
+    /// The entry at a place, counted from 0, the oldest first.
+    pub fn entry(&self, i: u32) -> &Entry
+        requires { i < length self.now.entries }
+        ensures entry { slice_get (reverse self.now.entries) i ≡ Some result.now }
+    {
+        &self.entries[i as usize]
+    }
+
+    /// All entries, the oldest first.
+    pub fn entries(&self) -> &[Entry]
+        ensures entries { result.now ≡ reverse self.now.entries }
+    {
+        &self.entries
+    }
+}
