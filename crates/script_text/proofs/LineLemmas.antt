@@ -1,0 +1,76 @@
+-- A text up to its first line feed, and behind it.
+use Rattle.std.proofs.Common.{◌≡◌, ℕ, ◌+◌, ◌<◌, ◌≤◌, ◌-◌, Bool, true, false, cond, eqb, ltb, Option, Some, None, List, [], ◌∷◌, ◌++◌, length, get_or, take, drop, refl, sym, ap, subst, ◌∙◌, All, arith}
+use Rattle.std.specs.List.{position_or_len, before_first, after_first, onto_first}
+use Rattle.std.proofs.lemmas.Bool.{eqb-true, ltb-false}
+use borrow.Author.Tests.{ltb-true}
+use Rattle.std.proofs.lemmas.Option.{cond_some}
+use Rattle.std.proofs.lemmas.List.{take_rest}
+use Rattle.std.proofs.lemmas.Grind.{common_steps}
+use Rattle.std.proofs.lemmas.List.Elements.{All-head, All-tail}
+use Rattle.std.proofs.lemmas.List.Sums.{split_at_first, fails_before_first, passes_at_first}
+use Rattle.script_text.specs.Lines.{lines_of}
+
+abbrev pub is_feed : ℕ → Bool
+is_feed byte = eqb byte 10
+
+-- no byte of it ends a line
+abbrev IsLine : List ℕ → Type 0
+IsLine bytes = All (λ byte. is_feed byte ≡ false) bytes
+
+longer : (x : ℕ) (xs : List ℕ) → is_feed x ≡ false → lines_of (x ∷ xs) ≡ onto_first x (lines_of xs)
+unfolding lines_of
+longer x xs e = ap (λ b. cond b ([] ∷ lines_of xs) (onto_first x (lines_of xs))) e
+
+ended : (line rest : List ℕ) → IsLine line → lines_of (line ++ 10 ∷ rest) ≡ line ∷ lines_of rest
+unfolding lines_of
+ended [] rest h = refl
+ended (x ∷ line) rest h =
+    longer x (line ++ 10 ∷ rest) (All-head (λ byte. is_feed byte ≡ false) x line h)
+    ∙ ap (onto_first x) (ended line rest (All-tail (λ byte. is_feed byte ≡ false) x line h))
+
+alone : (x : ℕ) (line : List ℕ) → IsLine (x ∷ line) → lines_of (x ∷ line) ≡ (x ∷ line) ∷ []
+unfolding lines_of
+alone x [] h = longer x [] (All-head (λ byte. is_feed byte ≡ false) x [] h)
+alone x (y ∷ line) h =
+    longer x (y ∷ line) (All-head (λ byte. is_feed byte ≡ false) x (y ∷ line) h)
+    ∙ ap (onto_first x) (alone y line (All-tail (λ byte. is_feed byte ≡ false) x (y ∷ line) h))
+
+before : (bytes : List ℕ) → IsLine (before_first is_feed bytes)
+before bytes k d lt = let k' = fails_before_first is_feed bytes k d (grind (arith, common_steps)) in grind (arith, common_steps)
+
+-- with a line feed the first line ends there
+lines_cut : (bytes : List ℕ) → position_or_len is_feed bytes < length bytes
+    → lines_of bytes ≡ take (position_or_len is_feed bytes) bytes ∷ lines_of (drop (position_or_len is_feed bytes + 1) bytes)
+lines_cut bytes lt =
+    let feed : get_or bytes (position_or_len is_feed bytes) 0 ≡ 10 = eqb-true _ 10 (passes_at_first is_feed bytes 0 lt) in
+    let cut : bytes ≡ before_first is_feed bytes ++ 10 ∷ after_first is_feed bytes =
+    subst (λ (byte : ℕ). bytes ≡ before_first is_feed bytes ++ byte ∷ after_first is_feed bytes) feed (split_at_first is_feed bytes 0 lt) in
+    ap lines_of cut ∙ ended (before_first is_feed bytes) (after_first is_feed bytes) (before bytes)
+
+-- the place of the first line feed, if there is one
+abbrev feed_place : List ℕ → Option ℕ
+feed_place bytes = cond (ltb (position_or_len is_feed bytes) (length bytes)) (Some (position_or_len is_feed bytes)) None
+
+pub cut_at : (bytes : List ℕ) (end : ℕ) → feed_place bytes ≡ Some end
+    → lines_of bytes ≡ take end bytes ∷ lines_of (take (length bytes - (end + 1)) (drop (end + 1) bytes))
+cut_at bytes end found =
+    let at_end = cond_some (ltb (position_or_len is_feed bytes) (length bytes)) (position_or_len is_feed bytes) end found in
+    rw take_rest (subst (λ (n : ℕ). lines_of bytes ≡ take n bytes ∷ lines_of (drop (n + 1) bytes)) at_end.1 (lines_cut bytes (ltb-true _ _ at_end.0)))
+
+-- with none it is the whole text
+nowhere : (b : Bool) (n : ℕ) → cond b (Some n) None ≡ None → b ≡ false
+nowhere true n e = absurd cc
+nowhere false n e = refl
+
+pub uncut : (bytes : List ℕ) → false ≡ eqb (length bytes) 0 → feed_place bytes ≡ None → lines_of bytes ≡ bytes ∷ lines_of []
+unfolding lines_of
+uncut [] some none = absurd cc
+uncut (x ∷ xs) some none =
+    let le : length (x ∷ xs) ≤ position_or_len is_feed (x ∷ xs) = ltb-false _ _ (nowhere (ltb (position_or_len is_feed (x ∷ xs)) (length (x ∷ xs))) (position_or_len is_feed (x ∷ xs)) none) in
+    alone x xs (λ k d lt. fails_before_first is_feed (x ∷ xs) k d (omega arith))
+
+-- no bytes, no lines
+pub none_left : (bytes : List ℕ) → true ≡ eqb (length bytes) 0 → lines_of bytes ≡ []
+unfolding lines_of
+none_left [] none = refl
+none_left (x ∷ xs) none = let h : length (x ∷ xs) ≡ 0 = eqb-true _ 0 (sym none) in absurd (omega arith)
