@@ -61,9 +61,10 @@ impl History {
         self.spare -= 1;
     }
 
-    /// How many entries there are.
+    /// How many entries there are. With the room for more they stay below 4,000,000.
     pub fn len(&self) -> u32
         ensures length { result ≡ length self.now.entries }
+        ensures room { length self.now.entries + self.now.spare < most }
     {
         self.entries.len() as u32
     }

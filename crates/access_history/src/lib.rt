@@ -5,3 +5,6 @@ mod history;
 
 pub use board_spec::{Entry, Event, Look, Reply};
 pub use history::History;
+
+#[cfg(test)]
+mod tests;

@@ -1,6 +1,6 @@
-pub mod DecodeLemmas
-pub mod RegisterLemmas
-pub mod MemoryLemmas
-pub mod PortLemmas
-pub mod StepLemmas
-pub mod KeptLemmas
+mod DecodeLemmas
+mod RegisterLemmas
+mod MemoryLemmas
+mod PortLemmas
+mod StepLemmas
+mod KeptLemmas

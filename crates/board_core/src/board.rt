@@ -4,6 +4,7 @@ ghost use Rattle.std.specs.Prelude.{◌≡◌, ◌-◌, ◌+◌, ◌<◌, ◌≤
 ghost use Rattle.board_spec.specs.declared.event.Entry.{Entry};
 ghost use Rattle.board_spec.specs.Setup.{Setup};
 ghost use Rattle.board_spec.specs.Answer.{IsAnswer};
+ghost use Rattle.board_spec.specs.Legal.{IsLegal};
 ghost use Rattle.access_history.specs.Past.{most};
 ghost use Rattle.board_core.specs.Forms.{IsTaken};
 ghost use Rattle.board_core.specs.Kept.{IsAddress, IsBoardOf, next_entry, plain_setup};
@@ -80,7 +81,7 @@ impl Board {
         })
     }
 
-    /// Makes room for at least `n` more entries.
+    /// Makes room for at least `n` more entries, where the history with them stays below 4,000,000.
     pub fn reserve(&mut self, n: u32) -> Result<(), NoMemory>
         requires { length self.old.entries + n < most }
         ensures ok { OnOk result (self.new ≡ record self.old { spare = max self.old.spare n }) }
@@ -89,7 +90,9 @@ impl Board {
         self.history.reserve(n)
     }
 
-    /// Does an event of a processor, 0 to 7, and tells the reply. It takes no memory.
+    /// Does an event of a processor, 0 to 7, and tells the reply. It takes no memory. For now it takes
+    /// byte accesses to memory outside the ROM, the configuration address as far as it names 58h to 5Fh
+    /// of the host bridge or is not enabled, and byte accesses at the configuration data ports.
     pub fn step(&mut self, actor: u8, event: &Event) -> Reply
         requires actor { actor < 8 }
         requires taken { IsTaken event.now }
@@ -112,8 +115,10 @@ impl Board {
         reply
     }
 
-    /// What was asked and replied so far.
+    /// What was asked and replied so far: each reply is the answer of the definitions, and each
+    /// processor's entries are numbered from 1.
     pub fn history(&self) -> &History
+        ensures legal { IsLegal self.now.setup self.now.entries }
         ensures history { result.now ≡ record { entries = self.now.entries; spare = self.now.spare } }
     {
         &self.history

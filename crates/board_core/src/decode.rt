@@ -10,6 +10,8 @@ ghost use Rattle.board_core.specs.Plain.{IsPlain, plain_area, plain_denial};
 use board_base::{Area, Denial, Kind, Reg};
 use pam_windows::{Pam, Window, window_of};
 
+/// The row of DRAM that ends at the top. No later row has memory after a reset.
+const FIRST_ROW: u8 = 0;
 /// The top of DRAM, 8 MiB, as the boundary registers have it after a reset.
 const TOP: u32 = 0x80_0000;
 /// From here on no DRAM can be put.
@@ -52,7 +54,7 @@ fn shadowed(pam: &Pam, addr: u32, kind: Kind) -> bool
     }
 }
 
-/// The area of an address whose window is open or not.
+/// The area of an address, by whether it lies in an open shadow window.
 fn plain(shadowed: bool, addr: u32) -> Area
     ensures plain { result ≡ plain_area shadowed addr }
     ensures some { IsPlain result }
@@ -63,11 +65,11 @@ fn plain(shadowed: bool, addr: u32) -> Area
     match addr {
         0xA_0000..=0xB_FFFF => Area::Abort,
         0xC_0000..=0xF_FFFF => if shadowed {
-            Area::Shadow(0)
+            Area::Shadow(FIRST_ROW)
         } else {
             Area::Abort
         },
-        _ => Area::Dram(0),
+        _ => Area::Dram(FIRST_ROW),
     }
 }
 
@@ -83,7 +85,7 @@ pub fn denial(addr: u32) -> Denial
     }
 }
 
-/// What denies an access that lands nowhere and not at SMRAM's addresses.
+/// What denies an access that lands nowhere, outside SMRAM's addresses.
 fn high_denial(addr: u32) -> Denial
     ensures plain { result ≡ plain_denial addr }
 {

@@ -10,3 +10,6 @@ mod ports;
 mod registers;
 
 pub use board::Board;
+
+#[cfg(test)]
+mod tests;

@@ -1,16 +1,15 @@
 //! The configuration ports: the address at 0CF8h, and the registers at 0CFCh to 0CFFh.
 
 ghost use Rattle.std.specs.Prelude.{◌≡◌, ◌<◌, ℕ, List, ◌∷◌, true, false};
+ghost use Rattle.board_base.specs.declared.access.Width.TheVariants.{One};
 ghost use Rattle.board_spec.specs.declared.event.Entry.{Entry};
 ghost use Rattle.board_spec.specs.declared.event.Event.TheVariants.{Port};
-ghost use Rattle.board_spec.specs.Setup.{Setup};
-ghost use Rattle.board_spec.specs.Registers.{config_address, kept_address, byte_of};
-ghost use Rattle.board_spec.specs.Answer.{port_answer};
-ghost use Rattle.board_core.specs.Forms.{IsAddressAccess, IsDataAccess, IsTakenPort};
-ghost use Rattle.board_base.specs.declared.access.Width.TheVariants.{One};
 ghost use Rattle.board_spec.specs.declared.map_change.MapChange.TheVariants.{Store};
-ghost use Rattle.board_spec.specs.Registers.{changed_byte};
+ghost use Rattle.board_spec.specs.Setup.{Setup};
+ghost use Rattle.board_spec.specs.Registers.{config_address, kept_address, byte_of, changed_byte};
+ghost use Rattle.board_spec.specs.Answer.{port_answer};
 ghost use Rattle.board_spec.specs.Decode.{Bytes, bridge};
+ghost use Rattle.board_core.specs.Forms.{IsAddressAccess, IsDataAccess, IsTakenPort};
 ghost use Rattle.board_core.specs.Kept.{IsAddress, IsBoardOf, IsOffset, IsRegisters, reply_lands};
 ghost use Rattle.board_core.specs.Replies.{register_reply, disabled_reply};
 
@@ -21,7 +20,10 @@ use board_spec::Reply;
 use cfg_ports::ConfAdd;
 use pam_windows::Pam;
 
-/// The reply to a read or a write of the configuration address.
+/// The port of the configuration address.
+const CONFIG_ADDRESS: u16 = 0xCF8;
+
+/// Reads or writes the configuration address, four bytes at port 0CF8h, and tells the reply.
 pub fn address_reply(address: &mut ConfAdd, access: &PortAccess) -> Reply
     requires { IsAddressAccess access.now }
     ensures answer { (setup : Setup) (history : List Entry) → config_address history ≡ address.old
@@ -46,8 +48,8 @@ pub fn address_reply(address: &mut ConfAdd, access: &PortAccess) -> Reply
     }
 }
 
-/// The reply to a read or a write of a byte at a configuration port, which reaches a register at 58h
-/// to 5Fh of the host bridge where the address is enabled.
+/// Reads or writes a byte at a configuration data port, and tells the reply. Where the address is
+/// enabled, it reaches a register at 58h to 5Fh of the host bridge.
 pub fn data_reply(address: &ConfAdd, pam: &mut Pam, access: &PortAccess) -> Reply
     requires data { IsDataAccess access.now }
     requires address { IsAddress address.now }
@@ -64,7 +66,7 @@ pub fn data_reply(address: &ConfAdd, pam: &mut Pam, access: &PortAccess) -> Repl
     }
 }
 
-/// The reply while the address is not enabled.
+/// The reply at a data port while the address is not enabled: reads give FFh, and writes are lost.
 fn disabled(access: &PortAccess) -> Reply
     ensures disabled { result ≡ disabled_reply access.now.write }
     ensures off_dram { reply_lands result ≡ false }
@@ -81,7 +83,7 @@ fn disabled(access: &PortAccess) -> Reply
     }
 }
 
-/// The reply to a read or a write of a byte of a register.
+/// Reads or writes a byte of a register, and tells the reply.
 fn register(pam: &mut Pam, reg: Reg, access: &PortAccess) -> Reply
     requires offset { IsOffset reg.off }
     requires byte { access.now.value < 0x100 }
@@ -107,9 +109,6 @@ fn register(pam: &mut Pam, reg: Reg, access: &PortAccess) -> Reply
         denial: None,
     }
 }
-
-/// The port of the configuration address.
-const CONFIG_ADDRESS: u16 = 0xCF8;
 
 /// Does an access at the configuration ports, and tells the reply.
 pub fn perform(address: &mut ConfAdd, pam: &mut Pam, access: &PortAccess) -> Reply
