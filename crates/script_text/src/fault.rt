@@ -18,7 +18,7 @@ pub enum ScriptFault {
 
 impl ScriptFault {
     /// A line has none of the forms.
-    pub fn other_form(line: u32) -> Self
+    pub(crate) fn other_form(line: u32) -> Self
         ensures fault { result ≡ ScriptFault.Bad line other_form }
     {
         ScriptFault::Bad {
