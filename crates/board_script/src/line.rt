@@ -18,7 +18,8 @@ impl Model for Line {
 }
 
 impl Line {
-    pub(crate) fn new(text: String) -> Line
+    /// A line with this text.
+    pub fn new(text: String) -> Line
         ensures bytes { result ≡ string_bytes text }
     {
         Line { text }

@@ -1,0 +1,5 @@
+mod FrontLemmas
+mod SentLemmas
+mod StatusLemmas
+mod TakenLemmas
+mod ReplayLemmas

@@ -1,0 +1,53 @@
+-- What a sink took of a text, piece after piece.
+use Rattle.std.proofs.Common.{◌≡◌, ℕ, List, [], ◌++◌, Option, Some, None, take, drop, sym, ◌∙◌, ap, refl, append_assoc, append-nil}
+use Rattle.std.proofs.lemmas.List.{take-append-drop}
+use Rattle.std.specs.Io.KnownBytes.{Appends, Keeps}
+use Rattle.board_run.specs.Output.{Sent, AppendsFront}
+
+kept_front :
+    (before now later : Option (List ℕ)) (text : List ℕ) → Appends before now text → Keeps now later → Appends before later text
+kept_front None now later text sent kept = tt
+kept_front (Some xs) None later text sent kept = absurd sent
+kept_front (Some xs) (Some ys) None text sent kept = absurd kept
+kept_front (Some xs) (Some ys) (Some zs) text sent kept = kept ∙ sent
+
+pub front_sent :
+    (before now later : Option (List ℕ)) (text rest : List ℕ) →
+    Sent before now text rest → Keeps now later → AppendsFront before later text
+front_sent before now later text rest sent kept = record {
+  rest = rest;
+  sent = record { front = sent.front; whole = sent.whole; taken = kept_front before now later sent.front sent.taken kept };
+}
+
+more_taken :
+    (before now later : Option (List ℕ)) (front piece : List ℕ) →
+    Appends before now front → Appends now later piece → Appends before later (front ++ piece)
+more_taken None now later front piece sent more = tt
+more_taken (Some xs) None later front piece sent more = absurd sent
+more_taken (Some xs) (Some ys) None front piece sent more = absurd more
+more_taken (Some xs) (Some ys) (Some zs) front piece sent more =
+    more ∙ ap (λ (bytes : List ℕ). bytes ++ piece) sent ∙ append_assoc xs front piece
+
+pub more_sent :
+    (before now later : Option (List ℕ)) (text rest : List ℕ) (k : ℕ) →
+    Sent before now text rest → Appends now later (take k rest) → Sent before later text (drop k rest)
+more_sent before now later text rest k sent more = record {
+  front = sent.front ++ take k rest;
+  whole =
+      sent.whole
+      ∙ ap (λ (bytes : List ℕ). sent.front ++ bytes) (sym (take-append-drop k rest))
+      ∙ sym (append_assoc sent.front (take k rest) (drop k rest));
+  taken = more_taken before now later sent.front (take k rest) sent.taken more;
+}
+
+nothing_taken : (known : Option (List ℕ)) → Appends known known []
+nothing_taken None = tt
+nothing_taken (Some xs) = sym (append-nil xs)
+
+pub nothing_sent : (known : Option (List ℕ)) (text : List ℕ) → Sent known known text text
+nothing_sent known text = record { front = []; whole = refl; taken = nothing_taken known }
+
+pub all_sent : (before now : Option (List ℕ)) (text rest : List ℕ) → Sent before now text rest → rest ≡ [] → Appends before now text
+all_sent before now text rest sent empty =
+    let whole : text ≡ sent.front = sent.whole ∙ ap (λ (bytes : List ℕ). sent.front ++ bytes) empty ∙ append-nil sent.front in
+    rw whole sent.taken

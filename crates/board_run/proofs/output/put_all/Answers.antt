@@ -1,0 +1,12 @@
+use Rattle.std.proofs.Common.{rules}
+use Rattle.board_run.proofs.SentLemmas.{more_sent}
+use Rattle.board_run.proofs.output.put_all.Goals as goal
+
+pub loop-rest-preserved : goal.loop-rest-preserved
+loop-rest-preserved g c = record {
+  sent =
+      rw c.after-rest.ensures.rest
+      (more_sent (g.K.Sink.taken c.args.out.now) (g.K.Sink.taken c.loop-rest.out) (g.K.Sink.taken c.put.new.self) c.args.text.now
+      c.loop-rest.rest.now c.in_ok-taken.taken c.loop-rest.invariant.sent c.in_ok-taken.ensures.appends);
+  later = search rules;
+}

@@ -1,0 +1,8 @@
+use Rattle.std.proofs.Common.{rules}
+use Rattle.board_run.proofs.TakenLemmas.{taken_at}
+use Rattle.board_run.proofs.replay.replay_script.Goals as goal
+
+pub step-requires-clause-taken : goal.step-requires-clause-taken
+step-requires-clause-taken c =
+    rw c.deref-statement-items.ensures.value
+    (taken_at c.args.script.now.statements.items c.loop-statement.statement-index _ c.requires.taken.each (search rules))

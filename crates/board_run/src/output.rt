@@ -1,0 +1,31 @@
+//! A whole text, put in pieces to a sink.
+
+ghost use Rattle.std.specs.Prelude.{◌≡◌, ◌≤◌, drop, length, IfErr, OnOk, OnErr};
+ghost use Rattle.std.specs.Io.KnownBytes.{Appends};
+ghost use Rattle.board_base.specs.Outside.{Rose};
+ghost use Rattle.board_run.specs.Output.{AppendsFront};
+
+use board_base::{PutFault, Sink};
+
+/// What is left of a piece after its first bytes.
+fn after(piece: &[u8], count: usize) -> &[u8]
+    requires { count ≤ length piece.now }
+    ensures rest { result.now ≡ drop count piece.now }
+{
+    &piece[count..]
+}
+
+/// Puts all of a text. Where the sink refuses a piece, what it took before is a front of the text.
+pub fn put_all<K: Sink>(out: &mut K, text: &[u8]) -> Result<(), PutFault>
+    ensures whole { OnOk result (Appends (K.taken out.old) (K.taken out.new) text.now) }
+    ensures front { OnErr result (AppendsFront (K.taken out.old) (K.taken out.new) text.now) }
+    ensures failed { IfErr result (λ fault. fault ≡ PutFault.Failed → Rose (K.faults out.old) (K.faults out.new)) }
+    ensures later { K.faults out.old ≤ K.faults out.new }
+{
+    let mut rest = text;
+    while !rest.is_empty() {
+        let taken = out.put(rest)?;
+        rest = after(rest, taken);
+    }
+    Ok(())
+}
