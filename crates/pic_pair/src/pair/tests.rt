@@ -1,7 +1,7 @@
 use super::*;
 use std::process::Abort;
 
-/// One step of a worked row, with the answer that it must give.
+/// One step of a case, with the answer that it must give.
 #[derive(Clone, Copy)]
 enum Step {
     /// A write of a byte at a port.
