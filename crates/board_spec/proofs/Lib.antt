@@ -1,3 +1,5 @@
+pub mod MergedLemmas
+pub mod StoreLemmas
 mod FlatMapLaws
 mod SpanLaws
 mod MapWriteLaws

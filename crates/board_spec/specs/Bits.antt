@@ -26,7 +26,7 @@ wide byte_at from Four =
     byte_at from + 0x100 * byte_at (from + 1) + 0x1_0000 * byte_at (from + 2) + 0x100_0000 * byte_at (from + 3)
 
 -- a byte in which the bits of the mask are those written, and the others are the old ones
--- (`law_merged` of cfg_ports says so bit by bit)
+-- (`law_merged` says so bit by bit)
 abbrev pub merged : ℕ → ℕ → ℕ → ℕ
 merged mask old written = bit_or (bit_and written mask) (bit_and old (0xFF - mask))
 

@@ -3,12 +3,15 @@ pub mod Bits
 pub mod RegisterTable
 pub mod Registers
 pub mod MapWrites
+pub mod MergedBits
+pub mod WideStores
 pub mod Decode
 pub mod Ports
 pub mod FlatMap
 pub mod Stored
 pub mod Devices
 pub mod Answer
+pub mod InRange
 pub mod Legal
 pub mod Orders
 pub mod LockLaw

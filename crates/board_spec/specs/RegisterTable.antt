@@ -1,7 +1,7 @@
 -- The registers in PCI configuration space, one line a register or a run of them, as the datasheets
 -- of the 82441FX (00.0) and the 82371SB (01.0 and 01.1) list them, and the cards' by PCI Local Bus
 -- 2.1, section 6.2. What no line lists reads 00 and ignores writes.
-use Rattle.std.specs.Prelude.{ℕ, ◌+◌, ◌-◌, ◌^◌, ◌==◌, Bool, ◌&&◌, ◌||◌, nat_lt, nat_le, if◌then◌else◌, List, [], ◌∷◌, get_or, length, replicate, flat_map, Option, Some, None, is_some, option_map, unwrap_or}
+use Rattle.std.specs.Prelude.{ℕ, ◌+◌, ◌-◌, ◌^◌, ◌==◌, Bool, ◌&&◌, nat_lt, nat_le, if◌then◌else◌, List, [], ◌∷◌, get_or, length, replicate, flat_map, Option, Some, None, is_some, option_map, unwrap_or}
 use Rattle.board_base.specs.declared.target.Reg.{Reg}
 use Rattle.board_spec.specs.Setup.{Base, MemoryBase, IoBase, FittedCard, Setup, card_at}
 use Rattle.board_spec.specs.Bits.{long_bytes}

@@ -1,6 +1,8 @@
 //! Laws of the definitions. Each function does nothing: its clause is the law.
 
 ghost use Rattle.board_spec.specs.Laws.{LegalKeepsLock, MapWritesDecide, OneAnswer, OneFlatMap, OneReplay, OneSpan, SomeAnswer, SomeReplay, SomeSpan};
+ghost use Rattle.board_spec.specs.MergedBits.{MergedBits};
+ghost use Rattle.board_spec.specs.WideStores.{ByteByByte};
 
 /// The registers that the address map depends on are those after the map writes alone.
 pub fn law_map_registers()
@@ -33,4 +35,14 @@ pub fn law_one_answer()
 pub fn law_one_replay()
     ensures some { SomeReplay }
     ensures one { OneReplay }
+{}
+
+/// A byte merged under a mask has the written bits where the mask has ones, and the old bits elsewhere.
+pub fn law_merged()
+    ensures bits { MergedBits }
+{}
+
+/// A store of several bytes is the stores of its bytes, one after the other in rising offset.
+pub fn law_wide_store()
+    ensures bytes { ByteByByte }
 {}

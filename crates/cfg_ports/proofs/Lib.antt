@@ -1,4 +1,2 @@
 pub mod AddressLemmas
-pub mod MergedLemmas
-pub mod StoreLemmas
 pub mod SpaceLemmas

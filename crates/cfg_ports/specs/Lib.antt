@@ -1,3 +1,2 @@
-pub mod MergedBits
 pub mod Selection
 pub mod Space

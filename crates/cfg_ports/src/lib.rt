@@ -3,9 +3,7 @@
 #![tactic(auto)]
 
 mod conf_add;
-mod laws;
 mod space;
 
 pub use conf_add::{ConfAdd, Selected};
-pub use laws::law_merged;
 pub use space::Space;

@@ -1,3 +1,2 @@
 pub mod PamLemmas
-pub mod StoreLemmas
 pub mod WindowLemmas

@@ -9,7 +9,7 @@ use Rattle.board_spec.specs.RegisterTable.{host_bridge, reset_byte, writable_bit
 use Rattle.board_spec.specs.Registers.{is_smram_register, changed_byte}
 use Rattle.board_spec.specs.Decode.{Bytes, bridge}
 use Rattle.pam_windows.specs.Pam.{IsPamOffset, IsPamOf, pam_byte}
-use Rattle.pam_windows.proofs.StoreLemmas.{changed_byte-one_same, changed_byte-one_other}
+use Rattle.board_spec.proofs.StoreLemmas.{changed_byte-one_same, changed_byte-one_other}
 
 at_or_above : (P : ℕ → Type 0) (first off : ℕ) → first ≤ off → P first → (first + 1 ≤ off → P off) → P off
 at_or_above P first off from here above =

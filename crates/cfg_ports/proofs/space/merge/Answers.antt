@@ -1,4 +1,4 @@
-use Rattle.cfg_ports.proofs.MergedLemmas.{merged_bits}
+use Rattle.board_spec.proofs.MergedLemmas.{merged_bits}
 use Rattle.cfg_ports.proofs.space.merge.Goals as goal
 
 pub returns-clause-bits : goal.returns-clause-bits

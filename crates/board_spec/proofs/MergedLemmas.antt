@@ -5,7 +5,7 @@ use Rattle.std.proofs.lemmas.Nat.Bits.{bit_at_and, bit_at_or, bit_at_not, bit_at
 use Rattle.std.specs.Int.{w8}
 use Rattle.std.specs.Int.RustNames.{bit_and}
 use Rattle.board_spec.specs.Bits.{bit}
-use Rattle.cfg_ports.specs.MergedBits.{MergedBits}
+use Rattle.board_spec.specs.MergedBits.{MergedBits}
 
 -- one bit of the mask chooses between two bits
 chosen_bit : (mask kept old written : ℕ) → kept ≡ 1 - mask → mask < 2 → old < 2 → written < 2 → max (min written mask) (min old kept) ≡ cond (eqb mask 1) written old
