@@ -1,6 +1,6 @@
 //! Accesses to memory.
 
-ghost use Rattle.std.specs.Prelude.{◌≡◌, ℕ, List, Option, None, Some, if◌then◌else◌};
+ghost use Rattle.std.specs.Prelude.{◌≡◌, List, [], ◌∷◌};
 ghost use Rattle.board_spec.specs.declared.event.Entry.{Entry};
 ghost use Rattle.board_spec.specs.declared.event.Event.TheVariants.{Memory};
 ghost use Rattle.board_spec.specs.Setup.{Setup};
@@ -8,7 +8,9 @@ ghost use Rattle.board_spec.specs.Bits.{wide};
 ghost use Rattle.board_spec.specs.InRange.{IsBusAccess};
 ghost use Rattle.board_spec.specs.Stored.{dram_byte, is_write};
 ghost use Rattle.board_spec.specs.Answer.{memory_answer};
+ghost use Rattle.board_spec.specs.Registers.{byte_of};
 ghost use Rattle.dram_store.specs.Dram.{IsDramOf};
+ghost use Rattle.board_core.specs.Bridge.{IsRegisters};
 ghost use Rattle.board_core.specs.Forms.{IsReached};
 ghost use Rattle.board_core.specs.Kept.{IsBoardOf, lands, reply_lands};
 ghost use Rattle.board_core.specs.Replies.{answered};
@@ -23,7 +25,7 @@ use dram_store::Dram;
 fn reply(host: &HostBridge, dram: &Dram, access: &Access) -> Reply
     requires bus { IsBusAccess (is_write access.now.kind) access.now.addr access.now.width access.now.value }
     requires reached { IsReached access.now.addr }
-    ensures answer { (setup : Setup) (history : List Entry) → HasHost setup history host.now → IsDramOf setup history dram.now
+    ensures answer { (setup : Setup) (history : List Entry) → setup.cards ≡ [] → IsRegisters setup (byte_of setup history) host.now → IsDramOf setup history dram.now
         → result ≡ memory_answer setup history access.now }
 {
     match decode::area(host, access.addr, access.kind, access.smm) {
@@ -75,7 +77,7 @@ fn target_lands(target: &Target) -> bool
 pub fn perform(host: &HostBridge, dram: &mut Dram, access: &Access) -> Reply
     requires bus { IsBusAccess (is_write access.now.kind) access.now.addr access.now.width access.now.value }
     requires reached { IsReached access.now.addr }
-    ensures answer { (setup : Setup) (history : List Entry) → HasHost setup history host.now → IsDramOf setup history dram.old
+    ensures answer { (setup : Setup) (history : List Entry) → setup.cards ≡ [] → IsRegisters setup (byte_of setup history) host.now → IsDramOf setup history dram.old
         → result ≡ memory_answer setup history access.now }
     ensures stored { (setup : Setup) (history : List Entry) (entry : Entry) → IsDramOf setup history dram.old
         → entry.event ≡ Memory access.now → entry.reply ≡ result → IsDramOf setup (entry ∷ history) dram.new }
