@@ -1,6 +1,1 @@
-mod DecodeLemmas
-mod RegisterLemmas
-mod MemoryLemmas
-mod PortLemmas
-mod StepLemmas
-mod KeptLemmas
+mod BridgeLemmas
