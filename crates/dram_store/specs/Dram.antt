@@ -1,5 +1,5 @@
 -- The DRAM is the list of its bytes, from address 0 on.
-use Rattle.std.specs.Prelude.{ℕ, ◌≡◌, ◌*◌, ◌<◌, ◌≤◌, nat_lt, if◌then◌else◌, List, [], ◌∷◌, length, slice_index}
+use Rattle.std.specs.Prelude.{ℕ, ◌≡◌, ◌+◌, ◌*◌, ◌≤◌, ◌<◌, nat_lt, if◌then◌else◌, List, [], ◌∷◌, ◌++◌, length, take, drop, slice_index}
 use Rattle.board_base.specs.declared.access.Width.{Width}
 use Rattle.board_base.specs.declared.access.Width.TheVariants.{One, Two, Four}
 use Rattle.board_spec.specs.declared.event.Entry.{Entry}
@@ -27,3 +27,7 @@ abbrev pub low_bytes : Width → ℕ → List ℕ
 low_bytes One value = byte value 0 ∷ []
 low_bytes Two value = byte value 0 ∷ byte value 1 ∷ []
 low_bytes Four value = byte value 0 ∷ byte value 1 ∷ byte value 2 ∷ byte value 3 ∷ []
+
+-- a list in which the bytes from a place on are replaced by these
+abbrev pub with_bytes : List ℕ → ℕ → List ℕ → List ℕ
+with_bytes dram at bytes = take at dram ++ bytes ++ drop (at + length bytes) dram

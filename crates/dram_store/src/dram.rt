@@ -8,9 +8,9 @@ ghost use Rattle.board_spec.specs.Bits.{byte, wide};
 ghost use Rattle.board_spec.specs.Stored.{DramCell, byte_put, entry_put, dram_byte};
 ghost use Rattle.dram_store.specs.Dram.{dram_at, IsDramOf};
 
-use crate::wide::{put, value_of};
+use crate::wide::{put_at, value_of};
 use board_base::{NoMemory, Width};
-use std::alloc::Global;
+use std::alloc::{AllocError, Global};
 use std::marker::Model;
 
 /// The bytes of a mebibyte.
@@ -33,6 +33,13 @@ impl Model for Dram {
     ghost invariant = { λ dram. IsDramSize (length dram.bytes.items) };
 }
 
+/// So many bytes, all 0.
+fn zeros(alloc: Global, count: usize) -> Result<Vec<u8>, AllocError>
+    ensures zeros { IfOk result (λ bytes. bytes.items ≡ replicate count 0) }
+{
+    vec![in alloc; 0; count]
+}
+
 impl Dram {
     /// A DRAM of `mib` MiB, 1 to 64, all zeros.
     pub fn open(alloc: Global, mib: u32) -> Result<Dram, NoMemory>
@@ -41,7 +48,7 @@ impl Dram {
         ensures zeros { IfOk result (λ dram. dram ≡ replicate (mib * 0x10_0000) 0) }
         ensures fresh { IfOk result (λ dram. (setup : Setup) → setup.mib ≡ mib → IsDramOf setup [] dram) }
     {
-        let bytes = vec![in alloc; 0; mib as usize * MIB]?;
+        let bytes = zeros(alloc, mib as usize * MIB)?;
         Ok(Dram { bytes })
     }
 
@@ -77,7 +84,7 @@ impl Dram {
         let at = addr as usize;
         let end = at + width.bytes() as usize;
         if end <= self.bytes.len() {
-            put(&mut self.bytes[at..end], width, value);
+            put_at(&mut self.bytes, at, width, value);
         }
     }
 }

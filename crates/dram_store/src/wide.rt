@@ -1,8 +1,8 @@
 //! Values of one, two and four bytes as bytes, low byte first.
-ghost use Rattle.std.specs.Prelude.{◌≡◌, ◌≤◌, length, slice_index};
+ghost use Rattle.std.specs.Prelude.{◌≡◌, ◌≤◌, ◌+◌, length, slice_index};
 ghost use Rattle.board_base.specs.Access.{bytes_of, largest_of};
 ghost use Rattle.board_spec.specs.Bits.{wide};
-ghost use Rattle.dram_store.specs.Dram.{low_bytes};
+ghost use Rattle.dram_store.specs.Dram.{low_bytes, with_bytes};
 
 use board_base::Width;
 use byteorder::{ByteOrder, LittleEndian};
@@ -19,15 +19,15 @@ pub fn value_of(bytes: &[u8], width: Width) -> u32
     }
 }
 
-/// Replaces these bytes, as many as the width has, by those of a value that fits the width.
-pub fn put(bytes: &mut [u8], width: Width, value: u32)
-    requires length { length bytes.old ≡ bytes_of width }
+/// Replaces the bytes from a place on, as many as the width has, by those of a value that fits the width.
+pub fn put_at(dram: &mut [u8], at: usize, width: Width, value: u32)
+    requires within { at + bytes_of width ≤ length dram.old }
     requires fits { value ≤ largest_of width }
-    ensures put { bytes.new ≡ low_bytes width value }
+    ensures put { dram.new ≡ with_bytes dram.old at (low_bytes width value) }
 {
     match width {
-        Width::One => bytes[0] = value as u8,
-        Width::Two => LittleEndian::write_u16(bytes, value as u16),
-        Width::Four => LittleEndian::write_u32(bytes, value),
+        Width::One => dram[at] = value as u8,
+        Width::Two => LittleEndian::write_u16(&mut dram[at..at + 2], value as u16),
+        Width::Four => LittleEndian::write_u32(&mut dram[at..at + 4], value),
     }
 }
