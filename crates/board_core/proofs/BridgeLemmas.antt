@@ -1,13 +1,14 @@
 -- A store to a register of the host bridge: the part that has the register takes it, and the others stay.
-use Rattle.std.proofs.Common.{◌≡◌, ◌≢◌, ℕ, ◌+◌, ◌≤◌, ◌<◌, ◌⊎◌, inl, inr, Bool, true, false, ◌&&◌, List, refl, sym, ◌∙◌, ap, arith}
-use Rattle.std.specs.Prelude.{◌==◌, nat_le, nat_lt}
+use Rattle.std.proofs.Common.{◌≡◌, ◌≢◌, ℕ, zero, suc, ◌+◌, ◌*◌, ◌/◌, ◌%◌, ◌≤◌, ◌<◌, ◌⊎◌, inl, inr, Bool, true, false, ◌&&◌, List, [], ◌∷◌, refl, sym, ◌∙◌, ap, subst, arith, add-one}
+use Rattle.std.specs.Prelude.{◌==◌, nat_le, nat_lt, slice_index}
 use Rattle.std.proofs.lemmas.Bool.Decides.{nat_tests}
 use Rattle.board_base.specs.declared.access.Width.{Width}
-use Rattle.board_base.specs.declared.access.Width.TheVariants.{One}
+use Rattle.board_base.specs.declared.access.Width.TheVariants.{One, Two, Four}
 use Rattle.board_base.specs.declared.target.Reg.{Reg}
 use Rattle.board_base.specs.Access.{bytes_of}
 use Rattle.board_spec.specs.declared.map_change.MapChange.TheVariants.{Store}
 use Rattle.board_spec.specs.Setup.{Setup}
+use Rattle.board_spec.specs.Bits.{byte}
 use Rattle.board_spec.specs.RegisterTable.{reset_byte}
 use Rattle.board_spec.specs.Registers.{covers, changed_byte}
 use Rattle.board_spec.specs.Decode.{Bytes, bridge}
@@ -104,3 +105,86 @@ wide_stored setup bytes host off value count width whole is =
     agrees setup (λ reg. after_stores setup (bridge off) value count reg (bytes reg))
     (λ reg. changed_byte setup (Store (bridge off) width value) reg (bytes reg)) host
     (λ reg. byte_by_byte setup (bridge off) width value reg (bytes reg) ∙ ap (λ n. after_stores setup (bridge off) value n reg (bytes reg)) (sym whole)) is
+
+pub none_stored : (setup : Setup) (bytes : Bytes) (host : HostBridge) (off value : ℕ) → IsRegisters setup bytes host →
+    IsRegisters setup (λ reg. after_stores setup (bridge off) value 0 reg (bytes reg)) host
+unfolding after_stores
+none_stored setup bytes host off value is = is
+
+next_stored : (setup : Setup) (bytes : Bytes) (host : HostBridge) (off value k : ℕ) →
+    IsRegisters setup (stored setup (λ reg. after_stores setup (bridge off) value k reg (bytes reg)) (off + k) (byte value k)) host →
+    IsRegisters setup (λ reg. after_stores setup (bridge off) value (suc k) reg (bytes reg)) host
+unfolding after_stores
+next_stored setup bytes host off value k is = is
+
+pub one_more_stored : (setup : Setup) (bytes : Bytes) (host : HostBridge) (off value k written : ℕ) → written ≡ byte value k →
+    IsRegisters setup (stored setup (λ reg. after_stores setup (bridge off) value k reg (bytes reg)) (off + k) written) host →
+    IsRegisters setup (λ reg. after_stores setup (bridge off) value (k + 1) reg (bytes reg)) host
+one_more_stored setup bytes host off value k written is kept =
+    rw (add-one k)
+    (next_stored setup bytes host off value k
+    (subst (λ (n : ℕ). IsRegisters setup (stored setup (λ reg. after_stores setup (bridge off) value k reg (bytes reg)) (off + k) n) host) is kept))
+
+-- ---- which part has a register
+
+abbrev pub IsPmcPlace : ℕ → Type 0
+IsPmcPlace off = ((off < 0x59) ⊎ (0x5F < off)) × (off ≢ 0x72)
+
+pub pmc_written :
+    (setup : Setup) (bytes : Bytes) (old new : HostBridge) (off byte : ℕ) → IsPmcPlace off → IsRegisters setup bytes old →
+    IsPmcOf (stored setup bytes off byte) new.pmc → new.pam ≡ old.pam → new.smram ≡ old.smram → IsRegisters setup (stored setup bytes off byte) new
+pmc_written setup bytes old new off byte place is pmc pam smram = record {
+  here = record {
+    pmc = pmc;
+    windows = rw pam (pam_stays setup bytes old.pam off byte place.0 is.here.windows);
+    smram = smram ∙ smram_stays setup bytes old.smram off byte place.1 is.here.smram;
+  };
+  others = others_stay setup bytes off byte is.others;
+}
+
+pub pam_written :
+    (setup : Setup) (bytes : Bytes) (old new : HostBridge) (off byte : ℕ) → 0x59 ≤ off → off ≤ 0x5F → IsRegisters setup bytes old →
+    new.pmc ≡ old.pmc → IsPamOf (stored setup bytes off byte) new.pam → new.smram ≡ old.smram → IsRegisters setup (stored setup bytes off byte) new
+pam_written setup bytes old new off byte from to is pmc pam smram = record {
+  here = record {
+    pmc = rw pmc (pmc_stays setup bytes old.pmc off byte (inl (from, to)) is.here.pmc);
+    windows = pam;
+    smram = smram ∙ smram_stays setup bytes old.smram off byte (λ same. omega arith) is.here.smram;
+  };
+  others = others_stay setup bytes off byte is.others;
+}
+
+pub smram_written :
+    (setup : Setup) (bytes : Bytes) (old new : HostBridge) (off byte : ℕ) → off ≡ 0x72 → IsRegisters setup bytes old →
+    new.pmc ≡ old.pmc → new.pam ≡ old.pam → new.smram ≡ stored setup bytes 0x72 byte (bridge 0x72) → IsRegisters setup (stored setup bytes off byte) new
+smram_written setup bytes old new off byte here is pmc pam smram = record {
+  here = record {
+    pmc = rw pmc (pmc_stays setup bytes old.pmc off byte (inr here) is.here.pmc);
+    windows = rw pam (pam_stays setup bytes old.pam off byte (inr (omega arith)) is.here.windows);
+    smram = smram ∙ ap (λ (at : ℕ). stored setup bytes at byte (bridge 0x72)) (sym here);
+  };
+  others = others_stay setup bytes off byte is.others;
+}
+
+-- ---- bytes of a value
+
+pub byte_at : (value index : ℕ) (bytes : List ℕ) → index < 4 → bytes ≡ value % 256 ∷ value / 256 % 256 ∷ value / 65536 % 256 ∷ value / 16777216 % 256 ∷ [] →
+    slice_index bytes index ≡ byte value index
+byte_at value zero bytes below is = rw is (omega arith)
+byte_at value (suc zero) bytes below is = rw is (omega arith)
+byte_at value (suc (suc zero)) bytes below is = rw is (omega arith)
+byte_at value (suc (suc (suc zero))) bytes below is = rw is (omega arith)
+byte_at value (suc (suc (suc (suc k)))) bytes below is = absurd (omega arith)
+
+pub at_most_four : (width : Width) → bytes_of width ≤ 4
+at_most_four One = omega arith
+at_most_four Two = omega arith
+at_most_four Four = omega arith
+
+-- two bytes and four
+pub word_of : (low high result byte0 byte1 : ℕ) → low ≡ byte0 → high ≡ byte1 → low < 256 → high < 256 → result ≡ low + high * 256 % 4294967296 → result ≡ byte0 + 0x100 * byte1
+word_of low high result byte0 byte1 is0 is1 fits0 fits1 is = omega arith
+
+pub long_of : (low high byte0 byte1 byte2 byte3 : ℕ) → low ≡ byte0 + 0x100 * byte1 → high ≡ byte2 + 0x100 * byte3 → high < 0x1_0000 →
+    low + high * 65536 % 4294967296 ≡ byte0 + 0x100 * byte1 + 0x1_0000 * byte2 + 0x100_0000 * byte3
+long_of low high byte0 byte1 byte2 byte3 is0 is1 fits = omega arith

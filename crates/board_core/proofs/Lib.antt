@@ -1,1 +1,5 @@
 mod BridgeLemmas
+mod PortLemmas
+mod DecodeLemmas
+mod MemoryLemmas
+mod KeptLemmas

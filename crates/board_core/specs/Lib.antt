@@ -1,2 +1,6 @@
+pub mod Areas
 pub mod Bridge
+pub mod Forms
+pub mod Kept
+pub mod PortSteps
 pub mod Replies

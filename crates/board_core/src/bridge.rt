@@ -1,6 +1,6 @@
 //! The registers of the host bridge, function 00.0 of the 82441FX.
 
-ghost use Rattle.std.specs.Prelude.{◌≡◌, ◌+◌, ◌≤◌, ℕ};
+ghost use Rattle.std.specs.Prelude.{◌≡◌, ◌+◌, ◌*◌, ◌<◌, ◌≤◌};
 ghost use Rattle.board_base.specs.Access.{bytes_of};
 ghost use Rattle.board_base.specs.declared.access.Width.TheVariants.{One};
 ghost use Rattle.board_spec.specs.declared.map_change.MapChange.TheVariants.{Store};
@@ -8,7 +8,7 @@ ghost use Rattle.board_spec.specs.Setup.{Setup};
 ghost use Rattle.board_spec.specs.Bits.{wide};
 ghost use Rattle.board_spec.specs.RegisterTable.{reset_byte};
 ghost use Rattle.board_spec.specs.Registers.{changed_byte};
-ghost use Rattle.board_spec.specs.Decode.{Bytes, bridge, row_of, top_of, hole_of, is_in, is_shadowed, smram_answers};
+ghost use Rattle.board_spec.specs.Decode.{Bytes, bridge, hole_of, is_in, is_shadowed};
 ghost use Rattle.board_core.specs.Bridge.{IsBridgeOf, IsRegisters};
 
 use board_base::{Kind, Width};
@@ -18,6 +18,7 @@ use smram_ctl::Smram;
 
 /// The first and the last of the PAM registers.
 const PAM0: u8 = 0x59;
+
 const PAM6: u8 = 0x5F;
 /// The SMRAM control register.
 pub const SMRAM: u8 = 0x72;
@@ -82,6 +83,7 @@ impl HostBridge {
         requires within { off + 2 ≤ 0x100 }
         ensures value { (bytes : Bytes) → IsBridgeOf bytes self.now
             → result ≡ bytes (bridge off) + 0x100 * bytes (bridge (off + 1)) }
+        ensures fits { result < 0x1_0000 }
     {
         u32::from(self.read(off)) + (u32::from(self.read(off + 1)) << 8)
     }

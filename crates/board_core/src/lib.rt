@@ -3,6 +3,16 @@
 //! functions stand as after a reset.
 #![tactic(auto)]
 
+mod board;
 mod bridge;
+mod decode;
+mod memory;
+mod ports;
+mod registers;
 mod replies;
 mod reset_control;
+
+pub use board::Board;
+
+#[cfg(test)]
+mod tests;

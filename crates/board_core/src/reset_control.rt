@@ -1,14 +1,17 @@
 //! The reset control register, port 0CF9h of the 82371SB.
 
-ghost use Rattle.std.specs.Prelude.{◌≡◌, ℕ, Some};
+ghost use Rattle.std.specs.Prelude.{◌≡◌, ◌<◌, Some};
+ghost use Rattle.board_spec.specs.Bits.{is_bit};
 ghost use Rattle.board_spec.specs.Registers.{is_hard_value, control_after};
 
 use std::marker::Model;
 
-/// The bit whose rise resets.
-const RESET_CPU: u8 = 1 << 2;
-/// The bit that makes it a hard reset.
-const SYSTEM_RESET: u8 = 1 << 1;
+/// The number of the bit whose rise resets.
+const RESET_CPU: u32 = 2;
+/// The number of the bit that makes it a hard reset.
+const SYSTEM_RESET: u32 = 1;
+/// The bits that the register keeps.
+const KEPT: u8 = 0x06;
 
 /// The reset control register. Contracts see its byte, of which bits 2 and 1 are kept.
 #[derive(Drop)]
@@ -45,12 +48,23 @@ impl ResetControl {
         ensures hard { result ≡ is_hard_value self.old byte }
         ensures byte { self.new ≡ control_after self.old (Some byte) }
     {
-        let hard = byte & RESET_CPU != 0 && byte & SYSTEM_RESET != 0 && self.byte & RESET_CPU == 0;
-        self.byte = if hard {
-            0
-        } else {
-            byte & (RESET_CPU | SYSTEM_RESET)
-        };
+        let hard = is_hard(self.byte, byte);
+        self.byte = if hard { 0 } else { byte & KEPT };
         hard
     }
+}
+
+/// Whether a write resets hard, by what the register held and what is written.
+fn is_hard(old: u8, written: u8) -> bool
+    ensures hard { result ≡ is_hard_value old written }
+{
+    is_set(written, RESET_CPU) && is_set(written, SYSTEM_RESET) && !is_set(old, RESET_CPU)
+}
+
+/// Whether a bit of a byte is set.
+fn is_set(byte: u8, bit: u32) -> bool
+    requires bit { bit < 8 }
+    ensures set { result ≡ is_bit byte bit }
+{
+    (byte >> bit) % 2 == 1
 }
