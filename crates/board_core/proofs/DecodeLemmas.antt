@@ -1,16 +1,14 @@
 -- The memory map of the host bridge, where no card is fitted and XBCS stands as after a reset.
-use Rattle.std.proofs.Common.{◌≡◌, ℕ, ◌<◌, ◌≤◌, ◌⊎◌, inl, inr, Bool, true, false, not, ◌&&◌, ◌||◌, List, [], ◌∷◌, Option, Some, None, refl, sym, ◌∙◌, ap, arith}
-use Rattle.std.specs.Prelude.{if◌then◌else◌, nat_lt, nat_le, is_some, unwrap_or}
-use Rattle.std.proofs.lemmas.Bool.{cases_Bool}
+use Rattle.std.proofs.Common.{◌≡◌, ℕ, inl, inr, Bool, true, false, not, ◌&&◌, [], ◌∷◌, Some, None, refl, sym, ◌∙◌, ap, arith}
+use Rattle.std.specs.Prelude.{nat_le}
 use Rattle.std.proofs.lemmas.Bool.Decides.{nat_tests}
 use Rattle.board_base.specs.declared.access.Kind.{Kind}
 use Rattle.board_base.specs.declared.target.Area.{Area}
-use Rattle.board_base.specs.declared.target.Area.TheVariants.{Dram, Shadow, Smram, Abort}
-use Rattle.board_base.specs.declared.target.Denial.TheVariants.{Register, NoRegister}
+use Rattle.board_base.specs.declared.target.Area.TheVariants.{Dram, Smram, Abort}
 use Rattle.board_spec.specs.Setup.{Setup}
 use Rattle.board_spec.specs.Bits.{is_within}
 use Rattle.board_spec.specs.RegisterTable.{reset_byte, isa_bridge}
-use Rattle.board_spec.specs.Decode.{Bytes, bridge, isa, first_of, line_where, top_of, row_of, hole_of, is_in, is_shadowed, smram_answers, is_rom_selected, memory_claim, memory_shut, area_under, area_of}
+use Rattle.board_spec.specs.Decode.{Bytes, bridge, isa, first_of, line_where, row_of, hole_of, is_in, is_shadowed, smram_answers, is_rom_selected, memory_claim, memory_shut, area_under, area_of}
 use Rattle.board_core.specs.declared.bridge.HostBridge.{HostBridge}
 use Rattle.board_core.specs.Bridge.{IsBridgeOf, IsRegisters}
 use Rattle.board_core.specs.Forms.{IsReached}

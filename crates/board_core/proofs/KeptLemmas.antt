@@ -1,5 +1,5 @@
 -- What a step leaves of what the board keeps.
-use Rattle.std.proofs.Common.{◌≡◌, ◌≢◌, ℕ, ◌+◌, ◌-◌, ◌<◌, ◌≤◌, inl, inr, Bool, true, false, List, [], ◌∷◌, Option, Some, None, zero, suc, ◌*◌, ◌^◌, length, refl, sym, ◌∙◌, ap, subst, arith, get_or-set_same, get_or-set_other}
+use Rattle.std.proofs.Common.{◌≡◌, ℕ, ◌+◌, ◌-◌, ◌<◌, ◌≤◌, inl, inr, true, false, List, [], ◌∷◌, zero, suc, ◌^◌, length, refl, sym, ◌∙◌, ap, subst, arith, get_or-set_same, get_or-set_other}
 use Rattle.std.specs.Prelude.{if◌then◌else◌, ◌==◌, slice_index, slice_set, replicate}
 use Rattle.std.proofs.lemmas.Bool.{cases_eq, cases_Bool}
 use Rattle.std.proofs.lemmas.Bool.Decides.{nat_tests}
@@ -11,14 +11,14 @@ use Rattle.board_spec.specs.declared.event.Reply.{Reply}
 use Rattle.board_spec.specs.declared.event.Entry.{Entry}
 use Rattle.board_spec.specs.Setup.{Setup}
 use Rattle.board_spec.specs.InRange.{IsInRange}
-use Rattle.board_spec.specs.Registers.{reset_control, config_address, byte_of, register_change}
+use Rattle.board_spec.specs.Registers.{reset_control, config_address, byte_of}
 use Rattle.board_spec.specs.Legal.{entries_by}
 use Rattle.board_spec.specs.Answer.{IsAnswer}
 use Rattle.dram_store.specs.Dram.{IsDramOf}
 use Rattle.access_history.specs.Past.{Past}
 use Rattle.board_core.specs.declared.registers.Registers.{Registers}
 use Rattle.board_core.specs.Forms.{IsTaken}
-use Rattle.board_core.specs.Kept.{HasRegisters, IsBoardOf, IsKept, next_entry, plain_setup, reply_lands}
+use Rattle.board_core.specs.Kept.{HasRegisters, IsBoardOf, IsKept, next_entry, plain_setup}
 use Rattle.board_core.specs.PortSteps.{DoesPort}
 use Rattle.board_core.proofs.MemoryLemmas.{port_dram}
 

@@ -1,18 +1,14 @@
 -- The answer to an access to memory, by its area, and what it leaves of the DRAM.
-use Rattle.std.proofs.Common.{◌≡◌, ◌≢◌, ℕ, Bool, true, false, ◌&&◌, List, [], ◌∷◌, Option, Some, None, refl, sym, ◌∙◌, ap, inl, inr}
-use Rattle.std.specs.Prelude.{if◌then◌else◌, IsTrue, ◌↔◌}
+use Rattle.std.proofs.Common.{◌≡◌, ℕ, Bool, true, false, List, [], ◌∷◌, None, refl, inl, inr}
+use Rattle.std.specs.Prelude.{IsTrue, ◌↔◌}
 use Rattle.std.proofs.lemmas.Bool.{cases_Bool}
-use Rattle.board_base.specs.declared.access.Width.{Width}
 use Rattle.board_base.specs.declared.access.Kind.{Kind}
 use Rattle.board_base.specs.declared.access.Kind.TheVariants.{Fetch, Read, Write}
 use Rattle.board_base.specs.declared.access.Access.{Access}
 use Rattle.board_base.specs.declared.access.PortAccess.{PortAccess}
 use Rattle.board_base.specs.declared.target.Area.{Area}
 use Rattle.board_base.specs.declared.target.Area.TheVariants.{Dram as DramArea, Shadow as ShadowArea, Smram as SmramArea, Rom as RomArea, Card as CardArea, Abort as AbortArea}
-use Rattle.board_base.specs.declared.target.Denial.{Denial}
-use Rattle.board_base.specs.declared.target.Target.{Target}
 use Rattle.board_base.specs.declared.target.Target.TheVariants.{Dram, Shadow, Smram, Rom, Card, Device, Config, Abort}
-use Rattle.board_spec.specs.declared.event.Event.{Event}
 use Rattle.board_spec.specs.declared.event.Event.TheVariants.{Memory, Port}
 use Rattle.board_spec.specs.declared.event.Entry.{Entry}
 use Rattle.board_spec.specs.declared.event.Reply.{Reply}
@@ -20,12 +16,12 @@ use Rattle.board_spec.specs.declared.event.Reply.TheVariants.{Bus, Saw}
 use Rattle.board_spec.specs.Setup.{Setup}
 use Rattle.board_spec.specs.Bits.{wide}
 use Rattle.board_spec.specs.Registers.{byte_of}
-use Rattle.board_spec.specs.Decode.{Bytes, top_of, memory_shut, abort_denial, area_of, denial_of}
+use Rattle.board_spec.specs.Decode.{top_of, abort_denial, area_of, denial_of}
 use Rattle.board_spec.specs.Stored.{DramCell, stored_of, dram_byte, is_write, byte_put, entry_put}
 use Rattle.board_spec.specs.Answer.{memory_answer}
 use Rattle.dram_store.specs.Dram.{IsDramOf}
 use Rattle.board_core.specs.Areas.{IsHostArea}
-use Rattle.board_core.specs.Kept.{lands, reply_lands}
+use Rattle.board_core.specs.Kept.{reply_lands}
 use Rattle.board_core.specs.Replies.{answered, aborted}
 use Rattle.board_core.proofs.DecodeLemmas.{no_shut}
 

@@ -1,6 +1,6 @@
 -- What an access at the configuration ports and at reset control answers, and what it does to the registers.
-use Rattle.std.proofs.Common.{◌^◌, ◌≡◌, ◌≢◌, ℕ, ◌+◌, ◌≤◌, ◌<◌, ◌/◌, ◌%◌, ◌⊎◌, inl, inr, Bool, true, false, not, ◌&&◌, List, [], ◌∷◌, Option, Some, None, refl, sym, ◌∙◌, ap, subst, arith}
-use Rattle.std.specs.Prelude.{◌==◌, nat_le, nat_lt, if◌then◌else◌, unwrap_or, option_map, is_some}
+use Rattle.std.proofs.Common.{◌^◌, ◌≡◌, ℕ, ◌+◌, ◌≤◌, ◌<◌, ◌/◌, ◌%◌, inl, inr, Bool, true, false, List, [], ◌∷◌, Option, Some, None, refl, sym, ◌∙◌, ap, subst, arith}
+use Rattle.std.specs.Prelude.{◌==◌, unwrap_or, option_map}
 use Rattle.std.proofs.lemmas.Bool.{cases_Bool, cases_eq}
 use Rattle.std.proofs.lemmas.Bool.Decides.{nat_tests}
 use Rattle.std.proofs.lemmas.Nat.{and_le_l, and_mod}
@@ -12,7 +12,6 @@ use Rattle.board_base.specs.declared.target.Dev.TheVariants.{Confadd as AddressP
 use Rattle.board_base.specs.declared.target.Target.{Target}
 use Rattle.board_base.specs.declared.target.Target.TheVariants.{Device, Config}
 use Rattle.board_base.specs.declared.target.Denial.TheVariants.{Confadd}
-use Rattle.board_base.specs.Access.{bytes_of}
 use Rattle.board_spec.specs.declared.event.Event.{Event}
 use Rattle.board_spec.specs.declared.event.Event.TheVariants.{Port}
 use Rattle.board_spec.specs.declared.event.Entry.{Entry}
@@ -20,7 +19,7 @@ use Rattle.board_spec.specs.declared.event.Reply.{Reply}
 use Rattle.board_spec.specs.declared.map_change.MapChange.{MapChange}
 use Rattle.board_spec.specs.declared.map_change.MapChange.TheVariants.{Store, Reset}
 use Rattle.board_spec.specs.Setup.{Setup}
-use Rattle.board_spec.specs.Bits.{is_bit, wide}
+use Rattle.board_spec.specs.Bits.{wide}
 use Rattle.board_spec.specs.RegisterTable.{reset_byte}
 use Rattle.board_spec.specs.Registers.{is_hard_value, control_after, control_written, address_written, kept_address, reset_control, config_address, is_enabled, bus_of, device_of, function_of, register_of, is_config_port, config_register, config_store, register_change, changed_byte, byte_with, byte_of}
 use Rattle.board_spec.specs.Decode.{Bytes, bridge}

@@ -1,5 +1,5 @@
 -- The registers of the host bridge, 00.0, among the register bytes of a board.
-use Rattle.std.specs.Prelude.{ℕ, ◌≡◌, ◌==◌, Bool, false, ◌&&◌}
+use Rattle.std.specs.Prelude.{◌≡◌, ◌==◌, Bool, false, ◌&&◌}
 use Rattle.board_base.specs.declared.target.Reg.{Reg}
 use Rattle.board_spec.specs.Setup.{Setup}
 use Rattle.board_spec.specs.RegisterTable.{reset_byte}

@@ -103,14 +103,7 @@ const HOLE: [Line; 6] = [
 ];
 
 /// An access to memory.
-fn memory(
-    rt: &impl Abort,
-    kind: Kind,
-    width: Width,
-    addr: u32,
-    smm: bool,
-    value: u32,
-) -> Event
+fn memory(rt: &impl Abort, kind: Kind, width: Width, addr: u32, smm: bool, value: u32) -> Event
     requires value { is_write kind ≡ false → value ≡ 0 }
     ensures taken { IsTaken result }
     ensures in_range { (setup : Setup) → IsInRange setup result }
@@ -210,7 +203,10 @@ fn replies(rt: &impl Abort, alloc: Global, lines: &[Line]) -> Result<(), Fail> {
             denial,
         };
         assert_eq!(rt; reply, expected);
-        assert_eq!(rt; board.history().entries().last().map(|entry| entry.seq), Some(board.history().len()));
+        assert_eq!(rt;
+            board.history().entries().last().map(|entry| entry.seq),
+            Some(board.history().len())
+        );
     }
     Ok(())
 }

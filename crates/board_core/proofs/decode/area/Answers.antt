@@ -1,4 +1,3 @@
-use Rattle.std.proofs.Common.{sym, ◌∙◌}
 use Rattle.board_core.proofs.DecodeLemmas.{some_row, no_row, smram_is}
 use Rattle.board_core.proofs.decode.area.Goals as goal
 

@@ -1,4 +1,4 @@
-use Rattle.std.proofs.Common.{sym, ◌∙◌, ◌≡◌, true, false}
+use Rattle.std.proofs.Common.{sym, ◌∙◌, ◌≡◌, true}
 use Rattle.board_spec.specs.Stored.{is_write}
 use Rattle.board_core.specs.Kept.{reply_lands}
 use Rattle.board_core.proofs.MemoryLemmas.{write_lands, dram_stays, no_write, no_landing, write_flag}
