@@ -88,3 +88,59 @@ impl Dram {
         }
     }
 }
+
+#[cfg(test)]
+mod tests {
+    use super::*;
+    use std::process::Abort;
+
+    /// An access of a test: its address, its width, and the value that is written or wanted.
+    type Access = (u32, Width, u32);
+
+    /// What is written, and what is read next.
+    const STEPS: [(Access, Access); 11] = [
+        ((0x00_0104, Width::One, 0x00), (0x00_0104, Width::Four, 0x0000_0000)),
+        ((0x00_0100, Width::Four, 0x1122_3344), (0x00_0100, Width::One, 0x44)),
+        ((0x00_0104, Width::One, 0x00), (0x00_0102, Width::Two, 0x1122)),
+        ((0x00_0102, Width::Two, 0xAABB), (0x00_0100, Width::Four, 0xAABB_3344)),
+        ((0x00_0101, Width::One, 0xCC), (0x00_0100, Width::Four, 0xAABB_CC44)),
+        ((0x0F_FFFC, Width::Four, 0xDEAD_BEEF), (0x0F_FFFF, Width::One, 0xDE)),
+        ((0x10_0000, Width::Four, 0x5555_5555), (0x10_0000, Width::Four, 0xFFFF_FFFF)),
+        ((0x10_0000, Width::Two, 0x5555), (0x10_0002, Width::Two, 0xFFFF)),
+        ((0x20_0000, Width::One, 0x55), (0x00_0000, Width::One, 0x00)),
+        ((0xFFFF_FFFC, Width::Four, 0), (0xFFFF_FFFF, Width::One, 0xFF)),
+        ((0x10_0000, Width::One, 0x55), (0x0F_FFFC, Width::Four, 0xDEAD_BEEF)),
+    ];
+
+    fn write(rt: &impl Abort, dram: &mut Dram, access: Access) {
+        let (addr, width, value) = access;
+        assert!(rt; width.fits(value), "at {addr}");
+        assert!(rt; width.is_aligned(addr), "at {addr}");
+        dram.write(addr, width, value);
+    }
+
+    fn read(rt: &impl Abort, dram: &Dram, access: Access) {
+        let (addr, width, value) = access;
+        assert!(rt; width.is_aligned(addr), "at {addr}");
+        assert_eq!(rt; dram.read(addr, width), value, "at {addr}");
+    }
+
+    #[test]
+    fn bytes_stand_where_they_were_written(rt: HostRuntime) -> Result<(), NoMemory> {
+        let mut dram = Dram::open(rt.alloc(), 1)?;
+        for (written, wanted) in STEPS {
+            write(&rt, &mut dram, written);
+            read(&rt, &dram, wanted);
+        }
+        Ok(())
+    }
+
+    #[test]
+    fn the_largest_dram_is_zeros(rt: HostRuntime) -> Result<(), NoMemory> {
+        let dram = Dram::open(rt.alloc(), 64)?;
+        assert_eq!(rt; dram.read(0x000_0000, Width::Four), 0);
+        assert_eq!(rt; dram.read(0x3FF_FFFC, Width::Four), 0);
+        assert_eq!(rt; dram.read(0x400_0000, Width::Four), 0xFFFF_FFFF);
+        Ok(())
+    }
+}
