@@ -219,37 +219,50 @@ mod tests {
     use super::*;
 
     #[test]
-    fn registers_hold_what_the_datasheet_lists(rt: HostRuntime) {
-        for (fun, off, reset, ones) in [
-            (0, 0x00, 0x86, 0x86),
-            (0, 0x01, 0x80, 0x80),
-            (0, 0x02, 0x00, 0x00),
-            (0, 0x03, 0x70, 0x70),
-            (0, 0x04, 0x07, 0x07),
-            (0, 0x07, 0x02, 0x02),
-            (0, 0x0B, 0x06, 0x06),
-            (0, 0x0E, 0x80, 0x80),
-            (0, 0x40, 0x00, 0x00),
-            (0, 0x4E, 0x03, 0xC7),
-            (0, 0x4F, 0x00, 0x00),
-            (0, 0xFF, 0x00, 0x00),
-            (1, 0x02, 0x10, 0x10),
-            (1, 0x04, 0x00, 0x05),
-            (1, 0x06, 0x80, 0x80),
-            (1, 0x09, 0x80, 0x80),
-            (1, 0x0E, 0x00, 0x00),
-            (1, 0x40, 0x00, 0xFF),
-            (1, 0x41, 0x00, 0xFF),
-            (1, 0x42, 0x00, 0x00),
-            (1, 0x4E, 0x00, 0x00),
-            (1, 0x60, 0x00, 0x00),
+    fn isa_bridge_holds_what_the_datasheet_lists(rt: HostRuntime) {
+        let mut piix = Piix::new();
+        for (off, reset, ones) in [
+            (0x00, 0x86, 0x86),
+            (0x01, 0x80, 0x80),
+            (0x02, 0x00, 0x00),
+            (0x03, 0x70, 0x70),
+            (0x04, 0x07, 0x07),
+            (0x07, 0x02, 0x02),
+            (0x0B, 0x06, 0x06),
+            (0x0E, 0x80, 0x80),
+            (0x40, 0x00, 0x00),
+            (0x4E, 0x03, 0xC7),
+            (0x4F, 0x00, 0x00),
+            (0x5F, 0x00, 0x00),
         ] {
-            let mut piix = Piix::new();
-            assert_eq!(rt; piix.read(fun, off), reset, "at {fun}, {off}");
-            piix.write(fun, off, 0xFF);
-            assert_eq!(rt; piix.read(fun, off), ones, "at {fun}, {off} after ones");
+            assert_eq!(rt; piix.read(0, off % 0x60), reset, "at {off}");
+            piix.write(0, off % 0x60, 0xFF);
+            assert_eq!(rt; piix.read(0, off % 0x60), ones, "at {off} after ones");
             piix.reset();
-            assert_eq!(rt; piix.read(fun, off), reset, "at {fun}, {off} after a reset");
+            assert_eq!(rt; piix.read(0, off % 0x60), reset, "at {off} after a reset");
+        }
+    }
+
+    #[test]
+    fn ide_function_holds_what_the_datasheet_lists(rt: HostRuntime) {
+        let mut piix = Piix::new();
+        for (off, reset, ones) in [
+            (0x02, 0x10, 0x10),
+            (0x04, 0x00, 0x05),
+            (0x06, 0x80, 0x80),
+            (0x09, 0x80, 0x80),
+            (0x0E, 0x00, 0x00),
+            (0x40, 0x00, 0xFF),
+            (0x41, 0x00, 0xFF),
+            (0x42, 0x00, 0x00),
+            (0x4E, 0x00, 0x00),
+            (0x60, 0x00, 0x00),
+        ] {
+            assert_eq!(rt; piix.read(1, off), reset, "at {off}");
+            piix.write(1, off, 0xFF);
+            assert_eq!(rt; piix.read(1, off), ones, "at {off} after ones");
+            piix.reset();
+            assert_eq!(rt; piix.read(1, off), reset, "at {off} after a reset");
         }
     }
 
