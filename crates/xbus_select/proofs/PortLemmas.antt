@@ -1,10 +1,9 @@
 -- At the ports of the keyboard controller, the clock and the primary IDE channel, the device answers
 -- exactly where the chip selects it.
 use Rattle.std.proofs.Common.{◌≡◌, ◌≢◌, ℕ, ◌↔◌, Bool, true, false, Option, Some, None, refl, sym, ap, subst, arith, inl, inr}
-use Rattle.std.specs.Prelude.{◌==◌, ◌&&◌, not, if◌then◌else◌, unwrap_or, option_map}
+use Rattle.std.specs.Prelude.{◌&&◌, not, if◌then◌else◌, unwrap_or, option_map}
 use Rattle.std.proofs.lemmas.Bool.{cases_eq, false≢true}
 use Rattle.std.proofs.lemmas.Bool.Decides.{nat_tests}
-use Rattle.board_base.specs.declared.access.Width.{Width}
 use Rattle.board_base.specs.declared.access.Width.TheVariants.{One, Two, Four}
 use Rattle.board_base.specs.declared.target.Dev.{Dev}
 use Rattle.board_base.specs.declared.target.Dev.TheVariants.{Keyboard, Clock, Ata}
@@ -12,11 +11,10 @@ use Rattle.board_base.specs.declared.target.Target.{Target}
 use Rattle.board_base.specs.declared.target.Target.TheVariants.{Device}
 use Rattle.board_base.specs.declared.target.Denial.{Denial}
 use Rattle.board_base.specs.declared.target.Denial.TheVariants.{Register}
-use Rattle.board_base.specs.Access.{bytes_of}
 use Rattle.board_spec.specs.Setup.{Setup}
 use Rattle.board_spec.specs.Bits.{is_bit}
 use Rattle.board_spec.specs.Decode.{Bytes, Window, isa, ide, io_claim}
-use Rattle.board_spec.specs.Ports.{Decoded, device, nobody, card_port, unselected, is_ata_port, port_target_of}
+use Rattle.board_spec.specs.Ports.{device, nobody, card_port, unselected, is_ata_port, port_target_of}
 use Rattle.xbus_select.specs.PortSelects.{AnswersAt, KeyboardAnswers, ClockAnswers, DiskAnswers}
 
 -- ---- a device is no card and not nobody
