@@ -1,6 +1,5 @@
-mod DecodeLemmas
-mod RegisterLemmas
-mod MemoryLemmas
+mod BridgeLemmas
 mod PortLemmas
-mod StepLemmas
+mod DecodeLemmas
+mod MemoryLemmas
 mod KeptLemmas

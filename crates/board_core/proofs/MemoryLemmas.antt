@@ -1,56 +1,158 @@
--- The answer to a byte access, by its area.
-use Rattle.std.proofs.Common.{◌≡◌, ℕ, Bool, false, List, Some, None, refl}
-use Rattle.std.specs.Prelude.{if◌then◌else◌}
+-- The answer to an access to memory, by its area, and what it leaves of the DRAM.
+use Rattle.std.proofs.Common.{◌≡◌, ◌≢◌, ℕ, Bool, true, false, ◌&&◌, List, [], ◌∷◌, Option, Some, None, refl, sym, ◌∙◌, ap, inl, inr}
+use Rattle.std.specs.Prelude.{if◌then◌else◌, IsTrue, ◌↔◌}
+use Rattle.std.proofs.lemmas.Bool.{cases_Bool}
+use Rattle.board_base.specs.declared.access.Width.{Width}
+use Rattle.board_base.specs.declared.access.Kind.{Kind}
+use Rattle.board_base.specs.declared.access.Kind.TheVariants.{Fetch, Read, Write}
 use Rattle.board_base.specs.declared.access.Access.{Access}
+use Rattle.board_base.specs.declared.access.PortAccess.{PortAccess}
 use Rattle.board_base.specs.declared.target.Area.{Area}
 use Rattle.board_base.specs.declared.target.Area.TheVariants.{Dram as DramArea, Shadow as ShadowArea, Smram as SmramArea, Rom as RomArea, Card as CardArea, Abort as AbortArea}
 use Rattle.board_base.specs.declared.target.Denial.{Denial}
-use Rattle.board_base.specs.declared.target.Target.TheVariants.{Dram, Shadow, Abort}
+use Rattle.board_base.specs.declared.target.Target.{Target}
+use Rattle.board_base.specs.declared.target.Target.TheVariants.{Dram, Shadow, Smram, Rom, Card, Device, Config, Abort}
+use Rattle.board_spec.specs.declared.event.Event.{Event}
+use Rattle.board_spec.specs.declared.event.Event.TheVariants.{Memory, Port}
 use Rattle.board_spec.specs.declared.event.Entry.{Entry}
 use Rattle.board_spec.specs.declared.event.Reply.{Reply}
-use Rattle.board_spec.specs.declared.event.Reply.TheVariants.{Bus}
+use Rattle.board_spec.specs.declared.event.Reply.TheVariants.{Bus, Saw}
 use Rattle.board_spec.specs.Setup.{Setup}
+use Rattle.board_spec.specs.Bits.{wide}
 use Rattle.board_spec.specs.Registers.{byte_of}
-use Rattle.board_spec.specs.Decode.{top_of, memory_shut, abort_denial, area_of, denial_of}
-use Rattle.board_spec.specs.Stored.{dram_byte, is_write}
+use Rattle.board_spec.specs.Decode.{Bytes, top_of, memory_shut, abort_denial, area_of, denial_of}
+use Rattle.board_spec.specs.Stored.{DramCell, stored_of, dram_byte, is_write, byte_put, entry_put}
 use Rattle.board_spec.specs.Answer.{memory_answer}
-use Rattle.board_core.specs.Forms.{IsByteAccess}
-use Rattle.board_core.specs.Plain.{IsPlain}
+use Rattle.dram_store.specs.Dram.{IsDramOf}
+use Rattle.board_core.specs.Areas.{IsHostArea}
+use Rattle.board_core.specs.Kept.{lands, reply_lands}
+use Rattle.board_core.specs.Replies.{answered, aborted}
+use Rattle.board_core.proofs.DecodeLemmas.{no_shut}
+
+-- ---- answers
 
 pub dram_answer :
-    (setup : Setup) (history : List Entry) (access : Access) (row : ℕ) → IsByteAccess access →
-    DramArea row ≡ area_of setup (byte_of setup history) access.addr access.kind false →
-    memory_answer setup history access
-    ≡ Bus (if is_write access.kind then None else Some (dram_byte setup history access.addr)) (Dram row) None
+    (setup : Setup) (history : List Entry) (access : Access) (row : ℕ) →
+    DramArea row ≡ area_of setup (byte_of setup history) access.addr access.kind access.smm →
+    memory_answer setup history access ≡ answered (is_write access.kind) (wide (dram_byte setup history) access.addr access.width) (Dram row)
 unfolding memory_answer denial_of
-dram_answer setup history access row is area = rw (is.smm, is.width, ← area) refl
+dram_answer setup history access row area = rw (← area) refl
 
 pub shadow_answer :
-    (setup : Setup) (history : List Entry) (access : Access) (row : ℕ) → IsByteAccess access →
-    ShadowArea row ≡ area_of setup (byte_of setup history) access.addr access.kind false →
-    memory_answer setup history access
-    ≡ Bus (if is_write access.kind then None else Some (dram_byte setup history access.addr)) (Shadow row) None
+    (setup : Setup) (history : List Entry) (access : Access) (row : ℕ) →
+    ShadowArea row ≡ area_of setup (byte_of setup history) access.addr access.kind access.smm →
+    memory_answer setup history access ≡ answered (is_write access.kind) (wide (dram_byte setup history) access.addr access.width) (Shadow row)
 unfolding memory_answer denial_of
-shadow_answer setup history access row is area = rw (is.smm, is.width, ← area) refl
+shadow_answer setup history access row area = rw (← area) refl
 
-abbrev pub abort_reply : Bool → Denial → Reply
-abort_reply writes denial = Bus (if writes then None else Some 0xFF) Abort (Some denial)
+pub smram_answer :
+    (setup : Setup) (history : List Entry) (access : Access) →
+    SmramArea ≡ area_of setup (byte_of setup history) access.addr access.kind access.smm →
+    memory_answer setup history access ≡ answered (is_write access.kind) (wide (dram_byte setup history) access.addr access.width) Smram
+unfolding memory_answer denial_of
+smram_answer setup history access area = rw (← area) refl
 
 pub abort_answer :
-    (setup : Setup) (history : List Entry) (access : Access) → IsByteAccess access →
-    AbortArea ≡ area_of setup (byte_of setup history) access.addr access.kind false →
+    (setup : Setup) (history : List Entry) (access : Access) → setup.cards ≡ [] →
+    AbortArea ≡ area_of setup (byte_of setup history) access.addr access.kind access.smm →
     memory_answer setup history access
-    ≡ Bus (if is_write access.kind then None else Some 0xFF) Abort
-    (Some (abort_denial (top_of (byte_of setup history)) (memory_shut setup (byte_of setup history) access.addr) access.addr))
+    ≡ aborted (is_write access.kind) access.width (abort_denial (top_of (byte_of setup history)) None access.addr)
 unfolding memory_answer denial_of
-abort_answer setup history access is area = rw (is.smm, is.width, ← area) refl
+abort_answer setup history access none area = rw (← area, no_shut setup (byte_of setup history) access.addr none) refl
 
--- an area that is plain and neither DRAM nor a shadow is nobody's
-pub plain_rest :
-    (area : Area) → IsPlain area → ((row : ℕ) → area ≡ DramArea row → ⊥) → ((row : ℕ) → area ≡ ShadowArea row → ⊥) → AbortArea ≡ area
-plain_rest (DramArea row) plain dram shadow = absurd (dram row refl)
-plain_rest (ShadowArea row) plain dram shadow = absurd (shadow row refl)
-plain_rest SmramArea plain dram shadow = absurd plain
-plain_rest RomArea plain dram shadow = absurd plain
-plain_rest (CardArea dev base) plain dram shadow = absurd plain
-plain_rest AbortArea plain dram shadow = refl
+-- an area of the host bridge that is none of DRAM's is nobody's
+pub host_rest :
+    (area : Area) → IsHostArea area → ((row : ℕ) → area ≡ DramArea row → ⊥) → ((row : ℕ) → area ≡ ShadowArea row → ⊥) → (area ≡ SmramArea → ⊥) →
+    AbortArea ≡ area
+host_rest (DramArea row) host dram shadow smram = absurd (dram row refl)
+host_rest (ShadowArea row) host dram shadow smram = absurd (shadow row refl)
+host_rest SmramArea host dram shadow smram = absurd (smram refl)
+host_rest RomArea host dram shadow smram = absurd host
+host_rest (CardArea dev base) host dram shadow smram = absurd host
+host_rest AbortArea host dram shadow smram = refl
+
+-- ---- the DRAM
+
+-- a write that lands puts its bytes at its own address
+pub write_lands : (access : Access) (reply : Reply) (at : ℕ) → is_write access.kind ≡ true → reply_lands reply ≡ true →
+    entry_put (Memory access) reply (DramCell at) ≡ byte_put (Dram 0) access.addr access.width access.value (DramCell at)
+write_lands access (Saw look) at writes off = cc
+write_lands access (Bus v (Dram row) denial) at writes on = rw writes refl
+write_lands access (Bus v (Shadow row) denial) at writes on = rw writes refl
+write_lands access (Bus v Smram denial) at writes on = rw writes refl
+write_lands access (Bus v (Rom o) denial) at writes on = cc
+write_lands access (Bus v (Card dev base o) denial) at writes on = cc
+write_lands access (Bus v (Device dev) denial) at writes on = cc
+write_lands access (Bus v (Config reg) denial) at writes on = cc
+write_lands access (Bus v Abort denial) at writes on = cc
+
+-- an access that puts nothing into the DRAM leaves it
+pub dram_stays :
+    (setup : Setup) (history : List Entry) (entry : Entry) (dram : List ℕ) →
+    ((at : ℕ) → entry_put entry.event entry.reply (DramCell at) ≡ None) → IsDramOf setup history dram → IsDramOf setup (entry ∷ history) dram
+unfolding stored_of
+dram_stays setup history entry dram nothing kept = record {
+  size = kept.size;
+  each = λ at within. rw (nothing at) (kept.each at within);
+}
+
+pub no_write : (access : Access) (reply : Reply) (at : ℕ) → is_write access.kind ≡ false → entry_put (Memory access) reply (DramCell at) ≡ None
+no_write access (Saw look) at reads = refl
+no_write access (Bus v target denial) at reads = rw reads refl
+
+off_dram : (access : Access) (reply : Reply) (at : ℕ) → is_write access.kind ≡ true → reply_lands reply ≡ false →
+    entry_put (Memory access) reply (DramCell at) ≡ None
+off_dram access (Saw look) at writes off = refl
+off_dram access (Bus v (Dram row) denial) at writes off = cc
+off_dram access (Bus v (Shadow row) denial) at writes off = cc
+off_dram access (Bus v Smram denial) at writes off = cc
+off_dram access (Bus v (Rom o) denial) at writes off = rw writes refl
+off_dram access (Bus v (Card dev base o) denial) at writes off = rw writes refl
+off_dram access (Bus v (Device dev) denial) at writes off = rw writes refl
+off_dram access (Bus v (Config reg) denial) at writes off = rw writes refl
+off_dram access (Bus v Abort denial) at writes off = rw writes refl
+
+pub no_landing : (access : Access) (reply : Reply) (at : ℕ) → reply_lands reply ≡ false → entry_put (Memory access) reply (DramCell at) ≡ None
+no_landing access reply at off =
+    elim (cases_Bool (is_write access.kind)) [
+      | inl writes ↦ off_dram access reply at writes off
+      | inr reads ↦ no_write access reply at reads
+    ]
+
+-- nor does an access to a port
+port_off_dram : (access : PortAccess) (reply : Reply) (at : ℕ) → access.write ≡ true → reply_lands reply ≡ false →
+    entry_put (Port access) reply (DramCell at) ≡ None
+port_off_dram access (Saw look) at writes off = refl
+port_off_dram access (Bus v (Dram row) denial) at writes off = cc
+port_off_dram access (Bus v (Shadow row) denial) at writes off = cc
+port_off_dram access (Bus v Smram denial) at writes off = cc
+port_off_dram access (Bus v (Rom o) denial) at writes off = rw writes refl
+port_off_dram access (Bus v (Card dev base o) denial) at writes off = rw writes refl
+port_off_dram access (Bus v (Device dev) denial) at writes off = rw writes refl
+port_off_dram access (Bus v (Config reg) denial) at writes off = rw writes refl
+port_off_dram access (Bus v Abort denial) at writes off = rw writes refl
+
+no_port_write : (access : PortAccess) (reply : Reply) (at : ℕ) → access.write ≡ false → entry_put (Port access) reply (DramCell at) ≡ None
+no_port_write access (Saw look) at reads = refl
+no_port_write access (Bus v target denial) at reads = rw reads refl
+
+pub port_dram :
+    (setup : Setup) (history : List Entry) (entry : Entry) (access : PortAccess) (reply : Reply) (dram : List ℕ) →
+    entry.event ≡ Port access → entry.reply ≡ reply → reply_lands reply ≡ false → IsDramOf setup history dram →
+    IsDramOf setup (entry ∷ history) dram
+port_dram setup history entry access reply dram event replied off kept =
+    dram_stays setup history entry dram
+    (λ at. rw (event, replied) (elim (cases_Bool access.write) [
+      | inl writes ↦ port_off_dram access reply at writes off
+      | inr reads ↦ no_port_write access reply at reads
+    ]))
+    kept
+
+-- whether an access writes, as the code tells it
+pub write_flag : (kind : Kind) (flag : Bool) → IsTrue flag ↔ (kind ≡ Write) → flag ≡ is_write kind
+write_flag Fetch true is = let same = is.0 refl in cc
+write_flag Fetch false is = refl
+write_flag Read true is = let same = is.0 refl in cc
+write_flag Read false is = refl
+write_flag Write true is = refl
+write_flag Write false is = let same = is.1 refl in cc

@@ -1,4 +1,6 @@
-pub mod Kept
+pub mod Areas
+pub mod Bridge
 pub mod Forms
-pub mod Plain
+pub mod Kept
+pub mod PortSteps
 pub mod Replies

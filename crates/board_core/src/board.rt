@@ -3,24 +3,21 @@
 ghost use Rattle.std.specs.Prelude.{◌≡◌, ◌-◌, ◌+◌, ◌<◌, ◌≤◌, List, [], ◌∷◌, length, max, IfOk, OnOk, OnErr};
 ghost use Rattle.board_spec.specs.declared.event.Entry.{Entry};
 ghost use Rattle.board_spec.specs.Setup.{Setup};
+ghost use Rattle.board_spec.specs.InRange.{IsInRange};
 ghost use Rattle.board_spec.specs.Answer.{IsAnswer};
 ghost use Rattle.board_spec.specs.Legal.{IsLegal};
 ghost use Rattle.access_history.specs.Past.{most};
-ghost use Rattle.board_core.specs.Forms.{IsTaken};
-ghost use Rattle.board_core.specs.Kept.{IsAddress, IsBoardOf, next_entry, plain_setup};
+ghost use Rattle.board_core.specs.Forms.{IsTaken, IsTakenAddress};
+ghost use Rattle.board_core.specs.Kept.{IsBoardOf, next_entry, plain_setup};
 
-use crate::bytes::zeros;
+use crate::registers::Registers;
 use crate::{memory, ports};
 use access_history::History;
 use board_base::NoMemory;
 use board_spec::{Entry, Event, Reply};
-use cfg_ports::ConfAdd;
-use pam_windows::Pam;
+use dram_store::Dram;
 use std::alloc::Global;
 use std::marker::Model;
-
-/// The bytes of a mebibyte.
-const MIB: usize = 0x10_0000;
 
 /// The most processors that a board has.
 const PROCESSORS: usize = 8;
@@ -29,9 +26,8 @@ const PROCESSORS: usize = 8;
 #[derive(Drop)]
 pub struct Board {
     mib: u8,
-    address: ConfAdd,
-    pam: Pam,
-    dram: Vec<u8>,
+    registers: Registers,
+    dram: Dram,
     history: History,
     counts: [u32; PROCESSORS],
 }
@@ -44,21 +40,22 @@ impl Model for Board {
     ghost view = { λ board. record { setup = plain_setup board.mib; entries = board.history.entries; spare = board.history.spare } };
 
     ghost invariant = { λ board.
-        IsKept (plain_setup board.mib) board.history.entries board.history.spare board.address board.pam board.dram.items board.counts };
+        IsKept (plain_setup board.mib) board.history.entries board.history.spare board.registers board.dram board.counts };
 }
 
 /// Does an event, and tells the reply.
-fn perform(address: &mut ConfAdd, pam: &mut Pam, dram: &mut Vec<u8>, event: &Event) -> Reply
+fn perform(registers: &mut Registers, dram: &mut Dram, event: &Event) -> Reply
     requires taken { IsTaken event.now }
-    requires address { IsAddress address.old }
-    ensures answer { (setup : Setup) (history : List Entry) → IsBoardOf setup history address.old pam.old dram.old.items
+    requires in_range { (setup : Setup) → IsInRange setup event.now }
+    requires address { IsTakenAddress registers.old.address }
+    ensures answer { (setup : Setup) (history : List Entry) → IsBoardOf setup history registers.old dram.old
         → IsAnswer setup history event.now result }
-    ensures board { (setup : Setup) (history : List Entry) (entry : Entry) → IsBoardOf setup history address.old pam.old dram.old.items
-        → entry.event ≡ event.now → entry.reply ≡ result → IsBoardOf setup (entry ∷ history) address.new pam.new dram.new.items }
+    ensures board { (setup : Setup) (history : List Entry) (entry : Entry) → IsBoardOf setup history registers.old dram.old
+        → entry.event ≡ event.now → entry.reply ≡ result → IsBoardOf setup (entry ∷ history) registers.new dram.new }
 {
     match event {
-        Event::Memory(access) => memory::perform(pam, dram, access),
-        Event::Port(access) => ports::perform(address, pam, access),
+        Event::Memory(access) => memory::perform(&registers.host, dram, access),
+        Event::Port(access) => ports::perform(registers, access),
         _ => unreachable!(),
     }
 }
@@ -70,11 +67,10 @@ impl Board {
         requires high { mib ≤ 64 }
         ensures fresh { IfOk result (λ board. board ≡ record { setup = plain_setup mib; entries = []; spare = 0 }) }
     {
-        let dram = zeros(alloc, usize::from(mib) * MIB)?;
+        let dram = Dram::open(alloc, u32::from(mib))?;
         Ok(Board {
             mib,
-            address: ConfAdd::new(),
-            pam: Pam::new(),
+            registers: Registers::new(),
             dram,
             history: History::new(alloc),
             counts: [0; PROCESSORS],
@@ -91,10 +87,11 @@ impl Board {
     }
 
     /// Does an event of a processor, 0 to 7, and tells the reply. It takes no memory. For now it takes
-    /// byte accesses to memory outside the ROM, the configuration address as far as it names 58h to 5Fh
-    /// of the host bridge or is not enabled, and byte accesses at the configuration data ports.
+    /// accesses to memory outside the ROM, the configuration address as far as it names the host bridge or
+    /// is not enabled, the configuration data ports and reset control.
     pub fn step(&mut self, actor: u8, event: &Event) -> Reply
         requires actor { actor < 8 }
+        requires in_range { IsInRange self.old.setup event.now }
         requires taken { IsTaken event.now }
         requires spare { 1 ≤ self.old.spare }
         ensures answer { IsAnswer self.old.setup self.old.entries event.now result }
@@ -103,7 +100,7 @@ impl Board {
           spare = self.old.spare - 1;
         } }
     {
-        let reply = perform(&mut self.address, &mut self.pam, &mut self.dram, event);
+        let reply = perform(&mut self.registers, &mut self.dram, event);
         let seq = self.counts[usize::from(actor)] + 1;
         self.counts[usize::from(actor)] = seq;
         self.history.push(Entry {

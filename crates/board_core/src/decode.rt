@@ -1,27 +1,23 @@
-//! Where an access lands below F0000h and from 100000h to FFF7FFFFh, while only the PAM registers move.
+//! Where an access to memory lands below F0000h and from 100000h to FFF7FFFFh, and what denies it, while no
+//! card is fitted.
 
-ghost use Rattle.std.specs.Prelude.{◌≡◌, [], ℕ, List, false};
+ghost use Rattle.std.specs.Prelude.{◌≡◌, [], ℕ, List, Some, None, false, IfSome, IsNone, ◌↔◌};
 ghost use Rattle.board_spec.specs.Setup.{Setup};
-ghost use Rattle.board_spec.specs.Decode.{Bytes, top_of, memory_shut, abort_denial, is_shadowed, area_of};
-ghost use Rattle.pam_windows.specs.Pam.{IsPamOf};
-ghost use Rattle.board_core.specs.Kept.{IsRegisters, IsReached};
-ghost use Rattle.board_core.specs.Plain.{IsPlain, plain_area, plain_denial};
+ghost use Rattle.board_spec.specs.Decode.{Bytes, top_of, area_of, area_under, memory_shut, abort_denial};
+ghost use Rattle.board_core.specs.Bridge.{IsRegisters};
+ghost use Rattle.board_core.specs.Forms.{IsReached};
+ghost use Rattle.board_core.specs.Areas.{IsHostArea, legacy_denial};
 
+use crate::bridge::{HostBridge, SMRAM};
 use board_base::{Area, Denial, Kind, Reg};
-use pam_windows::{Pam, Window, window_of};
+use pam_windows::window_of;
 
-/// The row of DRAM that ends at the top. No later row has memory after a reset.
-const FIRST_ROW: u8 = 0;
-/// The top of DRAM, 8 MiB, as the boundary registers have it after a reset.
-const TOP: u32 = 0x80_0000;
-/// From here on no DRAM can be put.
+/// From here on no row of DRAM can end.
 const DRAM_END: u32 = 0x7F80_0000;
-/// The boundary register of the last row.
+/// The row boundary register of the last row.
 const DRB7: u8 = 0x67;
 /// The fixed DRAM hole control register.
 const FDHC: u8 = 0x68;
-/// The SMRAM control register.
-const SMRAM: u8 = 0x72;
 
 /// A denial by a register of the host bridge.
 fn bridge(off: u8) -> Denial
@@ -34,69 +30,74 @@ fn bridge(off: u8) -> Denial
     })
 }
 
-/// The area of an access outside SMM.
-pub fn area(pam: &Pam, addr: u32, kind: Kind) -> Area
-    requires { IsReached addr }
-    ensures area { (setup : Setup) (bytes : Bytes) → IsRegisters setup bytes pam.now → setup.cards ≡ []
-        → result ≡ area_of setup bytes addr kind false }
-    ensures plain { IsPlain result }
+/// The area of an access.
+pub fn area(host: &HostBridge, addr: u32, kind: Kind, smm: bool) -> Area
+    requires reached { IsReached addr }
+    ensures area { (setup : Setup) (bytes : Bytes) → IsRegisters setup bytes host.now → setup.cards ≡ []
+        → result ≡ area_of setup bytes addr kind smm }
+    ensures host { IsHostArea result }
 {
-    plain(shadowed(pam, addr, kind), addr)
-}
-
-/// Whether a shadow window is open at an address.
-fn shadowed(pam: &Pam, addr: u32, kind: Kind) -> bool
-    ensures shadowed { (bytes : Bytes) → IsPamOf bytes pam.now → result ≡ is_shadowed bytes addr kind }
-{
-    match window_of(addr) {
-        Some(window) => pam.opens(&window, kind),
-        None => false,
+    match host.pmc.row_of(addr) {
+        Some(row) => {
+            let smram = host.smram.reaches(kind, smm);
+            area_below_top(
+                row,
+                smram,
+                host.opens(addr, kind),
+                host.has_hole_at(addr),
+                addr,
+            )
+        }
+        None => Area::Abort,
     }
 }
 
-/// The area of an address, by whether it lies in an open shadow window.
-fn plain(shadowed: bool, addr: u32) -> Area
-    ensures plain { result ≡ plain_area shadowed addr }
-    ensures some { IsPlain result }
+/// The area of an address in a row of DRAM, by whether SMRAM answers, its shadow window is open and it
+/// lies in the hole.
+fn area_below_top(row: u8, smram: bool, shadowed: bool, hole: bool, addr: u32) -> Area
+    ensures area { result ≡ area_under (Some row) smram shadowed hole false None addr }
+    ensures host { IsHostArea result }
 {
-    if addr >= TOP {
-        return Area::Abort;
-    }
-    match addr {
-        0xA_0000..=0xB_FFFF => Area::Abort,
-        0xC_0000..=0xF_FFFF => if shadowed {
-            Area::Shadow(FIRST_ROW)
-        } else {
-            Area::Abort
-        },
-        _ => Area::Dram(FIRST_ROW),
+    if smram && 0xA_0000 <= addr && addr <= 0xB_FFFF {
+        Area::Smram
+    } else if shadowed {
+        Area::Shadow(row)
+    } else if hole || 0xA_0000 <= addr && addr <= 0xF_FFFF {
+        Area::Abort
+    } else {
+        Area::Dram(row)
     }
 }
 
-/// What denies an access that lands nowhere.
-pub fn denial(addr: u32) -> Denial
-    requires { IsReached addr }
-    ensures denial { (setup : Setup) (bytes : Bytes) (pam : List ℕ) → IsRegisters setup bytes pam → setup.cards ≡ []
-        → result ≡ abort_denial (top_of bytes) (memory_shut setup bytes addr) addr }
+/// What denies an access that lands nowhere, by the top of DRAM.
+pub fn denial(top: u32, addr: u32) -> Denial
+    requires reached { IsReached addr }
+    ensures denial { result ≡ abort_denial top None addr }
 {
-    match addr {
-        0xA_0000..=0xB_FFFF => bridge(SMRAM),
-        _ => high_denial(addr),
+    if top > 0 {
+        if let Some(denial) = legacy_denial(addr) {
+            return denial;
+        }
     }
-}
-
-/// What denies an access that lands nowhere, outside SMRAM's addresses.
-fn high_denial(addr: u32) -> Denial
-    ensures plain { result ≡ plain_denial addr }
-{
-    if let Some(window) = window_of(addr) {
-        return bridge(window.off);
-    }
-    if addr < TOP {
+    if addr < top {
         bridge(FDHC)
     } else if addr < DRAM_END {
         bridge(DRB7)
     } else {
         Denial::NoRegister
+    }
+}
+
+/// What denies an access to SMRAM's addresses and to the shadow windows below F0000h.
+fn legacy_denial(addr: u32) -> Option<Denial>
+    ensures denial { result ≡ legacy_denial addr }
+{
+    match addr {
+        0xA_0000..=0xB_FFFF => Some(bridge(SMRAM)),
+        0xC_0000..=0xE_FFFF => match window_of(addr) {
+            Some(window) => Some(bridge(window.off)),
+            None => None,
+        },
+        _ => None,
     }
 }

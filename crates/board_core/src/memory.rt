@@ -1,68 +1,54 @@
-//! Reads and writes of a byte of memory.
+//! Accesses to memory.
 
-ghost use Rattle.std.specs.Prelude.{◌≡◌, List, Option, None, Some, if◌then◌else◌};
+ghost use Rattle.std.specs.Prelude.{◌≡◌, List, [], ◌∷◌};
 ghost use Rattle.board_spec.specs.declared.event.Entry.{Entry};
-ghost use Rattle.board_spec.specs.declared.event.Reply.TheVariants.{Bus};
+ghost use Rattle.board_spec.specs.declared.event.Event.TheVariants.{Memory};
 ghost use Rattle.board_spec.specs.Setup.{Setup};
+ghost use Rattle.board_spec.specs.Bits.{wide};
+ghost use Rattle.board_spec.specs.InRange.{IsBusAccess};
 ghost use Rattle.board_spec.specs.Stored.{dram_byte, is_write};
 ghost use Rattle.board_spec.specs.Answer.{memory_answer};
-ghost use Rattle.board_core.specs.Forms.{IsByteAccess};
-ghost use Rattle.board_core.specs.Kept.{IsDramOf, IsState, dram_after, lands, reply_lands};
+ghost use Rattle.board_spec.specs.Registers.{byte_of};
+ghost use Rattle.dram_store.specs.Dram.{IsDramOf};
+ghost use Rattle.board_core.specs.Bridge.{IsRegisters};
+ghost use Rattle.board_core.specs.Forms.{IsReached};
+ghost use Rattle.board_core.specs.Kept.{IsBoardOf, lands, reply_lands};
+ghost use Rattle.board_core.specs.Replies.{answered};
 
-use crate::bytes::{FLOATING, byte_at, put_byte};
-use crate::decode;
-use board_base::{Access, Area, Denial, Kind, Target};
+use crate::bridge::HostBridge;
+use crate::{decode, replies};
+use board_base::{Access, Area, Target};
 use board_spec::Reply;
-use pam_windows::Pam;
+use dram_store::Dram;
 
-/// The reply to a read or a write of a byte outside SMM.
-pub fn reply(pam: &Pam, dram: &[u8], access: &Access) -> Reply
-    requires { IsByteAccess access.now }
-    ensures answer { (setup : Setup) (history : List Entry) → IsState setup history pam.now dram.now
+/// The reply to an access.
+fn reply(host: &HostBridge, dram: &Dram, access: &Access) -> Reply
+    requires bus { IsBusAccess (is_write access.now.kind) access.now.addr access.now.width access.now.value }
+    requires reached { IsReached access.now.addr }
+    ensures answer { (setup : Setup) (history : List Entry) → setup.cards ≡ [] → IsRegisters setup (byte_of setup history) host.now → IsDramOf setup history dram.now
         → result ≡ memory_answer setup history access.now }
 {
-    match decode::area(pam, access.addr, access.kind) {
+    match decode::area(host, access.addr, access.kind, access.smm) {
         Area::Dram(row) => stored(dram, access, Target::Dram(row)),
         Area::Shadow(row) => stored(dram, access, Target::Shadow(row)),
-        _ => aborted(access, decode::denial(access.addr)),
+        Area::Smram => stored(dram, access, Target::Smram),
+        _ => {
+            let denial = decode::denial(host.pmc.top(), access.addr);
+            replies::aborted(access.kind.is_write(), access.width, denial)
+        }
     }
 }
 
 /// The reply where the DRAM answers.
-fn stored(dram: &[u8], access: &Access, target: Target) -> Reply
+fn stored(dram: &Dram, access: &Access, target: Target) -> Reply
+    requires bus { IsBusAccess (is_write access.now.kind) access.now.addr access.now.width access.now.value }
     ensures stored { (setup : Setup) (history : List Entry) → IsDramOf setup history dram.now
-        → result ≡ Bus (if is_write access.now.kind then None else Some (dram_byte setup history access.now.addr)) target None }
+        → result ≡ answered (is_write access.now.kind) (wide (dram_byte setup history) access.now.addr access.now.width) target }
 {
-    match access.kind {
-        Kind::Write => Reply::Bus {
-            value: None,
-            target,
-            denial: None,
-        },
-        _ => Reply::Bus {
-            value: Some(u32::from(byte_at(dram, access.addr))),
-            target,
-            denial: None,
-        },
+    if access.kind.is_write() {
+        return replies::written(target);
     }
-}
-
-/// The reply where nobody answers.
-fn aborted(access: &Access, denial: Denial) -> Reply
-    ensures aborted { result ≡ Bus (if is_write access.now.kind then None else Some 0xFF) Target.Abort (Some denial) }
-{
-    match access.kind {
-        Kind::Write => Reply::Bus {
-            value: None,
-            target: Target::Abort,
-            denial: Some(denial),
-        },
-        _ => Reply::Bus {
-            value: Some(u32::from(FLOATING)),
-            target: Target::Abort,
-            denial: Some(denial),
-        },
-    }
+    replies::read(target, dram.read(access.addr, access.width))
 }
 
 /// Whether the DRAM answered.
@@ -87,16 +73,18 @@ fn target_lands(target: &Target) -> bool
     }
 }
 
-/// Does a read or a write of a byte outside SMM, and tells the reply.
-pub fn perform(pam: &Pam, dram: &mut Vec<u8>, access: &Access) -> Reply
-    requires { IsByteAccess access.now }
-    ensures answer { (setup : Setup) (history : List Entry) → IsState setup history pam.now dram.old.items
+/// Does an access, and tells the reply.
+pub fn perform(host: &HostBridge, dram: &mut Dram, access: &Access) -> Reply
+    requires bus { IsBusAccess (is_write access.now.kind) access.now.addr access.now.width access.now.value }
+    requires reached { IsReached access.now.addr }
+    ensures answer { (setup : Setup) (history : List Entry) → setup.cards ≡ [] → IsRegisters setup (byte_of setup history) host.now → IsDramOf setup history dram.old
         → result ≡ memory_answer setup history access.now }
-    ensures stored { dram.new.items ≡ dram_after dram.old.items access.now result }
+    ensures stored { (setup : Setup) (history : List Entry) (entry : Entry) → IsDramOf setup history dram.old
+        → entry.event ≡ Memory access.now → entry.reply ≡ result → IsDramOf setup (entry ∷ history) dram.new }
 {
-    let reply = reply(pam, dram, access);
+    let reply = reply(host, dram, access);
     if access.kind.is_write() && reply_lands(&reply) {
-        put_byte(dram, access.addr, access.value as u8);
+        dram.write(access.addr, access.width, access.value);
     }
     reply
 }

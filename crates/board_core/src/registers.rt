@@ -1,33 +1,43 @@
-//! The registers at offsets 58h to 5Fh of the host bridge, as bytes.
+//! The registers of the board that an access reaches for now.
 
-ghost use Rattle.std.specs.Prelude.{◌≡◌, ◌≤◌, ℕ};
-ghost use Rattle.board_base.specs.declared.access.Width.TheVariants.{One};
-ghost use Rattle.board_spec.specs.declared.map_change.MapChange.TheVariants.{Store};
+ghost use Rattle.std.specs.Prelude.{List, [], ◌∷◌};
+ghost use Rattle.board_spec.specs.declared.event.Entry.{Entry};
 ghost use Rattle.board_spec.specs.Setup.{Setup};
-ghost use Rattle.board_spec.specs.Registers.{changed_byte};
-ghost use Rattle.board_spec.specs.Decode.{Bytes, bridge};
-ghost use Rattle.board_core.specs.Kept.{IsRegisters, IsOffset};
+ghost use Rattle.board_core.specs.PortSteps.{WritesControl};
+ghost use Rattle.board_core.specs.Kept.{HasRegisters};
 
-use pam_windows::Pam;
+use crate::bridge::HostBridge;
+use crate::reset_control::ResetControl;
+use cfg_ports::ConfAdd;
 
-/// The offset before the PAM registers, where the host bridge has none.
-const BEFORE_PAM: u8 = 0x58;
-
-/// The byte at an offset.
-pub fn read(pam: &Pam, off: u8) -> u8
-    requires { IsOffset off }
-    ensures byte { (setup : Setup) (bytes : Bytes) → IsRegisters setup bytes pam.now → result ≡ bytes (bridge off) }
-{
-    if off == BEFORE_PAM { 0 } else { pam.read(off) }
+/// The configuration address, the reset control, and the registers of the host bridge.
+#[derive(Drop)]
+pub struct Registers {
+    pub address: ConfAdd,
+    pub control: ResetControl,
+    pub host: HostBridge,
 }
 
-/// Writes the byte at an offset.
-pub fn write(pam: &mut Pam, off: u8, byte: u8)
-    requires { IsOffset off }
-    ensures written { (setup : Setup) (bytes : Bytes) → IsRegisters setup bytes pam.old
-        → IsRegisters setup (λ reg. changed_byte setup (Store (bridge off) One byte) reg (bytes reg)) pam.new }
-{
-    if off != BEFORE_PAM {
-        pam.write(off, byte);
+impl Registers {
+    /// The registers after power-on.
+    pub fn new() -> Registers
+        ensures reset { (setup : Setup) → HasRegisters setup [] result }
+    {
+        Registers {
+            address: ConfAdd::new(),
+            control: ResetControl::new(),
+            host: HostBridge::new(),
+        }
+    }
+
+    /// Writes reset control. A hard reset gives each register its value after a reset.
+    pub fn write_control(&mut self, byte: u8)
+        ensures registers { (setup : Setup) (history : List Entry) (entry : Entry) → WritesControl entry.event byte
+            → HasRegisters setup history self.old → HasRegisters setup (entry ∷ history) self.new }
+    {
+        if self.control.write(byte) {
+            self.address.reset();
+            self.host.reset();
+        }
     }
 }

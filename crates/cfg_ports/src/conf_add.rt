@@ -1,5 +1,7 @@
 //! The configuration address register, CONFADD of the 82441FX (PCI Local Bus 2.1, section 3.7.4.1).
-ghost use Rattle.std.specs.Prelude.{◌≡◌, ◌↔◌, false, IsTrue, IsNone, IfSome};
+ghost use Rattle.std.specs.Prelude.{◌≡◌, ◌+◌, ◌%◌, ◌≤◌, ◌↔◌, false, IsTrue, IsNone, IfSome};
+ghost use Rattle.board_base.specs.declared.access.Width.{Width};
+ghost use Rattle.board_base.specs.Access.{bytes_of};
 ghost use Rattle.board_spec.specs.Setup.{Setup};
 ghost use Rattle.board_spec.specs.Registers.{kept_address, is_enabled, is_config_port, config_register};
 ghost use Rattle.cfg_ports.specs.Selection.{selected_at, existing};
@@ -67,12 +69,14 @@ impl ConfAdd {
     }
 
     /// The register that an access at one of the ports 0CFCh to 0CFFh reaches, whether or not its
-    /// function exists. None where the enable bit is 0.
+    /// function exists. None where the enable bit is 0. An aligned access stays within the function's 256 bytes.
     pub fn select(&self, port: u16) -> Option<Selected>
         requires config_port { IsTrue (is_config_port port) }
         ensures none { IsNone result ↔ (is_enabled self.now ≡ false) }
         ensures selected { IfSome result (λ selected. selected ≡ selected_at self.now port) }
         ensures register { (setup : Setup) → config_register setup self.now port ≡ existing setup result }
+        ensures within { IfSome result (λ selected. (width : Width) → port % bytes_of width ≡ 0
+            → selected.reg.off + bytes_of width ≤ 0x100) }
     {
         if self.value & ENABLE == 0 {
             return None;
