@@ -1,30 +1,35 @@
 -- What a script says is in range.
-use Rattle.std.proofs.Common.{◌≡◌, ℕ, ◌+◌, ◌*◌, ◌^◌, ◌<◌, ◌≤◌, Bool, true, false, cond, eqb, ltb, leb, ◌&&◌, List, [], ◌∷◌, length, Option, Some, None, Result, Ok, Err, refl, subst, arith, lit<}
+use Rattle.std.proofs.Common.{◌≡◌, ℕ, ◌+◌, ◌*◌, ◌%◌, ◌^◌, ◌<◌, ◌≤◌, inl, inr, Bool, true, false, cond, eqb, ltb, leb, ◌&&◌, List, [], ◌∷◌, length, Option, Some, None, Result, Ok, Err, refl, subst, arith, lit<}
 use Rattle.std.specs.Prelude.{codes, bytes_eq, IfOk}
 use Rattle.std.specs.List.{AllByRecursion}
 use Rattle.std.specs.Option.{option_and_then}
-use Rattle.std.proofs.lemmas.Bool.{eqb-true}
+use Rattle.std.proofs.lemmas.Bool.{eqb-true, cases_Bool}
 use Rattle.std.proofs.lemmas.List.Elements.{All-from_recursion}
 use borrow.Author.Tests.{ltb-true, leb-true}
-use Rattle.board_base.specs.Access.{largest_of}
+use Rattle.board_base.specs.Access.{bytes_of, largest_of}
 use Rattle.board_base.specs.declared.access.Width.{Width}
 use Rattle.board_base.specs.declared.access.Width.TheVariants.{One, Two, Four}
 use Rattle.board_base.specs.declared.access.Kind.{Kind}
 use Rattle.board_base.specs.declared.access.Kind.TheVariants.{Fetch, Read, Write}
+use Rattle.board_base.specs.declared.access.Access.{Access}
+use Rattle.board_base.specs.declared.access.PortAccess.{PortAccess}
 use Rattle.board_spec.specs.declared.event.Event.{Event}
-use Rattle.board_spec.specs.declared.event.Event.TheVariants.{Memory, Port, Look as LookAt}
+use Rattle.board_spec.specs.declared.event.Event.TheVariants.{Memory, Port, Look as LookAt, Ack, Pulses, Time, Wire, Line, BadSector}
 use Rattle.board_spec.specs.declared.event.Statement.{Statement}
 use Rattle.board_spec.specs.Bits.{is_within}
+use Rattle.board_spec.specs.Registers.{is_config_port}
 use Rattle.board_spec.specs.Stored.{is_write}
+use Rattle.board_spec.specs.Setup.{Setup}
+use Rattle.board_spec.specs.InRange.{FitsAccess, IsInRange}
 use Rattle.script_text.specs.Numbers.{digit_value, digit_of, number_after, hex_of, decimal_of}
 use Rattle.script_text.specs.StatementText.{width_of, kind_of, address_of, port_of, value_of, smm_of, read_of, write_of, in_of, out_of, look_of, event_of_fields}
-use Rattle.script_text.specs.Forms.{is_taken}
+use Rattle.script_text.specs.Forms.{is_aligned, is_taken_address, is_taken_access, is_address_access, is_data_access, is_reset_access, is_taken_port, is_taken}
 use Rattle.script_text.specs.Lines.{lines_of, fields_of}
 use Rattle.script_text.specs.ScriptText.{Said, Refusal, ◌>>=◌, most_statements, on_line, front_line, fixed_line, mib_of, mib_in_range, memory_line, is_name, rom_of, rom_line, statement_of, next_statement, statements_from, phase_from, script_from}
 use Rattle.script_text.specs.declared.fault.ScriptFault.{ScriptFault}
 use Rattle.script_text.specs.declared.script.Script.{Script}
 use Rattle.script_text.specs.Reading.{Gives, said_of}
-use Rattle.script_text.specs.Taken.{HasFittingValue, IsTaken, IsTakenScript}
+use Rattle.script_text.specs.Taken.{IsTaken, IsTakenScript}
 use Rattle.script_text.specs.Laws.{ScriptsAreTaken}
 use Rattle.script_text.proofs.NumberLemmas.{number_below}
 
@@ -96,6 +101,11 @@ value_fits Two field n e = omega (arith, hex_below 4 field n e)
 value_fits Four field n e = omega (arith, hex_below 8 field n e)
 
 -- ---- the value of an access
+
+abbrev HasFittingValue : Event → Type 0
+HasFittingValue (Memory access) = FitsAccess (is_write access.kind) access.width access.value
+HasFittingValue (Port access) = FitsAccess access.write access.width access.value
+HasFittingValue _ = Unit {0}
 
 read_shape : (kind : Kind) (width : Option Width) (addr : Option ℕ) (smm : Option Bool) (event : Event) → is_write kind ≡ false
     → option_and_then (λ width. option_and_then (λ addr. option_and_then (λ smm. Some (Memory (record { kind = kind; addr = addr; width = width; smm = smm; value = 0 }))) smm) addr) width ≡ Some event
@@ -191,6 +201,49 @@ event_fits [] event e = absurd cc
 event_fits (verb ∷ words) event e =
     verb_fits (bytes_eq verb (codes "r")) (bytes_eq verb (codes "f")) (bytes_eq verb (codes "w")) (bytes_eq verb (codes "in")) (bytes_eq verb (codes "out")) (bytes_eq verb (codes "look")) words event e
 
+-- ---- events in range
+
+aligned_is : (place : ℕ) (width : Width) → is_aligned place width ≡ true → place % bytes_of width ≡ 0
+aligned_is place width e = eqb-true _ 0 e
+
+address_aligned : (access : PortAccess) → is_address_access access ≡ true → access.port % bytes_of access.width ≡ 0
+address_aligned access e =
+    let parts = both (eqb access.port 0xCF8 && eqb (bytes_of access.width) 4) _ e in
+    let place = both (eqb access.port 0xCF8) (eqb (bytes_of access.width) 4) parts.0 in
+    rw (eqb-true _ _ place.0, eqb-true _ _ place.1) refl
+
+reset_aligned : (access : PortAccess) → is_reset_access access ≡ true → access.port % bytes_of access.width ≡ 0
+reset_aligned access e =
+    let place = both (eqb access.port 0xCF9) (eqb (bytes_of access.width) 1) e in
+    rw (eqb-true _ _ place.0, eqb-true _ _ place.1) refl
+
+port_aligned : (access : PortAccess) → is_taken_port access ≡ true → access.port % bytes_of access.width ≡ 0
+unfolding is_taken_port
+port_aligned access e =
+    elim (cases_Bool (is_address_access access)) [
+      | inl address ↦ address_aligned access address
+      | inr no_address ↦ elim (cases_Bool (is_data_access access)) [
+        | inl data_access ↦ aligned_is access.port access.width (both (is_config_port access.port) (is_aligned access.port access.width) data_access).1
+        | inr no_data ↦ reset_aligned access (rw (no_address, no_data) at e)
+      ]
+    ]
+
+memory_aligned : (access : Access) → is_taken_access access ≡ true → access.addr % bytes_of access.width ≡ 0
+unfolding is_taken_access
+memory_aligned access e = aligned_is access.addr access.width (both (is_taken_address access.addr) (is_aligned access.addr access.width) e).1
+
+in_range : (event : Event) → is_taken event ≡ true → HasFittingValue event → (setup : Setup) → IsInRange setup event
+unfolding is_taken
+in_range (Memory access) e fits = λ setup. record { aligned = memory_aligned access e; fits = fits }
+in_range (Port access) e fits = λ setup. record { aligned = port_aligned access e; fits = fits }
+in_range (LookAt kind addr smm) e fits = absurd cc
+in_range Ack e fits = absurd cc
+in_range (Pulses count) e fits = absurd cc
+in_range (Time moment) e fits = absurd cc
+in_range (Wire dev on) e fits = absurd cc
+in_range (Line irq on) e fits = absurd cc
+in_range (BadSector sector) e fits = absurd cc
+
 -- ---- statements
 
 abbrev only_taken : Event → Option Statement
@@ -203,7 +256,7 @@ statement_taken (actor ∷ words) statement e =
     let g = guarded (bytes_eq actor (codes "0")) (option_and_then only_taken (event_of_fields words)) statement e in
     let p = then_said (event_of_fields words) only_taken statement g.1 in
     let t = guarded (is_taken p.0) (Some (record { actor = 0; event = p.0 })) statement p.2 in
-    subst IsTaken (some_is (record { actor = 0; event = p.0 }) statement t.1) (record { actor = refl; event = t.0; value = event_fits words p.0 p.1 })
+    subst IsTaken (some_is (record { actor = 0; event = p.0 }) statement t.1) (record { actor = refl; event = t.0; in_range = in_range p.0 t.0 (event_fits words p.0 p.1) })
 
 next_taken : (before : ℕ) (line : List ℕ) (statement : Statement) → next_statement before line ≡ Ok statement → IsTaken statement × (before < most_statements)
 unfolding next_statement

@@ -1,9 +1,10 @@
-//! The statements that this stage of the board takes: bytes of plain memory, and the configuration ports.
+//! The statements that this stage of the board takes: accesses to plain memory, the configuration ports as
+//! far as they reach the host bridge, and the reset control port.
 
 ghost use Rattle.std.specs.Prelude.{◌≡◌};
-ghost use Rattle.script_text.specs.Forms.{is_data, is_taken_address, is_taken_access, is_taken_configuration, is_taken_port, is_taken};
+ghost use Rattle.script_text.specs.Forms.{is_aligned, is_taken_address, is_taken_access, is_taken_configuration, is_address_access, is_data_access, is_reset_access, is_taken_port, is_taken};
 
-use board_base::{Access, Kind, PortAccess, Width};
+use board_base::{Access, PortAccess, Width};
 use board_spec::Event;
 
 /// Where the system BIOS begins below 1 MiB.
@@ -18,28 +19,28 @@ const LAST_BELOW_ROM: u32 = 0xFFF7_FFFF;
 /// The port of the configuration address.
 const CONFIGURATION_ADDRESS: u16 = 0xCF8;
 
+/// The port of the reset control register.
+const RESET_CONTROL: u16 = 0xCF9;
+
 /// The ports of the configuration data.
 const FIRST_DATA: u16 = 0xCFC;
 
 const LAST_DATA: u16 = 0xCFF;
 
-/// The configuration addresses of the registers 00.0.58 to 00.0.5B and 00.0.5C to 00.0.5F.
-const LOWER_WINDOWS: u32 = 0x8000_0058;
-
-const UPPER_WINDOWS: u32 = 0x8000_005C;
-
 /// Bit 31 of the configuration address, which enables it.
 const ENABLED: u32 = 0x8000_0000;
 
-/// Whether data are read or written.
-fn is_data(kind: Kind) -> bool
-    ensures data { result ≡ is_data kind }
+/// Where the number of the function begins in the configuration address, bit 8. Device and bus follow.
+const FUNCTION_SHIFT: u32 = 8;
+
+/// How many functions a configuration address can name, of all devices and buses.
+const FUNCTIONS: u32 = 0x1_0000;
+
+/// Whether an address or a port is a multiple of the width.
+fn is_aligned(place: u32, width: Width) -> bool
+    ensures aligned { result ≡ is_aligned place width }
 {
-    match kind {
-        Kind::Fetch => false,
-        Kind::Read => true,
-        Kind::Write => true,
-    }
+    place % width.bytes() == 0
 }
 
 /// Whether the address is below the system BIOS, or from 1 MiB to where the ROM can begin.
@@ -49,36 +50,52 @@ fn is_taken_address(addr: u32) -> bool
     addr < SYSTEM_BIOS || addr >= ONE_MEBIBYTE && addr <= LAST_BELOW_ROM
 }
 
-/// Whether this is a byte of plain memory, read or written outside SMM.
+/// Whether this is an access to plain memory.
 #[tactic(auto, unfolding(crate::specs::Forms::is_taken_access))]
 fn is_taken_access(access: &Access) -> bool
     ensures taken { result ≡ is_taken_access access.now }
 {
-    is_data(access.kind)
-        && access.width == Width::One
-        && !access.smm
-        && is_taken_address(access.addr)
+    is_taken_address(access.addr) && is_aligned(access.addr, access.width)
 }
 
-/// Whether this configuration address names a shadow register, or is not enabled.
+/// Whether this configuration address is not enabled, or names function 0 of device 0 of bus 0.
 fn is_taken_configuration(address: u32) -> bool
     ensures taken { result ≡ is_taken_configuration address }
 {
-    address == LOWER_WINDOWS || address == UPPER_WINDOWS || address < ENABLED
+    address < ENABLED || (address >> FUNCTION_SHIFT) % FUNCTIONS == 0
 }
 
-/// Whether this reads or writes the configuration address or a byte of its data.
+/// Whether this reads the configuration address, or writes one that is taken.
+fn is_address_access(access: &PortAccess) -> bool
+    ensures address { result ≡ is_address_access access.now }
+{
+    access.port == CONFIGURATION_ADDRESS
+        && access.width == Width::Four
+        && (!access.write || is_taken_configuration(access.value))
+}
+
+/// Whether this is an access to the configuration data.
+fn is_data_access(access: &PortAccess) -> bool
+    ensures data { result ≡ is_data_access access.now }
+{
+    access.port >= FIRST_DATA
+        && access.port <= LAST_DATA
+        && is_aligned(u32::from(access.port), access.width)
+}
+
+/// Whether this reads or writes the reset control register.
+fn is_reset_access(access: &PortAccess) -> bool
+    ensures reset { result ≡ is_reset_access access.now }
+{
+    access.port == RESET_CONTROL && access.width == Width::One
+}
+
+/// Whether this is an access to one of these ports.
 #[tactic(auto, unfolding(crate::specs::Forms::is_taken_port))]
 fn is_taken_port(access: &PortAccess) -> bool
-    ensures taken { result ≡ is_taken_port access.now.width access.now.port access.now.value }
+    ensures taken { result ≡ is_taken_port access.now }
 {
-    match access.width {
-        Width::One => access.port >= FIRST_DATA && access.port <= LAST_DATA,
-        Width::Two => false,
-        Width::Four => {
-            access.port == CONFIGURATION_ADDRESS && is_taken_configuration(access.value)
-        }
-    }
+    is_address_access(access) || is_data_access(access) || is_reset_access(access)
 }
 
 /// Whether this stage of the board takes the statement.
