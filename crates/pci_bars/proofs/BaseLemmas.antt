@@ -6,8 +6,11 @@ use Rattle.std.proofs.lemmas.Bool.{cases_eq}
 use Rattle.std.proofs.lemmas.Nat.{le_bytes_4}
 use Rattle.std.proofs.lemmas.List.Elements.{All-get_or}
 use Rattle.std.proofs.lemmas.Option.{slice_get_within, get_or_from_slice_get}
+use Rattle.std.proofs.lemmas.List.{get_or-map, length-map}
 use Rattle.board_spec.specs.Setup.{Base, IsBase}
 use Rattle.board_spec.specs.Bits.{byte}
+use Rattle.pci_bars.specs.declared.spec.BaseSpec.{BaseSpec}
+use Rattle.pci_bars.specs.Bases.{base_of}
 
 -- ---- four bytes
 
@@ -52,3 +55,7 @@ other_bytes n lane v new j within below is j_below apart =
 pub is_base : (bases : List Base) (k : ℕ) (base : Base) → All IsBase bases → slice_get bases k ≡ Some base → IsBase base
 is_base bases k base each there =
     subst IsBase (get_or_from_slice_get bases k base base there) (All-get_or IsBase bases k base (slice_get_within bases k base there) each)
+
+pub base_within : (bases : List BaseSpec) (k : ℕ) (d : BaseSpec) → All IsBase (map base_of bases) → k < length bases → IsBase (base_of (get_or bases k d))
+base_within bases k d each below =
+    subst IsBase (get_or-map base_of bases k d (base_of d) below) (All-get_or IsBase (map base_of bases) k (base_of d) (omega (arith, length-map bases base_of)) each)

@@ -129,11 +129,11 @@ pick_card :
     pick counts place (windows_in space bytes card.card) ≡ of_dev card.card.dev (covering_base space place card)
 pick_card counts Memory setup bytes place card on fit is =
     pick-append counts place (base_windows Memory bytes card.card.dev 0 card.card.bases) (vga_window card.card)
-    ∙ ap (λ first. option_or first (pick counts place (vga_window card.card))) (pick_bases counts Memory bytes card.card.dev place card.bases on is.bases 0 card.card.bases fit.count)
+    ∙ ap (λ first. option_or first (pick counts place (vga_window card.card))) (pick_bases counts Memory bytes card.card.dev place card.bases on is.bases 0 card.card.bases (let few = fit.count in omega arith))
     ∙ ap (λ last. option_or (of_dev card.card.dev (covering Memory card.bases place 0 card.card.bases)) last) (pick_vga counts card.card place on)
     ∙ of_dev_or card.card.dev (covering Memory card.bases place 0 card.card.bases) (vga_claim Memory card.card.vga place)
 pick_card counts Ports setup bytes place card on fit is =
-    pick_bases counts Ports bytes card.card.dev place card.bases on is.bases 0 card.card.bases fit.count
+    pick_bases counts Ports bytes card.card.dev place card.bases on is.bases 0 card.card.bases (let few = fit.count in omega arith)
     ∙ ap (of_dev card.card.dev) (sym (or_none (covering Ports card.bases place 0 card.card.bases)))
 
 pick_no_card :
