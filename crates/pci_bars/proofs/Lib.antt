@@ -1,4 +1,5 @@
 pub mod BaseLemmas
 pub mod CardLemmas
 pub mod ClaimLemmas
+pub mod ContentsLemmas
 pub mod TableLemmas
