@@ -3,3 +3,4 @@ pub mod CardLemmas
 pub mod ClaimLemmas
 pub mod ContentsLemmas
 pub mod TableLemmas
+pub mod WindowLemmas
