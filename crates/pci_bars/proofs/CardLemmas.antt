@@ -265,16 +265,16 @@ fixed-stored setup bytes card off written fit below is at not_kept =
       | inl same ↦ subst (λ o. stored setup bytes card.card.dev o written (card_register card.card.dev at) ≡ reset_byte setup (card_register card.card.dev at)) same (here at not_kept)
       | inr apart ↦ stored-other setup bytes card.card.dev off written at apart ∙ is.fixed at not_kept
     ]
-    where
-      here : (at : ℕ) → is_kept_offset at ≡ false → stored setup bytes card.card.dev at written (card_register card.card.dev at) ≡ reset_byte setup (card_register card.card.dev at)
-      here at not_kept =
-          let fixed = is_fixed card.card fit at not_kept in
-          let stands = is.fixed at not_kept in
-          let in_table = reset_byte-card setup card.card at fit.first is.decodes.fitted in
-          stored-same setup bytes card.card at written fit is.decodes.fitted below
-          ∙ ap (λ mask. merged mask (bytes (card_register card.card.dev at)) written) fixed.writable
-          ∙ merged_none (bytes (card_register card.card.dev at)) written (subst (λ n. n < 256) (sym (stands ∙ in_table)) fixed.byte)
-          ∙ stands
+  where
+    here : (at : ℕ) → is_kept_offset at ≡ false → stored setup bytes card.card.dev at written (card_register card.card.dev at) ≡ reset_byte setup (card_register card.card.dev at)
+    here at not_kept =
+        let fixed = is_fixed card.card fit at not_kept in
+        let stands = is.fixed at not_kept in
+        let in_table = reset_byte-card setup card.card at fit.first is.decodes.fitted in
+        stored-same setup bytes card.card at written fit is.decodes.fitted below
+        ∙ ap (λ mask. merged mask (bytes (card_register card.card.dev at)) written) fixed.writable
+        ∙ merged_none (bytes (card_register card.card.dev at)) written (subst (λ n. n < 256) (sym (stands ∙ in_table)) fixed.byte)
+        ∙ stands
 
 pub line-stored :
     (setup : Setup) (bytes : Bytes) (card : CardBytes) (written : ℕ) → IsCard card.card → written < 256 → IsCardOf setup bytes card →

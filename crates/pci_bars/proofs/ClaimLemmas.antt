@@ -17,7 +17,6 @@ use Rattle.pci_bars.specs.declared.claims.Space.TheVariants.{Memory, Ports}
 use Rattle.pci_bars.specs.Cards.{CardBytes, DecodesAs, AreCards, AreDecoded, cards_of}
 use Rattle.pci_bars.specs.Claims.{agrees, covers, covering, vga_claim, covering_base, is_enabled, same_bool, first_claim}
 
-
 doubled_bit : (b : ℕ) → b < 2 → not (eqb (b * 2) 0) ≡ eqb b 1
 doubled_bit b below = grind (arith, nat_tests)
 
@@ -156,7 +155,7 @@ pick_cards counts space enabled setup bytes place counted [] fit are = refl
 pick_cards counts space enabled setup bytes place counted (card ∷ later) fit are =
     let is : DecodesAs setup bytes card = All-head (DecodesAs setup bytes) card later are in
     let rest : pick counts place (flat_map (windows_in space bytes) (cards_of later)) ≡ first_claim space enabled place later =
-        pick_cards counts space enabled setup bytes place counted later (All-tail (λ card. IsCard card.card) card later fit) (All-tail (DecodesAs setup bytes) card later are) in
+    pick_cards counts space enabled setup bytes place counted later (All-tail (λ card. IsCard card.card) card later fit) (All-tail (DecodesAs setup bytes) card later are) in
     let same = counted card is in
     pick-append counts place (windows_in space bytes card.card) (flat_map (windows_in space bytes) (cards_of later))
     ∙ ap (λ last. option_or (pick counts place (windows_in space bytes card.card)) last) rest

@@ -96,18 +96,18 @@ base_line :
     listed column (entry ∷ later) (0x10 + 4 * k + j) ≡ byte (of_base number_of bases k) j
 base_line column number_of bases entry later k j first count same below rest =
     let inside : get_or (column entry) (0x10 + 4 * k + j - entry.first) 0 ≡ byte (of_base number_of bases k) j =
-        ap (λ i. get_or (column entry) i 0) (omega arith)
-        ∙ ap (λ bytes. get_or bytes (4 * k + j) 0) same
-        ∙ get_or-base_bytes number_of bases k j below in
+    ap (λ i. get_or (column entry) i 0) (omega arith)
+    ∙ ap (λ bytes. get_or bytes (4 * k + j) 0) same
+    ∙ get_or-base_bytes number_of bases k j below in
     elim (cases_lt (0x10 + 4 * k + j) (entry.first + length entry.reset)) [
       | inl within ↦ listed-here column entry later (0x10 + 4 * k + j) (omega arith) within ∙ inside
       | inr past ↦ listed-past column entry later (0x10 + 4 * k + j) past ∙ rest ∙ sym (past_bases number_of bases k j (omega arith))
     ]
-    where
-      past_bases : (number_of : Base → ℕ) (bases : List Base) (k j : ℕ) → length bases ≤ k → byte (of_base number_of bases k) j ≡ 0
-      past_bases number_of [] k j past = byte_of_zero j
-      past_bases number_of (base ∷ later) zero j past = absurd (omega arith)
-      past_bases number_of (base ∷ later) (suc k) j past = past_bases number_of later k j (omega arith)
+  where
+    past_bases : (number_of : Base → ℕ) (bases : List Base) (k j : ℕ) → length bases ≤ k → byte (of_base number_of bases k) j ≡ 0
+    past_bases number_of [] k j past = byte_of_zero j
+    past_bases number_of (base ∷ later) zero j past = absurd (omega arith)
+    past_bases number_of (base ∷ later) (suc k) j past = past_bases number_of later k j (omega arith)
 
 abbrev base_entry : FittedCard → Line
 base_entry card = line 0x10 (base_bytes base_reset card.bases) (base_bytes base_writable card.bases)
