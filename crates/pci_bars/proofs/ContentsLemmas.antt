@@ -1,5 +1,5 @@
 -- The bytes behind the bases: as they begin, and after a write.
-use Rattle.std.proofs.Common.{◌≡◌, ◌≢◌, ℕ, zero, suc, ◌+◌, ◌-◌, ◌*◌, ◌/◌, ◌%◌, ◌<◌, ◌≤◌, Bool, true, false, ◌&&◌, List, [], ◌∷◌, ◌++◌, map, Vec, Global, length, get_or, set, take, drop, replicate, Option, Some, None, inl, inr, ◌∙◌, refl, sym, ap, subst, arith, lit≤, length-set, length-append, length-drop, get_or-set_same, get_or-set_other, append_assoc}
+use Rattle.std.proofs.Common.{◌≡◌, ◌≢◌, ℕ, zero, suc, ◌+◌, ◌-◌, ◌/◌, ◌%◌, ◌<◌, ◌≤◌, true, false, ◌&&◌, List, [], ◌∷◌, ◌++◌, map, Vec, Global, length, get_or, set, take, drop, replicate, inl, inr, ◌∙◌, refl, sym, ap, subst, arith, lit≤, length-append, length-drop, get_or-set_same, get_or-set_other}
 use Rattle.std.specs.Prelude.{◌==◌, nat_le, nat_lt, find, if◌then◌else◌, slice_index, unwrap_or, vec_len}
 use Rattle.std.specs.Vec.{with_items}
 use Rattle.std.proofs.lemmas.Bool.{and_from, and_left, and_right, eq-eqb, ne_eqb, le-leb, lt-leb, lt-ltb, le-ltb, cond-true, cond-false, cases_lt, cases_eq}
@@ -10,7 +10,7 @@ use Rattle.board_base.specs.declared.access.Width.TheVariants.{One, Two, Four}
 use Rattle.board_base.specs.declared.target.Target.TheVariants.{Card}
 use Rattle.board_base.specs.Access.{bytes_of}
 use Rattle.board_spec.specs.declared.event.Entry.{Entry}
-use Rattle.board_spec.specs.Setup.{FittedCard, Setup, card_at}
+use Rattle.board_spec.specs.Setup.{FittedCard, Setup}
 use Rattle.board_spec.specs.Bits.{byte}
 use Rattle.board_spec.specs.Stored.{CardCell, byte_put, entry_put, stored_of}
 use Rattle.pci_bars.specs.Contents.{IsBaseNumber, slot_number, held, held_byte, window_size, LiesIn, IsContentsOf}

@@ -1,12 +1,11 @@
 -- A card in the table of registers.
-use Rattle.std.proofs.Common.{◌≡◌, ◌≢◌, ◌⊎◌, ℕ, zero, suc, ◌+◌, ◌-◌, ◌*◌, ◌<◌, ◌≤◌, Bool, true, false, ◌&&◌, List, [], ◌∷◌, length, get_or, Some, inl, inr, ◌∙◌, refl, sym, ap, subst, arith, lit<, lit≤, length-append}
-use Rattle.std.specs.Prelude.{◌==◌, nat_le, nat_lt, flat_map, slice_get, if◌then◌else◌}
+use Rattle.std.proofs.Common.{◌≡◌, ◌≢◌, ◌⊎◌, ℕ, zero, suc, ◌+◌, ◌-◌, ◌*◌, ◌<◌, ◌≤◌, Bool, true, false, ◌&&◌, List, [], ◌∷◌, length, get_or, Some, inl, inr, ◌∙◌, refl, sym, ap, subst, arith, lit<, lit≤}
+use Rattle.std.specs.Prelude.{◌==◌, nat_le, nat_lt, flat_map, if◌then◌else◌}
 use Rattle.std.proofs.lemmas.Bool.{and_from, and_left, and_right, ne_eqb, le-leb, lt-leb, lt-ltb, le-ltb, cond-true, cond-false, cases_lt, cases_eq}
 use Rattle.std.proofs.lemmas.Bool.Decides.{nat_tests}
 use Rattle.std.proofs.lemmas.List.{get_or_append_left, get_or-append_right}
-use Rattle.std.specs.Int.Bits.{and_zero_r, or_zero_l}
 use Rattle.board_spec.specs.Setup.{Base, FittedCard, Setup, IsCard, card_at}
-use Rattle.board_spec.specs.Bits.{byte, merged, is_within, long_bytes}
+use Rattle.board_spec.specs.Bits.{byte, long_bytes}
 use Rattle.board_spec.specs.RegisterTable.{Line, line, read_only, card_function, function_lines, listed, base_reset, base_writable, reset_byte, writable_bits}
 use Rattle.board_spec.specs.Decode.{card_register}
 use Rattle.pci_bars.specs.Bases.{of_base}

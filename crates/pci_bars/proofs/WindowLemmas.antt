@@ -1,11 +1,10 @@
 -- The window that claims a place has the size of its base.
-use Rattle.std.proofs.Common.{◌≡◌, ℕ, ◌+◌, ◌<◌, ◌≤◌, Bool, true, false, ◌&&◌, List, [], ◌∷◌, ◌++◌, length, Option, Some, None, inl, inr, ◌∙◌, refl, sym, ap, subst, arith}
+use Rattle.std.proofs.Common.{◌≡◌, ℕ, ◌+◌, ◌<◌, ◌≤◌, Bool, false, ◌&&◌, List, [], ◌∷◌, length, Some, inl, inr, ◌∙◌, refl, sym, ap, subst, arith}
 use Rattle.std.specs.Prelude.{◌==◌, All, find, flat_map, slice_get}
-use Rattle.std.specs.List.{enumerate_from}
 use Rattle.std.proofs.lemmas.Bool.{cases_Bool, ne_eqb}
 use Rattle.std.proofs.lemmas.List.Elements.{All-nil, All-cons, All-head, All-tail, All-append}
 use Rattle.board_spec.specs.Setup.{Base, MemoryBase, IoBase, FittedCard, Setup, IsCard, card_at}
-use Rattle.board_spec.specs.Answer.{window_bits, bits_of_base, base_of_card}
+use Rattle.board_spec.specs.Answer.{window_bits, bits_of_base}
 use Rattle.board_spec.specs.Decode.{Bytes, Window, is_covered, vga_window, is_enabled_for, memory_claim, io_claim, base_value}
 use Rattle.pci_bars.specs.declared.claims.Space.{Space}
 use Rattle.pci_bars.specs.declared.claims.Space.TheVariants.{Memory, Ports}

@@ -1,4 +1,4 @@
-use Rattle.std.proofs.Common.{◌≡◌, ℕ, ◌%◌, ◌^◌, List, Some, sym, ◌∙◌, ap}
+use Rattle.std.proofs.Common.{◌≡◌, ℕ, ◌%◌, ◌^◌, List, sym, ◌∙◌, ap}
 use Rattle.std.specs.Prelude.{◌==◌, find}
 use Rattle.board_spec.specs.Answer.{window_bits}
 use Rattle.board_spec.specs.Setup.{FittedCard, Setup}

@@ -1,4 +1,4 @@
-use Rattle.std.proofs.Common.{◌≡◌, map, arith, subst}
+use Rattle.std.proofs.Common.{◌≡◌, arith, subst}
 use Rattle.pci_bars.proofs.ContentsLemmas.{IsFilled, lists, size_held, stored_at_first}
 use Rattle.pci_bars.proofs.contents.Contents.open.Goals as goal
 

@@ -1,12 +1,8 @@
-use Rattle.std.proofs.Common.{◌≡◌, ℕ, ◌+◌, ◌<◌, ◌≤◌, List, ◌∷◌, length, set, sym, ap, subst, refl, ◌∙◌, arith}
+use Rattle.std.proofs.Common.{◌≡◌, ℕ, ◌<◌, ◌∷◌, length, set, sym, ap, subst, ◌∙◌, arith}
 use Rattle.std.specs.Prelude.{slice_index}
 use Rattle.std.specs.Vec.{with_items}
 use Rattle.board_base.specs.Access.{bytes_of}
-use Rattle.board_spec.specs.declared.event.Entry.{Entry}
-use Rattle.board_spec.specs.Setup.{Setup}
-use Rattle.board_spec.specs.Stored.{CardCell, entry_put, byte_put}
-use Rattle.board_base.specs.declared.target.Target.TheVariants.{Card}
-use Rattle.pci_bars.specs.Contents.{slot_number, held, held_byte, IsBaseNumber, IsContentsOf}
+use Rattle.pci_bars.specs.Contents.{slot_number, held, held_byte, IsContentsOf}
 use Rattle.pci_bars.proofs.ContentsLemmas.{put_byte, written_byte, lists, lists-set, lists-at, slot_within, sizes_stay, bytes_written, stored_written}
 use Rattle.pci_bars.proofs.contents.Contents.write.Goals as goal
 

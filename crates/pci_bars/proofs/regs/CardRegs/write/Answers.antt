@@ -1,9 +1,7 @@
 use Rattle.std.proofs.Common.{◌≡◌, ◌+◌, ◌*◌, ◌<◌, inl, inr, arith, slice_index}
-use Rattle.board_spec.specs.Setup.{IsCard}
 use Rattle.board_spec.specs.RegisterTable.{base_writable}
 use Rattle.pci_bars.specs.Bases.{of_base}
-use Rattle.pci_bars.specs.Cards.{CardBytes}
-use Rattle.pci_bars.proofs.CardLemmas.{IsByteWrite, IsBaseStore, decodes-command, card-command, decodes-base_stored, card-base_stored, card-apart, card-line_stored}
+use Rattle.pci_bars.proofs.CardLemmas.{IsByteWrite, decodes-command, card-command, decodes-base_stored, card-base_stored, card-apart, card-line_stored}
 use Rattle.pci_bars.proofs.regs.CardRegs.write.Goals as goal
 
 pub returns-in-4-clause-decodes : goal.returns-in-4-clause-decodes
