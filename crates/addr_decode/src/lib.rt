@@ -1,0 +1,6 @@
+//! Where an access lands and what denies it: the address decode of the 82441FX and the 82371SB, over the
+//! registers that it depends on.
+#![tactic(auto)]
+
+mod offsets;
+mod onboard;
