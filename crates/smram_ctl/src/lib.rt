@@ -1,0 +1,9 @@
+//! The SMRAM control register of the 82441FX, at offset 72h: whether the memory of system management
+//! mode answers at A0000h to BFFFFh, and the lock that keeps it closed.
+#![tactic(auto)]
+
+mod control;
+mod smram;
+
+pub use control::{smram_after, smram_reaches};
+pub use smram::Smram;

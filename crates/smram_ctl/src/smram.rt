@@ -1,0 +1,132 @@
+//! The SMRAM control register (82441FX, offset 72h).
+ghost use Rattle.std.specs.Prelude.{◌≡◌, true, false};
+ghost use Rattle.board_base.specs.declared.access.Width.TheVariants.{One};
+ghost use Rattle.board_spec.specs.declared.map_change.MapChange.TheVariants.{Store};
+ghost use Rattle.board_spec.specs.Setup.{Setup};
+ghost use Rattle.board_spec.specs.Bits.{is_bit};
+ghost use Rattle.board_spec.specs.RegisterTable.{reset_byte};
+ghost use Rattle.board_spec.specs.Registers.{smram_after, changed_byte};
+ghost use Rattle.board_spec.specs.Decode.{Bytes, bridge, smram_answers};
+ghost use Rattle.smram_ctl.specs.Control.{IsSmramByte};
+
+use crate::control::{C_BASE_SEG, DLCK, is_set, smram_after, smram_reaches};
+use board_base::Kind;
+use std::marker::Model;
+
+/// The SMRAM control register. Contracts see its byte.
+#[derive(Drop)]
+pub struct Smram {
+    byte: u8,
+}
+
+impl Model for Smram {
+    ghost use Rattle.std.specs.Prelude.{ℕ};
+    ghost use Rattle.smram_ctl.specs.Control.{IsSmramByte};
+
+    ghost Value = { ℕ };
+
+    ghost view = { λ smram. smram.byte };
+
+    ghost invariant = { λ smram. IsSmramByte smram.byte };
+}
+
+impl Smram {
+    /// The register after a reset: SMRAM never answers, and the lock is off.
+    pub fn new() -> Smram
+        ensures value { result ≡ 0x02 }
+        ensures reset { (setup : Setup) → result ≡ reset_byte setup (bridge 0x72) }
+    {
+        Smram { byte: C_BASE_SEG }
+    }
+
+    /// Writes the register, by the rule of its lock.
+    pub fn write(&mut self, byte: u8)
+        ensures byte { self.new ≡ smram_after self.old byte }
+        ensures written { (setup : Setup) (bytes : Bytes) → self.old ≡ bytes (bridge 0x72)
+            → self.new ≡ changed_byte setup (Store (bridge 0x72) One byte) (bridge 0x72) (bytes (bridge 0x72)) }
+        ensures stays_locked { is_bit self.old 4 ≡ true → is_bit self.new 4 ≡ true }
+    {
+        self.byte = smram_after(self.byte, byte);
+    }
+
+    /// The byte of the register. Bit 7 reads 0, bits 2 to 0 read 010, and DOPEN reads 0 while DLCK is 1.
+    pub fn read(&self) -> u8
+        ensures value { result ≡ self.now }
+        ensures kept { IsSmramByte self.now }
+    {
+        self.byte
+    }
+
+    /// Gives the register its value after a reset. Nothing else ends the lock.
+    pub fn reset(&mut self)
+        ensures value { self.new ≡ 0x02 }
+        ensures reset { (setup : Setup) → self.new ≡ reset_byte setup (bridge 0x72) }
+    {
+        *self = Smram::new();
+    }
+
+    /// Whether DLCK is set: DOPEN stays 0, and only a reset ends the lock.
+    pub fn locked(&self) -> bool
+        ensures locked { result ≡ is_bit self.now 4 }
+    {
+        is_set(self.byte, DLCK)
+    }
+
+    /// Whether an access at A0000h to BFFFFh reaches SMRAM. `smm` says that it is made in system
+    /// management mode. While the register is locked, no access outside it does.
+    pub fn reaches(&self, kind: Kind, smm: bool) -> bool
+        ensures reaches { result ≡ smram_answers self.now kind smm }
+        ensures lock { is_bit self.now 4 ≡ true → smm ≡ false → result ≡ false }
+    {
+        smram_reaches(self.byte, kind, smm)
+    }
+}
+
+#[cfg(test)]
+mod tests {
+    use super::*;
+
+    #[test]
+    fn the_lock_keeps_smram_closed(rt: HostRuntime) {
+        let mut smram = Smram::new();
+        assert_eq!(rt; smram.read(), 0x02);
+        for (written, read, locked) in [
+            (0x58, 0x1A, true),
+            (0x42, 0x12, true),
+            (0x00, 0x12, true),
+            (0xFF, 0x3A, true),
+        ] {
+            smram.write(written);
+            assert_eq!(rt; smram.read(), read, "after {written}");
+            assert_eq!(rt; smram.locked(), locked, "after {written}");
+        }
+        smram.reset();
+        assert_eq!(rt; smram.read(), 0x02);
+        assert_eq!(rt; smram.locked(), false);
+        smram.write(0x48);
+        assert_eq!(rt; smram.read(), 0x4A);
+    }
+
+    #[test]
+    fn accesses_reach_smram_by_the_table(rt: HostRuntime) {
+        // Fetches and data in system management mode, then fetches and data outside it.
+        for (written, fetches, data, fetches_outside, data_outside) in [
+            (0x00, false, false, false, false),
+            (0x40, false, false, false, false),
+            (0x08, true, true, false, false),
+            (0x48, true, true, true, true),
+            (0x28, true, false, false, false),
+            (0x68, true, false, true, false),
+            (0x58, true, true, false, false),
+        ] {
+            let mut smram = Smram::new();
+            smram.write(written);
+            assert_eq!(rt; smram.reaches(Kind::Fetch, true), fetches, "under {written}");
+            assert_eq!(rt; smram.reaches(Kind::Read, true), data, "under {written}");
+            assert_eq!(rt; smram.reaches(Kind::Write, true), data, "under {written}");
+            assert_eq!(rt; smram.reaches(Kind::Fetch, false), fetches_outside, "under {written}");
+            assert_eq!(rt; smram.reaches(Kind::Read, false), data_outside, "under {written}");
+            assert_eq!(rt; smram.reaches(Kind::Write, false), data_outside, "under {written}");
+        }
+    }
+}
