@@ -2,5 +2,6 @@
 //! registers that it depends on.
 #![tactic(auto)]
 
+mod bits;
 mod offsets;
 mod onboard;

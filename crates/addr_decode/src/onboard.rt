@@ -6,6 +6,7 @@ ghost use Rattle.board_spec.specs.Bits.{is_bit};
 ghost use Rattle.board_spec.specs.Decode.{isa};
 ghost use Rattle.addr_decode.specs.Onboard.{if_selected, disk_by, byte_port, wide_port, onboard_at};
 
+use crate::bits::is_set;
 use crate::offsets::{IDE_COMMAND, IDETIM, XBCS, ide_function, isa_bridge};
 use board_base::{Denial, Dev, Width};
 
@@ -13,13 +14,13 @@ use board_base::{Denial, Dev, Width};
 const ATA_DATA: u16 = 0x1F0;
 
 /// The bits of XBCS that select the clock and the keyboard controller.
-const CLOCK_SELECT: u8 = 1 << 0;
-const KEYBOARD_SELECT: u8 = 1 << 1;
+const CLOCK_SELECT: u8 = 0;
+const KEYBOARD_SELECT: u8 = 1;
 
 /// The bit of the IDE command that enables the ports.
-const IO_ENABLE: u8 = 1 << 0;
+const IO_ENABLE: u8 = 0;
 /// The bit of IDETIM that enables the primary channel.
-const CHANNEL_ENABLE: u16 = 1 << 15;
+const CHANNEL_ENABLE: u8 = 15;
 
 /// What the board's own devices say to a port access.
 #[derive(Clone, Copy, PartialEq, Eq, Debug)]
@@ -72,7 +73,7 @@ fn wide_port(disk: Onboard, port: u16) -> Onboard
 fn keyboard(xbcs: u8) -> Onboard
     ensures selected { result ≡ if_selected (is_bit xbcs 1) Keyboard (Register (isa 0x4E)) }
 {
-    if xbcs & KEYBOARD_SELECT == 0 {
+    if !is_set(xbcs.into(), KEYBOARD_SELECT) {
         return Onboard::Denied(isa_bridge(XBCS));
     }
     Onboard::Answers(Dev::Keyboard)
@@ -82,7 +83,7 @@ fn keyboard(xbcs: u8) -> Onboard
 fn clock(xbcs: u8) -> Onboard
     ensures selected { result ≡ if_selected (is_bit xbcs 0) Clock (Register (isa 0x4E)) }
 {
-    if xbcs & CLOCK_SELECT == 0 {
+    if !is_set(xbcs.into(), CLOCK_SELECT) {
         return Onboard::Denied(isa_bridge(XBCS));
     }
     Onboard::Answers(Dev::Clock)
@@ -95,10 +96,10 @@ pub fn disk_by(disk: bool, ide_command: u8, idetim: u16) -> Onboard
     if !disk {
         return Onboard::Denied(Denial::NoRegister);
     }
-    if ide_command & IO_ENABLE == 0 {
+    if !is_set(ide_command.into(), IO_ENABLE) {
         return Onboard::Denied(ide_function(IDE_COMMAND));
     }
-    if idetim & CHANNEL_ENABLE == 0 {
+    if !is_set(idetim, CHANNEL_ENABLE) {
         return Onboard::Denied(ide_function(IDETIM));
     }
     Onboard::Answers(Dev::Ata)
