@@ -1,0 +1,11 @@
+//! The registers of the 82441FX host bridge, function 00.0, but PAM and SMRAM: the fixed header, the
+//! boundaries of the DRAM rows, and the fixed DRAM hole.
+#![tactic(auto)]
+
+mod hole;
+mod pmc;
+mod rows;
+
+pub use hole::{fdhc_after, hole_of};
+pub use pmc::Pmc;
+pub use rows::{row_of, top_of};
