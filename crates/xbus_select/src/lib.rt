@@ -1,0 +1,9 @@
+//! The registers of the 82371SB (PIIX3) outside its interrupt routing: the ISA bridge 01.0 and the IDE
+//! function 01.1, the BIOS ranges of memory that XBCS selects, and the ports whose devices they select.
+#![tactic(auto)]
+
+mod piix;
+mod xbcs;
+
+pub use piix::Piix;
+pub use xbcs::{rom_offset, rom_selected, xbcs_after};

@@ -1,0 +1,178 @@
+//! The functions 01.0 and 01.1 of the 82371SB, and the ports whose devices they select.
+ghost use Rattle.std.specs.Prelude.{◌≡◌, ◌+◌, ◌*◌, ◌&&◌, ℕ, slice_index};
+ghost use Rattle.board_base.specs.declared.access.Width.TheVariants.{One};
+ghost use Rattle.board_spec.specs.declared.map_change.MapChange.TheVariants.{Store};
+ghost use Rattle.board_spec.specs.Setup.{Setup};
+ghost use Rattle.board_spec.specs.Bits.{is_bit};
+ghost use Rattle.board_spec.specs.RegisterTable.{reset_byte};
+ghost use Rattle.board_spec.specs.Registers.{changed_byte};
+ghost use Rattle.board_spec.specs.Decode.{Bytes, ide};
+ghost use Rattle.xbus_select.specs.Piix.{IsPiixRegister, piix_register, IsPiixOf, is_selected};
+
+use crate::xbcs::{CLOCK_SELECT, KEYBOARD_SELECT, merge, xbcs_after};
+use std::marker::Model;
+
+/// The function number of the ISA bridge.
+const ISA_BRIDGE: u8 = 0;
+/// The function number of the IDE function.
+const IDE: u8 = 1;
+
+/// The offset of the command register of each function.
+const COMMAND: u8 = 0x04;
+/// The offset of the low byte of IDETIM, the timing of the primary IDE channel.
+const IDETIM_LOW: u8 = 0x40;
+/// The offset of the high byte of IDETIM.
+const IDETIM_HIGH: u8 = 0x41;
+/// The offset of the X-Bus chip select register in the ISA bridge.
+const XBCS: u8 = 0x4E;
+
+/// The bit of the IDE command that lets the function answer at its ports.
+const IO_SPACE_ENABLE: u8 = 1 << 0;
+/// The bit of the IDE command that lets the function be a bus master.
+const BUS_MASTER_ENABLE: u8 = 1 << 2;
+/// The bit of IDETIM's high byte, bit 15 of the register, that decodes the ports of the channel.
+const IDE_DECODE_ENABLE: u8 = 1 << 7;
+
+/// XBCS after a reset: the keyboard controller and the clock are selected.
+const XBCS_RESET: u8 = KEYBOARD_SELECT | CLOCK_SELECT;
+/// The bits of the IDE command that can be written. The others read 0.
+const COMMAND_WRITABLE: u8 = IO_SPACE_ENABLE | BUS_MASTER_ENABLE;
+
+/// The header of the ISA bridge, offsets 00h to 0Fh. It cannot be written.
+const ISA_BRIDGE_HEADER: [u8; 16] = [
+    0x86, 0x80, 0x00, 0x70, // vendor 8086h, device 7000h
+    0x07, 0x00, 0x80, 0x02, // command, status
+    0x00, 0x00, 0x01, 0x06, // revision, class 060100h
+    0x00, 0x00, 0x80, 0x00, // header type: several functions
+];
+
+/// The header of the IDE function after a reset, offsets 00h to 0Fh. Of it the command can be written.
+const IDE_HEADER: [u8; 16] = [
+    0x86, 0x80, 0x10, 0x70, // vendor 8086h, device 7010h
+    0x00, 0x00, 0x80, 0x02, // command, status
+    0x00, 0x80, 0x01, 0x01, // revision, class 010180h
+    0x00, 0x00, 0x00, 0x00, // header type
+];
+
+/// The registers of 01.0 and 01.1 but those that route interrupts, 60h to 63h of 01.0. Contracts see
+/// the bytes that can be written; the others are fixed.
+#[derive(Drop)]
+pub struct Piix {
+    xbcs: u8,
+    ide_command: u8,
+    timing_low: u8,
+    timing_high: u8,
+}
+
+impl Model for Piix {
+    ghost use Rattle.xbus_select.specs.Piix.{PiixBytes};
+
+    ghost Value = { PiixBytes };
+
+    ghost view = { λ piix. record { xbcs = piix.xbcs; ide_command = piix.ide_command; timing_low = piix.timing_low; timing_high = piix.timing_high } };
+}
+
+impl Piix {
+    /// The registers after a reset: the keyboard controller and the clock are selected, the disk is not.
+    pub fn new() -> Piix
+        ensures reset { (setup : Setup) → IsPiixOf (reset_byte setup) result }
+    {
+        Piix {
+            xbcs: XBCS_RESET,
+            ide_command: 0,
+            timing_low: 0,
+            timing_high: 0,
+        }
+    }
+
+    /// The register at an offset of function 0 or 1. What no register is reads 0.
+    pub fn read(&self, fun: u8, off: u8) -> u8
+        requires register { IsPiixRegister fun off }
+        ensures byte { (bytes : Bytes) → IsPiixOf bytes self.now → result ≡ bytes (piix_register fun off) }
+    {
+        match (fun, off) {
+            (ISA_BRIDGE, XBCS) => self.xbcs,
+            (IDE, COMMAND) => self.ide_command,
+            (IDE, IDETIM_LOW) => self.timing_low,
+            (IDE, IDETIM_HIGH) => self.timing_high,
+            (ISA_BRIDGE, _) => header_byte(&ISA_BRIDGE_HEADER, off),
+            _ => header_byte(&IDE_HEADER, off),
+        }
+    }
+
+    /// Writes the register at an offset of function 0 or 1. Reserved bits stay 0, and a register that
+    /// cannot be written stays as it is.
+    pub fn write(&mut self, fun: u8, off: u8, byte: u8)
+        requires register { IsPiixRegister fun off }
+        ensures written { (setup : Setup) (bytes : Bytes) → IsPiixOf bytes self.old
+            → IsPiixOf (λ reg. changed_byte setup (Store (piix_register fun off) One byte) reg (bytes reg)) self.new }
+    {
+        match (fun, off) {
+            (ISA_BRIDGE, XBCS) => self.xbcs = xbcs_after(self.xbcs, byte),
+            (IDE, COMMAND) => self.ide_command = merge(COMMAND_WRITABLE, self.ide_command, byte),
+            (IDE, IDETIM_LOW) => self.timing_low = byte,
+            (IDE, IDETIM_HIGH) => self.timing_high = byte,
+            _ => {}
+        }
+    }
+
+    /// Gives each register its value after a reset.
+    pub fn reset(&mut self)
+        ensures reset { (setup : Setup) → IsPiixOf (reset_byte setup) self.new }
+    {
+        *self = Piix::new();
+    }
+
+    /// The X-Bus chip select register.
+    pub fn xbcs(&self) -> u8
+        ensures xbcs { result ≡ self.now.xbcs }
+    {
+        self.xbcs
+    }
+
+    /// The low byte of the IDE function's command.
+    pub fn ide_command(&self) -> u8
+        ensures command { result ≡ self.now.ide_command }
+    {
+        self.ide_command
+    }
+
+    /// The timing register of the primary IDE channel.
+    pub fn idetim(&self) -> u16
+        ensures timing { result ≡ self.now.timing_low + 0x100 * self.now.timing_high }
+    {
+        u16::from_le_bytes([self.timing_low, self.timing_high])
+    }
+
+    /// Whether the device at a port is selected: the keyboard controller at 60h and 64h, the clock at
+    /// 70h and 71h, the disk at 1F0h to 1F7h and 3F6h. False at all other ports.
+    pub fn selects(&self, port: u16) -> bool
+        ensures selects { (bytes : Bytes) → IsPiixOf bytes self.now → result ≡ is_selected bytes port }
+    {
+        match port {
+            0x60 | 0x64 => self.xbcs & KEYBOARD_SELECT != 0,
+            0x70 | 0x71 => self.xbcs & CLOCK_SELECT != 0,
+            0x1F0..=0x1F7 | 0x3F6 => self.decodes_ide(),
+            _ => false,
+        }
+    }
+
+    /// Whether the IDE function answers at the ports of the primary channel.
+    fn decodes_ide(&self) -> bool
+        ensures decodes { (bytes : Bytes) → IsPiixOf bytes self.now
+            → result ≡ (is_bit (bytes (ide 0x04)) 0 && is_bit (bytes (ide 0x41)) 7) }
+    {
+        self.ide_command & IO_SPACE_ENABLE != 0 && self.timing_high & IDE_DECODE_ENABLE != 0
+    }
+}
+
+/// The byte of a header at an offset, and 0 past its end.
+fn header_byte(header: &[u8; 16], off: u8) -> u8
+    ensures byte { result ≡ slice_index header.now off }
+{
+    if off < 16 {
+        header[usize::from(off)]
+    } else {
+        0
+    }
+}

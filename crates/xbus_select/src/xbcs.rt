@@ -1,0 +1,63 @@
+//! The X-Bus chip select register, XBCS (82371SB, offset 4Eh of 01.0), and the BIOS ranges that it selects.
+ghost use Rattle.std.specs.Prelude.{◌≡◌, ◌<◌, ◌%◌, ◌↔◌, ℕ, false, IsNone, IfSome};
+ghost use Rattle.board_spec.specs.Bits.{merged};
+ghost use Rattle.board_spec.specs.Decode.{is_rom_selected};
+
+/// The bit that selects the real-time clock at ports 70h and 71h.
+pub(crate) const CLOCK_SELECT: u8 = 1 << 0;
+/// The bit that selects the keyboard controller at ports 60h and 64h.
+pub(crate) const KEYBOARD_SELECT: u8 = 1 << 1;
+/// The bit that lets writes to the BIOS reach its chip.
+const BIOS_WRITE_ENABLE: u8 = 1 << 2;
+/// The bit that selects the lower BIOS, E0000h to EFFFFh and FFFE0000h to FFFEFFFFh.
+const LOWER_BIOS_ENABLE: u8 = 1 << 6;
+/// The bit that selects the extended BIOS, FFF80000h to FFFDFFFFh.
+const EXTENDED_BIOS_ENABLE: u8 = 1 << 7;
+
+/// The bits that can be written. The others read 0.
+const WRITABLE: u8 = CLOCK_SELECT
+    | KEYBOARD_SELECT
+    | BIOS_WRITE_ENABLE
+    | LOWER_BIOS_ENABLE
+    | EXTENDED_BIOS_ENABLE;
+
+/// The register after a byte is written to it.
+pub fn xbcs_after(old: u8, written: u8) -> u8
+    ensures merged { result ≡ merged 0xC7 old written }
+{
+    merge(WRITABLE, old, written)
+}
+
+/// The bits of `mask` as written, and the others as they were.
+pub(crate) fn merge(mask: u8, old: u8, written: u8) -> u8
+    ensures merged { result ≡ merged mask old written }
+{
+    written & mask | old & !mask
+}
+
+/// Whether an address lies in a BIOS range that XBCS selects. The ranges of 64 KiB below 1 MiB and
+/// below 4 GiB are always selected.
+pub fn rom_selected(xbcs: u8, addr: u32) -> bool
+    ensures selected { result ≡ is_rom_selected xbcs addr }
+{
+    match addr {
+        0x000F_0000..=0x000F_FFFF | 0xFFFF_0000..=0xFFFF_FFFF => true,
+        0x000E_0000..=0x000E_FFFF | 0xFFFE_0000..=0xFFFE_FFFF => xbcs & LOWER_BIOS_ENABLE != 0,
+        0xFFF8_0000..=0xFFFD_FFFF => xbcs & EXTENDED_BIOS_ENABLE != 0,
+        _ => false,
+    }
+}
+
+/// The offset of an address in a BIOS image of `size` bytes, which repeats through the selected
+/// ranges. None where the address is not selected.
+pub fn rom_offset(xbcs: u8, addr: u32, size: u32) -> Option<u32>
+    requires some_bytes { 0 < size }
+    ensures none { IsNone result ↔ (is_rom_selected xbcs addr ≡ false) }
+    ensures offset { IfSome result (λ offset. offset ≡ addr % size) }
+{
+    if rom_selected(xbcs, addr) {
+        Some(addr % size)
+    } else {
+        None
+    }
+}
