@@ -6,10 +6,10 @@ ghost use Rattle.board_spec.specs.Setup.{Setup};
 ghost use Rattle.board_spec.specs.Bits.{is_bit};
 ghost use Rattle.board_spec.specs.RegisterTable.{reset_byte};
 ghost use Rattle.board_spec.specs.Registers.{changed_byte};
-ghost use Rattle.board_spec.specs.Decode.{Bytes, ide};
+ghost use Rattle.board_spec.specs.Decode.{Bytes, isa, ide};
 ghost use Rattle.xbus_select.specs.Piix.{IsPiixRegister, piix_register, IsPiixOf, is_selected};
 
-use crate::xbcs::{CLOCK_SELECT, KEYBOARD_SELECT, merge, xbcs_after};
+use crate::xbcs::{XBCS_RESET, merge, selects_clock, selects_keyboard, xbcs_after};
 use std::marker::Model;
 
 /// The function number of the ISA bridge.
@@ -33,8 +33,6 @@ const BUS_MASTER_ENABLE: u8 = 1 << 2;
 /// The bit of IDETIM's high byte, bit 15 of the register, that decodes the ports of the channel.
 const IDE_DECODE_ENABLE: u8 = 1 << 7;
 
-/// XBCS after a reset: the keyboard controller and the clock are selected.
-const XBCS_RESET: u8 = KEYBOARD_SELECT | CLOCK_SELECT;
 /// The bits of the IDE command that can be written. The others read 0.
 const COMMAND_WRITABLE: u8 = IO_SPACE_ENABLE | BUS_MASTER_ENABLE;
 
@@ -90,12 +88,31 @@ impl Piix {
         requires register { IsPiixRegister fun off }
         ensures byte { (bytes : Bytes) → IsPiixOf bytes self.now → result ≡ bytes (piix_register fun off) }
     {
-        match (fun, off) {
-            (ISA_BRIDGE, XBCS) => self.xbcs,
-            (IDE, COMMAND) => self.ide_command,
-            (IDE, IDETIM_LOW) => self.timing_low,
-            (IDE, IDETIM_HIGH) => self.timing_high,
-            (ISA_BRIDGE, _) => header_byte(&ISA_BRIDGE_HEADER, off),
+        match fun {
+            ISA_BRIDGE => self.isa_bridge_byte(off),
+            _ => self.ide_byte(off),
+        }
+    }
+
+    /// A register of the ISA bridge.
+    fn isa_bridge_byte(&self, off: u8) -> u8
+        requires register { IsPiixRegister 0 off }
+        ensures byte { (bytes : Bytes) → IsPiixOf bytes self.now → result ≡ bytes (isa off) }
+    {
+        match off {
+            XBCS => self.xbcs,
+            _ => header_byte(&ISA_BRIDGE_HEADER, off),
+        }
+    }
+
+    /// A register of the IDE function.
+    fn ide_byte(&self, off: u8) -> u8
+        ensures byte { (bytes : Bytes) → IsPiixOf bytes self.now → result ≡ bytes (ide off) }
+    {
+        match off {
+            COMMAND => self.ide_command,
+            IDETIM_LOW => self.timing_low,
+            IDETIM_HIGH => self.timing_high,
             _ => header_byte(&IDE_HEADER, off),
         }
     }
@@ -107,11 +124,31 @@ impl Piix {
         ensures written { (setup : Setup) (bytes : Bytes) → IsPiixOf bytes self.old
             → IsPiixOf (λ reg. changed_byte setup (Store (piix_register fun off) One byte) reg (bytes reg)) self.new }
     {
-        match (fun, off) {
-            (ISA_BRIDGE, XBCS) => self.xbcs = xbcs_after(self.xbcs, byte),
-            (IDE, COMMAND) => self.ide_command = merge(COMMAND_WRITABLE, self.ide_command, byte),
-            (IDE, IDETIM_LOW) => self.timing_low = byte,
-            (IDE, IDETIM_HIGH) => self.timing_high = byte,
+        match fun {
+            ISA_BRIDGE => self.write_isa_bridge(off, byte),
+            _ => self.write_ide(off, byte),
+        }
+    }
+
+    /// Writes a register of the ISA bridge.
+    fn write_isa_bridge(&mut self, off: u8, byte: u8)
+        ensures written { (setup : Setup) (bytes : Bytes) → IsPiixOf bytes self.old
+            → IsPiixOf (λ reg. changed_byte setup (Store (isa off) One byte) reg (bytes reg)) self.new }
+    {
+        if off == XBCS {
+            self.xbcs = xbcs_after(self.xbcs, byte);
+        }
+    }
+
+    /// Writes a register of the IDE function.
+    fn write_ide(&mut self, off: u8, byte: u8)
+        ensures written { (setup : Setup) (bytes : Bytes) → IsPiixOf bytes self.old
+            → IsPiixOf (λ reg. changed_byte setup (Store (ide off) One byte) reg (bytes reg)) self.new }
+    {
+        match off {
+            COMMAND => self.ide_command = merge(COMMAND_WRITABLE, self.ide_command, byte),
+            IDETIM_LOW => self.timing_low = byte,
+            IDETIM_HIGH => self.timing_high = byte,
             _ => {}
         }
     }
@@ -150,8 +187,8 @@ impl Piix {
         ensures selects { (bytes : Bytes) → IsPiixOf bytes self.now → result ≡ is_selected bytes port }
     {
         match port {
-            0x60 | 0x64 => self.xbcs & KEYBOARD_SELECT != 0,
-            0x70 | 0x71 => self.xbcs & CLOCK_SELECT != 0,
+            0x60 | 0x64 => selects_keyboard(self.xbcs),
+            0x70 | 0x71 => selects_clock(self.xbcs),
             0x1F0..=0x1F7 | 0x3F6 => self.decodes_ide(),
             _ => false,
         }

@@ -1,12 +1,12 @@
 //! The X-Bus chip select register, XBCS (82371SB, offset 4Eh of 01.0), and the BIOS ranges that it selects.
 ghost use Rattle.std.specs.Prelude.{◌≡◌, ◌<◌, ◌%◌, ◌↔◌, ℕ, false, IsNone, IfSome};
-ghost use Rattle.board_spec.specs.Bits.{merged};
+ghost use Rattle.board_spec.specs.Bits.{is_bit, merged};
 ghost use Rattle.board_spec.specs.Decode.{is_rom_selected};
 
 /// The bit that selects the real-time clock at ports 70h and 71h.
-pub(crate) const CLOCK_SELECT: u8 = 1 << 0;
+const CLOCK_SELECT: u8 = 1 << 0;
 /// The bit that selects the keyboard controller at ports 60h and 64h.
-pub(crate) const KEYBOARD_SELECT: u8 = 1 << 1;
+const KEYBOARD_SELECT: u8 = 1 << 1;
 /// The bit that lets writes to the BIOS reach its chip.
 const BIOS_WRITE_ENABLE: u8 = 1 << 2;
 /// The bit that selects the lower BIOS, E0000h to EFFFFh and FFFE0000h to FFFEFFFFh.
@@ -14,6 +14,8 @@ const LOWER_BIOS_ENABLE: u8 = 1 << 6;
 /// The bit that selects the extended BIOS, FFF80000h to FFFDFFFFh.
 const EXTENDED_BIOS_ENABLE: u8 = 1 << 7;
 
+/// The register after a reset: the keyboard controller and the clock are selected.
+pub(crate) const XBCS_RESET: u8 = KEYBOARD_SELECT | CLOCK_SELECT;
 /// The bits that can be written. The others read 0.
 const WRITABLE: u8 = CLOCK_SELECT
     | KEYBOARD_SELECT
@@ -35,6 +37,36 @@ pub(crate) fn merge(mask: u8, old: u8, written: u8) -> u8
     written & mask | old & !mask
 }
 
+/// Whether XBCS selects the real-time clock.
+pub(crate) fn selects_clock(xbcs: u8) -> bool
+    ensures clock { result ≡ is_bit xbcs 0 }
+{
+    xbcs & CLOCK_SELECT != 0
+}
+
+/// Whether XBCS selects the keyboard controller.
+#[tactic(auto, using(crate::proofs::BitLemmas::and_bit_1))]
+pub(crate) fn selects_keyboard(xbcs: u8) -> bool
+    ensures keyboard { result ≡ is_bit xbcs 1 }
+{
+    xbcs & KEYBOARD_SELECT != 0
+}
+
+/// Whether XBCS selects the lower BIOS.
+#[tactic(auto, using(crate::proofs::BitLemmas::and_bit_6))]
+fn selects_lower_bios(xbcs: u8) -> bool
+    ensures lower { result ≡ is_bit xbcs 6 }
+{
+    xbcs & LOWER_BIOS_ENABLE != 0
+}
+
+/// Whether XBCS selects the extended BIOS.
+fn selects_extended_bios(xbcs: u8) -> bool
+    ensures extended { result ≡ is_bit xbcs 7 }
+{
+    xbcs & EXTENDED_BIOS_ENABLE != 0
+}
+
 /// Whether an address lies in a BIOS range that XBCS selects. The ranges of 64 KiB below 1 MiB and
 /// below 4 GiB are always selected.
 pub fn rom_selected(xbcs: u8, addr: u32) -> bool
@@ -42,8 +74,8 @@ pub fn rom_selected(xbcs: u8, addr: u32) -> bool
 {
     match addr {
         0x000F_0000..=0x000F_FFFF | 0xFFFF_0000..=0xFFFF_FFFF => true,
-        0x000E_0000..=0x000E_FFFF | 0xFFFE_0000..=0xFFFE_FFFF => xbcs & LOWER_BIOS_ENABLE != 0,
-        0xFFF8_0000..=0xFFFD_FFFF => xbcs & EXTENDED_BIOS_ENABLE != 0,
+        0x000E_0000..=0x000E_FFFF | 0xFFFE_0000..=0xFFFE_FFFF => selects_lower_bios(xbcs),
+        0xFFF8_0000..=0xFFFD_FFFF => selects_extended_bios(xbcs),
         _ => false,
     }
 }

@@ -1,0 +1,5 @@
+use Rattle.xbus_select.proofs.PiixLemmas.{registers_at_reset}
+use Rattle.xbus_select.proofs.piix.Piix.new.Goals as goal
+
+pub returns : goal.returns
+returns c = record { reset = registers_at_reset }

@@ -1,0 +1,10 @@
+use Rattle.std.proofs.Common.{arith}
+use Rattle.xbus_select.proofs.PiixLemmas.{ide_function_alone}
+use Rattle.xbus_select.proofs.piix.Piix.write.Goals as goal
+
+pub returns-in-0 : goal.returns-in-0
+returns-in-0 c = record { written = rw c.in-0.is c.write_isa_bridge.ensures.written }
+
+pub returns-in_default : goal.returns-in_default
+returns-in_default c =
+    record { written = rw (ide_function_alone c.args.fun c.args.off c.requires.register (omega arith)) c.write_ide.ensures.written }
