@@ -1,0 +1,19 @@
+-- The base address registers of a card by their numbers.
+use Rattle.std.specs.Prelude.{ℕ, ◌^◌, List, Option, slice_get}
+use Rattle.std.specs.Option.{option_map_or}
+use Rattle.board_spec.specs.Setup.{Base, MemoryBase, IoBase}
+use Rattle.pci_bars.specs.declared.spec.BaseSpec.{BaseSpec}
+use Rattle.pci_bars.specs.declared.spec.BaseSpec.TheVariants.{Memory, Io}
+
+abbrev pub base_of : BaseSpec → Base
+base_of (Memory bits) = MemoryBase bits
+base_of (Io bits) = IoBase bits
+
+-- how many addresses or ports a base decodes
+abbrev pub base_size : Base → ℕ
+base_size (MemoryBase bits) = 2 ^ bits
+base_size (IoBase bits) = 2 ^ bits
+
+-- a number that each base has, and 0 where there is no base of this number
+abbrev pub of_base : (Base → ℕ) → List Base → ℕ → ℕ
+of_base number_of bases k = option_map_or number_of (slice_get bases k) 0

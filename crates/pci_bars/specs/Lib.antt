@@ -1,0 +1,4 @@
+pub mod Cards
+pub mod Bases
+pub mod Claims
+pub mod Contents

@@ -1,0 +1,132 @@
+//! The bytes behind the bases of the cards.
+ghost use Rattle.std.specs.Prelude.{◌≡◌, ◌≤◌, ◌<◌, ◌+◌, ◌-◌, ◌==◌, ◌&&◌, nat_le, nat_lt, if◌then◌else◌, ℕ, List, [], ◌∷◌, All, find, length, slice_index, IfOk, unwrap_or};
+ghost use Rattle.board_base.specs.declared.access.Width.{Width};
+ghost use Rattle.board_base.specs.declared.target.Target.TheVariants.{Card};
+ghost use Rattle.board_base.specs.Access.{bytes_of, largest_of};
+ghost use Rattle.board_spec.specs.declared.event.Entry.{Entry};
+ghost use Rattle.board_spec.specs.Setup.{Setup, IsCard, IsCardList};
+ghost use Rattle.board_spec.specs.Bits.{byte, wide};
+ghost use Rattle.board_spec.specs.Stored.{CardCell, byte_put, entry_put, stored_of};
+ghost use Rattle.pci_bars.specs.Contents.{IsBaseNumber, slot_number, held, held_byte, window_size, LiesIn, IsContentsOf};
+
+use crate::spec::CardSpec;
+use board_base::{NoMemory, Width};
+use byteorder::{ByteOrder, LittleEndian};
+use std::alloc::Global;
+use std::marker::Model;
+
+/// The first device number that a card can have, and how many there are.
+const FIRST_DEVICE: u8 = 2;
+
+const DEVICES: u8 = 8;
+/// How many base numbers a card has: 0 to 5 for its bases, and 7 for the VGA window.
+const BASE_NUMBERS: u8 = 8;
+
+/// The bytes of each base and of each VGA window, which begin with zeros.
+#[derive(Drop)]
+pub struct Contents {
+    buffers: Vec<Vec<u8>>,
+}
+
+impl Model for Contents {
+    ghost use Rattle.std.specs.Prelude.{ℕ, List, map};
+
+    ghost Value = { List (List ℕ) };
+
+    ghost view = { λ contents. map (λ buffer. buffer.items) contents.buffers.items };
+}
+
+impl Contents {
+    /// The contents of these cards, all zeros.
+    pub fn open(alloc: Global, specs: &[CardSpec]) -> Result<Contents, NoMemory>
+        requires cards { IsCardList specs.now }
+        ensures zeros { IfOk result (λ contents. (dev base off : ℕ) → held_byte contents dev base off ≡ 0) }
+        ensures stored { IfOk result (λ contents. (setup : Setup) → setup.cards ≡ specs.now
+            → IsContentsOf setup [] contents) }
+    {
+        let mut buffers = Vec::new(alloc);
+        for slot in 0..DEVICES * BASE_NUMBERS {
+            let size = size_of(
+                specs,
+                FIRST_DEVICE + slot / BASE_NUMBERS,
+                slot % BASE_NUMBERS,
+            );
+            buffers.push(vec![in alloc; 0; size]?)?;
+        }
+        Ok(Contents { buffers })
+    }
+
+    /// The value at an offset in a base.
+    pub fn read(&self, dev: u8, base: u8, off: u32, width: Width) -> u32
+        requires place { LiesIn self.now dev base off width }
+        ensures value { result ≡ wide (held_byte self.now dev base) off width }
+        ensures stored { (setup : Setup) (history : List Entry) → IsContentsOf setup history self.now
+            → result ≡ wide (λ at. stored_of history (CardCell dev base at)) off width }
+    {
+        let bytes = &self.buffers[slot_of(dev, base)];
+        let at = off as usize;
+        match width {
+            Width::One => u32::from(bytes[at]),
+            Width::Two => u32::from(LittleEndian::read_u16(&bytes[at..])),
+            Width::Four => LittleEndian::read_u32(&bytes[at..]),
+        }
+    }
+
+    /// Writes a value at an offset in a base, its low byte first.
+    pub fn write(&mut self, dev: u8, base: u8, off: u32, width: Width, value: u32)
+        requires place { LiesIn self.old dev base off width }
+        requires value { value ≤ largest_of width }
+        ensures sizes { (d b : ℕ) → length (held self.new d b) ≡ length (held self.old d b) }
+        ensures bytes { (d b at : ℕ) → IsBaseNumber d b → held_byte self.new d b at
+            ≡ unwrap_or (byte_put (Card dev base off) 0 width value (CardCell d b at)) (held_byte self.old d b at) }
+        ensures stored { (setup : Setup) (history : List Entry) (entry : Entry) (place : ℕ)
+            → IsContentsOf setup history self.old
+            → ((d b at : ℕ) → entry_put entry.event entry.reply (CardCell d b at)
+            ≡ byte_put (Card dev base off) place width value (CardCell d b at))
+            → IsContentsOf setup (entry ∷ history) self.new }
+    {
+        put(
+            &mut self.buffers[slot_of(dev, base)],
+            off as usize,
+            width,
+            value,
+        );
+    }
+}
+
+/// The number of a base among those of all devices.
+fn slot_of(dev: u8, base: u8) -> usize
+    requires number { IsBaseNumber dev base }
+    ensures slot { result ≡ slot_number dev base }
+    ensures below { result < 64 }
+{
+    usize::from((dev - FIRST_DEVICE) * BASE_NUMBERS + base)
+}
+
+/// How many bytes a base of a device has. None where it does not exist.
+fn size_of(specs: &[CardSpec], dev: u8, base: u8) -> usize
+    requires cards { All IsCard specs.now }
+    ensures size { result ≡ window_size (find (λ card. card.dev == dev) specs.now) base }
+{
+    for spec in specs {
+        if spec.dev == dev {
+            return spec.window_size(base);
+        }
+    }
+    0
+}
+
+/// Writes a value from a place on, its low byte first.
+fn put(bytes: &mut Vec<u8>, at: usize, width: Width, value: u32)
+    requires place { at + bytes_of width ≤ length bytes.old.items }
+    requires value { value ≤ largest_of width }
+    ensures bytes { (k : ℕ) → slice_index bytes.new.items k
+        ≡ (if nat_le at k && nat_lt k (at + bytes_of width) then byte value (k - at) else slice_index bytes.old.items k) }
+    ensures length { length bytes.new.items ≡ length bytes.old.items }
+{
+    match width {
+        Width::One => bytes[at] = value as u8,
+        Width::Two => LittleEndian::write_u16(&mut bytes[at..], value as u16),
+        Width::Four => LittleEndian::write_u32(&mut bytes[at..], value),
+    }
+}

@@ -1,0 +1,183 @@
+//! The configuration registers of a card (PCI Local Bus 2.1, section 6.2).
+ghost use Rattle.std.specs.Prelude.{◌≡◌, ◌≢◌, ◌<◌, ◌/◌, ◌%◌, ℕ, Some, slice_index};
+ghost use Rattle.board_base.specs.declared.access.Width.TheVariants.{One};
+ghost use Rattle.board_spec.specs.declared.map_change.MapChange.TheVariants.{Store};
+ghost use Rattle.board_spec.specs.Setup.{Setup, IsCard, card_at};
+ghost use Rattle.board_spec.specs.Bits.{byte, merged};
+ghost use Rattle.board_spec.specs.RegisterTable.{reset_byte};
+ghost use Rattle.board_spec.specs.Registers.{changed_byte};
+ghost use Rattle.board_spec.specs.Decode.{Bytes, card_register};
+ghost use Rattle.pci_bars.specs.Cards.{DecodesAs, IsCardOf, header_of};
+
+use crate::spec::{BASES, CardSpec};
+use std::marker::Model;
+
+/// The offset of the command register.
+const COMMAND: u8 = 0x04;
+/// The bits of the command register that can be written: I/O ports, memory and bus master.
+const COMMAND_WRITABLE: u8 = 0x07;
+/// The offset of the first base address register.
+const FIRST_BASE: u8 = 0x10;
+/// The offset of the interrupt line.
+const LINE: u8 = 0x3C;
+/// The offset of the interrupt pin, and its value for INTA#.
+const PIN: u8 = 0x3D;
+
+const INTA: u8 = 0x01;
+
+/// A card's registers: its command, 0 to 7, its interrupt line, and its six base address registers.
+/// Those that the card does not have are 0.
+#[derive(Drop, Debug)]
+pub struct CardRegs {
+    pub spec: CardSpec,
+    pub command: u8,
+    pub line: u8,
+    pub bases: [u32; BASES],
+}
+
+impl Model for CardRegs {
+    ghost use Rattle.pci_bars.specs.Cards.{CardBytes};
+
+    ghost Value = { CardBytes };
+
+    ghost view = { λ regs. record { card = regs.spec; command = regs.command; line = regs.line; bases = regs.bases } };
+}
+
+impl Default for CardRegs {
+    fn default() -> CardRegs {
+        CardRegs::new(CardSpec::default())
+    }
+}
+
+impl CardRegs {
+    /// The registers of a card after a reset.
+    pub fn new(spec: CardSpec) -> CardRegs
+        requires card { IsCard spec }
+        ensures reset { (setup : Setup) → card_at setup spec.dev ≡ Some spec → IsCardOf setup (reset_byte setup) result }
+        ensures card { result.card ≡ spec }
+    {
+        let bases = spec.reset_bases();
+        CardRegs {
+            spec,
+            command: 0,
+            line: 0,
+            bases,
+        }
+    }
+
+    /// Equal registers. It takes no memory.
+    pub fn copy(&self) -> CardRegs
+        ensures equal { result ≡ self.now }
+    {
+        CardRegs {
+            spec: self.spec.copy(),
+            command: self.command,
+            line: self.line,
+            bases: self.bases,
+        }
+    }
+
+    /// The register at an offset. What the card does not have reads 0.
+    pub fn read(&self, off: u8) -> u8
+        requires card { IsCard self.now.card }
+        ensures byte { (setup : Setup) (bytes : Bytes) → IsCardOf setup bytes self.now
+            → result ≡ bytes (card_register self.now.card.dev off) }
+    {
+        match off {
+            0x00..=0x0F => self.header()[usize::from(off)],
+            0x10..=0x27 => self.base_byte(off - FIRST_BASE),
+            LINE => self.line,
+            PIN => INTA,
+            _ => 0,
+        }
+    }
+
+    /// Writes the register at an offset: its writable bits become those written, and nothing else changes.
+    pub fn write(&mut self, off: u8, byte: u8)
+        requires card { IsCard self.old.card }
+        ensures written { (setup : Setup) (bytes : Bytes) → IsCardOf setup bytes self.old
+            → IsCardOf setup (λ reg. changed_byte setup (Store (card_register self.old.card.dev off) One byte) reg (bytes reg)) self.new }
+        ensures decodes { (setup : Setup) (bytes : Bytes) → DecodesAs setup bytes self.old
+            → DecodesAs setup (λ reg. changed_byte setup (Store (card_register self.old.card.dev off) One byte) reg (bytes reg)) self.new }
+        ensures same_card { self.new.card ≡ self.old.card }
+    {
+        match off {
+            COMMAND => self.command = merge(COMMAND_WRITABLE, self.command, byte),
+            0x10..=0x27 => {
+                let index = usize::from((off - FIRST_BASE) / 4);
+                let writable = self.spec.writable(index);
+                self.bases[index] = with_byte(
+                    self.bases[index],
+                    writable,
+                    usize::from(off % 4),
+                    byte,
+                );
+            }
+            LINE => self.line = byte,
+            _ => {}
+        }
+    }
+
+    /// Sets every register as after a reset.
+    pub fn reset(&mut self)
+        requires card { IsCard self.old.card }
+        ensures reset { (setup : Setup) → card_at setup self.old.card.dev ≡ Some self.old.card
+            → IsCardOf setup (reset_byte setup) self.new }
+        ensures same_card { self.new.card ≡ self.old.card }
+    {
+        *self = CardRegs::new(self.spec.copy());
+    }
+
+    /// The registers at 00h to 0Fh: vendor A55Ah, the device's id, command, status 0280h and class, which
+    /// is 030000h for a VGA adapter and FF0000h for another card.
+    fn header(&self) -> [u8; 16]
+        ensures header { result ≡ header_of self.now }
+    {
+        let class = if self.spec.vga { 0x03 } else { 0xFF };
+        [
+            0x5A,
+            0xA5,
+            self.spec.dev,
+            0x01,
+            self.command,
+            0x00,
+            0x80,
+            0x02,
+            0x00,
+            0x00,
+            0x00,
+            class,
+            0x00,
+            0x00,
+            0x00,
+            0x00,
+        ]
+    }
+
+    /// A byte of the base address registers, 0 to 23.
+    fn base_byte(&self, at: u8) -> u8
+        requires at { at < 24 }
+        ensures byte { result ≡ byte (slice_index self.now.bases (at / 4)) (at % 4) }
+    {
+        self.bases[usize::from(at / 4)].to_le_bytes()[usize::from(at % 4)]
+    }
+}
+
+/// A base address register after one of its bytes is written, 0 to 3: its writable bits become those written.
+fn with_byte(register: u32, writable: u32, lane: usize, written: u8) -> u32
+    requires lane { lane < 4 }
+    ensures here { byte result lane ≡ merged (byte writable lane) (byte register lane) written }
+    ensures others { (j : ℕ) → j < 4 → j ≢ lane → byte result j ≡ byte register j }
+{
+    let mask = writable.to_le_bytes();
+    let mut bytes = register.to_le_bytes();
+    bytes[lane] = merge(mask[lane], bytes[lane], written);
+    u32::from_le_bytes(bytes)
+}
+
+/// The bits of `mask` as written, and the others as they were.
+fn merge(mask: u8, old: u8, written: u8) -> u8
+    ensures merged { result ≡ merged mask old written }
+{
+    written & mask | old & !mask
+}

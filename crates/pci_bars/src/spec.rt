@@ -1,0 +1,150 @@
+//! What a card is: its device number, whether it is a VGA adapter, and its bases.
+ghost use Rattle.std.specs.Prelude.{◌≡◌, ◌^◌, ◌≤◌, ℕ, Some, slice_index};
+ghost use Rattle.board_spec.specs.Setup.{IsBase, IsCard};
+ghost use Rattle.board_spec.specs.RegisterTable.{base_reset, base_writable};
+ghost use Rattle.pci_bars.specs.Bases.{base_of, base_size, of_base};
+ghost use Rattle.pci_bars.specs.Contents.{window_size};
+
+use arrayvec::ArrayVec;
+use std::marker::Model;
+
+/// How many base address registers a card can have.
+pub const BASES: usize = 6;
+/// The base number of the VGA window, which has 2^17 bytes from A0000h on.
+pub const VGA_BASE: u8 = 7;
+
+pub const VGA_BITS: u8 = 17;
+
+/// A base address register for memory or for I/O ports, by the power of two of its size: 4 to 24 for
+/// memory, and 2 to 8 for ports.
+#[derive(Clone, Copy, PartialEq, Eq, Debug)]
+pub enum BaseSpec {
+    Memory(u8),
+    Io(u8),
+}
+
+impl Default for BaseSpec {
+    fn default() -> BaseSpec {
+        BaseSpec::Memory(4)
+    }
+}
+
+impl BaseSpec {
+    /// The power of two.
+    fn bits(self) -> u8
+        requires base { IsBase (base_of self) }
+        ensures size { 2 ^ result ≡ base_size (base_of self) }
+        ensures most { result ≤ 24 }
+    {
+        match self {
+            BaseSpec::Memory(bits) => bits,
+            BaseSpec::Io(bits) => bits,
+        }
+    }
+
+    /// How many addresses or ports it decodes.
+    pub fn size(self) -> u32
+        requires base { IsBase (base_of self) }
+        ensures size { result ≡ base_size (base_of self) }
+    {
+        1 << self.bits()
+    }
+
+    /// The bits of its register that can be written: those that place it.
+    pub fn writable(self) -> u32
+        requires base { IsBase (base_of self) }
+        ensures writable { result ≡ base_writable (base_of self) }
+    {
+        !(self.size() - 1)
+    }
+
+    /// Its register after a reset. Bit 0 is 1 for I/O ports.
+    pub fn after_reset(self) -> u32
+        ensures reset { result ≡ base_reset (base_of self) }
+    {
+        match self {
+            BaseSpec::Memory(_) => 0,
+            BaseSpec::Io(_) => 1,
+        }
+    }
+}
+
+/// A PCI card: its device number, 2 to 9, whether it is a VGA adapter, and the bases that it has from
+/// offset 10h on.
+#[derive(Drop, Debug)]
+pub struct CardSpec {
+    pub dev: u8,
+    pub vga: bool,
+    pub bases: ArrayVec<BaseSpec, BASES>,
+}
+
+impl Model for CardSpec {
+    ghost use Rattle.std.specs.Prelude.{map};
+    ghost use Rattle.board_spec.specs.Setup.{FittedCard};
+    ghost use Rattle.pci_bars.specs.Bases.{base_of};
+
+    ghost Value = { FittedCard };
+
+    ghost view = { λ card. record { dev = card.dev; vga = card.vga; bases = map base_of card.bases.items } };
+}
+
+impl Default for CardSpec {
+    fn default() -> CardSpec {
+        CardSpec {
+            dev: 2,
+            vga: false,
+            bases: ArrayVec::new(),
+        }
+    }
+}
+
+impl CardSpec {
+    /// An equal card. It takes no memory.
+    pub fn copy(&self) -> CardSpec
+        ensures equal { result ≡ self.now }
+    {
+        let mut bases = ArrayVec::new();
+        bases.try_extend_from_slice(&self.bases).unwrap();
+        CardSpec {
+            dev: self.dev,
+            vga: self.vga,
+            bases,
+        }
+    }
+
+    /// The base address registers after a reset. Where the card has no base, 0.
+    pub fn reset_bases(&self) -> [u32; BASES]
+        ensures reset { (k : ℕ) → slice_index result k ≡ of_base base_reset self.now.bases k }
+    {
+        let mut values = [0; BASES];
+        for (index, base) in self.bases.iter().enumerate() {
+            values[index] = base.after_reset();
+        }
+        values
+    }
+
+    /// The bits of a base address register that can be written. None of them where the card has no base.
+    pub fn writable(&self, index: usize) -> u32
+        requires card { IsCard self.now }
+        ensures writable { result ≡ of_base base_writable self.now.bases index }
+    {
+        match self.bases.get(index) {
+            Some(base) => base.writable(),
+            None => 0,
+        }
+    }
+
+    /// How many bytes a base has. None where it does not exist. Base 7 is the VGA window.
+    pub fn window_size(&self, base: u8) -> usize
+        requires card { IsCard self.now }
+        ensures size { result ≡ window_size (Some self.now) base }
+    {
+        if base == VGA_BASE {
+            return if self.vga { 1 << VGA_BITS } else { 0 };
+        }
+        match self.bases.get(usize::from(base)) {
+            Some(spec) => spec.size() as usize,
+            None => 0,
+        }
+    }
+}
