@@ -1,0 +1,90 @@
+//! The DRAM as plain bytes.
+ghost use Rattle.std.specs.Prelude.{◌≡◌, ◌≤◌, ◌<◌, ◌+◌, ◌-◌, ◌*◌, ◌%◌, ◌&&◌, nat_le, nat_lt, if◌then◌else◌, ℕ, List, [], ◌∷◌, length, replicate, IfOk};
+ghost use Rattle.board_base.specs.Access.{bytes_of, largest_of};
+ghost use Rattle.board_base.specs.declared.target.Target.TheVariants.{Dram as DramTarget};
+ghost use Rattle.board_spec.specs.declared.event.Entry.{Entry};
+ghost use Rattle.board_spec.specs.Setup.{Setup};
+ghost use Rattle.board_spec.specs.Bits.{byte, wide};
+ghost use Rattle.board_spec.specs.Stored.{DramCell, byte_put, entry_put, dram_byte};
+ghost use Rattle.dram_store.specs.Dram.{dram_at, IsDramOf};
+
+use crate::wide::{put_at, value_of};
+use board_base::{NoMemory, Width};
+use std::alloc::{AllocError, Global};
+use std::marker::Model;
+
+/// The bytes of a mebibyte.
+const MIB: usize = 0x10_0000;
+
+/// The installed DRAM, in whole MiB, up to 64. Contracts see the list of its bytes.
+#[derive(Drop)]
+pub struct Dram {
+    bytes: Vec<u8>,
+}
+
+impl Model for Dram {
+    ghost use Rattle.std.specs.Prelude.{ℕ, List, length};
+    ghost use Rattle.dram_store.specs.Dram.{IsDramSize};
+
+    ghost Value = { List ℕ };
+
+    ghost view = { λ dram. dram.bytes.items };
+
+    ghost invariant = { λ dram. IsDramSize (length dram.bytes.items) };
+}
+
+/// So many bytes, all 0.
+fn zeros(alloc: Global, count: usize) -> Result<Vec<u8>, AllocError>
+    ensures zeros { IfOk result (λ bytes. bytes.items ≡ replicate count 0) }
+{
+    vec![in alloc; 0; count]
+}
+
+impl Dram {
+    /// A DRAM of `mib` MiB, 1 to 64, all zeros.
+    pub fn open(alloc: Global, mib: u32) -> Result<Dram, NoMemory>
+        requires some { 1 ≤ mib }
+        requires most { mib ≤ 64 }
+        ensures zeros { IfOk result (λ dram. dram ≡ replicate (mib * 0x10_0000) 0) }
+        ensures fresh { IfOk result (λ dram. (setup : Setup) → setup.mib ≡ mib → IsDramOf setup [] dram) }
+    {
+        let bytes = zeros(alloc, mib as usize * MIB)?;
+        Ok(Dram { bytes })
+    }
+
+    /// Reads the bytes from an address on, which is a multiple of the width, the low byte first. At and
+    /// past the installed memory every byte reads FFh.
+    pub fn read(&self, addr: u32, width: Width) -> u32
+        requires aligned { addr % bytes_of width ≡ 0 }
+        ensures value { result ≡ wide (λ at. dram_at self.now at) addr width }
+        ensures stored { (setup : Setup) (history : List Entry) → IsDramOf setup history self.now
+            → result ≡ wide (λ at. dram_byte setup history at) addr width }
+    {
+        let at = addr as usize;
+        match self.bytes.get(at..at + width.bytes() as usize) {
+            Some(bytes) => value_of(bytes, width),
+            None => width.largest(),
+        }
+    }
+
+    /// Writes a value that fits the width to the bytes from an address on, which is a multiple of the
+    /// width, the low byte first. At and past the installed memory the write is lost.
+    pub fn write(&mut self, addr: u32, width: Width, value: u32)
+        requires aligned { addr % bytes_of width ≡ 0 }
+        requires fits { value ≤ largest_of width }
+        ensures bytes { (at : ℕ) → dram_at self.new at
+            ≡ (if nat_le addr at && nat_lt at (addr + bytes_of width) && nat_lt at (length self.old)
+               then byte value (at - addr) else dram_at self.old at) }
+        ensures size { length self.new ≡ length self.old }
+        ensures stored { (setup : Setup) (history : List Entry) (entry : Entry) → IsDramOf setup history self.old
+            → ((at : ℕ) → entry_put entry.event entry.reply (DramCell at)
+                        ≡ byte_put (DramTarget 0) addr width value (DramCell at))
+            → IsDramOf setup (entry ∷ history) self.new }
+    {
+        let at = addr as usize;
+        let end = at + width.bytes() as usize;
+        if end <= self.bytes.len() {
+            put_at(&mut self.bytes, at, width, value);
+        }
+    }
+}

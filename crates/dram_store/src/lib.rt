@@ -1,0 +1,7 @@
+//! The DRAM of the board: one array of bytes, from address 0 to the end of the installed memory.
+#![tactic(auto)]
+
+mod dram;
+mod wide;
+
+pub use dram::Dram;
