@@ -1,2 +1,4 @@
 pub mod MemoryLemmas
 pub mod PortLemmas
+pub mod StoreLemmas
+pub mod TouchLemmas

@@ -109,9 +109,9 @@ ata_four port =
     rw (and_true (port == 0x1F0), and_false (is_within 0x1F1 0x1F7 port || port == 0x3F6)) (or_false (port == 0x1F0))
 
 data_in_order :
-    (setup : Setup) (bytes : Bytes) (port : ℕ) (data : Bool) (at_disk : Onboard) →
-    first_of (line_where data (after_onboard setup bytes port at_disk) ∷ []) (other_port setup bytes port)
-    ≡ after_onboard setup bytes port (if data then at_disk else Absent)
+    (setup : Setup) (bytes : Bytes) (port : ℕ) (at_data : Bool) (at_disk : Onboard) →
+    first_of (line_where at_data (after_onboard setup bytes port at_disk) ∷ []) (other_port setup bytes port)
+    ≡ after_onboard setup bytes port (if at_data then at_disk else Absent)
 data_in_order setup bytes port true at_disk = refl
 data_in_order setup bytes port false at_disk = refl
 
