@@ -1,13 +1,13 @@
 //! Function 00.0, the 82441FX host bridge. Its PAM registers and its SMRAM register stand elsewhere.
 //!
-//! | offset  | register        | reset        | writable | effect                                     |
-//! |---------|-----------------|--------------|----------|--------------------------------------------|
-//! | 00-03   | vendor, device  | 8086h, 1237h | 00       |                                            |
-//! | 04-07   | command, status | 0006h, 0280h | 00       |                                            |
-//! | 08-0B   | revision, class | 00h, 060000h | 00       |                                            |
-//! | 60-67   | DRB0 to DRB7    | 01h each     | FF each  | where each row of DRAM ends, in units of 8 MiB |
-//! | 68      | FDHC            | 00h          | C0       | the hole in DRAM                           |
-//! | others  | reserved        | 00h          | 00       |                                            |
+//! | offset | register        | reset        | writable | effect                             |
+//! |--------|-----------------|--------------|----------|------------------------------------|
+//! | 00-03  | vendor, device  | 8086h, 1237h | 00       |                                    |
+//! | 04-07  | command, status | 0006h, 0280h | 00       |                                    |
+//! | 08-0B  | revision, class | 00h, 060000h | 00       |                                    |
+//! | 60-67  | DRB0 to DRB7    | 01h each     | FF each  | where a row of DRAM ends, in 8 MiB |
+//! | 68     | FDHC            | 00h          | C0       | the hole in DRAM, by bits 7 and 6  |
+//! | others | reserved        | 00h          | 00       |                                    |
 ghost use Rattle.std.specs.Prelude.{◌≡◌, ◌≤◌, ◌<◌, ◌/◌, ◌↔◌, ◌⊎◌, ℕ, IsNone, IfSome};
 ghost use Rattle.board_base.specs.declared.access.Width.TheVariants.{One};
 ghost use Rattle.board_spec.specs.declared.map_change.MapChange.TheVariants.{Store};
@@ -131,4 +131,53 @@ fn fixed_byte(off: u8) -> u8
 {
     let at = usize::from(off);
     if at < HEADER.len() { HEADER[at] } else { 0 }
+}
+
+#[cfg(test)]
+mod tests {
+    use super::*;
+
+    #[test]
+    fn registers_keep_the_writable_bits(rt: HostRuntime) {
+        for (off, reset, written, read) in [
+            (0x00, 0x86, 0xFF, 0x86),
+            (0x01, 0x80, 0x00, 0x80),
+            (0x02, 0x37, 0x00, 0x37),
+            (0x03, 0x12, 0x00, 0x12),
+            (0x04, 0x06, 0x02, 0x06),
+            (0x06, 0x80, 0xFF, 0x80),
+            (0x07, 0x02, 0x00, 0x02),
+            (0x0B, 0x06, 0xFF, 0x06),
+            (0x0E, 0x00, 0xFF, 0x00),
+            (0x60, 0x01, 0x02, 0x02),
+            (0x67, 0x01, 0xFF, 0xFF),
+            (0x68, 0x00, 0x7F, 0x40),
+            (0x68, 0x00, 0xC0, 0xC0),
+            (0x69, 0x00, 0xFF, 0x00),
+            (0xFF, 0x00, 0xFF, 0x00),
+        ] {
+            let mut pmc = Pmc::new();
+            assert_eq!(rt; pmc.read(off), reset, "at {off}");
+            pmc.write(off, written);
+            assert_eq!(rt; pmc.read(off), read, "at {off}");
+            pmc.reset();
+            assert_eq!(rt; pmc.read(off), reset, "at {off} after a reset");
+        }
+    }
+
+    #[test]
+    fn registers_move_the_top_and_the_hole(rt: HostRuntime) {
+        let mut pmc = Pmc::new();
+        assert_eq!(rt; pmc.top(), 0x80_0000);
+        assert_eq!(rt; pmc.row_of(0x7F_FFFF), Some(0));
+        assert_eq!(rt; pmc.row_of(0x80_0000), None);
+        assert_eq!(rt; pmc.hole(), None);
+        pmc.write(DRB7, 0x02);
+        pmc.write(FDHC, 0x80);
+        assert_eq!(rt; pmc.top(), 0x100_0000);
+        assert_eq!(rt; pmc.row_of(0x80_0000), Some(7));
+        assert_eq!(rt; pmc.hole(), Some((0xF0_0000, 0xFF_FFFF)));
+        pmc.write(DRB7, 0x00);
+        assert_eq!(rt; pmc.row_of(0), None);
+    }
 }

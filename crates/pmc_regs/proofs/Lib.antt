@@ -1,0 +1,3 @@
+pub mod PmcLemmas
+pub mod RowLemmas
+pub mod TableLemmas

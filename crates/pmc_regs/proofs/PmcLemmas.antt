@@ -1,0 +1,128 @@
+-- Stores of one byte to the registers of the host bridge.
+use Rattle.std.proofs.Common.{◌≡◌, ◌≢◌, ℕ, ◌+◌, ◌-◌, ◌%◌, ◌^◌, ◌<◌, ◌≤◌, ◌⊎◌, List, [], ◌∷◌, length, get_or, set, false, None, ◌∙◌, refl, sym, ap, subst, arith, inl, inr, get_or-set_other, get_or-set_same}
+use Rattle.std.specs.Prelude.{slice_index, slice_set, bit_and, bit_or}
+use Rattle.std.specs.Int.Bits.{and_zero_r, or_zero_l, or_zero_r}
+use Rattle.std.proofs.lemmas.Nat.{and_mask}
+use Rattle.std.proofs.lemmas.Bool.{cases_lt, cases_eq, ne_eqb}
+use Rattle.board_base.specs.declared.access.Width.TheVariants.{One}
+use Rattle.board_spec.specs.declared.map_change.MapChange.TheVariants.{Store}
+use Rattle.board_spec.specs.Setup.{Setup}
+use Rattle.board_spec.specs.Bits.{merged}
+use Rattle.board_spec.specs.RegisterTable.{host_bridge, reset_byte, writable_bits}
+use Rattle.board_spec.specs.Registers.{is_smram_register, changed_byte}
+use Rattle.board_spec.specs.Decode.{Bytes, bridge}
+use Rattle.board_spec.proofs.StoreLemmas.{changed_byte-one_same, changed_byte-one_other}
+use Rattle.pmc_regs.specs.Pmc.{PmcBytes, IsPmcOffset, IsFixedOffset, IsRowsOf, IsPmcOf}
+use Rattle.pmc_regs.proofs.TableLemmas.{header_byte, rows_at_reset, hole_at_reset, writable_bits-row, writable_bits-hole, reset_byte-header, reset_byte-blank, writable_bits-fixed}
+
+-- ---- after a reset
+
+reset_byte-same : (setup other : Setup) (off : ℕ) → reset_byte setup (bridge off) ≡ reset_byte other (bridge off)
+unfolding reset_byte
+reset_byte-same setup other off = refl
+
+pub pmc_at_reset : (setup : Setup) → IsPmcOf (reset_byte setup) (record { drb = 1 ∷ 1 ∷ 1 ∷ 1 ∷ 1 ∷ 1 ∷ 1 ∷ 1 ∷ []; fdhc = 0 })
+pmc_at_reset setup =
+    record { rows = rows_at_reset setup; hole = hole_at_reset setup; fixed = λ other off fixed. reset_byte-same setup other off }
+
+-- ---- what a mask keeps
+
+pub merged-all : (old written : ℕ) → written < 256 → merged 0xFF old written ≡ written
+merged-all old written below =
+    ap (λ n. bit_or n (bit_and old 0)) (and_mask written 8)
+    ∙ ap (λ n. bit_or (written % 2 ^ 8) n) (and_zero_r old)
+    ∙ or_zero_r (written % 2 ^ 8)
+    ∙ omega arith
+
+pub merged-none : (old written : ℕ) → old < 256 → merged 0 old written ≡ old
+merged-none old written below =
+    ap (λ n. bit_or n (bit_and old 0xFF)) (and_zero_r written)
+    ∙ or_zero_l (bit_and old 0xFF)
+    ∙ and_mask old 8
+    ∙ omega arith
+
+-- ---- a store to one register
+
+-- a register after the store of a byte at an offset
+abbrev pub after_store : Setup → Bytes → (off written : ℕ) → Bytes
+after_store setup bytes off written reg = changed_byte setup (Store (bridge off) One written) reg (bytes reg)
+
+pub elsewhere : (setup : Setup) (bytes : Bytes) (off written at : ℕ) → at ≢ off → after_store setup bytes off written (bridge at) ≡ bytes (bridge at)
+elsewhere setup bytes off written at apart = changed_byte-one_other setup (bridge at) off (bytes (bridge at)) written apart
+
+plain_register : (off : ℕ) → off ≢ 0x72 → is_smram_register (bridge off) ≡ false
+plain_register off apart = ne_eqb off 0x72 apart
+
+pub there : (setup : Setup) (bytes : Bytes) (off written mask : ℕ) → written < 256 → off ≢ 0x72 → writable_bits setup (bridge off) ≡ mask → after_store setup bytes off written (bridge off) ≡ merged mask (bytes (bridge off)) written
+there setup bytes off written mask below apart is_mask =
+    changed_byte-one_same setup (bridge off) (bytes (bridge off)) written below (plain_register off apart)
+    ∙ ap (λ m. merged m (bytes (bridge off)) written) is_mask
+
+-- ---- the fixed registers stay
+
+reset_byte-small : (setup : Setup) (off : ℕ) → IsFixedOffset off → reset_byte setup (bridge off) < 256
+reset_byte-small setup off fixed =
+    elim (cases_lt off 12) [
+      | inl below ↦ subst (λ n. n < 256) (reset_byte-header setup off below) (header_byte off below)
+      | inr from ↦ subst (λ n. n < 256) (sym (reset_byte-blank setup off fixed from)) (omega arith)
+    ]
+
+abbrev IsFixedIn : Bytes → Type 0
+IsFixedIn bytes = (setup : Setup) (off : ℕ) → IsFixedOffset off → bytes (bridge off) ≡ reset_byte setup (bridge off)
+
+fixed_there : (setup : Setup) (bytes : Bytes) (off written : ℕ) → written < 256 → IsFixedIn bytes → (other : Setup) → IsFixedOffset off → after_store setup bytes off written (bridge off) ≡ reset_byte other (bridge off)
+fixed_there setup bytes off written below fixed other is_fixed =
+    let apart : off ≢ 0x72 = omega arith in
+    there setup bytes off written 0 below apart (writable_bits-fixed setup off is_fixed)
+    ∙ ap (λ old. merged 0 old written) (fixed other off is_fixed)
+    ∙ merged-none (reset_byte other (bridge off)) written (reset_byte-small other off is_fixed)
+
+pub fixed_stay : (setup : Setup) (bytes : Bytes) (off written : ℕ) → written < 256 → IsFixedIn bytes → IsFixedIn (after_store setup bytes off written)
+fixed_stay setup bytes off written below fixed other at is_fixed =
+    elim (cases_eq at off) [
+      | inl same ↦ subst (λ o. after_store setup bytes o written (bridge at) ≡ reset_byte other (bridge at)) same (fixed_there setup bytes at written below fixed other is_fixed)
+      | inr apart ↦ elsewhere setup bytes off written at apart ∙ fixed other at is_fixed
+    ]
+
+-- ---- the three kinds of registers
+
+pub stored_row : (setup : Setup) (bytes : Bytes) (drb : List ℕ) (fdhc row written : ℕ) → length drb ≡ 8 → row < 8 → written < 256 → IsPmcOf bytes (record { drb = drb; fdhc = fdhc }) → IsPmcOf (after_store setup bytes (0x60 + row) written) (record { drb = set drb row written; fdhc = fdhc })
+stored_row setup bytes drb fdhc row written eight within below is_pmc =
+    record {
+      rows = λ at at_within. elim (cases_eq at row) [
+        | inl same ↦ subst (λ k. slice_index (set drb row written) k ≡ after_store setup bytes (0x60 + row) written (bridge (0x60 + k))) (sym same)
+            (get_or-set_same drb row written 0 (omega arith)
+            ∙ sym (there setup bytes (0x60 + row) written 0xFF below (omega arith) (writable_bits-row setup row within) ∙ merged-all (bytes (bridge (0x60 + row))) written below))
+        | inr apart ↦
+            get_or-set_other drb row at written 0 apart
+            ∙ is_pmc.rows at at_within
+            ∙ sym (elsewhere setup bytes (0x60 + row) written (0x60 + at) (λ e. apart (omega arith)))
+      ];
+      hole = is_pmc.hole ∙ sym (elsewhere setup bytes (0x60 + row) written 0x68 (omega arith));
+      fixed = fixed_stay setup bytes (0x60 + row) written below is_pmc.fixed;
+    }
+
+pub stored_hole : (setup : Setup) (bytes : Bytes) (drb : List ℕ) (fdhc written : ℕ) → written < 256 → IsPmcOf bytes (record { drb = drb; fdhc = fdhc }) → IsPmcOf (after_store setup bytes 0x68 written) (record { drb = drb; fdhc = merged 0xC0 fdhc written })
+stored_hole setup bytes drb fdhc written below is_pmc =
+    record {
+      rows = λ at at_within. is_pmc.rows at at_within ∙ sym (elsewhere setup bytes 0x68 written (0x60 + at) (omega arith));
+      hole = ap (λ old. merged 0xC0 old written) is_pmc.hole
+          ∙ sym (there setup bytes 0x68 written 0xC0 below (omega arith) (writable_bits-hole setup));
+      fixed = fixed_stay setup bytes 0x68 written below is_pmc.fixed;
+    }
+
+pub stored_nowhere : (setup : Setup) (bytes : Bytes) (pmc : PmcBytes) (off written : ℕ) → written < 256 → ((off < 0x60) ⊎ (0x68 < off)) → IsPmcOf bytes pmc → IsPmcOf (after_store setup bytes off written) pmc
+stored_nowhere setup bytes pmc off written below outside is_pmc =
+    record {
+      rows = λ at at_within. is_pmc.rows at at_within ∙ sym (elsewhere setup bytes off written (0x60 + at) (elim outside [ inl low ↦ omega arith | inr high ↦ omega arith ]));
+      hole = is_pmc.hole ∙ sym (elsewhere setup bytes off written 0x68 (elim outside [ inl low ↦ omega arith | inr high ↦ omega arith ]));
+      fixed = fixed_stay setup bytes off written below is_pmc.fixed;
+    }
+
+-- ---- the fixed registers by any setup
+
+abbrev bare : Setup
+bare = record { mib = 0; cards = []; rom = []; disk = None }
+
+pub fixed_read : (bytes : Bytes) (pmc : PmcBytes) (off byte : ℕ) → IsPmcOf bytes pmc → IsFixedOffset off → ((setup : Setup) → byte ≡ reset_byte setup (bridge off)) → byte ≡ bytes (bridge off)
+fixed_read bytes pmc off byte is_pmc is_fixed is_reset = is_reset bare ∙ sym (is_pmc.fixed bare off is_fixed)
