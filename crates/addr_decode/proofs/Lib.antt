@@ -2,3 +2,4 @@ pub mod MemoryLemmas
 pub mod PortLemmas
 pub mod StoreLemmas
 pub mod TouchLemmas
+pub mod DenialLemmas

@@ -3,5 +3,10 @@
 #![tactic(auto)]
 
 mod bits;
+mod cards;
+mod denial;
+mod memory;
 mod offsets;
 mod onboard;
+mod regs;
+mod stub;

@@ -1,0 +1,3 @@
+use Rattle.addr_decode.proofs.stub.card_reset.Goals as goal
+pub returns-clause-reset : goal.returns-clause-reset
+returns-clause-reset c = ?
