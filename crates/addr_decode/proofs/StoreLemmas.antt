@@ -11,11 +11,8 @@ use Rattle.board_spec.specs.Bits.{merged}
 use Rattle.board_spec.specs.RegisterTable.{host_bridge, isa_bridge, writable_bits}
 use Rattle.board_spec.specs.Registers.{covers, changed_byte, smram_after, is_smram_register}
 use Rattle.board_spec.specs.Decode.{Bytes, bridge, isa}
+use Rattle.addr_decode.specs.MapRegs.{stored}
 use Rattle.board_spec.proofs.StoreLemmas.{changed_byte-one_same}
-
--- the registers after one byte is stored
-abbrev pub stored : Setup → Bytes → (at : Reg) → (written : ℕ) → Bytes
-stored setup bytes at written = λ reg. changed_byte setup (Store at One written) reg (bytes reg)
 
 abbrev pub Differs : Reg → Reg → Type 0
 Differs at reg = (at.dev ≢ reg.dev) ⊎ (at.fun ≢ reg.fun) ⊎ (at.off ≢ reg.off)

@@ -7,9 +7,7 @@ use Rattle.board_base.specs.declared.access.Width.{Width}
 use Rattle.board_base.specs.declared.access.Width.TheVariants.{One, Two, Four}
 use Rattle.board_base.specs.Access.{bytes_of}
 use Rattle.board_spec.specs.Bits.{is_within}
-
-abbrev pub overlaps : (off : ℕ) → Width → (first last : ℕ) → Bool
-overlaps off width first last = nat_le off last && nat_lt first (off + bytes_of width)
+use Rattle.addr_decode.specs.MapRegs.{overlaps}
 
 any_within : (off first last : ℕ) (width : Width) → first ≤ last →
     list_any (λ k. is_within first last (off + k)) (take (bytes_of width) (0 ∷ 1 ∷ 2 ∷ 3 ∷ [])) ≡ overlaps off width first last

@@ -1,10 +1,17 @@
 -- The registers that the address map depends on.
-use Rattle.std.specs.Prelude.{◌≡◌, ℕ, ◌/◌, List}
-use Rattle.board_spec.specs.Setup.{Setup, FittedCard, IsCardList, Rises}
+use Rattle.std.specs.Prelude.{◌≡◌, ℕ, ◌+◌, ◌/◌, nat_le, nat_lt, Bool, ◌&&◌, List, All, Some}
+use Rattle.board_base.specs.declared.access.Width.{Width}
+use Rattle.board_base.specs.declared.access.Width.TheVariants.{One}
+use Rattle.board_base.specs.declared.target.Reg.{Reg}
+use Rattle.board_base.specs.Access.{bytes_of}
+use Rattle.board_spec.specs.declared.map_change.MapChange.TheVariants.{Store}
+use Rattle.board_spec.specs.RegisterTable.{reset_byte}
+use Rattle.board_spec.specs.Registers.{changed_byte}
+use Rattle.board_spec.specs.Setup.{Setup, Rises, card_at}
 use Rattle.board_spec.specs.Decode.{Bytes, bridge, isa, ide}
 use Rattle.pmc_regs.specs.Pmc.{IsRowsOf}
 use Rattle.pam_windows.specs.Pam.{IsPamOf}
-use Rattle.pci_bars.specs.Cards.{CardBytes, AreCards, AreDecoded, cards_of}
+use Rattle.pci_bars.specs.Cards.{CardBytes, DecodesAs, AreCards, AreDecoded, cards_of}
 use Rattle.addr_decode.specs.declared.regs.MapRegs.{MapRegs}
 
 -- what they hold: DRB0 to DRB7, FDHC, PAM0 to PAM6 and SMRAM of the host bridge, XBCS of the ISA bridge, and
@@ -31,6 +38,21 @@ map_bytes regs = record {
 pub record AreFitted (cards : List CardBytes) : Type 0 where
   pub each : AreCards cards
   pub rises : Rises (cards_of cards)
+
+-- a card as a reset leaves it
+abbrev pub IsReset : CardBytes → Type 0
+IsReset card = (setup : Setup) → card_at setup card.card.dev ≡ Some card.card → DecodesAs setup (reset_byte setup) card
+
+abbrev pub AreReset : List CardBytes → Type 0
+AreReset cards = All IsReset cards
+
+-- the registers of a board after one byte is stored
+abbrev pub stored : Setup → Bytes → (at : Reg) → (written : ℕ) → Bytes
+stored setup bytes at written = λ reg. changed_byte setup (Store at One written) reg (bytes reg)
+
+-- a store from an offset on covers one of the offsets from first to last
+abbrev pub overlaps : (off : ℕ) → Width → (first last : ℕ) → Bool
+overlaps off width first last = nat_le off last && nat_lt first (off + bytes_of width)
 
 -- they agree with the registers of a board in every byte that the address map depends on. The interrupt
 -- line of a card is none of these

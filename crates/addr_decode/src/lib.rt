@@ -4,6 +4,7 @@
 
 mod bits;
 mod cards;
+mod change;
 mod denial;
 mod memory;
 mod offsets;
