@@ -1,0 +1,4 @@
+pub mod BaseLemmas
+pub mod CardLemmas
+pub mod ClaimLemmas
+pub mod TableLemmas

@@ -1,5 +1,6 @@
 -- Claims as the cards' own registers decide them.
 use Rattle.std.specs.Prelude.{ℕ, ◌+◌, ◌/◌, ◌^◌, ◌==◌, Bool, true, false, not, ◌&&◌, if◌then◌else◌, List, [], ◌∷◌, Option, Some, None, option_map, slice_index}
+use Rattle.std.specs.Option.{option_or}
 use Rattle.board_spec.specs.Setup.{Base, MemoryBase, IoBase}
 use Rattle.board_spec.specs.Bits.{is_bit}
 use Rattle.pci_bars.specs.declared.claims.Space.{Space}
@@ -22,10 +23,6 @@ covering space values place k [] = None
 covering space values place k (base ∷ later) =
     if covers space base (slice_index values k) place then Some k else covering space values place (k + 1) later
 
-abbrev pub or_else : {X : Type 0} → Option X → Option X → Option X
-or_else None otherwise = otherwise
-or_else (Some x) otherwise = Some x
-
 -- the VGA window A0000h to BFFFFh as base 7
 abbrev pub vga_claim : Space → Bool → ℕ → Option ℕ
 vga_claim Memory vga place = if vga && agrees 17 0xA_0000 place then Some 7 else None
@@ -34,7 +31,7 @@ vga_claim Ports vga place = None
 -- the base of a card that covers a place
 abbrev pub covering_base : Space → (place : ℕ) → CardBytes → Option ℕ
 covering_base space place card =
-    or_else (covering space card.bases place 0 card.card.bases) (vga_claim space card.card.vga place)
+    option_or (covering space card.bases place 0 card.card.bases) (vga_claim space card.card.vga place)
 
 -- a card's command lets it decode memory by bit 1, and ports by bit 0
 abbrev pub is_enabled : Space → CardBytes → Bool
@@ -49,6 +46,6 @@ same_bool false b = not b
 abbrev pub first_claim : Space → (enabled : Bool) → (place : ℕ) → List CardBytes → Option (ℕ × ℕ)
 first_claim space enabled place [] = None
 first_claim space enabled place (card ∷ later) =
-    or_else
+    option_or
     (if same_bool enabled (is_enabled space card) then option_map (λ base. (card.card.dev, base)) (covering_base space place card) else None)
     (first_claim space enabled place later)

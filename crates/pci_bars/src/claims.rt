@@ -1,13 +1,13 @@
 //! Which card answers at an address or a port (PCI Local Bus 2.1, sections 6.2.2 and 6.2.5).
-ghost use Rattle.std.specs.Prelude.{◌≡◌, Bool, option_map};
+ghost use Rattle.std.specs.Prelude.{◌≡◌, ◌≤◌, ℕ, All, false, length, map, option_map};
 ghost use Rattle.board_spec.specs.Setup.{Setup, IsBase, IsCard};
 ghost use Rattle.board_spec.specs.Decode.{Bytes, memory_claim, memory_shut, io_claim, io_shut};
 ghost use Rattle.pci_bars.specs.Bases.{base_of};
 ghost use Rattle.pci_bars.specs.Cards.{AreCards, AreDecoded};
-ghost use Rattle.pci_bars.specs.Claims.{covers, covering_base, is_enabled, first_claim, or_else};
+ghost use Rattle.pci_bars.specs.Claims.{covers, covering, vga_claim, covering_base, is_enabled, first_claim};
 
 use crate::regs::CardRegs;
-use crate::spec::{BaseSpec, VGA_BASE, VGA_BITS};
+use crate::spec::{BASES, BaseSpec, VGA_BASE, VGA_BITS};
 
 /// The bit of the command register that lets a card decode memory.
 const MEMORY_ENABLE: u8 = 1 << 1;
@@ -49,7 +49,7 @@ pub fn shut_mem(cards: &[CardRegs], addr: u32) -> Option<u8>
     ensures shut { (setup : Setup) (bytes : Bytes) → AreDecoded setup bytes cards.now
         → result ≡ option_map (λ window. window.dev) (memory_shut setup bytes addr) }
 {
-    first(cards, Space::Memory, false, addr).map(|(dev, _)| dev)
+    first_shut(cards, Space::Memory, addr)
 }
 
 /// The least device that covers an I/O port and may not decode ports. None where there is none.
@@ -58,7 +58,15 @@ pub fn shut_io(cards: &[CardRegs], port: u16) -> Option<u8>
     ensures shut { (setup : Setup) (bytes : Bytes) → AreDecoded setup bytes cards.now
         → result ≡ option_map (λ window. window.dev) (io_shut setup bytes port) }
 {
-    first(cards, Space::Ports, false, u32::from(port)).map(|(dev, _)| dev)
+    first_shut(cards, Space::Ports, u32::from(port))
+}
+
+/// The first device that covers a place and is not enabled.
+fn first_shut(cards: &[CardRegs], space: Space, place: u32) -> Option<u8>
+    requires cards { AreCards cards.now }
+    ensures shut { result ≡ option_map {T = ℕ × ℕ} (λ named. named.0) (first_claim space false place cards.now) }
+{
+    first(cards, space, false, place).map(|(dev, _)| dev)
 }
 
 /// The first card, by device and then by base, that covers a place and is enabled, or is not.
@@ -92,15 +100,31 @@ fn base_at(card: &CardRegs, space: Space, place: u32) -> Option<u8>
     ensures base { result ≡ covering_base space place card.now }
 {
     let spec = &card.spec;
-    for (index, base) in spec.bases.iter().enumerate() {
-        if is_covered(*base, space, card.bases[index], place) {
+    first_covering(&spec.bases, &card.bases, space, place).or(vga_at(spec.vga, space, place))
+}
+
+/// The number of the first base that covers a place.
+fn first_covering(bases: &[BaseSpec], values: &[u32; BASES], space: Space, place: u32) -> Option<u8>
+    requires bases { All IsBase (map base_of bases.now) }
+    requires count { length bases.now ≤ 6 }
+    ensures first { result ≡ covering space values.now place 0 (map base_of bases.now) }
+{
+    for (index, base) in bases.iter().enumerate() {
+        if is_covered(*base, space, values[index], place) {
             return Some(index as u8);
         }
     }
-    if spec.vga && space == Space::Memory && place >> VGA_BITS == VGA_WINDOW >> VGA_BITS {
-        return Some(VGA_BASE);
-    }
     None
+}
+
+/// The VGA window as a base, where the card is a VGA adapter and the window covers the place.
+fn vga_at(vga: bool, space: Space, place: u32) -> Option<u8>
+    ensures claim { result ≡ vga_claim space vga place }
+{
+    match space {
+        Space::Memory if vga && place >> VGA_BITS == VGA_WINDOW >> VGA_BITS => Some(VGA_BASE),
+        _ => None,
+    }
 }
 
 /// Whether a base that holds this value decodes a place.

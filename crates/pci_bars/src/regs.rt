@@ -45,7 +45,12 @@ impl Model for CardRegs {
 
 impl Default for CardRegs {
     fn default() -> CardRegs {
-        CardRegs::new(CardSpec::default())
+        CardRegs {
+            spec: CardSpec::default(),
+            command: 0,
+            line: 0,
+            bases: [0; BASES],
+        }
     }
 }
 

@@ -1,5 +1,5 @@
 //! What a card is: its device number, whether it is a VGA adapter, and its bases.
-ghost use Rattle.std.specs.Prelude.{◌≡◌, ◌^◌, ◌≤◌, ℕ, Some, slice_index};
+ghost use Rattle.std.specs.Prelude.{◌≡◌, ◌^◌, ◌≤◌, ℕ, Some, option_map, slice_get, slice_index};
 ghost use Rattle.board_spec.specs.Setup.{IsBase, IsCard};
 ghost use Rattle.board_spec.specs.RegisterTable.{base_reset, base_writable};
 ghost use Rattle.pci_bars.specs.Bases.{base_of, base_size, of_base};
@@ -112,6 +112,13 @@ impl CardSpec {
         }
     }
 
+    /// The base of a number, where the card has it.
+    pub fn base(&self, index: usize) -> Option<BaseSpec>
+        ensures base { option_map base_of result ≡ slice_get self.now.bases index }
+    {
+        self.bases.get(index).copied()
+    }
+
     /// The base address registers after a reset. Where the card has no base, 0.
     pub fn reset_bases(&self) -> [u32; BASES]
         ensures reset { (k : ℕ) → slice_index result k ≡ of_base base_reset self.now.bases k }
@@ -128,7 +135,7 @@ impl CardSpec {
         requires card { IsCard self.now }
         ensures writable { result ≡ of_base base_writable self.now.bases index }
     {
-        match self.bases.get(index) {
+        match self.base(index) {
             Some(base) => base.writable(),
             None => 0,
         }
@@ -142,7 +149,7 @@ impl CardSpec {
         if base == VGA_BASE {
             return if self.vga { 1 << VGA_BITS } else { 0 };
         }
-        match self.bases.get(usize::from(base)) {
+        match self.base(usize::from(base)) {
             Some(spec) => spec.size() as usize,
             None => 0,
         }

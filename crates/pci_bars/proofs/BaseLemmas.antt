@@ -1,0 +1,61 @@
+-- Base registers as four bytes, and the bases of a card by their numbers.
+use Rattle.std.proofs.Common.{◌≡◌, ◌≢◌, ℕ, zero, suc, ◌<◌, ◌≤◌, List, [], ◌∷◌, length, get_or, set, map, Some, None, inl, inr, ◌∙◌, refl, sym, ap, subst, arith, lit<, length-set, get_or-set_same, get_or-set_other}
+use Rattle.std.specs.Prelude.{All, slice_get}
+use Rattle.std.specs.Int.{w32, from_le_bytes, to_le_bytes}
+use Rattle.std.proofs.lemmas.Bool.{cases_eq}
+use Rattle.std.proofs.lemmas.Nat.{le_bytes_4}
+use Rattle.std.proofs.lemmas.List.Elements.{All-get_or}
+use Rattle.std.proofs.lemmas.Option.{slice_get_within, get_or_from_slice_get}
+use Rattle.std.proofs.lemmas.List.{get_or-map, length-map}
+use Rattle.board_spec.specs.Setup.{Base, IsBase}
+use Rattle.board_spec.specs.Bits.{byte}
+use Rattle.pci_bars.specs.declared.spec.BaseSpec.{BaseSpec}
+use Rattle.pci_bars.specs.Bases.{base_of}
+
+-- ---- four bytes
+
+long_byte : (n j : ℕ) → j < 4 → get_or (to_le_bytes w32 n) j 0 ≡ byte n j
+long_byte n zero below = omega arith
+long_byte n (suc zero) below = omega arith
+long_byte n (suc (suc zero)) below = omega arith
+long_byte n (suc (suc (suc zero))) below = omega arith
+long_byte n (suc (suc (suc (suc j)))) below = absurd (omega arith)
+
+small_long : (n i : ℕ) → get_or (to_le_bytes w32 n) i 0 < 256
+small_long n zero = omega arith
+small_long n (suc zero) = omega arith
+small_long n (suc (suc zero)) = omega arith
+small_long n (suc (suc (suc zero))) = omega arith
+small_long n (suc (suc (suc (suc j)))) = lit< tt
+
+small_set : (n lane v i : ℕ) → lane < 4 → v < 256 → get_or (set (to_le_bytes w32 n) lane v) i 0 < 256
+small_set n lane v i within below =
+    elim (cases_eq i lane) [
+      | inl same ↦ subst (λ k. get_or (set (to_le_bytes w32 n) lane v) k 0 < 256) (sym same) (subst (λ b. b < 256) (sym (get_or-set_same (to_le_bytes w32 n) lane v 0 within)) below)
+      | inr apart ↦ subst (λ b. b < 256) (sym (get_or-set_other (to_le_bytes w32 n) lane i v 0 apart)) (small_long n i)
+    ]
+
+four_set : (n lane v : ℕ) → length (set (to_le_bytes w32 n) lane v) ≡ 4
+four_set n lane v = length-set (to_le_bytes w32 n) lane v
+
+-- the other bytes of a number of which one was set
+pub other_bytes :
+    (n lane v new j : ℕ) → lane < 4 → v < 256 → new ≡ from_le_bytes w32 (set (to_le_bytes w32 n) lane v) → j < 4 → j ≢ lane →
+    byte new j ≡ byte n j
+other_bytes n lane v new j within below is j_below apart =
+    let bytes : to_le_bytes w32 new ≡ set (to_le_bytes w32 n) lane v =
+        le_bytes_4 (set (to_le_bytes w32 n) lane v) new (four_set n lane v) (λ i. small_set n lane v i within below) is in
+    sym (long_byte new j j_below)
+    ∙ ap (λ bs. get_or bs j 0) bytes
+    ∙ get_or-set_other (to_le_bytes w32 n) lane j v 0 apart
+    ∙ long_byte n j j_below
+
+-- ---- bases by their numbers
+
+pub is_base : (bases : List Base) (k : ℕ) (base : Base) → All IsBase bases → slice_get bases k ≡ Some base → IsBase base
+is_base bases k base each there =
+    subst IsBase (get_or_from_slice_get bases k base base there) (All-get_or IsBase bases k base (slice_get_within bases k base there) each)
+
+pub base_within : (bases : List BaseSpec) (k : ℕ) (d : BaseSpec) → All IsBase (map base_of bases) → k < length bases → IsBase (base_of (get_or bases k d))
+base_within bases k d each below =
+    subst IsBase (get_or-map base_of bases k d (base_of d) below) (All-get_or IsBase (map base_of bases) k (base_of d) (omega (arith, length-map bases base_of)) each)

@@ -1,0 +1,286 @@
+-- A card in the table of registers.
+use Rattle.std.proofs.Common.{◌≡◌, ◌≢◌, ◌⊎◌, ℕ, zero, suc, ◌+◌, ◌-◌, ◌*◌, ◌<◌, ◌≤◌, Bool, true, false, ◌&&◌, List, [], ◌∷◌, length, get_or, Some, inl, inr, ◌∙◌, refl, sym, ap, subst, arith, lit<, lit≤, length-append}
+use Rattle.std.specs.Prelude.{◌==◌, nat_le, nat_lt, flat_map, slice_get, if◌then◌else◌}
+use Rattle.std.proofs.lemmas.Bool.{and_from, and_left, and_right, ne_eqb, le-leb, lt-leb, lt-ltb, le-ltb, cond-true, cond-false, cases_lt, cases_eq}
+use Rattle.std.proofs.lemmas.Bool.Decides.{nat_tests}
+use Rattle.std.proofs.lemmas.List.{get_or_append_left, get_or-append_right}
+use Rattle.std.specs.Int.Bits.{and_zero_r, or_zero_l}
+use Rattle.board_spec.specs.Setup.{Base, FittedCard, Setup, IsCard, card_at}
+use Rattle.board_spec.specs.Bits.{byte, merged, is_within, long_bytes}
+use Rattle.board_spec.specs.RegisterTable.{Line, line, read_only, card_function, function_lines, listed, base_reset, base_writable, reset_byte, writable_bits}
+use Rattle.board_spec.specs.Decode.{card_register}
+use Rattle.pci_bars.specs.Bases.{of_base}
+use Rattle.pci_bars.specs.Cards.{CardBytes, is_kept_offset, header_of}
+
+-- ---- the lines of a card
+
+card_lines :
+    (setup : Setup) (card : FittedCard) → 2 ≤ card.dev → card_at setup card.dev ≡ Some card →
+    function_lines setup card.dev 0 ≡ card_function card
+card_lines setup card above fitted =
+    let not_zero : (card.dev == 0) ≡ false = ne_eqb _ _ (λ e. omega arith) in
+    let not_one : (card.dev == 1) ≡ false = ne_eqb _ _ (λ e. omega arith) in
+    rw (not_zero, not_one, fitted) refl
+
+pub reset_byte-card :
+    (setup : Setup) (card : FittedCard) (off : ℕ) → 2 ≤ card.dev → card_at setup card.dev ≡ Some card →
+    reset_byte setup (card_register card.dev off) ≡ listed (λ entry. entry.reset) (card_function card) off
+unfolding reset_byte
+reset_byte-card setup card off above fitted =
+    ap (λ lines. listed (λ entry. entry.reset) lines off) (card_lines setup card above fitted)
+
+pub writable_bits-card :
+    (setup : Setup) (card : FittedCard) (off : ℕ) → 2 ≤ card.dev → card_at setup card.dev ≡ Some card →
+    writable_bits setup (card_register card.dev off) ≡ listed (λ entry. entry.writable) (card_function card) off
+unfolding writable_bits
+writable_bits-card setup card off above fitted =
+    ap (λ lines. listed (λ entry. entry.writable) lines off) (card_lines setup card above fitted)
+
+-- ---- one line of a table
+
+listed-past :
+    (column : Line → List ℕ) (entry : Line) (later : List Line) (off : ℕ) → entry.first + length entry.reset ≤ off →
+    listed column (entry ∷ later) off ≡ listed column later off
+listed-past column entry later off past =
+    cond-false (nat_le entry.first off && nat_lt off (entry.first + length entry.reset)) _ _ (and_right _ _ (le-ltb _ _ past))
+
+listed-before :
+    (column : Line → List ℕ) (entry : Line) (later : List Line) (off : ℕ) → off < entry.first →
+    listed column (entry ∷ later) off ≡ listed column later off
+listed-before column entry later off before =
+    cond-false (nat_le entry.first off && nat_lt off (entry.first + length entry.reset)) _ _ (and_left _ _ (lt-leb _ _ before))
+
+listed-here :
+    (column : Line → List ℕ) (entry : Line) (later : List Line) (off : ℕ) → entry.first ≤ off → off < entry.first + length entry.reset →
+    listed column (entry ∷ later) off ≡ get_or (column entry) (off - entry.first) 0
+listed-here column entry later off from below =
+    cond-true (nat_le entry.first off && nat_lt off (entry.first + length entry.reset)) _ _ (and_from _ _ (le-leb _ _ from) (lt-ltb _ _ below))
+
+-- ---- the bases
+
+abbrev pub base_bytes : (Base → ℕ) → List Base → List ℕ
+base_bytes number_of bases = flat_map (λ base. long_bytes (number_of base)) bases
+
+length-base_bytes : (number_of : Base → ℕ) (bases : List Base) → length (base_bytes number_of bases) ≡ 4 * length bases
+length-base_bytes number_of [] = refl
+length-base_bytes number_of (base ∷ later) =
+    let rest = length-base_bytes number_of later in omega arith
+
+byte_of_zero : (j : ℕ) → byte 0 j ≡ 0
+byte_of_zero j = grind arith
+
+long_byte : (n j : ℕ) → j < 4 → get_or (long_bytes n) j 0 ≡ byte n j
+long_byte n zero below = refl
+long_byte n (suc zero) below = refl
+long_byte n (suc (suc zero)) below = refl
+long_byte n (suc (suc (suc zero))) below = refl
+long_byte n (suc (suc (suc (suc j)))) below = absurd (omega arith)
+
+get_or-base_bytes :
+    (number_of : Base → ℕ) (bases : List Base) (k j : ℕ) → j < 4 →
+    get_or (base_bytes number_of bases) (4 * k + j) 0 ≡ byte (of_base number_of bases k) j
+get_or-base_bytes number_of [] k j below = sym (byte_of_zero j)
+get_or-base_bytes number_of (base ∷ later) zero j below =
+    get_or_append_left (long_bytes (number_of base)) (base_bytes number_of later) 0 (4 * 0 + j) (omega arith)
+    ∙ ap (λ i. get_or (long_bytes (number_of base)) i 0) (omega arith)
+    ∙ long_byte (number_of base) j below
+get_or-base_bytes number_of (base ∷ later) (suc k) j below =
+    get_or-append_right (long_bytes (number_of base)) (base_bytes number_of later) 4 (4 * suc k + j) 0 refl (omega arith)
+    ∙ ap (λ i. get_or (base_bytes number_of later) i 0) (omega arith)
+    ∙ get_or-base_bytes number_of later k j below
+
+base_line :
+    (column : Line → List ℕ) (number_of : Base → ℕ) (bases : List Base) (entry : Line) (later : List Line) (k j : ℕ) →
+    entry.first ≡ 0x10 → length entry.reset ≡ 4 * length bases → column entry ≡ base_bytes number_of bases → j < 4 →
+    listed column later (0x10 + 4 * k + j) ≡ 0 →
+    listed column (entry ∷ later) (0x10 + 4 * k + j) ≡ byte (of_base number_of bases k) j
+base_line column number_of bases entry later k j first count same below rest =
+    let inside : get_or (column entry) (0x10 + 4 * k + j - entry.first) 0 ≡ byte (of_base number_of bases k) j =
+        ap (λ i. get_or (column entry) i 0) (omega arith)
+        ∙ ap (λ bytes. get_or bytes (4 * k + j) 0) same
+        ∙ get_or-base_bytes number_of bases k j below in
+    elim (cases_lt (0x10 + 4 * k + j) (entry.first + length entry.reset)) [
+      | inl within ↦ listed-here column entry later (0x10 + 4 * k + j) (omega arith) within ∙ inside
+      | inr past ↦ listed-past column entry later (0x10 + 4 * k + j) past ∙ rest ∙ sym (past_bases number_of bases k j (omega arith))
+    ]
+    where
+      past_bases : (number_of : Base → ℕ) (bases : List Base) (k j : ℕ) → length bases ≤ k → byte (of_base number_of bases k) j ≡ 0
+      past_bases number_of [] k j past = byte_of_zero j
+      past_bases number_of (base ∷ later) zero j past = absurd (omega arith)
+      past_bases number_of (base ∷ later) (suc k) j past = past_bases number_of later k j (omega arith)
+
+abbrev base_entry : FittedCard → Line
+base_entry card = line 0x10 (base_bytes base_reset card.bases) (base_bytes base_writable card.bases)
+
+abbrev last_entry : Line
+last_entry = line 0x3C (0x00 ∷ 0x01 ∷ []) (0xFF ∷ [])
+
+abbrev ids_entry : FittedCard → Line
+ids_entry card = line 0x00 (0x5A ∷ 0xA5 ∷ card.dev ∷ 0x01 ∷ []) read_only
+
+abbrev command_entry : Line
+command_entry = line 0x04 (0x00 ∷ 0x00 ∷ 0x80 ∷ 0x02 ∷ []) (0x07 ∷ [])
+
+abbrev class_entry : FittedCard → Line
+class_entry card = line 0x08 (0x00 ∷ 0x00 ∷ 0x00 ∷ (if card.vga then 0x03 else 0xFF) ∷ []) read_only
+
+past_header :
+    (column : Line → List ℕ) (card : FittedCard) (off : ℕ) → 0x10 ≤ off →
+    listed column (card_function card) off ≡ listed column (base_entry card ∷ last_entry ∷ []) off
+unfolding card_function
+past_header column card off above =
+    listed-past column (ids_entry card) (command_entry ∷ class_entry card ∷ base_entry card ∷ last_entry ∷ []) off (omega arith)
+    ∙ listed-past column command_entry (class_entry card ∷ base_entry card ∷ last_entry ∷ []) off (omega arith)
+    ∙ listed-past column (class_entry card) (base_entry card ∷ last_entry ∷ []) off (omega arith)
+
+before_last : (column : Line → List ℕ) (off : ℕ) → off < 0x3C → listed column (last_entry ∷ []) off ≡ 0
+before_last column off below = listed-before column last_entry [] off below
+
+pub reset-base :
+    (card : FittedCard) (k j : ℕ) → k < 6 → j < 4 →
+    listed (λ entry. entry.reset) (card_function card) (0x10 + 4 * k + j) ≡ byte (of_base base_reset card.bases k) j
+reset-base card k j k_below j_below =
+    past_header (λ entry. entry.reset) card (0x10 + 4 * k + j) (omega arith)
+    ∙ base_line (λ entry. entry.reset) base_reset card.bases (base_entry card) (last_entry ∷ []) k j refl (length-base_bytes base_reset card.bases) refl j_below
+    (before_last (λ entry. entry.reset) (0x10 + 4 * k + j) (omega arith))
+
+pub writable-base :
+    (card : FittedCard) (k j : ℕ) → k < 6 → j < 4 →
+    listed (λ entry. entry.writable) (card_function card) (0x10 + 4 * k + j) ≡ byte (of_base base_writable card.bases k) j
+writable-base card k j k_below j_below =
+    past_header (λ entry. entry.writable) card (0x10 + 4 * k + j) (omega arith)
+    ∙ base_line (λ entry. entry.writable) base_writable card.bases (base_entry card) (last_entry ∷ []) k j refl (length-base_bytes base_reset card.bases) refl j_below
+    (before_last (λ entry. entry.writable) (0x10 + 4 * k + j) (omega arith))
+
+-- past the bases
+past_bases :
+    (column : Line → List ℕ) (card : FittedCard) (off : ℕ) → length card.bases ≤ 6 → 0x28 ≤ off →
+    listed column (card_function card) off ≡ listed column (last_entry ∷ []) off
+past_bases column card off count above =
+    past_header column card off (omega arith)
+    ∙ listed-past column (base_entry card) (last_entry ∷ []) off (let size = length-base_bytes base_reset card.bases in omega arith)
+
+-- ---- the header, and what is not kept
+
+at_or_above : (P : ℕ → Type 0) (first off : ℕ) → first ≤ off → P first → (first + 1 ≤ off → P off) → P off
+at_or_above P first off from here above =
+    elim (cases_lt first off) [ inl below ↦ above (omega arith) | inr past ↦ subst P (omega arith) here ]
+
+-- what holds at each of the first sixteen offsets
+each_of_header :
+    (P : ℕ → Type 0) → P 0 → P 1 → P 2 → P 3 → P 4 → P 5 → P 6 → P 7 → P 8 → P 9 → P 10 → P 11 → P 12 → P 13 → P 14 → P 15 →
+    (off : ℕ) → off < 16 → P off
+each_of_header P p0 p1 p2 p3 p4 p5 p6 p7 p8 p9 p10 p11 p12 p13 p14 p15 off below =
+    at_or_above P 0 off (omega arith) p0
+    (λ h1. at_or_above P 1 off h1 p1
+    (λ h2. at_or_above P 2 off h2 p2
+    (λ h3. at_or_above P 3 off h3 p3
+    (λ h4. at_or_above P 4 off h4 p4
+    (λ h5. at_or_above P 5 off h5 p5
+    (λ h6. at_or_above P 6 off h6 p6
+    (λ h7. at_or_above P 7 off h7 p7
+    (λ h8. at_or_above P 8 off h8 p8
+    (λ h9. at_or_above P 9 off h9 p9
+    (λ h10. at_or_above P 10 off h10 p10
+    (λ h11. at_or_above P 11 off h11 p11
+    (λ h12. at_or_above P 12 off h12 p12
+    (λ h13. at_or_above P 13 off h13 p13
+    (λ h14. at_or_above P 14 off h14 p14
+    (λ h15. at_or_above P 15 off h15 p15
+    (λ h16. absurd (omega arith)))))))))))))))))
+
+pub reset-header :
+    (card : CardBytes) (off : ℕ) → off < 16 → off ≢ 4 →
+    listed (λ entry. entry.reset) (card_function card.card) off ≡ get_or (header_of card) off 0
+unfolding card_function
+reset-header card =
+    each_of_header (λ off. off ≢ 4 → listed (λ entry. entry.reset) (card_function card.card) off ≡ get_or (header_of card) off 0)
+    (λ _. refl) (λ _. refl) (λ _. refl) (λ _. refl) (λ apart. absurd (apart refl)) (λ _. refl) (λ _. refl) (λ _. refl)
+    (λ _. refl) (λ _. refl) (λ _. refl) (λ _. refl) (λ _. refl) (λ _. refl) (λ _. refl) (λ _. refl)
+
+-- what an offset has that is not kept: a byte, none of whose bits can be written
+pub record IsFixed (card : FittedCard) (off : ℕ) : Type 0 where
+  pub byte : listed (λ entry. entry.reset) (card_function card) off < 256
+  pub writable : listed (λ entry. entry.writable) (card_function card) off ≡ 0
+
+class_byte : (vga : Bool) → (if vga then 0x03 else 0xFF) < 256
+class_byte true = lit< tt
+class_byte false = lit< tt
+
+fixed-header : (card : FittedCard) → card.dev ≤ 9 → (off : ℕ) → off < 16 → off ≢ 4 → IsFixed card off
+unfolding card_function
+fixed-header card last =
+    let dev : card.dev < 256 = omega arith in
+    each_of_header (λ off. off ≢ 4 → IsFixed card off)
+    (λ _. record { byte = lit< tt; writable = refl }) (λ _. record { byte = lit< tt; writable = refl })
+    (λ _. record { byte = dev; writable = refl }) (λ _. record { byte = lit< tt; writable = refl })
+    (λ apart. absurd (apart refl)) (λ _. record { byte = lit< tt; writable = refl })
+    (λ _. record { byte = lit< tt; writable = refl }) (λ _. record { byte = lit< tt; writable = refl })
+    (λ _. record { byte = lit< tt; writable = refl }) (λ _. record { byte = lit< tt; writable = refl })
+    (λ _. record { byte = lit< tt; writable = refl }) (λ _. record { byte = class_byte card.vga; writable = refl })
+    (λ _. record { byte = lit< tt; writable = refl }) (λ _. record { byte = lit< tt; writable = refl })
+    (λ _. record { byte = lit< tt; writable = refl }) (λ _. record { byte = lit< tt; writable = refl })
+
+-- past the bases only the interrupt line and pin are listed
+pub past_pin :
+    (column : Line → List ℕ) (card : FittedCard) (off : ℕ) → length card.bases ≤ 6 → 0x28 ≤ off → off ≢ 0x3C → off ≢ 0x3D →
+    listed column (card_function card) off ≡ 0
+past_pin column card off count above not_line not_pin =
+    past_bases column card off count above
+    ∙ elim (cases_lt off 0x3C) [
+      | inl before ↦ listed-before column last_entry [] off before
+      | inr past ↦ listed-past column last_entry [] off (omega arith)
+    ]
+
+pub reset-pin : (card : FittedCard) → length card.bases ≤ 6 → listed (λ entry. entry.reset) (card_function card) 0x3D ≡ 1
+reset-pin card count = past_bases (λ entry. entry.reset) card 0x3D count (lit≤ tt)
+
+writable-pin : (card : FittedCard) → length card.bases ≤ 6 → listed (λ entry. entry.writable) (card_function card) 0x3D ≡ 0
+writable-pin card count = past_bases (λ entry. entry.writable) card 0x3D count (lit≤ tt)
+
+pub reset-line : (card : FittedCard) → length card.bases ≤ 6 → listed (λ entry. entry.reset) (card_function card) 0x3C ≡ 0
+reset-line card count = past_bases (λ entry. entry.reset) card 0x3C count (lit≤ tt)
+
+pub writable-line : (card : FittedCard) → length card.bases ≤ 6 → listed (λ entry. entry.writable) (card_function card) 0x3C ≡ 0xFF
+writable-line card count = past_bases (λ entry. entry.writable) card 0x3C count (lit≤ tt)
+
+pub reset-command : (card : FittedCard) → listed (λ entry. entry.reset) (card_function card) 0x04 ≡ 0
+unfolding card_function
+reset-command card = refl
+
+pub writable-command : (card : FittedCard) → listed (λ entry. entry.writable) (card_function card) 0x04 ≡ 0x07
+unfolding card_function
+writable-command card = refl
+
+fixed-past : (card : FittedCard) (off : ℕ) → length card.bases ≤ 6 → 0x28 ≤ off → off ≢ 0x3C → IsFixed card off
+fixed-past card off count above not_line =
+    elim (cases_eq off 0x3D) [
+      | inl pin ↦ subst (IsFixed card) (sym pin) (record { byte = rw (reset-pin card count) (lit< tt); writable = writable-pin card count })
+      | inr not_pin ↦ record {
+        byte = rw (past_pin (λ entry. entry.reset) card off count above not_line not_pin) (lit< tt);
+        writable = past_pin (λ entry. entry.writable) card off count above not_line not_pin;
+      }
+    ]
+
+-- ---- kept offsets
+
+pub record IsElsewhere (off : ℕ) : Type 0 where
+  pub command : off ≢ 0x04
+  pub bases : (off < 0x10) ⊎ (0x28 ≤ off)
+  pub line : off ≢ 0x3C
+
+pub elsewhere : (off : ℕ) → is_kept_offset off ≡ false → IsElsewhere off
+elsewhere off not_kept =
+    record {
+      command = λ e. grind (arith, nat_tests);
+      bases = elim (cases_lt off 0x10) [ inl below ↦ inl below | inr above ↦ inr (grind (arith, nat_tests)) ];
+      line = λ e. grind (arith, nat_tests);
+    }
+
+pub is_fixed : (card : FittedCard) → IsCard card → (off : ℕ) → is_kept_offset off ≡ false → IsFixed card off
+is_fixed card fit off not_kept =
+    let apart = elsewhere off not_kept in
+    elim (apart.bases) [
+      | inl below ↦ fixed-header card fit.last off below apart.command
+      | inr above ↦ fixed-past card off fit.count above apart.line
+    ]

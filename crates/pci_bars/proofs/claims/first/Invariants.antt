@@ -1,0 +1,9 @@
+use Rattle.std.proofs.Common.{◌≡◌}
+use Rattle.std.specs.Prelude.{drop}
+use Rattle.pci_bars.specs.Cards.{AreCards}
+use Rattle.pci_bars.specs.Claims.{first_claim}
+use Rattle.pci_bars.proofs.claims.first.Given as goal
+
+abbrev pub invariant-loop-card : goal.invariant-loop-card
+invariant-loop-card l =
+    first_claim l.space l.enabled l.place (drop l.card-index l.cards) ≡ first_claim l.space l.enabled l.place l.cards

@@ -1,0 +1,14 @@
+use Rattle.std.proofs.Common.{arith, sym, ◌∙◌, ap, slice_index, get_or}
+use Rattle.pci_bars.proofs.CardLemmas.{read-header, read-base, read-pin, read-rest}
+use Rattle.pci_bars.proofs.regs.CardRegs.read.Goals as goal
+
+pub returns-in-61 : goal.returns-in-61
+returns-in-61 c = record { byte = rw c.in-61.is (λ setup bytes is. read-pin setup bytes c.args.self.now c.requires.card is) }
+
+pub returns-in-0-to-15 : goal.returns-in-0-to-15
+returns-in-0-to-15 c =
+    record { byte = rw (c.header.ensures.header, c.from.ensures) (λ setup bytes is. read-header setup bytes c.args.self.now c.args.off c.requires.card is (omega arith)) }
+
+pub returns-in_default : goal.returns-in_default
+returns-in_default c =
+    record { byte = λ setup bytes is. read-rest setup bytes c.args.self.now c.args.off c.requires.card is (omega arith) (λ e. omega arith) (λ e. omega arith) }
