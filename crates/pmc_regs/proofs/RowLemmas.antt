@@ -1,5 +1,5 @@
 -- The rows of DRAM in the list of their boundary registers.
-use Rattle.std.proofs.Common.{◌≡◌, ℕ, zero, suc, ◌+◌, ◌*◌, ◌<◌, ◌≤◌, List, [], ◌∷◌, ◌++◌, length, Bool, true, false, Option, Some, None, cond, ◌∙◌, sym, refl, ap, arith, inl, inr}
+use Rattle.std.proofs.Common.{◌≡◌, ℕ, zero, suc, ◌+◌, ◌*◌, ◌<◌, ◌≤◌, List, [], ◌∷◌, length, Bool, true, Option, Some, None, cond, ◌∙◌, sym, refl, ap, arith, inl, inr}
 use Rattle.std.specs.Prelude.{nat_lt, is_some, slice_index, IsNone, ◌↔◌}
 use Rattle.std.specs.List.{find, position, position_from}
 use Rattle.std.specs.Option.{option_or}

@@ -1,12 +1,11 @@
 -- The registers of the host bridge in the table of registers.
-use Rattle.std.proofs.Common.{◌≡◌, ℕ, ◌+◌, ◌<◌, ◌≤◌, ◌⊎◌, List, [], ◌∷◌, length, get_or, false, ◌∙◌, refl, subst, arith, inl, inr}
+use Rattle.std.proofs.Common.{◌≡◌, ℕ, ◌+◌, ◌<◌, ◌≤◌, ◌⊎◌, List, [], ◌∷◌, length, ◌∙◌, refl, subst, arith, inl, inr}
 use Rattle.std.specs.Prelude.{slice_index}
 use Rattle.std.proofs.lemmas.Bool.{cases_lt, and_left, and_right, lt-leb, le-ltb, cond-false}
 use Rattle.board_spec.specs.Setup.{Setup}
 use Rattle.board_spec.specs.RegisterTable.{Line, host_bridge, listed, reset_byte, writable_bits}
-use Rattle.board_spec.specs.Registers.{is_smram_register}
 use Rattle.board_spec.specs.Decode.{bridge}
-use Rattle.pmc_regs.specs.Pmc.{IsPmcOffset, IsFixedOffset, IsRowsOf}
+use Rattle.pmc_regs.specs.Pmc.{IsFixedOffset, IsRowsOf}
 
 at_or_above : (P : ℕ → Type 0) (first n : ℕ) → first ≤ n → P first → (first + 1 ≤ n → P n) → P n
 at_or_above P first n from here above =

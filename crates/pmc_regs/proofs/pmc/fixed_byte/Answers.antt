@@ -1,4 +1,4 @@
-use Rattle.std.proofs.Common.{arith, ◌∙◌, sym, ap}
+use Rattle.std.proofs.Common.{arith, sym}
 use Rattle.pmc_regs.proofs.TableLemmas.{reset_byte-header, reset_byte-blank}
 use Rattle.pmc_regs.proofs.pmc.fixed_byte.Goals as goal
 
