@@ -3,3 +3,5 @@ pub mod PortLemmas
 pub mod StoreLemmas
 pub mod TouchLemmas
 pub mod DenialLemmas
+pub mod CardLemmas
+pub mod StandsLemmas

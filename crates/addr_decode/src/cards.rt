@@ -8,7 +8,7 @@ ghost use Rattle.pci_bars.specs.Cards.{AreDecoded, cards_of};
 ghost use Rattle.addr_decode.specs.MapRegs.{AreFitted, AreReset, stored};
 
 use arrayvec::ArrayVec;
-use crate::stub::{card_new, card_write};
+
 use pci_bars::{CardRegs, CardSpec};
 
 /// The place of the card at a device number in the list. None where there is no such card.
@@ -35,7 +35,7 @@ pub fn write_card(cards: &mut ArrayVec<CardRegs, 8>, dev: u8, off: u8, byte: u8)
 {
     if let Some(index) = card_index(cards, dev) {
         if let Some(card) = cards.get_mut(index) {
-            card_write(card, off, byte);
+            card.write(off, byte);
         }
     }
 }
@@ -48,5 +48,5 @@ pub fn push_card(cards: &mut ArrayVec<CardRegs, 8>, spec: CardSpec)
     ensures reset { AreReset cards.old.items → AreReset cards.new.items }
     ensures count { array_vec_len cards.new ≡ array_vec_len cards.old + 1 }
 {
-    cards.push(card_new(spec));
+    cards.push(CardRegs::new(spec));
 }

@@ -9,9 +9,10 @@ ghost use Rattle.addr_decode.specs.Memory.{board_denial, card_denial};
 use crate::bits::is_set;
 use crate::offsets::{DRB7, FDHC, SMRAM, XBCS, card_command, host_bridge, isa_bridge};
 use crate::regs::MapRegs;
-use crate::stub::shut_mem;
+
 use board_base::{Area, Denial, Kind};
 use pam_windows::window_of;
+use pci_bars::shut_mem;
 use pmc_regs::top_of;
 
 /// From here on no boundary register can put DRAM.

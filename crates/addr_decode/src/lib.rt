@@ -10,4 +10,3 @@ mod memory;
 mod offsets;
 mod onboard;
 mod regs;
-mod stub;

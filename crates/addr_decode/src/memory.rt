@@ -8,9 +8,10 @@ ghost use Rattle.addr_decode.specs.Memory.{dram_area, row_area};
 
 use crate::regs::MapRegs;
 use crate::offsets::PAM0;
-use crate::stub::claim_mem;
+
 use board_base::{Area, Kind};
 use pam_windows::window_of;
+use pci_bars::claim_mem;
 use pmc_regs::{hole_of, row_of};
 use smram_ctl::smram_reaches;
 use xbus_select::rom_selected;

@@ -1,0 +1,213 @@
+-- The registers of the address map among those of a board: after a reset, and where a byte is stored.
+use Rattle.std.proofs.Common.{◌≡◌, ◌≢◌, ℕ, ◌+◌, ◌-◌, ◌<◌, ◌≤◌, ◌⊎◌, inl, inr, List, [], ◌∷◌, length, get_or, set, false, refl, sym, ◌∙◌, ap, subst, arith, get_or-set_same, get_or-set_other}
+use Rattle.std.specs.Prelude.{slice_index, ◌==◌}
+use Rattle.std.proofs.lemmas.Bool.{cases_eq, cond-true}
+use Rattle.board_base.specs.declared.access.Width.TheVariants.{One}
+use Rattle.board_base.specs.declared.target.Reg.{Reg}
+use Rattle.board_spec.specs.declared.map_change.MapChange.TheVariants.{Store}
+use Rattle.board_spec.specs.Setup.{Setup, IsCard}
+use Rattle.board_spec.specs.Bits.{merged, byte}
+use Rattle.board_spec.specs.RegisterTable.{isa_bridge, reset_byte, writable_bits}
+use Rattle.board_spec.specs.Registers.{changed_byte, smram_after}
+use Rattle.board_spec.specs.Decode.{Bytes, bridge, isa, card_register}
+use Rattle.board_spec.proofs.StoreLemmas.{changed_byte-one_same}
+use Rattle.pmc_regs.specs.Pmc.{IsRowsOf}
+use Rattle.pmc_regs.proofs.TableLemmas.{rows_at_reset, hole_at_reset, writable_bits-row, writable_bits-hole}
+use Rattle.pmc_regs.proofs.PmcLemmas.{merged-all, there, elsewhere}
+use Rattle.pam_windows.specs.Pam.{IsPamOffset, IsPamOf}
+use Rattle.pam_windows.proofs.PamLemmas.{zeros_at_reset}
+use Rattle.smram_ctl.proofs.ControlLemmas.{reset_byte-smram}
+use Rattle.pci_bars.specs.Cards.{CardBytes, DecodesAs, AreCards, AreDecoded, cards_of}
+use Rattle.addr_decode.specs.MapRegs.{MapBytes, AreFitted, AreReset, StandsFor, stored}
+use Rattle.addr_decode.proofs.StoreLemmas.{Differs, stored-elsewhere}
+use Rattle.addr_decode.proofs.CardLemmas.{IsMapOffset, SameCard, decodes-same, reset_decoded}
+
+xbcs_at_reset : (setup : Setup) → 0x03 ≡ reset_byte setup (isa 0x4E)
+unfolding reset_byte isa_bridge
+xbcs_at_reset setup = refl
+
+-- the registers after a reset
+abbrev pub map_at_reset : List CardBytes → MapBytes
+map_at_reset cards = record {
+  drb = 1 ∷ 1 ∷ 1 ∷ 1 ∷ 1 ∷ 1 ∷ 1 ∷ 1 ∷ [];
+  fdhc = 0;
+  pam = 0 ∷ 0 ∷ 0 ∷ 0 ∷ 0 ∷ 0 ∷ 0 ∷ [];
+  smram = 2;
+  xbcs = 3;
+  cards = cards;
+}
+
+pub stands_at_reset : (setup : Setup) (cards : List CardBytes) → AreFitted cards → AreReset cards → setup.cards ≡ cards_of cards →
+    StandsFor setup (reset_byte setup) (map_at_reset cards)
+stands_at_reset setup cards fitted reset same = record {
+  rows = rows_at_reset setup;
+  hole = hole_at_reset setup;
+  windows = zeros_at_reset setup;
+  smram = reset_byte-smram setup;
+  xbcs = xbcs_at_reset setup;
+  cards = reset_decoded setup cards fitted reset same;
+}
+
+-- ---- registers that agree
+
+abbrev pub SameRows : (bytes bytes' : Bytes) → Type 0
+SameRows bytes bytes' = (row : ℕ) → row < 8 → bytes' (bridge (0x60 + row)) ≡ bytes (bridge (0x60 + row))
+
+abbrev pub SameWindows : (bytes bytes' : Bytes) → Type 0
+SameWindows bytes bytes' = (off : ℕ) → IsPamOffset off → bytes' (bridge off) ≡ bytes (bridge off)
+
+abbrev pub SameCards : (bytes bytes' : Bytes) → Type 0
+SameCards bytes bytes' = (dev : ℕ) → 2 ≤ dev → SameCard bytes bytes' dev
+
+-- two states of the registers are the same in all that the address map depends on
+pub record SameMap (bytes bytes' : Bytes) : Type 0 where
+  pub rows : SameRows bytes bytes'
+  pub hole : bytes' (bridge 0x68) ≡ bytes (bridge 0x68)
+  pub windows : SameWindows bytes bytes'
+  pub smram : bytes' (bridge 0x72) ≡ bytes (bridge 0x72)
+  pub xbcs : bytes' (isa 0x4E) ≡ bytes (isa 0x4E)
+  pub cards : SameCards bytes bytes'
+
+rows-same : (bytes bytes' : Bytes) (drb : List ℕ) → SameRows bytes bytes' → IsRowsOf bytes drb → IsRowsOf bytes' drb
+rows-same bytes bytes' drb same is row below = is row below ∙ sym (same row below)
+
+windows-same : (bytes bytes' : Bytes) (pam : List ℕ) → SameWindows bytes bytes' → IsPamOf bytes pam → IsPamOf bytes' pam
+windows-same bytes bytes' pam same is off within = is off within ∙ sym (same off within)
+
+cards-same : (setup : Setup) (bytes bytes' : Bytes) (cards : List CardBytes) → AreCards cards → SameCards bytes bytes' →
+    AreDecoded setup bytes cards → AreDecoded setup bytes' cards
+cards-same setup bytes bytes' cards each same are =
+    (are.0,
+    (λ k d within.
+    let card : CardBytes = get_or cards k d in
+    decodes-same setup bytes bytes' card (same card.card.dev (each k d within).first) (are.1 k d within)))
+
+pub stands-same : (setup : Setup) (bytes bytes' : Bytes) (regs : MapBytes) → AreFitted regs.cards → SameMap bytes bytes' →
+    StandsFor setup bytes regs → StandsFor setup bytes' regs
+stands-same setup bytes bytes' regs fitted same stands = record {
+  rows = rows-same bytes bytes' regs.drb same.rows stands.rows;
+  hole = stands.hole ∙ sym same.hole;
+  windows = windows-same bytes bytes' regs.pam same.windows stands.windows;
+  smram = stands.smram ∙ sym same.smram;
+  xbcs = stands.xbcs ∙ sym same.xbcs;
+  cards = cards-same setup bytes bytes' regs.cards fitted.each same.cards stands.cards;
+}
+
+-- ---- a byte is stored in the host bridge
+
+-- the bytes of all other functions stay
+isa_stays : (setup : Setup) (bytes : Bytes) (off written : ℕ) → stored setup bytes (bridge off) written (isa 0x4E) ≡ bytes (isa 0x4E)
+isa_stays setup bytes off written = stored-elsewhere setup bytes (bridge off) written (isa 0x4E) (inl (omega arith))
+
+cards_stay : (setup : Setup) (bytes : Bytes) (off written : ℕ) → SameCards bytes (stored setup bytes (bridge off) written)
+cards_stay setup bytes off written dev above at _ =
+    stored-elsewhere setup bytes (bridge off) written (card_register dev at) (inl (omega arith))
+
+rows_stay : (setup : Setup) (bytes : Bytes) (off written : ℕ) → (off < 0x60) ⊎ (0x67 < off) → SameRows bytes (stored setup bytes (bridge off) written)
+rows_stay setup bytes off written (inl below) row within =
+    stored-elsewhere setup bytes (bridge off) written (bridge (0x60 + row)) (inr (inr (omega arith)))
+rows_stay setup bytes off written (inr above) row within =
+    stored-elsewhere setup bytes (bridge off) written (bridge (0x60 + row)) (inr (inr (omega arith)))
+
+windows_stay : (setup : Setup) (bytes : Bytes) (off written : ℕ) → (off < 0x59) ⊎ (0x5F < off) → SameWindows bytes (stored setup bytes (bridge off) written)
+windows_stay setup bytes off written (inl below) at within =
+    stored-elsewhere setup bytes (bridge off) written (bridge at) (inr (inr (omega (arith, within.0, within.1))))
+windows_stay setup bytes off written (inr above) at within =
+    stored-elsewhere setup bytes (bridge off) written (bridge at) (inr (inr (omega (arith, within.0, within.1))))
+
+one_stays : (setup : Setup) (bytes : Bytes) (off written at : ℕ) → off ≢ at → stored setup bytes (bridge off) written (bridge at) ≡ bytes (bridge at)
+one_stays setup bytes off written at apart = stored-elsewhere setup bytes (bridge off) written (bridge at) (inr (inr apart))
+
+pub pam_stored :
+    (setup : Setup) (bytes : Bytes) (regs : MapBytes) (pam : List ℕ) (off written : ℕ) → AreFitted regs.cards → IsPamOffset off →
+    IsPamOf (stored setup bytes (bridge off) written) pam → StandsFor setup bytes regs →
+    StandsFor setup (stored setup bytes (bridge off) written) (record regs { pam = pam })
+pam_stored setup bytes regs pam off written fitted within is stands =
+    let new : Bytes = stored setup bytes (bridge off) written in
+    record {
+      rows = rows-same bytes new regs.drb (rows_stay setup bytes off written (inl (omega (arith, within.1)))) stands.rows;
+      hole = stands.hole ∙ sym (one_stays setup bytes off written 0x68 (omega (arith, within.1)));
+      windows = is;
+      smram = stands.smram ∙ sym (one_stays setup bytes off written 0x72 (omega (arith, within.1)));
+      xbcs = stands.xbcs ∙ sym (isa_stays setup bytes off written);
+      cards = cards-same setup bytes new regs.cards fitted.each (cards_stay setup bytes off written) stands.cards;
+    }
+
+row_is_stored :
+    (setup : Setup) (bytes : Bytes) (drb : List ℕ) (row written : ℕ) → length drb ≡ 8 → row < 8 → written < 256 → IsRowsOf bytes drb →
+    IsRowsOf (stored setup bytes (bridge (0x60 + row)) written) (set drb row written)
+row_is_stored setup bytes drb row written eight within below is at at_within =
+    elim (cases_eq at row) [
+      | inl same ↦ subst (λ (k : ℕ). slice_index (set drb row written) k ≡ stored setup bytes (bridge (0x60 + row)) written (bridge (0x60 + k))) (sym same)
+          (get_or-set_same drb row written 0 (omega arith)
+          ∙ sym (there setup bytes (0x60 + row) written 0xFF below (omega arith) (writable_bits-row setup row within) ∙ merged-all (bytes (bridge (0x60 + row))) written below))
+      | inr apart ↦
+          get_or-set_other drb row at written 0 apart
+          ∙ is at at_within
+          ∙ sym (one_stays setup bytes (0x60 + row) written (0x60 + at) (λ e. apart (omega arith)))
+    ]
+
+pub row_stored :
+    (setup : Setup) (bytes : Bytes) (regs : MapBytes) (row written : ℕ) → AreFitted regs.cards → length regs.drb ≡ 8 → row < 8 → written < 256 →
+    StandsFor setup bytes regs → StandsFor setup (stored setup bytes (bridge (0x60 + row)) written) (record regs { drb = set regs.drb row written })
+row_stored setup bytes regs row written fitted eight within below stands =
+    let off : ℕ = 0x60 + row in
+    let new : Bytes = stored setup bytes (bridge (0x60 + row)) written in
+    record {
+      rows = row_is_stored setup bytes regs.drb row written eight within below stands.rows;
+      hole = stands.hole ∙ sym (one_stays setup bytes (0x60 + row) written 0x68 (omega arith));
+      windows = windows-same bytes new regs.pam (windows_stay setup bytes (0x60 + row) written (inr (omega arith))) stands.windows;
+      smram = stands.smram ∙ sym (one_stays setup bytes (0x60 + row) written 0x72 (omega arith));
+      xbcs = stands.xbcs ∙ sym (isa_stays setup bytes (0x60 + row) written);
+      cards = cards-same setup bytes new regs.cards fitted.each (cards_stay setup bytes (0x60 + row) written) stands.cards;
+    }
+
+pub hole_stored :
+    (setup : Setup) (bytes : Bytes) (regs : MapBytes) (written : ℕ) → AreFitted regs.cards → written < 256 →
+    StandsFor setup bytes regs → StandsFor setup (stored setup bytes (bridge 0x68) written) (record regs { fdhc = merged 0xC0 regs.fdhc written })
+hole_stored setup bytes regs written fitted below stands =
+    let new : Bytes = stored setup bytes (bridge 0x68) written in
+    record {
+      rows = rows-same bytes new regs.drb (rows_stay setup bytes 0x68 written (inr (omega arith))) stands.rows;
+      hole = ap (λ (old : ℕ). merged 0xC0 old written) stands.hole ∙ sym (there setup bytes 0x68 written 0xC0 below (omega arith) (writable_bits-hole setup));
+      windows = windows-same bytes new regs.pam (windows_stay setup bytes 0x68 written (inr (omega arith))) stands.windows;
+      smram = stands.smram ∙ sym (one_stays setup bytes 0x68 written 0x72 (omega arith));
+      xbcs = stands.xbcs ∙ sym (isa_stays setup bytes 0x68 written);
+      cards = cards-same setup bytes new regs.cards fitted.each (cards_stay setup bytes 0x68 written) stands.cards;
+    }
+
+smram_byte : (setup : Setup) (bytes : Bytes) (written : ℕ) → written < 256 →
+    smram_after (bytes (bridge 0x72)) written ≡ stored setup bytes (bridge 0x72) written (bridge 0x72)
+smram_byte setup bytes written below =
+    let whole : byte written 0 ≡ written = omega arith in ap (λ (n : ℕ). smram_after (bytes (bridge 0x72)) n) (sym whole)
+
+pub smram_stored :
+    (setup : Setup) (bytes : Bytes) (regs : MapBytes) (written : ℕ) → AreFitted regs.cards → written < 256 →
+    StandsFor setup bytes regs → StandsFor setup (stored setup bytes (bridge 0x72) written) (record regs { smram = smram_after regs.smram written })
+smram_stored setup bytes regs written fitted below stands =
+    let new : Bytes = stored setup bytes (bridge 0x72) written in
+    record {
+      rows = rows-same bytes new regs.drb (rows_stay setup bytes 0x72 written (inr (omega arith))) stands.rows;
+      hole = stands.hole ∙ sym (one_stays setup bytes 0x72 written 0x68 (omega arith));
+      windows = windows-same bytes new regs.pam (windows_stay setup bytes 0x72 written (inr (omega arith))) stands.windows;
+      smram = ap (λ (old : ℕ). smram_after old written) stands.smram ∙ smram_byte setup bytes written below;
+      xbcs = stands.xbcs ∙ sym (isa_stays setup bytes 0x72 written);
+      cards = cards-same setup bytes new regs.cards fitted.each (cards_stay setup bytes 0x72 written) stands.cards;
+    }
+
+-- none of the registers of the map has this offset in the host bridge
+pub record IsBeside (off : ℕ) : Type 0 where
+  pub windows : (off < 0x59) ⊎ (0x5F < off)
+  pub rows : (off < 0x60) ⊎ (0x67 < off)
+  pub hole : off ≢ 0x68
+  pub smram : off ≢ 0x72
+
+pub beside_stored : (setup : Setup) (bytes : Bytes) (off written : ℕ) → IsBeside off → SameMap bytes (stored setup bytes (bridge off) written)
+beside_stored setup bytes off written beside = record {
+  rows = rows_stay setup bytes off written beside.rows;
+  hole = one_stays setup bytes off written 0x68 beside.hole;
+  windows = windows_stay setup bytes off written beside.windows;
+  smram = one_stays setup bytes off written 0x72 beside.smram;
+  xbcs = isa_stays setup bytes off written;
+  cards = cards_stay setup bytes off written;
+}

@@ -1,3 +1,0 @@
-use Rattle.addr_decode.proofs.stub.card_reset.Goals as goal
-pub returns-clause-reset : goal.returns-clause-reset
-returns-clause-reset c = ?
