@@ -155,3 +155,18 @@ reset_decoded setup cards fitted reset same =
     ∙ subst (λ (card : FittedCard). find (λ other. other.dev == card.dev) (cards_of cards) ≡ Some card)
     (get_or-map (λ (it : CardBytes). it.card) cards k d d.card within)
     (find_at (cards_of cards) fitted.rises k d.card (omega (arith, length-map cards (λ (it : CardBytes). it.card)))))))
+
+-- ---- the same cards in other states
+
+pub fitted_same : (cards cards' : List CardBytes) → cards_of cards' ≡ cards_of cards → AreFitted cards → AreFitted cards'
+fitted_same cards cards' same fitted = record {
+  each = λ k d within.
+      let long : length cards' ≡ length cards =
+      sym (length-map cards' (λ (it : CardBytes). it.card)) ∙ ap (λ (list : List FittedCard). length list) same ∙ length-map cards (λ (it : CardBytes). it.card) in
+      let card_is : (get_or cards k d).card ≡ (get_or cards' k d).card =
+      sym (get_or-map (λ (it : CardBytes). it.card) cards k d d.card (omega arith))
+      ∙ sym (ap (λ (list : List FittedCard). get_or list k d.card) same)
+      ∙ get_or-map (λ (it : CardBytes). it.card) cards' k d d.card within in
+      subst IsCard card_is (fitted.each k d (omega arith));
+  rises = subst Rises (sym same) fitted.rises;
+}

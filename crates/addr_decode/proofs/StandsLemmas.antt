@@ -18,7 +18,7 @@ use Rattle.pam_windows.specs.Pam.{IsPamOffset, IsPamOf}
 use Rattle.pam_windows.proofs.PamLemmas.{zeros_at_reset}
 use Rattle.smram_ctl.proofs.ControlLemmas.{reset_byte-smram}
 use Rattle.pci_bars.specs.Cards.{CardBytes, DecodesAs, AreCards, AreDecoded, cards_of}
-use Rattle.addr_decode.specs.MapRegs.{MapBytes, AreFitted, AreReset, StandsFor, stored}
+use Rattle.addr_decode.specs.MapRegs.{MapBytes, AreFitted, AreReset, IsRowOffset, StandsFor, stored}
 use Rattle.addr_decode.proofs.StoreLemmas.{Differs, stored-elsewhere}
 use Rattle.addr_decode.proofs.CardLemmas.{IsMapOffset, SameCard, decodes-same, reset_decoded}
 
@@ -147,19 +147,27 @@ row_is_stored setup bytes drb row written eight within below is at at_within =
           ∙ sym (one_stays setup bytes (0x60 + row) written (0x60 + at) (λ e. apart (omega arith)))
     ]
 
+pub rows_stored :
+    (setup : Setup) (bytes : Bytes) (drb : List ℕ) (off row written : ℕ) → length drb ≡ 8 → IsRowOffset off → row ≡ off - 0x60 → written < 256 →
+    IsRowsOf bytes drb → IsRowsOf (stored setup bytes (bridge off) written) (set drb row written)
+rows_stored setup bytes drb off row written eight within at_row below is =
+    let off_is : 0x60 + row ≡ off = omega (arith, within.0) in
+    subst (λ (at : ℕ). IsRowsOf (stored setup bytes (bridge at) written) (set drb row written)) off_is
+    (row_is_stored setup bytes drb row written eight (omega (arith, within.1)) below is)
+
 pub row_stored :
-    (setup : Setup) (bytes : Bytes) (regs : MapBytes) (row written : ℕ) → AreFitted regs.cards → length regs.drb ≡ 8 → row < 8 → written < 256 →
-    StandsFor setup bytes regs → StandsFor setup (stored setup bytes (bridge (0x60 + row)) written) (record regs { drb = set regs.drb row written })
-row_stored setup bytes regs row written fitted eight within below stands =
-    let off : ℕ = 0x60 + row in
-    let new : Bytes = stored setup bytes (bridge (0x60 + row)) written in
+    (setup : Setup) (bytes : Bytes) (regs : MapBytes) (drb : List ℕ) (off written : ℕ) → AreFitted regs.cards → IsRowOffset off →
+    IsRowsOf (stored setup bytes (bridge off) written) drb → StandsFor setup bytes regs →
+    StandsFor setup (stored setup bytes (bridge off) written) (record regs { drb = drb })
+row_stored setup bytes regs drb off written fitted within is stands =
+    let new : Bytes = stored setup bytes (bridge off) written in
     record {
-      rows = row_is_stored setup bytes regs.drb row written eight within below stands.rows;
-      hole = stands.hole ∙ sym (one_stays setup bytes (0x60 + row) written 0x68 (omega arith));
-      windows = windows-same bytes new regs.pam (windows_stay setup bytes (0x60 + row) written (inr (omega arith))) stands.windows;
-      smram = stands.smram ∙ sym (one_stays setup bytes (0x60 + row) written 0x72 (omega arith));
-      xbcs = stands.xbcs ∙ sym (isa_stays setup bytes (0x60 + row) written);
-      cards = cards-same setup bytes new regs.cards fitted.each (cards_stay setup bytes (0x60 + row) written) stands.cards;
+      rows = is;
+      hole = stands.hole ∙ sym (one_stays setup bytes off written 0x68 (omega (arith, within.1)));
+      windows = windows-same bytes new regs.pam (windows_stay setup bytes off written (inr (omega (arith, within.0)))) stands.windows;
+      smram = stands.smram ∙ sym (one_stays setup bytes off written 0x72 (omega (arith, within.1)));
+      xbcs = stands.xbcs ∙ sym (isa_stays setup bytes off written);
+      cards = cards-same setup bytes new regs.cards fitted.each (cards_stay setup bytes off written) stands.cards;
     }
 
 pub hole_stored :
@@ -211,3 +219,72 @@ beside_stored setup bytes off written beside = record {
   xbcs = isa_stays setup bytes off written;
   cards = cards_stay setup bytes off written;
 }
+
+-- ---- a byte is stored in the ISA bridge, in a function without registers of the map, or in a card
+
+isa_is_stored : (setup : Setup) (bytes : Bytes) (written : ℕ) → written < 256 →
+    merged 0xC7 (bytes (isa 0x4E)) written ≡ stored setup bytes (isa 0x4E) written (isa 0x4E)
+unfolding writable_bits isa_bridge
+isa_is_stored setup bytes written below = sym (changed_byte-one_same setup (isa 0x4E) (bytes (isa 0x4E)) written below refl)
+
+beside_bridge : (setup : Setup) (bytes : Bytes) (at : Reg) (written off : ℕ) → (at.dev ≢ 0) ⊎ (at.fun ≢ 0) →
+    stored setup bytes at written (bridge off) ≡ bytes (bridge off)
+beside_bridge setup bytes at written off (inl dev) = stored-elsewhere setup bytes at written (bridge off) (inl dev)
+beside_bridge setup bytes at written off (inr fun) = stored-elsewhere setup bytes at written (bridge off) (inr (inl fun))
+
+beside_cards : (setup : Setup) (bytes : Bytes) (at : Reg) (written : ℕ) → (at.dev < 2) ⊎ (at.fun ≢ 0) → SameCards bytes (stored setup bytes at written)
+beside_cards setup bytes at written (inl low) dev above off _ = stored-elsewhere setup bytes at written (card_register dev off) (inl (omega arith))
+beside_cards setup bytes at written (inr fun) dev above off _ = stored-elsewhere setup bytes at written (card_register dev off) (inr (inl fun))
+
+pub xbcs_stored :
+    (setup : Setup) (bytes : Bytes) (regs : MapBytes) (written : ℕ) → AreFitted regs.cards → written < 256 →
+    StandsFor setup bytes regs → StandsFor setup (stored setup bytes (isa 0x4E) written) (record regs { xbcs = merged 0xC7 regs.xbcs written })
+xbcs_stored setup bytes regs written fitted below stands =
+    let new : Bytes = stored setup bytes (isa 0x4E) written in
+    let stays : (off : ℕ) → new (bridge off) ≡ bytes (bridge off) = λ off. beside_bridge setup bytes (isa 0x4E) written off (inl (omega arith)) in
+    record {
+      rows = rows-same bytes new regs.drb (λ row _. stays (0x60 + row)) stands.rows;
+      hole = stands.hole ∙ sym (stays 0x68);
+      windows = windows-same bytes new regs.pam (λ off _. stays off) stands.windows;
+      smram = stands.smram ∙ sym (stays 0x72);
+      xbcs = ap (λ (old : ℕ). merged 0xC7 old written) stands.xbcs ∙ isa_is_stored setup bytes written below;
+      cards = cards-same setup bytes new regs.cards fitted.each (beside_cards setup bytes (isa 0x4E) written (inl (omega arith))) stands.cards;
+    }
+
+pub isa_beside : (setup : Setup) (bytes : Bytes) (off written : ℕ) → off ≢ 0x4E → SameMap bytes (stored setup bytes (isa off) written)
+isa_beside setup bytes off written apart = record {
+  rows = λ row _. beside_bridge setup bytes (isa off) written (0x60 + row) (inl (omega arith));
+  hole = beside_bridge setup bytes (isa off) written 0x68 (inl (omega arith));
+  windows = λ at _. beside_bridge setup bytes (isa off) written at (inl (omega arith));
+  smram = beside_bridge setup bytes (isa off) written 0x72 (inl (omega arith));
+  xbcs = stored-elsewhere setup bytes (isa off) written (isa 0x4E) (inr (inr apart));
+  cards = beside_cards setup bytes (isa off) written (inl (omega arith));
+}
+
+-- a function other than 0 has no register of the map
+pub function_beside : (setup : Setup) (bytes : Bytes) (at : Reg) (written : ℕ) → at.fun ≢ 0 → SameMap bytes (stored setup bytes at written)
+function_beside setup bytes at written fun = record {
+  rows = λ row _. beside_bridge setup bytes at written (0x60 + row) (inr fun);
+  hole = beside_bridge setup bytes at written 0x68 (inr fun);
+  windows = λ off _. beside_bridge setup bytes at written off (inr fun);
+  smram = beside_bridge setup bytes at written 0x72 (inr fun);
+  xbcs = stored-elsewhere setup bytes at written (isa 0x4E) (inr (inl fun));
+  cards = beside_cards setup bytes at written (inr fun);
+}
+
+-- the registers of the bridges stay where a byte is stored in a card
+pub card_stored :
+    (setup : Setup) (bytes : Bytes) (regs : MapBytes) (cards : List CardBytes) (dev off written : ℕ) → dev ≢ 0 → dev ≢ 1 →
+    AreDecoded setup (stored setup bytes (card_register dev off) written) cards →
+    StandsFor setup bytes regs → StandsFor setup (stored setup bytes (card_register dev off) written) (record regs { cards = cards })
+card_stored setup bytes regs cards dev off written not0 not1 are stands =
+    let new : Bytes = stored setup bytes (card_register dev off) written in
+    let stays : (at : ℕ) → new (bridge at) ≡ bytes (bridge at) = λ at. beside_bridge setup bytes (card_register dev off) written at (inl not0) in
+    record {
+      rows = rows-same bytes new regs.drb (λ row _. stays (0x60 + row)) stands.rows;
+      hole = stands.hole ∙ sym (stays 0x68);
+      windows = windows-same bytes new regs.pam (λ at _. stays at) stands.windows;
+      smram = stands.smram ∙ sym (stays 0x72);
+      xbcs = stands.xbcs ∙ sym (stored-elsewhere setup bytes (card_register dev off) written (isa 0x4E) (inl not1));
+      cards = are;
+    }

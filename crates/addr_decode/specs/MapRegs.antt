@@ -1,5 +1,5 @@
 -- The registers that the address map depends on.
-use Rattle.std.specs.Prelude.{◌≡◌, ℕ, ◌+◌, ◌/◌, nat_le, nat_lt, Bool, ◌&&◌, List, All, Some}
+use Rattle.std.specs.Prelude.{◌≡◌, ◌≤◌, ℕ, ◌+◌, ◌/◌, nat_le, nat_lt, Bool, ◌&&◌, List, All, Some}
 use Rattle.board_base.specs.declared.access.Width.{Width}
 use Rattle.board_base.specs.declared.access.Width.TheVariants.{One}
 use Rattle.board_base.specs.declared.target.Reg.{Reg}
@@ -49,6 +49,10 @@ AreReset cards = All IsReset cards
 -- the registers of a board after one byte is stored
 abbrev pub stored : Setup → Bytes → (at : Reg) → (written : ℕ) → Bytes
 stored setup bytes at written = λ reg. changed_byte setup (Store at One written) reg (bytes reg)
+
+-- the offsets of DRB0 to DRB7
+abbrev pub IsRowOffset : ℕ → Type 0
+IsRowOffset off = (0x60 ≤ off) × (off ≤ 0x67)
 
 -- a store from an offset on covers one of the offsets from first to last
 abbrev pub overlaps : (off : ℕ) → Width → (first last : ℕ) → Bool

@@ -7,10 +7,11 @@ ghost use Rattle.board_spec.specs.Decode.{Bytes, bridge, isa};
 ghost use Rattle.board_spec.specs.MapWrites.{reg_after, touches_map};
 ghost use Rattle.pci_bars.specs.Cards.{cards_of};
 ghost use Rattle.pam_windows.specs.Pam.{IsPamOf, IsPamOffset};
-ghost use Rattle.addr_decode.specs.MapRegs.{AreFitted, StandsFor, map_bytes, stored, overlaps};
+ghost use Rattle.pmc_regs.specs.Pmc.{IsRowsOf};
+ghost use Rattle.addr_decode.specs.MapRegs.{AreFitted, IsRowOffset, StandsFor, map_bytes, stored, overlaps};
 
 use crate::cards::{is_fitted, write_card};
-use crate::offsets::{BASES, BASES_END, COMMAND, DRB0, DRB7, FDHC, PAM0, PAM6, SMRAM, XBCS};
+use crate::offsets::{BASES, BASES_END, COMMAND, DRB0, DRB7, FDHC, PAM0, PAM6, SMRAM, XBCS, HOST_BRIDGE, ISA_BRIDGE};
 use crate::regs::MapRegs;
 use board_base::{Reg, Width};
 use board_spec::MapChange;
@@ -28,15 +29,24 @@ pub fn touches(regs: &MapRegs, reg: Reg, width: Width) -> bool
     ensures touched { (setup : Setup) (bytes : Bytes) → StandsFor setup bytes (map_bytes regs.now)
         → result ≡ touches_map setup (Store reg width 0) }
 {
-    match (reg.dev, reg.fun) {
-        (0, 0) => overlaps(reg.off, width, PAM0, FDHC) || overlaps(reg.off, width, SMRAM, SMRAM),
-        (1, 0) => overlaps(reg.off, width, XBCS, XBCS),
-        (dev, 0) => touches_card(reg.off, width) && is_fitted(&regs.cards, dev),
-        _ => false,
+    if reg.fun != 0 {
+        return false;
+    }
+    match reg.dev {
+        HOST_BRIDGE => touches_bridge(reg.off, width),
+        ISA_BRIDGE => overlaps(reg.off, width, XBCS, XBCS),
+        dev => touches_card(reg.off, width) && is_fitted(&regs.cards, dev),
     }
 }
 
-/// Whether a store covers the command or a base of a card.
+/// Whether a store to the host bridge covers PAM, DRB, FDHC or SMRAM.
+fn touches_bridge(off: u8, width: Width) -> bool
+    ensures touched { result ≡ (overlaps off width 0x59 0x68 || overlaps off width 0x72 0x72) }
+{
+    overlaps(off, width, PAM0, FDHC) || overlaps(off, width, SMRAM, SMRAM)
+}
+
+/// Whether a store to a card covers its command or a base.
 fn touches_card(off: u8, width: Width) -> bool
     ensures touched { result ≡ (overlaps off width 0x04 0x04 || overlaps off width 0x10 0x27) }
 {
@@ -98,11 +108,13 @@ impl MapRegs {
             → StandsFor setup (stored setup bytes reg byte) (map_bytes self.new) }
         ensures same_cards { cards_of self.new.cards.items ≡ cards_of self.old.cards.items }
     {
-        match (reg.dev, reg.fun) {
-            (0, 0) => self.store_bridge(reg.off, byte),
-            (1, 0) => self.store_isa(reg.off, byte),
-            (dev, 0) => write_card(&mut self.cards, dev, reg.off, byte),
-            _ => {}
+        if reg.fun != 0 {
+            return;
+        }
+        match reg.dev {
+            HOST_BRIDGE => self.store_bridge(reg.off, byte),
+            ISA_BRIDGE => self.store_isa(reg.off, byte),
+            dev => write_card(&mut self.cards, dev, reg.off, byte),
         }
     }
 
@@ -115,7 +127,7 @@ impl MapRegs {
     {
         match off {
             PAM0..=PAM6 => store_pam(&mut self.pam, off, byte),
-            DRB0..=DRB7 => self.drb[usize::from(off - DRB0)] = byte,
+            DRB0..=DRB7 => store_row(&mut self.drb, off, byte),
             FDHC => self.fdhc = fdhc_after(self.fdhc, byte),
             SMRAM => self.smram = smram_after(self.smram, byte),
             _ => {}
@@ -143,4 +155,13 @@ fn store_pam(pam: &mut [u8; 7], off: u8, byte: u8)
 {
     let at = usize::from(off - PAM0);
     pam[at] = byte & PAM_WRITABLE[at] | pam[at] & !PAM_WRITABLE[at];
+}
+
+/// Stores a byte in a row boundary register.
+fn store_row(drb: &mut [u8; 8], off: u8, byte: u8)
+    requires offset { IsRowOffset off }
+    ensures stored { (setup : Setup) (bytes : Bytes) → IsRowsOf bytes drb.old
+        → IsRowsOf (stored setup bytes (bridge off) byte) drb.new }
+{
+    drb[usize::from(off - DRB0)] = byte;
 }

@@ -5,6 +5,9 @@ ghost use Rattle.board_spec.specs.Decode.{bridge, isa, ide, card_register};
 
 use board_base::{Denial, Reg};
 
+/// The device numbers of the host bridge and of the ISA bridge, each in function 0.
+pub const HOST_BRIDGE: u8 = 0;
+pub const ISA_BRIDGE: u8 = 1;
 /// The PAM registers of the host bridge, PAM0 to PAM6.
 pub const PAM0: u8 = 0x59;
 pub const PAM6: u8 = 0x5F;
