@@ -170,3 +170,15 @@ fitted_same cards cards' same fitted = record {
       subst IsCard card_is (fitted.each k d (omega arith));
   rises = subst Rises (sym same) fitted.rises;
 }
+
+-- no card has the device number of a bridge
+no_low_find : (cards : List CardBytes) (dev : ℕ) → dev < 2 → AreCards cards → is_some (find (λ card. card.dev == dev) (cards_of cards)) ≡ false
+no_low_find [] dev low each = refl
+no_low_find (card ∷ later) dev low each =
+    let here : IsCard card.card = each 0 card (omega arith) in
+    rw (ne_eqb card.card.dev dev (omega (arith, here.first))) (no_low_find later dev low (λ k d within. each (suc k) d (omega arith)))
+
+pub no_low_card : (setup : Setup) (cards : List CardBytes) (dev : ℕ) → dev < 2 → AreCards cards → setup.cards ≡ cards_of cards →
+    is_some (card_at setup dev) ≡ false
+no_low_card setup cards dev low each same =
+    ap (λ (fitted : List FittedCard). is_some (find (λ card. card.dev == dev) fitted)) same ∙ no_low_find cards dev low each

@@ -1,8 +1,10 @@
 -- The registers of the address map among those of a board: after a reset, and where a byte is stored.
-use Rattle.std.proofs.Common.{◌≡◌, ◌≢◌, ℕ, ◌+◌, ◌-◌, ◌<◌, ◌≤◌, ◌⊎◌, inl, inr, List, [], ◌∷◌, length, get_or, set, false, refl, sym, ◌∙◌, ap, subst, arith, get_or-set_same, get_or-set_other}
+use Rattle.std.proofs.Common.{◌≡◌, ◌≢◌, ℕ, ◌+◌, ◌-◌, ◌<◌, ◌≤◌, ◌⊎◌, inl, inr, List, [], ◌∷◌, length, get_or, set, false, refl, sym, ◌∙◌, ap, subst, arith, get_or-set_same, get_or-set_other, add-one}
 use Rattle.std.specs.Prelude.{slice_index, ◌==◌}
 use Rattle.std.proofs.lemmas.Bool.{cases_eq, cond-true}
+use Rattle.board_base.specs.declared.access.Width.{Width}
 use Rattle.board_base.specs.declared.access.Width.TheVariants.{One}
+use Rattle.board_base.specs.Access.{bytes_of}
 use Rattle.board_base.specs.declared.target.Reg.{Reg}
 use Rattle.board_spec.specs.declared.map_change.MapChange.TheVariants.{Store}
 use Rattle.board_spec.specs.Setup.{Setup, IsCard}
@@ -10,7 +12,9 @@ use Rattle.board_spec.specs.Bits.{merged, byte}
 use Rattle.board_spec.specs.RegisterTable.{isa_bridge, reset_byte, writable_bits}
 use Rattle.board_spec.specs.Registers.{changed_byte, smram_after}
 use Rattle.board_spec.specs.Decode.{Bytes, bridge, isa, card_register}
-use Rattle.board_spec.proofs.StoreLemmas.{changed_byte-one_same}
+use Rattle.board_spec.specs.MapWrites.{reg_after}
+use Rattle.board_spec.specs.WideStores.{after_stores}
+use Rattle.board_spec.proofs.StoreLemmas.{changed_byte-one_same, byte_by_byte}
 use Rattle.pmc_regs.specs.Pmc.{IsRowsOf}
 use Rattle.pmc_regs.proofs.TableLemmas.{rows_at_reset, hole_at_reset, writable_bits-row, writable_bits-hole}
 use Rattle.pmc_regs.proofs.PmcLemmas.{merged-all, there, elsewhere}
@@ -47,6 +51,10 @@ stands_at_reset setup cards fitted reset same = record {
   xbcs = xbcs_at_reset setup;
   cards = reset_decoded setup cards fitted reset same;
 }
+
+below_256 : (at off : ℕ) → 256 ≤ at → IsMapOffset off → at ≢ off
+below_256 at off past (inl command) = omega arith
+below_256 at off past (inr bases) = omega (arith, bases.1)
 
 -- ---- registers that agree
 
@@ -288,3 +296,48 @@ card_stored setup bytes regs cards dev off written not0 not1 are stands =
       xbcs = stands.xbcs ∙ sym (stored-elsewhere setup bytes (card_register dev off) written (isa 0x4E) (inl not1));
       cards = are;
     }
+
+-- nor has a byte past offset FFh
+pub beyond : (setup : Setup) (bytes : Bytes) (at : Reg) (written : ℕ) → 256 ≤ at.off → SameMap bytes (stored setup bytes at written)
+beyond setup bytes at written past = record {
+  rows = λ row below. stored-elsewhere setup bytes at written (bridge (0x60 + row)) (inr (inr (omega arith)));
+  hole = stored-elsewhere setup bytes at written (bridge 0x68) (inr (inr (omega arith)));
+  windows = λ off within. stored-elsewhere setup bytes at written (bridge off) (inr (inr (omega (arith, within.1))));
+  smram = stored-elsewhere setup bytes at written (bridge 0x72) (inr (inr (omega arith)));
+  xbcs = stored-elsewhere setup bytes at written (isa 0x4E) (inr (inr (omega arith)));
+  cards = λ dev above off inside. stored-elsewhere setup bytes at written (card_register dev off) (inr (inr (below_256 at.off off past inside)));
+}
+
+-- ---- the bytes of a store, one after the other
+
+abbrev pub stored_so_far : Setup → Bytes → (at : Reg) → (value count : ℕ) → Bytes
+stored_so_far setup bytes at value count = λ reg. after_stores setup at value count reg (bytes reg)
+
+pub none_stored : (setup : Setup) (bytes : Bytes) (at : Reg) (value : ℕ) (regs : MapBytes) → AreFitted regs.cards → StandsFor setup bytes regs →
+    StandsFor setup (stored_so_far setup bytes at value 0) regs
+unfolding after_stores
+none_stored setup bytes at value regs fitted stands = stands
+
+pub one_more_stored : (setup : Setup) (bytes : Bytes) (at : Reg) (value count : ℕ) (regs : MapBytes) →
+    StandsFor setup (stored setup (stored_so_far setup bytes at value count) (reg_after at count) (byte value count)) regs →
+    StandsFor setup (stored_so_far setup bytes at value (count + 1)) regs
+unfolding after_stores
+one_more_stored setup bytes at value count regs stands = rw (add-one count) stands
+
+pub all_stored : (setup : Setup) (bytes : Bytes) (at : Reg) (width : Width) (value : ℕ) (regs : MapBytes) → AreFitted regs.cards →
+    StandsFor setup (stored_so_far setup bytes at value (bytes_of width)) regs →
+    StandsFor setup (λ reg. changed_byte setup (Store at width value) reg (bytes reg)) regs
+all_stored setup bytes at width value regs fitted stands =
+    let new : Bytes = λ reg. changed_byte setup (Store at width value) reg (bytes reg) in
+    let far : Bytes = stored_so_far setup bytes at value (bytes_of width) in
+    let same : (reg : Reg) → new reg ≡ far reg = λ reg. byte_by_byte setup at width value reg (bytes reg) in
+    stands-same setup far new regs fitted
+    (record {
+      rows = λ row _. same (bridge (0x60 + row));
+      hole = same (bridge 0x68);
+      windows = λ off _. same (bridge off);
+      smram = same (bridge 0x72);
+      xbcs = same (isa 0x4E);
+      cards = λ dev _ off _. same (card_register dev off);
+    })
+    stands

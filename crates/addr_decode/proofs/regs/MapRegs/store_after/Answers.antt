@@ -1,0 +1,15 @@
+use Rattle.std.proofs.Common.{◌≡◌, ◌≤◌, ◌+◌, ap, subst, arith}
+use Rattle.board_base.specs.declared.target.Reg.{Reg}
+use Rattle.board_spec.specs.MapWrites.{reg_after}
+use Rattle.addr_decode.specs.MapRegs.{StandsFor, map_bytes, stored}
+use Rattle.addr_decode.proofs.StandsLemmas.{stands-same, beyond}
+use Rattle.addr_decode.proofs.regs.MapRegs.store_after.Goals as goal
+
+pub returns-in-Some-clause-stands : goal.returns-in-Some-clause-stands
+returns-in-Some-clause-stands c = ?
+
+pub returns-in-None-clause-stands : goal.returns-in-None-clause-stands
+returns-in-None-clause-stands c = λ setup bytes stands.
+    let past : 256 ≤ c.args.reg.off + c.args.k = ? in
+    stands-same setup bytes (stored setup bytes (reg_after c.args.reg c.args.k) c.args.byte) (map_bytes c.args.self.now) c.requires.cards
+    (beyond setup bytes (reg_after c.args.reg c.args.k) c.args.byte past) stands
