@@ -40,11 +40,11 @@ pick-append counts place xs ys =
 
 -- ---- the bases of one card
 
-abbrev window_in : Space → Bytes → ℕ → ℕ → Base → List Window
+abbrev pub window_in : Space → Bytes → ℕ → ℕ → Base → List Window
 window_in Memory bytes dev k base = memory_window bytes dev k base
 window_in Ports bytes dev k base = io_window bytes dev k base
 
-abbrev base_windows : Space → Bytes → ℕ → ℕ → List Base → List Window
+abbrev pub base_windows : Space → Bytes → ℕ → ℕ → List Base → List Window
 base_windows space bytes dev k bases = flat_map (λ numbered. window_in space bytes dev numbered.0 numbered.1) (enumerate_from k bases)
 
 abbrev of_dev : ℕ → Option ℕ → Option (ℕ × ℕ)

@@ -1,7 +1,8 @@
 -- The base address registers of a card by their numbers.
-use Rattle.std.specs.Prelude.{ℕ, ◌^◌, List, Option, slice_get}
+use Rattle.std.specs.Prelude.{ℕ, ◌^◌, ◌==◌, if◌then◌else◌, List, Option, slice_get}
 use Rattle.std.specs.Option.{option_map_or}
-use Rattle.board_spec.specs.Setup.{Base, MemoryBase, IoBase}
+use Rattle.board_spec.specs.Setup.{Base, MemoryBase, IoBase, FittedCard}
+use Rattle.board_spec.specs.Answer.{bits_of_base, base_of_card}
 use Rattle.pci_bars.specs.declared.spec.BaseSpec.{BaseSpec}
 use Rattle.pci_bars.specs.declared.spec.BaseSpec.TheVariants.{Memory, Io}
 
@@ -17,3 +18,7 @@ base_size (IoBase bits) = 2 ^ bits
 -- a number that each base has, and 0 where there is no base of this number
 abbrev pub of_base : (Base → ℕ) → List Base → ℕ → ℕ
 of_base number_of bases k = option_map_or number_of (slice_get bases k) 0
+
+-- how many low bits of an address lie within a base of a card, as `window_bits` says it of a setup's
+abbrev pub bits_in : Option FittedCard → ℕ → ℕ
+bits_in card base = if base == 7 then 17 else bits_of_base (base_of_card card base)

@@ -1,9 +1,10 @@
 //! Which card answers at an address or a port (PCI Local Bus 2.1, sections 6.2.2 and 6.2.5).
-ghost use Rattle.std.specs.Prelude.{◌≡◌, ◌≤◌, ℕ, All, false, length, map, option_map};
+ghost use Rattle.std.specs.Prelude.{◌≡◌, ◌≤◌, ◌%◌, ◌^◌, ◌==◌, ℕ, All, Some, false, find, length, map, option_map};
 ghost use Rattle.board_spec.specs.Setup.{Setup, IsBase, IsCard};
-ghost use Rattle.board_spec.specs.Decode.{Bytes, memory_claim, memory_shut, io_claim, io_shut};
-ghost use Rattle.pci_bars.specs.Bases.{base_of};
-ghost use Rattle.pci_bars.specs.Cards.{AreCards, AreDecoded};
+ghost use Rattle.board_spec.specs.Answer.{window_bits};
+ghost use Rattle.board_spec.specs.Decode.{Bytes, Window, memory_claim, memory_shut, io_claim, io_shut};
+ghost use Rattle.pci_bars.specs.Bases.{base_of, bits_in};
+ghost use Rattle.pci_bars.specs.Cards.{AreCards, AreDecoded, cards_of};
 ghost use Rattle.pci_bars.specs.Claims.{covers, covering, vga_claim, covering_base, is_enabled, first_claim};
 
 use crate::regs::CardRegs;
@@ -59,6 +60,44 @@ pub fn shut_io(cards: &[CardRegs], port: u16) -> Option<u8>
         → result ≡ option_map (λ window. window.dev) (io_shut setup bytes port) }
 {
     first_shut(cards, Space::Ports, u32::from(port))
+}
+
+/// Where a place lies in a base of a card: the remainder by the size of the base, which is 128 KiB for
+/// base 7. A base that no card has counts as a single place.
+pub fn offset_in(cards: &[CardRegs], dev: u8, base: u8, place: u32) -> u32
+    requires cards { AreCards cards.now }
+    ensures offset { (setup : Setup) → setup.cards ≡ cards_of cards.now
+        → result ≡ place % 2 ^ window_bits setup dev base }
+    ensures memory { (setup : Setup) (bytes : Bytes) (window : Window) → AreDecoded setup bytes cards.now
+        → memory_claim setup bytes place ≡ Some window → window.dev ≡ dev → window.base ≡ base
+        → result ≡ place % 2 ^ window.bits }
+    ensures ports { (setup : Setup) (bytes : Bytes) (window : Window) → AreDecoded setup bytes cards.now
+        → io_claim setup bytes place ≡ Some window → window.dev ≡ dev → window.base ≡ base
+        → result ≡ place % 2 ^ window.bits }
+{
+    low_bits(place, bits_at(cards, dev, base))
+}
+
+/// The lowest bits of a number.
+fn low_bits(number: u32, count: u8) -> u32
+    requires count { count ≤ 24 }
+    ensures low { result ≡ number % 2 ^ count }
+{
+    number % (1 << count)
+}
+
+/// The power of two of the size of a base of a card. 0 where no card has it.
+fn bits_at(cards: &[CardRegs], dev: u8, base: u8) -> u8
+    requires cards { AreCards cards.now }
+    ensures bits { result ≡ bits_in (find (λ card. card.dev == dev) (cards_of cards.now)) base }
+    ensures most { result ≤ 24 }
+{
+    for card in cards {
+        if card.spec.dev == dev {
+            return card.spec.window_bits(base);
+        }
+    }
+    if base == VGA_BASE { VGA_BITS } else { 0 }
 }
 
 /// The first device that covers a place and is not enabled.

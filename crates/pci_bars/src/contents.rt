@@ -117,12 +117,11 @@ fn size_of(specs: &[CardSpec], dev: u8, base: u8) -> usize
 }
 
 /// Writes a value from a place on, its low byte first.
-fn put(bytes: &mut Vec<u8>, at: usize, width: Width, value: u32)
-    requires place { at + bytes_of width ≤ length bytes.old.items }
+fn put(bytes: &mut [u8], at: usize, width: Width, value: u32)
+    requires place { at + bytes_of width ≤ length bytes.old }
     requires value { value ≤ largest_of width }
-    ensures bytes { (k : ℕ) → slice_index bytes.new.items k
-        ≡ (if nat_le at k && nat_lt k (at + bytes_of width) then byte value (k - at) else slice_index bytes.old.items k) }
-    ensures length { length bytes.new.items ≡ length bytes.old.items }
+    ensures bytes { (k : ℕ) → slice_index bytes.new k
+        ≡ (if nat_le at k && nat_lt k (at + bytes_of width) then byte value (k - at) else slice_index bytes.old k) }
 {
     match width {
         Width::One => bytes[at] = value as u8,

@@ -7,7 +7,7 @@ mod contents;
 mod regs;
 mod spec;
 
-pub use claims::{claim_io, claim_mem, shut_io, shut_mem};
+pub use claims::{claim_io, claim_mem, offset_in, shut_io, shut_mem};
 pub use contents::Contents;
 pub use regs::CardRegs;
 pub use spec::{BaseSpec, CardSpec};

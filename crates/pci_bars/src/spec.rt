@@ -1,8 +1,9 @@
 //! What a card is: its device number, whether it is a VGA adapter, and its bases.
 ghost use Rattle.std.specs.Prelude.{◌≡◌, ◌^◌, ◌≤◌, ℕ, Some, option_map, slice_get, slice_index};
 ghost use Rattle.board_spec.specs.Setup.{IsBase, IsCard};
+ghost use Rattle.board_spec.specs.Answer.{bits_of_base};
 ghost use Rattle.board_spec.specs.RegisterTable.{base_reset, base_writable};
-ghost use Rattle.pci_bars.specs.Bases.{base_of, base_size, of_base};
+ghost use Rattle.pci_bars.specs.Bases.{base_of, base_size, bits_in, of_base};
 ghost use Rattle.pci_bars.specs.Contents.{window_size};
 
 use arrayvec::ArrayVec;
@@ -33,6 +34,7 @@ impl BaseSpec {
     /// The power of two.
     fn bits(self) -> u8
         requires base { IsBase (base_of self) }
+        ensures bits { result ≡ bits_of_base (Some (base_of self)) }
         ensures size { 2 ^ result ≡ base_size (base_of self) }
         ensures most { result ≤ 24 }
     {
@@ -43,7 +45,7 @@ impl BaseSpec {
     }
 
     /// How many addresses or ports it decodes.
-    pub fn size(self) -> u32
+    pub(crate) fn size(self) -> u32
         requires base { IsBase (base_of self) }
         ensures size { result ≡ base_size (base_of self) }
     {
@@ -51,7 +53,7 @@ impl BaseSpec {
     }
 
     /// The bits of its register that can be written: those that place it.
-    pub fn writable(self) -> u32
+    pub(crate) fn writable(self) -> u32
         requires base { IsBase (base_of self) }
         ensures writable { result ≡ base_writable (base_of self) }
     {
@@ -59,7 +61,7 @@ impl BaseSpec {
     }
 
     /// Its register after a reset. Bit 0 is 1 for I/O ports.
-    pub fn after_reset(self) -> u32
+    pub(crate) fn after_reset(self) -> u32
         ensures reset { result ≡ base_reset (base_of self) }
     {
         match self {
@@ -113,14 +115,14 @@ impl CardSpec {
     }
 
     /// The base of a number, where the card has it.
-    pub fn base(&self, index: usize) -> Option<BaseSpec>
+    pub(crate) fn base(&self, index: usize) -> Option<BaseSpec>
         ensures base { option_map base_of result ≡ slice_get self.now.bases index }
     {
         self.bases.get(index).copied()
     }
 
     /// The base address registers after a reset. Where the card has no base, 0.
-    pub fn reset_bases(&self) -> [u32; BASES]
+    pub(crate) fn reset_bases(&self) -> [u32; BASES]
         ensures reset { (k : ℕ) → slice_index result k ≡ of_base base_reset self.now.bases k }
     {
         let mut values = [0; BASES];
@@ -131,7 +133,7 @@ impl CardSpec {
     }
 
     /// The bits of a base address register that can be written. None of them where the card has no base.
-    pub fn writable(&self, index: usize) -> u32
+    pub(crate) fn writable(&self, index: usize) -> u32
         requires card { IsCard self.now }
         ensures writable { result ≡ of_base base_writable self.now.bases index }
     {
@@ -142,7 +144,7 @@ impl CardSpec {
     }
 
     /// How many bytes a base has. None where it does not exist. Base 7 is the VGA window.
-    pub fn window_size(&self, base: u8) -> usize
+    pub(crate) fn window_size(&self, base: u8) -> usize
         requires card { IsCard self.now }
         ensures size { result ≡ window_size (Some self.now) base }
     {
@@ -151,6 +153,22 @@ impl CardSpec {
         }
         match self.base(usize::from(base)) {
             Some(spec) => spec.size() as usize,
+            None => 0,
+        }
+    }
+
+    /// How many low bits of an address lie within a base: the power of two of its size. 0 where it does
+    /// not exist. Base 7 is the VGA window.
+    pub(crate) fn window_bits(&self, base: u8) -> u8
+        requires card { IsCard self.now }
+        ensures bits { result ≡ bits_in (Some self.now) base }
+        ensures most { result ≤ 24 }
+    {
+        if base == VGA_BASE {
+            return VGA_BITS;
+        }
+        match self.base(usize::from(base)) {
+            Some(spec) => spec.bits(),
             None => 0,
         }
     }

@@ -1,0 +1,7 @@
+use Rattle.std.proofs.Common.{◌≡◌}
+use Rattle.std.specs.Prelude.{◌==◌, find, drop}
+use Rattle.pci_bars.specs.Cards.{cards_of}
+use Rattle.pci_bars.proofs.claims.bits_at.Given as goal
+
+abbrev pub invariant-loop-card : goal.invariant-loop-card
+invariant-loop-card l = find (λ card. card.dev == l.dev) (cards_of (drop l.card-index l.cards)) ≡ find (λ card. card.dev == l.dev) (cards_of l.cards)
