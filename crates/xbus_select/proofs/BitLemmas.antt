@@ -1,5 +1,5 @@
 -- A bit of a byte as a test of a mask, and a byte that is merged under a mask of no bits and of all.
-use Rattle.std.proofs.Common.{◌≡◌, ℕ, ◌*◌, ◌^◌, ◌<◌, ◌%◌, not, eqb, ◌∙◌, ap, arith}
+use Rattle.std.proofs.Common.{◌≡◌, ℕ, ◌*◌, ◌<◌, not, eqb, ◌∙◌, ap, arith}
 use Rattle.std.proofs.lemmas.Bool.Decides.{nat_tests}
 use Rattle.std.proofs.lemmas.Nat.Bits.{and_pow, and_high, bit_at-lt}
 use Rattle.std.specs.Int.Bits.{and_zero_r, or_zero_l, or_zero_r}

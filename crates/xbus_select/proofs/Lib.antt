@@ -1,3 +1,4 @@
 pub mod BitLemmas
 pub mod FixedLemmas
 pub mod PiixLemmas
+pub mod PortLemmas

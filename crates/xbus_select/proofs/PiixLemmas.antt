@@ -1,13 +1,13 @@
 -- The chip's registers in the table of registers: after a reset, and after a store of one byte.
-use Rattle.std.proofs.Common.{◌≡◌, ◌≢◌, ℕ, ◌-◌, ◌<◌, ◌⊎◌, inl, inr, [], Bool, true, false, ◌&&◌, ◌||◌, ◌∙◌, refl, sym, ap, subst, arith}
+use Rattle.std.proofs.Common.{◌≡◌, ◌≢◌, ℕ, ◌-◌, ◌<◌, inl, inr, [], false, ◌∙◌, refl, sym, ap, subst, arith}
 use Rattle.std.specs.Prelude.{◌==◌, if◌then◌else◌, None, slice_index}
-use Rattle.std.proofs.lemmas.Bool.{cases_Bool, cases_eq, cond-true, cond-false}
+use Rattle.std.proofs.lemmas.Bool.{cases_Bool, cond-true, cond-false}
 use Rattle.std.proofs.lemmas.Bool.Decides.{nat_tests}
 use Rattle.board_base.specs.declared.access.Width.TheVariants.{One}
 use Rattle.board_base.specs.declared.target.Reg.{Reg}
 use Rattle.board_spec.specs.declared.map_change.MapChange.TheVariants.{Store}
 use Rattle.board_spec.specs.Setup.{Setup}
-use Rattle.board_spec.specs.Bits.{is_within, merged, byte}
+use Rattle.board_spec.specs.Bits.{merged, byte}
 use Rattle.board_spec.specs.RegisterTable.{isa_bridge, ide_function, reset_byte, writable_bits}
 use Rattle.board_spec.specs.Registers.{covers, changed_byte}
 use Rattle.board_spec.specs.Decode.{Bytes, isa, ide}
@@ -59,9 +59,9 @@ registers_at_reset setup =
       timing_low = refl;
       timing_high = refl;
       others = λ other fun off inside fixed.
-        let here : IsFixedAt setup (piix_register fun off) (fixed_byte fun off) = fixed_register setup fun off inside fixed in
-        let there : IsFixedAt other (piix_register fun off) (fixed_byte fun off) = fixed_register other fun off inside fixed in
-        sym here.reset ∙ there.reset;
+          let here : IsFixedAt setup (piix_register fun off) (fixed_byte fun off) = fixed_register setup fun off inside fixed in
+          let there : IsFixedAt other (piix_register fun off) (fixed_byte fun off) = fixed_register other fun off inside fixed in
+          sym here.reset ∙ there.reset;
     }
 
 -- ---- a store of one byte
@@ -93,9 +93,9 @@ stored_to setup bytes old new at written is_piix xbcs ide_command timing_low tim
       timing_low = timing_low ∙ ap (λ (now : ℕ). changed_byte setup (Store at One written) (ide 0x40) now) is_piix.timing_low;
       timing_high = timing_high ∙ ap (λ (now : ℕ). changed_byte setup (Store at One written) (ide 0x41) now) is_piix.timing_high;
       others = λ other fun off inside fixed.
-        let here : IsFixedAt setup (piix_register fun off) (fixed_byte fun off) = fixed_register setup fun off inside fixed in
-        let there : IsFixedAt other (piix_register fun off) (fixed_byte fun off) = fixed_register other fun off inside fixed in
-        kept_byte setup at written fun off (bytes (piix_register fun off)) (fixed_byte fun off) here (is_piix.others other fun off inside fixed ∙ sym there.reset) ∙ there.reset;
+          let here : IsFixedAt setup (piix_register fun off) (fixed_byte fun off) = fixed_register setup fun off inside fixed in
+          let there : IsFixedAt other (piix_register fun off) (fixed_byte fun off) = fixed_register other fun off inside fixed in
+          kept_byte setup at written fun off (bytes (piix_register fun off)) (fixed_byte fun off) here (is_piix.others other fun off inside fixed ∙ sym there.reset) ∙ there.reset;
     }
 
 pub xbcs_stored : (setup : Setup) (bytes : Bytes) (old : PiixBytes) (written : ℕ) → written < 256 → IsPiixOf bytes old → IsPiixOf (λ reg. changed_byte setup (Store (isa 0x4E) One written) reg (bytes reg)) (record old { xbcs = merged 0xC7 old.xbcs written })

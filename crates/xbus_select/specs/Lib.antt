@@ -1,1 +1,2 @@
 pub mod Piix
+pub mod PortSelects

@@ -2,6 +2,7 @@
 //! function 01.1, the BIOS ranges of memory that XBCS selects, and the ports whose devices they select.
 #![tactic(auto)]
 
+pub mod laws;
 mod piix;
 mod xbcs;
 

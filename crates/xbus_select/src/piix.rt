@@ -213,3 +213,88 @@ fn header_byte(header: &[u8; 16], off: u8) -> u8
         0
     }
 }
+
+#[cfg(test)]
+mod tests {
+    use super::*;
+
+    #[test]
+    fn isa_bridge_holds_what_the_datasheet_lists(rt: HostRuntime) {
+        let mut piix = Piix::new();
+        for (off, reset, ones) in [
+            (0x00, 0x86, 0x86),
+            (0x01, 0x80, 0x80),
+            (0x02, 0x00, 0x00),
+            (0x03, 0x70, 0x70),
+            (0x04, 0x07, 0x07),
+            (0x07, 0x02, 0x02),
+            (0x0B, 0x06, 0x06),
+            (0x0E, 0x80, 0x80),
+            (0x40, 0x00, 0x00),
+            (0x4E, 0x03, 0xC7),
+            (0x4F, 0x00, 0x00),
+            (0x5F, 0x00, 0x00),
+        ] {
+            assert_eq!(rt; piix.read(0, off % 0x60), reset, "at {off}");
+            piix.write(0, off % 0x60, 0xFF);
+            assert_eq!(rt; piix.read(0, off % 0x60), ones, "at {off} after ones");
+            piix.reset();
+            assert_eq!(rt; piix.read(0, off % 0x60), reset, "at {off} after a reset");
+        }
+    }
+
+    #[test]
+    fn ide_function_holds_what_the_datasheet_lists(rt: HostRuntime) {
+        let mut piix = Piix::new();
+        for (off, reset, ones) in [
+            (0x02, 0x10, 0x10),
+            (0x04, 0x00, 0x05),
+            (0x06, 0x80, 0x80),
+            (0x09, 0x80, 0x80),
+            (0x0E, 0x00, 0x00),
+            (0x40, 0x00, 0xFF),
+            (0x41, 0x00, 0xFF),
+            (0x42, 0x00, 0x00),
+            (0x4E, 0x00, 0x00),
+            (0x60, 0x00, 0x00),
+        ] {
+            assert_eq!(rt; piix.read(1, off), reset, "at {off}");
+            piix.write(1, off, 0xFF);
+            assert_eq!(rt; piix.read(1, off), ones, "at {off} after ones");
+            piix.reset();
+            assert_eq!(rt; piix.read(1, off), reset, "at {off} after a reset");
+        }
+    }
+
+    #[test]
+    fn ports_are_selected_by_their_bits(rt: HostRuntime) {
+        for (xbcs, command, idetim, port, selected) in [
+            (0x02, 0x00, 0x0000, 0x60, true),
+            (0x02, 0x00, 0x0000, 0x64, true),
+            (0xC5, 0x05, 0xFFFF, 0x60, false),
+            (0x03, 0x05, 0xFFFF, 0x61, false),
+            (0x01, 0x00, 0x0000, 0x70, true),
+            (0x01, 0x00, 0x0000, 0x71, true),
+            (0xC6, 0x05, 0xFFFF, 0x71, false),
+            (0x03, 0x05, 0xFFFF, 0x72, false),
+            (0x00, 0x01, 0x8000, 0x1F0, true),
+            (0x00, 0x01, 0x8000, 0x1F7, true),
+            (0x00, 0x01, 0x8000, 0x3F6, true),
+            (0x03, 0x04, 0x8000, 0x1F0, false),
+            (0x03, 0x01, 0x7FFF, 0x3F6, false),
+            (0x03, 0x05, 0xFFFF, 0x1F8, false),
+            (0x03, 0x05, 0xFFFF, 0x170, false),
+        ] {
+            let mut piix = Piix::new();
+            let [low, high] = u16::to_le_bytes(idetim);
+            piix.write(0, 0x4E, xbcs);
+            piix.write(1, 0x04, command);
+            piix.write(1, 0x40, low);
+            piix.write(1, 0x41, high);
+            assert_eq!(rt; piix.xbcs(), xbcs, "XBCS of {xbcs}");
+            assert_eq!(rt; piix.ide_command(), command, "command of {command}");
+            assert_eq!(rt; piix.idetim(), idetim, "IDETIM of {idetim}");
+            assert_eq!(rt; piix.selects(port), selected, "at {port}");
+        }
+    }
+}

@@ -93,3 +93,54 @@ pub fn rom_offset(xbcs: u8, addr: u32, size: u32) -> Option<u32>
         None
     }
 }
+
+#[cfg(test)]
+mod tests {
+    use super::*;
+
+    #[test]
+    fn bios_ranges_follow_xbcs(rt: HostRuntime) {
+        for (xbcs, addr, offset) in [
+            (0x03, 0x000D_FFFF, None),
+            (0x03, 0x000E_0005, None),
+            (0x03, 0x000F_0000, Some(0x0000)),
+            (0x03, 0x000F_FFFF, Some(0xFFFF)),
+            (0x03, 0x0010_0000, None),
+            (0xBF, 0xFFFE_0000, None),
+            (0x03, 0xFFFF_0000, Some(0x0000)),
+            (0x00, 0xFFFF_FFFF, Some(0xFFFF)),
+            (0x47, 0x000E_0005, Some(0x0005)),
+            (0x47, 0x000E_FFFF, Some(0xFFFF)),
+            (0x47, 0xFFFE_0012, Some(0x0012)),
+            (0x47, 0xFFFD_FFFF, None),
+            (0x7F, 0xFFF8_0000, None),
+            (0x83, 0xFFF8_0034, Some(0x0034)),
+            (0x83, 0xFFFD_FFFF, Some(0xFFFF)),
+            (0x83, 0xFFF7_FFFF, None),
+        ] {
+            assert_eq!(rt;
+                rom_offset(xbcs, addr, 0x1_0000),
+                offset,
+                "at {addr} by {xbcs}"
+            );
+            assert_eq!(rt;
+                rom_selected(xbcs, addr),
+                offset.is_some(),
+                "at {addr} by {xbcs}"
+            );
+        }
+        assert_eq!(rt; rom_offset(0x83, 0xFFFA_0007, 0x8_0000), Some(0x2_0007));
+    }
+
+    #[test]
+    fn reserved_bits_stay_zero(rt: HostRuntime) {
+        for (old, written, after) in [
+            (0x03, 0xFF, 0xC7),
+            (0x03, 0x38, 0x00),
+            (0xC7, 0x47, 0x47),
+            (0x00, 0x84, 0x84),
+        ] {
+            assert_eq!(rt; xbcs_after(old, written), after, "of {written} over {old}");
+        }
+    }
+}

@@ -1,4 +1,4 @@
-use Rattle.std.proofs.Common.{◌∙◌, sym, subst, arith}
+use Rattle.std.proofs.Common.{◌∙◌, arith}
 use Rattle.xbus_select.proofs.PiixLemmas.{ide_byte}
 use Rattle.xbus_select.proofs.piix.Piix.ide_byte.Goals as goal
 

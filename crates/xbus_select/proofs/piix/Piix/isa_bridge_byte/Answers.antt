@@ -1,5 +1,4 @@
-use Rattle.std.proofs.Common.{◌∙◌, sym, subst, arith}
-use Rattle.xbus_select.specs.Piix.{IsPiixOf}
+use Rattle.std.proofs.Common.{◌∙◌, arith}
 use Rattle.xbus_select.proofs.PiixLemmas.{isa_bridge_byte}
 use Rattle.xbus_select.proofs.piix.Piix.isa_bridge_byte.Goals as goal
 

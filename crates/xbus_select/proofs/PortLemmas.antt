@@ -1,0 +1,106 @@
+-- At the ports of the keyboard controller, the clock and the primary IDE channel, the device answers
+-- exactly where the chip selects it.
+use Rattle.std.proofs.Common.{◌≡◌, ◌≢◌, ℕ, ◌↔◌, Bool, true, false, Option, Some, None, refl, sym, ap, subst, arith, inl, inr}
+use Rattle.std.specs.Prelude.{◌&&◌, not, if◌then◌else◌, unwrap_or, option_map}
+use Rattle.std.proofs.lemmas.Bool.{cases_eq, false≢true}
+use Rattle.std.proofs.lemmas.Bool.Decides.{nat_tests}
+use Rattle.board_base.specs.declared.access.Width.TheVariants.{One, Two, Four}
+use Rattle.board_base.specs.declared.target.Dev.{Dev}
+use Rattle.board_base.specs.declared.target.Dev.TheVariants.{Keyboard, Clock, Ata}
+use Rattle.board_base.specs.declared.target.Target.{Target}
+use Rattle.board_base.specs.declared.target.Target.TheVariants.{Device}
+use Rattle.board_base.specs.declared.target.Denial.{Denial}
+use Rattle.board_base.specs.declared.target.Denial.TheVariants.{Register}
+use Rattle.board_spec.specs.Setup.{Setup}
+use Rattle.board_spec.specs.Bits.{is_bit}
+use Rattle.board_spec.specs.Decode.{Bytes, Window, isa, ide, io_claim}
+use Rattle.board_spec.specs.Ports.{device, nobody, card_port, unselected, is_ata_port, port_target_of}
+use Rattle.xbus_select.specs.PortSelects.{AnswersAt, KeyboardAnswers, ClockAnswers, DiskAnswers}
+
+-- ---- a device is no card and not nobody
+
+abbrev is_device : Target → Bool
+is_device (Device dev) = true
+is_device _ = false
+
+card_or_nobody : (claim : Option Window) (port : ℕ) (denial : Denial) → is_device (unwrap_or (option_map (card_port port) claim) (nobody denial)).target ≡ false
+card_or_nobody None port denial = refl
+card_or_nobody (Some window) port denial = refl
+
+not_device : (setup : Setup) (bytes : Bytes) (port : ℕ) (denial : Denial) (dev : Dev) → (unselected setup bytes port denial).target ≢ Device dev
+not_device setup bytes port denial dev is =
+    false≢true (rw (← card_or_nobody (io_claim setup bytes port) port denial) (ap is_device is))
+
+-- ---- a device that answers where a bit is set, or two
+
+by_bit : (setup : Setup) (bytes : Bytes) (port : ℕ) (denial : Denial) (dev : Dev) (selected : Bool) → ((if selected then device dev else unselected setup bytes port denial).target ≡ Device dev) ↔ (selected ≡ true)
+by_bit setup bytes port denial dev true = (λ _. refl, λ _. refl)
+by_bit setup bytes port denial dev false = (λ is. absurd (not_device setup bytes port denial dev is), λ no. absurd (false≢true no))
+
+by_bits : (setup : Setup) (bytes : Bytes) (port : ℕ) (dev : Dev) (first second : Bool) → ((if not first then unselected setup bytes port (Register (ide 0x04)) else if not second then unselected setup bytes port (Register (ide 0x40)) else device dev).target ≡ Device dev) ↔ ((first && second) ≡ true)
+by_bits setup bytes port dev true true = (λ _. refl, λ _. refl)
+by_bits setup bytes port dev true false = (λ is. absurd (not_device setup bytes port (Register (ide 0x40)) dev is), λ no. absurd (false≢true no))
+by_bits setup bytes port dev false second = (λ is. absurd (not_device setup bytes port (Register (ide 0x04)) dev is), λ no. absurd (false≢true no))
+
+-- ---- the ports one by one
+
+at_or_else : (P : ℕ → Type 0) (place port : ℕ) → P place → (port ≢ place → P port) → P port
+at_or_else P place port here elsewhere =
+    elim (cases_eq port place) [ inl same ↦ subst P (sym same) here | inr apart ↦ elsewhere apart ]
+
+pub keyboard_answers : KeyboardAnswers
+unfolding port_target_of
+keyboard_answers setup bytes address disk port is =
+    let At : ℕ → Type 0 = AnswersAt setup bytes address disk One Keyboard in
+    let selected : Bool = is_bit (bytes (isa 0x4E)) 1 in
+    let denial : Denial = Register (isa 0x4E) in
+    at_or_else At 0x60 port (by_bit setup bytes 0x60 denial Keyboard selected)
+    (λ a. at_or_else At 0x64 port (by_bit setup bytes 0x64 denial Keyboard selected)
+    (λ b. absurd (grind (arith, nat_tests))))
+
+pub clock_answers : ClockAnswers
+unfolding port_target_of
+clock_answers setup bytes address disk port is =
+    let At : ℕ → Type 0 = AnswersAt setup bytes address disk One Clock in
+    let selected : Bool = is_bit (bytes (isa 0x4E)) 0 in
+    let denial : Denial = Register (isa 0x4E) in
+    at_or_else At 0x70 port (by_bit setup bytes 0x70 denial Clock selected)
+    (λ a. at_or_else At 0x71 port (by_bit setup bytes 0x71 denial Clock selected)
+    (λ b. absurd (grind (arith, nat_tests))))
+
+-- the data port, in words and doublewords
+word_answers : (setup : Setup) (bytes : Bytes) (address port : ℕ) → is_ata_port port 2 ≡ true → AnswersAt setup bytes address true Two Ata port
+unfolding port_target_of
+word_answers setup bytes address port is =
+    at_or_else (AnswersAt setup bytes address true Two Ata) 0x1F0 port
+    (by_bits setup bytes 0x1F0 Ata (is_bit (bytes (ide 0x04)) 0) (is_bit (bytes (ide 0x41)) 7))
+    (λ a. absurd (grind (arith, nat_tests)))
+
+long_answers : (setup : Setup) (bytes : Bytes) (address port : ℕ) → is_ata_port port 4 ≡ true → AnswersAt setup bytes address true Four Ata port
+unfolding port_target_of
+long_answers setup bytes address port is =
+    at_or_else (AnswersAt setup bytes address true Four Ata) 0x1F0 port
+    (by_bits setup bytes 0x1F0 Ata (is_bit (bytes (ide 0x04)) 0) (is_bit (bytes (ide 0x41)) 7))
+    (λ a. absurd (grind (arith, nat_tests)))
+
+-- the other registers of the channel, in bytes
+register_answers : (setup : Setup) (bytes : Bytes) (address port : ℕ) → is_ata_port port 1 ≡ true → AnswersAt setup bytes address true One Ata port
+unfolding port_target_of
+register_answers setup bytes address port is =
+    let At : ℕ → Type 0 = AnswersAt setup bytes address true One Ata in
+    let enabled : Bool = is_bit (bytes (ide 0x04)) 0 in
+    let decoded : Bool = is_bit (bytes (ide 0x41)) 7 in
+    at_or_else At 0x1F1 port (by_bits setup bytes 0x1F1 Ata enabled decoded)
+    (λ a. at_or_else At 0x1F2 port (by_bits setup bytes 0x1F2 Ata enabled decoded)
+    (λ b. at_or_else At 0x1F3 port (by_bits setup bytes 0x1F3 Ata enabled decoded)
+    (λ c. at_or_else At 0x1F4 port (by_bits setup bytes 0x1F4 Ata enabled decoded)
+    (λ d. at_or_else At 0x1F5 port (by_bits setup bytes 0x1F5 Ata enabled decoded)
+    (λ e. at_or_else At 0x1F6 port (by_bits setup bytes 0x1F6 Ata enabled decoded)
+    (λ f. at_or_else At 0x1F7 port (by_bits setup bytes 0x1F7 Ata enabled decoded)
+    (λ g. at_or_else At 0x3F6 port (by_bits setup bytes 0x3F6 Ata enabled decoded)
+    (λ h. absurd (grind (arith, nat_tests))))))))))
+
+pub disk_answers : DiskAnswers
+disk_answers setup bytes address One port is = register_answers setup bytes address port is
+disk_answers setup bytes address Two port is = word_answers setup bytes address port is
+disk_answers setup bytes address Four port is = long_answers setup bytes address port is
