@@ -74,11 +74,11 @@ impl Dram {
         requires fits { value ≤ largest_of width }
         ensures bytes { (at : ℕ) → dram_at self.new at
             ≡ (if nat_le addr at && nat_lt at (addr + bytes_of width) && nat_lt at (length self.old)
-               then byte value (at - addr) else dram_at self.old at) }
+            then byte value (at - addr) else dram_at self.old at) }
         ensures size { length self.new ≡ length self.old }
         ensures stored { (setup : Setup) (history : List Entry) (entry : Entry) → IsDramOf setup history self.old
             → ((at : ℕ) → entry_put entry.event entry.reply (DramCell at)
-                        ≡ byte_put (DramTarget 0) addr width value (DramCell at))
+            ≡ byte_put (DramTarget 0) addr width value (DramCell at))
             → IsDramOf setup (entry ∷ history) self.new }
     {
         let at = addr as usize;
@@ -86,5 +86,61 @@ impl Dram {
         if end <= self.bytes.len() {
             put_at(&mut self.bytes, at, width, value);
         }
+    }
+}
+
+#[cfg(test)]
+mod tests {
+    use super::*;
+    use board_base::Width::{Four, One, Two};
+    use std::process::Abort;
+
+    /// An access of a test: its address, its width, and the value that is written or wanted.
+    type Access = (u32, Width, u32);
+
+    /// What is written, and what is read next.
+    const STEPS: [(Access, Access); 10] = [
+        ((0x100, Four, 0x1122_3344), (0x100, One, 0x44)),
+        ((0x104, One, 0x00), (0x102, Two, 0x1122)),
+        ((0x102, Two, 0xAABB), (0x100, Four, 0xAABB_3344)),
+        ((0x101, One, 0xCC), (0x100, Four, 0xAABB_CC44)),
+        ((0x104, Two, 0x6655), (0x104, Four, 0x0000_6655)),
+        ((0xF_FFFC, Four, 0xDEAD_BEEF), (0xF_FFFF, One, 0xDE)),
+        ((0x10_0000, Four, 0x5555_5555), (0x10_0000, Two, 0xFFFF)),
+        ((0x10_0000, Two, 0x5555), (0x10_0000, Four, 0xFFFF_FFFF)),
+        ((0x20_0000, One, 0x55), (0x0, Four, 0x0)),
+        ((0xFFFF_FFFC, Four, 0x0), (0xF_FFFC, Four, 0xDEAD_BEEF)),
+    ];
+
+    fn write(rt: &impl Abort, dram: &mut Dram, access: Access) {
+        let (addr, width, value) = access;
+        assert!(rt; width.fits(value), "at {addr}");
+        assert!(rt; width.is_aligned(addr), "at {addr}");
+        dram.write(addr, width, value);
+    }
+
+    fn read(rt: &impl Abort, dram: &Dram, access: Access) {
+        let (addr, width, value) = access;
+        assert!(rt; width.is_aligned(addr), "at {addr}");
+        assert_eq!(rt; dram.read(addr, width), value, "at {addr}");
+    }
+
+    #[test]
+    fn bytes_stand_where_they_were_written(rt: HostRuntime) -> Result<(), NoMemory> {
+        let mut dram = Dram::open(rt.alloc(), 1)?;
+        for (written, wanted) in STEPS {
+            write(&rt, &mut dram, written);
+            read(&rt, &dram, wanted);
+        }
+        Ok(())
+    }
+
+    #[test]
+    fn the_largest_dram_is_zeros(rt: HostRuntime) -> Result<(), NoMemory> {
+        let dram = Dram::open(rt.alloc(), 64)?;
+        assert_eq!(rt; dram.read(0, Four), 0);
+        assert_eq!(rt; dram.read(0x3FF_FFFC, Four), 0);
+        assert_eq!(rt; dram.read(0x400_0000, Four), 0xFFFF_FFFF);
+        Ok(())
     }
 }

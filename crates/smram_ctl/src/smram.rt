@@ -121,12 +121,16 @@ mod tests {
         ] {
             let mut smram = Smram::new();
             smram.write(written);
-            assert_eq!(rt; smram.reaches(Kind::Fetch, true), fetches, "under {written}");
-            assert_eq!(rt; smram.reaches(Kind::Read, true), data, "under {written}");
-            assert_eq!(rt; smram.reaches(Kind::Write, true), data, "under {written}");
-            assert_eq!(rt; smram.reaches(Kind::Fetch, false), fetches_outside, "under {written}");
-            assert_eq!(rt; smram.reaches(Kind::Read, false), data_outside, "under {written}");
-            assert_eq!(rt; smram.reaches(Kind::Write, false), data_outside, "under {written}");
+            for (kind, smm, expected) in [
+                (Kind::Fetch, true, fetches),
+                (Kind::Read, true, data),
+                (Kind::Write, true, data),
+                (Kind::Fetch, false, fetches_outside),
+                (Kind::Read, false, data_outside),
+                (Kind::Write, false, data_outside),
+            ] {
+                assert_eq!(rt; smram.reaches(kind, smm), expected, "under {written}");
+            }
         }
     }
 }
