@@ -1,8 +1,9 @@
 -- The ports as the code asks them: the configuration ports, the board's own devices, and then the cards.
-use Rattle.std.specs.Prelude.{ℕ, ◌==◌, Bool, ◌&&◌, if◌then◌else◌, Option}
+use Rattle.std.specs.Prelude.{ℕ, ◌≡◌, ◌↔◌, ◌==◌, Bool, ◌&&◌, if◌then◌else◌, Option, IsSome}
 use Rattle.board_base.specs.declared.access.Width.{Width}
 use Rattle.board_base.specs.declared.target.Dev.TheVariants.{Confadd as AddressPort}
 use Rattle.board_base.specs.declared.target.Target.{Target}
+use Rattle.board_base.specs.declared.target.Target.TheVariants.{Abort}
 use Rattle.board_base.specs.declared.target.Denial.{Denial}
 use Rattle.board_base.specs.Access.{bytes_of}
 use Rattle.board_spec.specs.Setup.{Setup}
@@ -16,6 +17,10 @@ use Rattle.addr_decode.specs.Onboard.{onboard_at, disk_by}
 -- a target and a denial, as the code gives them
 abbrev pub as_decoded : Target × Option Denial → Decoded
 as_decoded answer = record { target = answer.0; denial = answer.1 }
+
+-- an access is denied exactly where nobody answers it
+abbrev pub IsDenied : Target × Option Denial → Type 0
+IsDenied answer = IsSome answer.1 ↔ (answer.0 ≡ Abort)
 
 -- what becomes of an access of which the board's own devices say this
 abbrev pub after_onboard : Setup → Bytes → ℕ → Onboard → Decoded

@@ -9,4 +9,5 @@ mod denial;
 mod memory;
 mod offsets;
 mod onboard;
+mod ports;
 mod regs;
