@@ -9,7 +9,7 @@ use Rattle.std.proofs.lemmas.List.{get_or-map, length-map}
 use Rattle.std.proofs.lemmas.List.Quantifiers.{position-Some}
 use Rattle.std.proofs.lemmas.Iterator.Adapters.{position_from-zero}
 use Rattle.board_base.specs.declared.target.Reg.{Reg}
-use Rattle.board_spec.specs.Setup.{Setup, FittedCard, IsCard, Rises, card_at}
+use Rattle.board_spec.specs.Setup.{Setup, FittedCard, IsCard, IsCardList, Rises, card_at}
 use Rattle.board_spec.specs.RegisterTable.{reset_byte}
 use Rattle.board_spec.specs.Decode.{Bytes, card_register, base_value}
 use Rattle.pci_bars.specs.Cards.{CardBytes, DecodesAs, AreCards, AreDecoded, cards_of}
@@ -182,3 +182,15 @@ pub no_low_card : (setup : Setup) (cards : List CardBytes) (dev : ℕ) → dev <
     is_some (card_at setup dev) ≡ false
 no_low_card setup cards dev low each same =
     ap (λ (fitted : List FittedCard). is_some (find (λ card. card.dev == dev) fitted)) same ∙ no_low_find cards dev low each
+
+-- cards that can be fitted to a board
+pub fitted_list : (cards : List CardBytes) (specs : List FittedCard) → cards_of cards ≡ specs → IsCardList specs → AreFitted cards
+fitted_list cards specs same list = record {
+  each = λ k d within.
+      let long : length specs ≡ length cards =
+      sym (ap (λ (fitted : List FittedCard). length fitted) same) ∙ length-map cards (λ (it : CardBytes). it.card) in
+      let card_is : get_or specs k d.card ≡ (get_or cards k d).card =
+      sym (ap (λ (fitted : List FittedCard). get_or fitted k d.card) same) ∙ get_or-map (λ (it : CardBytes). it.card) cards k d d.card within in
+      subst IsCard card_is (list.each k d.card (omega arith));
+  rises = subst Rises (sym same) list.rises;
+}

@@ -1,24 +1,31 @@
 -- The ports in the order of the code are those of the definitions.
-use Rattle.std.proofs.Common.{◌≡◌, ℕ, ◌/◌, ◌%◌, Bool, true, false, not, ◌&&◌, ◌||◌, Option, Some, None, refl, inl, inr, ◌∙◌, sym, ap, arith}
-use Rattle.std.specs.Prelude.{[], ◌∷◌, ◌==◌, option_map, if◌then◌else◌}
-use Rattle.std.proofs.lemmas.Bool.{cases_Bool}
+use Rattle.std.proofs.Common.{◌≡◌, ◌≢◌, ℕ, List, ◌/◌, ◌%◌, Bool, true, false, not, ◌&&◌, ◌||◌, Option, Some, None, refl, inl, inr, ◌∙◌, sym, ap, arith}
+use Rattle.std.specs.Prelude.{[], ◌∷◌, ◌==◌, is_some, option_map, if◌then◌else◌}
+use Rattle.std.proofs.lemmas.Bool.{cases_Bool, cond-false, ne_eqb}
 use Rattle.std.proofs.lemmas.Bool.Decides.{nat_tests}
 use Rattle.board_base.specs.declared.access.Width.{Width}
 use Rattle.board_base.specs.declared.access.Width.TheVariants.{One, Two, Four}
 use Rattle.board_base.specs.declared.target.Dev.{Dev}
 use Rattle.board_base.specs.declared.target.Dev.TheVariants.{Confadd as AddressPort, Reset, Pic0, Pic1, Pit, System, Keyboard, Clock, Elcr, Ata}
+use Rattle.board_base.specs.declared.target.Reg.{Reg}
+use Rattle.board_base.specs.declared.target.Target.{Target}
+use Rattle.board_base.specs.declared.target.Target.TheVariants.{Config, Abort}
 use Rattle.board_base.specs.declared.target.Denial.{Denial}
 use Rattle.board_base.specs.declared.target.Denial.TheVariants.{Register, NoRegister}
 use Rattle.board_base.specs.Access.{bytes_of}
-use Rattle.board_spec.specs.Setup.{Setup}
+use Rattle.board_spec.specs.Setup.{Setup, FittedCard, card_at}
 use Rattle.board_spec.specs.Bits.{is_bit, is_within}
-use Rattle.board_spec.specs.Registers.{is_config_port, config_register}
+use Rattle.board_spec.specs.Registers.{is_enabled, is_config_port, config_register}
 use Rattle.board_spec.specs.Decode.{Bytes, isa, ide, first_of, line_where}
 use Rattle.board_spec.specs.Ports.{Decoded, device, config_port, byte_device, is_ata_port, unselected, selected_by, disk_port, other_port, port_target_of}
+use Rattle.board_spec.specs.RegisterTable.{Line, card_function, function_at, function_exists}
+use Rattle.cfg_ports.specs.declared.conf_add.Selected.{Selected}
+use Rattle.cfg_ports.specs.Selection.{existing}
 use Rattle.addr_decode.specs.declared.onboard.Onboard.{Onboard}
 use Rattle.addr_decode.specs.declared.onboard.Onboard.TheVariants.{Answers, Denied, Absent}
 use Rattle.addr_decode.specs.Onboard.{if_selected, disk_by, byte_port, onboard_at}
-use Rattle.addr_decode.specs.Ports.{after_onboard, ports_in_order}
+use Rattle.addr_decode.specs.MapRegs.{IsIdeOf}
+use Rattle.addr_decode.specs.Ports.{as_decoded, after_onboard, ports_in_order}
 
 -- bit 15 of IDETIM is bit 7 of its high byte
 high_bit : (timing high : ℕ) → timing / 0x100 ≡ high → is_bit timing 15 ≡ is_bit high 7
@@ -154,3 +161,66 @@ in_order setup bytes address disk timing port width is =
             | inr not_config ↦ rw (other, not_config) (onboard_in_order setup bytes disk timing port width is)
           ]
     ]
+
+-- ---- what each part of the code gives
+
+pub address_target :
+    (setup : Setup) (bytes : Bytes) (address : ℕ) (disk : Bool) (port : ℕ) (width : Width) → true ≡ (port == 0xCF8 && bytes_of width == 4) →
+    device AddressPort ≡ port_target_of setup bytes address disk port width
+unfolding port_target_of
+address_target setup bytes address disk port width here = rw (← here) refl
+
+pub config_target :
+    (setup : Setup) (bytes : Bytes) (address : ℕ) (disk : Bool) (port : ℕ) (width : Width) → false ≡ (port == 0xCF8 && bytes_of width == 4) →
+    true ≡ is_config_port port →
+    config_port address (config_register setup address port) ≡ port_target_of setup bytes address disk port width
+unfolding port_target_of
+config_target setup bytes address disk port width other here = rw (← other, ← here) refl
+
+pub onboard_target :
+    (setup : Setup) (bytes : Bytes) (address : ℕ) (disk : Bool) (port : ℕ) (width : Width) (xbcs : ℕ) (ide_command idetim : ℕ) (at_disk told : Onboard) →
+    false ≡ (port == 0xCF8 && bytes_of width == 4) → false ≡ is_config_port port → xbcs ≡ bytes (isa 0x4E) → IsIdeOf bytes ide_command idetim →
+    at_disk ≡ disk_by disk ide_command idetim → told ≡ onboard_at xbcs at_disk port width →
+    after_onboard setup bytes port told ≡ port_target_of setup bytes address disk port width
+unfolding ports_in_order
+onboard_target setup bytes address disk port width xbcs ide_command idetim at_disk told other not_config same_xbcs is_ide disk_is told_is =
+    sym (in_order setup bytes address disk idetim port width is_ide.timing
+    ∙ cond-false (port == 0xCF8 && bytes_of width == 4) (device AddressPort)
+    (if is_config_port port then config_port address (config_register setup address port) else after_onboard setup bytes port (onboard_at (bytes (isa 0x4E)) (disk_by disk (bytes (ide 0x04)) idetim) port width))
+    (sym other)
+    ∙ cond-false (is_config_port port) (config_port address (config_register setup address port))
+    (after_onboard setup bytes port (onboard_at (bytes (isa 0x4E)) (disk_by disk (bytes (ide 0x04)) idetim) port width))
+    (sym not_config)
+    ∙ ap (λ (n : ℕ). after_onboard setup bytes port (onboard_at (bytes (isa 0x4E)) (disk_by disk n idetim) port width)) (sym is_ide.command)
+    ∙ ap (λ (n : ℕ). after_onboard setup bytes port (onboard_at n (disk_by disk ide_command idetim) port width)) (sym same_xbcs)
+    ∙ ap (λ (it : Onboard). after_onboard setup bytes port (onboard_at xbcs it port width)) (sym disk_is)
+    ∙ ap (λ (it : Onboard). after_onboard setup bytes port it) (sym told_is))
+
+enabled : (b : Bool) → (b ≡ false → ⊥) → b ≡ true
+enabled true on = refl
+enabled false on = absurd (on refl)
+
+by_existence : (address : ℕ) (exists' : Bool) (reg : Reg) → is_enabled address ≡ true →
+    as_decoded (if exists' then (Config reg, None) else (Abort, Some NoRegister)) ≡ config_port address (if exists' then Some reg else None)
+by_existence address true reg on = refl
+by_existence address false reg on = rw on refl
+
+-- a selected register is reached where its function exists
+pub selected_target :
+    (setup : Setup) (address : ℕ) (port : ℕ) (selected : Selected) (answer : Target × Option Denial) → (is_enabled address ≡ false → ⊥) →
+    config_register setup address port ≡ existing setup (Some selected) →
+    answer ≡ (if function_exists setup selected.bus selected.reg.dev selected.reg.fun then (Config selected.reg, None) else (Abort, Some NoRegister)) →
+    as_decoded answer ≡ config_port address (config_register setup address port)
+selected_target setup address port selected answer on register is =
+    ap (λ (a : Target × Option Denial). as_decoded a) is
+    ∙ by_existence address (function_exists setup selected.bus selected.reg.dev selected.reg.fun) selected.reg (enabled (is_enabled address) on)
+    ∙ sym (ap (λ (reg : Option Reg). config_port address reg) register)
+
+-- ---- functions
+
+is_some_map : (f : FittedCard → List Line) (card : Option FittedCard) → is_some (option_map f card) ≡ is_some card
+is_some_map f None = refl
+is_some_map f (Some card) = refl
+
+pub card_exists : (setup : Setup) (dev : ℕ) → dev ≢ 0 → dev ≢ 1 → is_some (card_at setup dev) ≡ is_some (function_at setup dev 0)
+card_exists setup dev not0 not1 = rw (ne_eqb dev 0 not0, ne_eqb dev 1 not1) (sym (is_some_map card_function (card_at setup dev)))

@@ -1,7 +1,8 @@
 //! The ports of the 82371SB and of the cards: what an access to a port reaches, and what denies it.
-ghost use Rattle.std.specs.Prelude.{◌≡◌, true, Some, None, if◌then◌else◌};
+ghost use Rattle.std.specs.Prelude.{◌≡◌, ◌==◌, ◌&&◌, IsTrue, Some, None, is_some, if◌then◌else◌};
+ghost use Rattle.board_base.specs.Access.{bytes_of};
 ghost use Rattle.board_spec.specs.Setup.{Setup};
-ghost use Rattle.board_spec.specs.RegisterTable.{function_exists};
+ghost use Rattle.board_spec.specs.RegisterTable.{function_at, function_exists};
 ghost use Rattle.board_spec.specs.Registers.{kept_address, config_register, is_config_port};
 ghost use Rattle.board_spec.specs.Decode.{Bytes};
 ghost use Rattle.board_spec.specs.Ports.{port_target_of, config_port, unselected, other_port};
@@ -10,7 +11,7 @@ ghost use Rattle.addr_decode.specs.MapRegs.{AreFitted, IsIdeOf, StandsFor, map_b
 ghost use Rattle.addr_decode.specs.Ports.{as_decoded, IsDenied};
 
 use crate::cards::is_fitted;
-use crate::offsets::card_command;
+use crate::offsets::{HOST_BRIDGE, ISA_BRIDGE, card_command};
 use crate::onboard::{Onboard, disk_by, onboard_at};
 use crate::regs::MapRegs;
 use board_base::{Denial, Dev, Target, Width};
@@ -42,10 +43,10 @@ pub fn decode_port(regs: &MapRegs, ports: &PortRegs, port: u16, width: Width) ->
         → as_decoded result ≡ port_target_of setup bytes (kept_address ports.now.confadd) ports.now.disk port width }
     ensures denied { IsDenied result }
 {
-    if port == CONFIG_ADDRESS && width == Width::Four {
+    if is_config_address(port, width) {
         return answered(Target::Device(Dev::Confadd));
     }
-    if CONFIG_DATA <= port && port <= CONFIG_DATA_END {
+    if is_config_data(port) {
         return config_port(&regs.cards, ports.confadd, port);
     }
     let disk = disk_by(ports.disk, ports.ide_command, ports.idetim);
@@ -54,6 +55,20 @@ pub fn decode_port(regs: &MapRegs, ports: &PortRegs, port: u16, width: Width) ->
         Onboard::Denied(denial) => claimed_or(&regs.cards, port, denial),
         Onboard::Absent => other_port(&regs.cards, port),
     }
+}
+
+/// Whether an access reaches the configuration address.
+fn is_config_address(port: u16, width: Width) -> bool
+    ensures address { result ≡ (port == 0xCF8 && bytes_of width == 4) }
+{
+    port == CONFIG_ADDRESS && width.bytes() == 4
+}
+
+/// Whether a port is one of those of the configuration data.
+fn is_config_data(port: u16) -> bool
+    ensures data { result ≡ is_config_port port }
+{
+    CONFIG_DATA <= port && port <= CONFIG_DATA_END
 }
 
 /// Something answers.
@@ -72,7 +87,7 @@ fn denied(denial: Denial) -> (Target, Option<Denial>)
 
 /// What an access to the configuration data reaches.
 fn config_port(cards: &[CardRegs], confadd: u32, port: u16) -> (Target, Option<Denial>)
-    requires port { is_config_port port ≡ true }
+    requires { IsTrue (is_config_port port) }
     ensures decoded { (setup : Setup) (bytes : Bytes) → AreDecoded setup bytes cards.now
         → as_decoded result ≡ config_port (kept_address confadd) (config_register setup (kept_address confadd) port) }
     ensures denied { IsDenied result }
@@ -107,10 +122,21 @@ fn function_exists(cards: &[CardRegs], selected: &Selected) -> bool
     if selected.bus != 0 {
         return false;
     }
-    match (selected.reg.dev, selected.reg.fun) {
-        (0, 0) | (1, 0) | (1, 1) => true,
-        (dev, 0) => is_fitted(cards, dev),
+    match selected.reg.fun {
+        0 => has_function_0(cards, selected.reg.dev),
+        1 => selected.reg.dev == ISA_BRIDGE,
         _ => false,
+    }
+}
+
+/// Whether a device of bus 0 exists.
+fn has_function_0(cards: &[CardRegs], dev: u8) -> bool
+    ensures exists { (setup : Setup) (bytes : Bytes) → AreDecoded setup bytes cards.now
+        → result ≡ is_some (function_at setup dev 0) }
+{
+    match dev {
+        HOST_BRIDGE | ISA_BRIDGE => true,
+        _ => is_fitted(cards, dev),
     }
 }
 
