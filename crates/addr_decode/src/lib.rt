@@ -1,5 +1,5 @@
-//! Where an access lands and what denies it: the address decode of the 82441FX and the 82371SB, over the
-//! registers that it depends on.
+//! Where an access lands and which register denied it: the address decode of the 82441FX, the 82371SB and the
+//! PCI cards, over the registers on which it depends.
 #![tactic(auto)]
 
 mod bits;
@@ -11,3 +11,12 @@ mod offsets;
 mod onboard;
 mod ports;
 mod regs;
+
+pub use board_spec::MapChange;
+pub use change::touches;
+pub use memory::decode;
+pub use ports::{PortRegs, decode_port};
+pub use regs::MapRegs;
+
+#[cfg(test)]
+mod tests;

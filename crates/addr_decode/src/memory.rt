@@ -1,23 +1,36 @@
-//! The memory map of the 82441FX and the 82371SB: which area an access reaches.
+//! The memory map of the 82441FX and the 82371SB: which area an access reaches, and what denies it.
 ghost use Rattle.std.specs.Prelude.{◌≡◌, Some, option_map};
 ghost use Rattle.board_spec.specs.Setup.{Setup};
-ghost use Rattle.board_spec.specs.Decode.{Bytes, bridge, is_in, hole_of as hole_by, row_of as row_by, is_shadowed, smram_answers, area_of};
+ghost use Rattle.board_spec.specs.Decode.{Bytes, bridge, is_in, hole_of as hole_by, row_of as row_by, is_shadowed, smram_answers, area_of, denial_of};
 ghost use Rattle.pam_windows.specs.Pam.{IsPamOf};
 ghost use Rattle.addr_decode.specs.MapRegs.{AreFitted, StandsFor, map_bytes};
 ghost use Rattle.addr_decode.specs.Memory.{dram_area, row_area};
 
-use crate::regs::MapRegs;
+use crate::denial::denial_in;
 use crate::offsets::PAM0;
-
-use board_base::{Area, Kind};
+use crate::regs::MapRegs;
+use board_base::{Area, Denial, Kind};
 use pam_windows::window_of;
 use pci_bars::claim_mem;
 use pmc_regs::{hole_of, row_of};
 use smram_ctl::smram_reaches;
 use xbus_select::rom_selected;
 
+/// The area that a memory access reaches, and what denies it: None where the area answers, unless it is the ROM
+/// and the access writes.
+pub fn decode(regs: &MapRegs, addr: u32, kind: Kind, smm: bool) -> (Area, Option<Denial>)
+    requires cards { AreFitted regs.now.cards.items }
+    ensures area { (setup : Setup) (bytes : Bytes) → StandsFor setup bytes (map_bytes regs.now)
+        → result.0 ≡ area_of setup bytes addr kind smm }
+    ensures denial { (setup : Setup) (bytes : Bytes) → StandsFor setup bytes (map_bytes regs.now)
+        → result.1 ≡ denial_of setup bytes addr kind smm }
+{
+    let area = area_of(regs, addr, kind, smm);
+    (area, denial_in(regs, area, addr, kind))
+}
+
 /// The area that an access reaches.
-pub fn area_of(regs: &MapRegs, addr: u32, kind: Kind, smm: bool) -> Area
+fn area_of(regs: &MapRegs, addr: u32, kind: Kind, smm: bool) -> Area
     requires cards { AreFitted regs.now.cards.items }
     ensures area { (setup : Setup) (bytes : Bytes) → StandsFor setup bytes (map_bytes regs.now)
         → result ≡ area_of setup bytes addr kind smm }
