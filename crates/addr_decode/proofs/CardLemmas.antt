@@ -1,0 +1,196 @@
+-- The cards in a list by their device numbers, and the bytes of their registers.
+use Rattle.std.proofs.Common.{◌≡◌, ◌≢◌, ℕ, zero, suc, ◌+◌, ◌*◌, ◌<◌, ◌≤◌, ◌⊎◌, inl, inr, Bool, true, false, List, [], ◌∷◌, length, get_or, set, Option, Some, None, cond, refl, sym, ◌∙◌, ap, subst, arith, get_or-set_same, get_or-set_other, length-set}
+use Rattle.std.specs.Prelude.{◌==◌, is_some, map, All, find}
+use Rattle.std.specs.List.{position, position_from}
+use Rattle.std.proofs.Math.Seq.{map-set_same}
+use Rattle.std.proofs.lemmas.Bool.{cases_Bool, cases_eq, cases_lt, cond-true, cond-false, eq-eqb, ne_eqb, eqb-true}
+use Rattle.std.proofs.lemmas.Bool.Decides.{nat_tests}
+use Rattle.std.proofs.lemmas.List.{get_or-map, length-map}
+use Rattle.std.proofs.lemmas.List.Quantifiers.{position-Some}
+use Rattle.std.proofs.lemmas.Iterator.Adapters.{position_from-zero}
+use Rattle.board_base.specs.declared.target.Reg.{Reg}
+use Rattle.board_spec.specs.Setup.{Setup, FittedCard, IsCard, IsCardList, Rises, card_at}
+use Rattle.board_spec.specs.RegisterTable.{reset_byte}
+use Rattle.board_spec.specs.Decode.{Bytes, card_register, base_value}
+use Rattle.pci_bars.specs.Cards.{CardBytes, DecodesAs, AreCards, AreDecoded, cards_of}
+use Rattle.addr_decode.specs.MapRegs.{AreFitted, AreReset, IsReset, stored}
+use Rattle.addr_decode.proofs.StoreLemmas.{Differs, stored-elsewhere}
+
+-- the offsets on which the address map depends
+abbrev pub IsMapOffset : ℕ → Type 0
+IsMapOffset off = (off ≡ 0x04) ⊎ ((0x10 ≤ off) × (off ≤ 0x27))
+
+abbrev pub SameCard : (bytes bytes' : Bytes) → ℕ → Type 0
+SameCard bytes bytes' dev = (off : ℕ) → IsMapOffset off → bytes' (card_register dev off) ≡ bytes (card_register dev off)
+
+same_base : (bytes bytes' : Bytes) (dev k : ℕ) → k < 6 → SameCard bytes bytes' dev → base_value bytes' dev k ≡ base_value bytes dev k
+same_base bytes bytes' dev k below same =
+    rw (same (0x10 + 4 * k) (inr (omega arith, omega arith)), same (0x10 + 4 * k + 1) (inr (omega arith, omega arith)), same (0x10 + 4 * k + 2) (inr (omega arith, omega arith)), same (0x10 + 4 * k + 3) (inr (omega arith, omega arith))) refl
+
+pub decodes-same : (setup : Setup) (bytes bytes' : Bytes) (card : CardBytes) → SameCard bytes bytes' card.card.dev → DecodesAs setup bytes card → DecodesAs setup bytes' card
+decodes-same setup bytes bytes' card same is = record {
+  fitted = is.fitted;
+  command = same 0x04 (inl refl) ∙ is.command;
+  bases = λ k below. same_base bytes bytes' card.card.dev k below same ∙ is.bases k below;
+  base_bytes = λ k j k_below j_below. same (0x10 + 4 * k + j) (inr (omega arith, omega arith)) ∙ is.base_bytes k j k_below j_below;
+}
+
+true_is_not_false : (b : Bool) → b ≡ true → b ≡ false → ⊥
+true_is_not_false b yes' no' = cc
+
+-- ---- the place of a device in the list
+
+found_from : (cards : List CardBytes) (dev first : ℕ) →
+    is_some (find (λ card. card.dev == dev) (cards_of cards)) ≡ is_some (position_from (λ card. card.card.dev == dev) first cards)
+found_from [] dev first = refl
+found_from (card ∷ later) dev first =
+    elim (cases_Bool (card.card.dev == dev)) [
+      | inl here ↦ rw here refl
+      | inr not ↦ rw not (found_from later dev (first + 1))
+    ]
+
+pub fitted_is : (setup : Setup) (cards : List CardBytes) (dev : ℕ) → setup.cards ≡ cards_of cards →
+    is_some (position (λ card. card.card.dev == dev) cards) ≡ is_some (card_at setup dev)
+fitted_is setup cards dev same =
+    ap (λ (place : Option ℕ). is_some place) (position_from-zero (λ card. card.card.dev == dev) cards)
+    ∙ sym (found_from cards dev 0)
+    ∙ ap (λ (fitted : List FittedCard). is_some (find (λ card. card.dev == dev) fitted)) (sym same)
+
+-- ---- the devices rise
+
+rises_apart : (cards : List CardBytes) → Rises (cards_of cards) → (i k : ℕ) (d : CardBytes) → i < k → k < length cards →
+    (get_or cards i d).card.dev < (get_or cards k d).card.dev
+rises_apart [] rises i k d below within = absurd (omega arith)
+rises_apart (card ∷ later) rises zero zero d below within = absurd (omega arith)
+rises_apart (card ∷ later) rises zero (suc k) d below within =
+    subst (λ (other : FittedCard). card.card.dev < other.dev) (get_or-map (λ (it : CardBytes). it.card) later k d d.card (omega arith))
+    (rises.0 k d.card (omega (arith, length-map later (λ (it : CardBytes). it.card))))
+rises_apart (card ∷ later) rises (suc i) zero d below within = absurd (omega arith)
+rises_apart (card ∷ later) rises (suc i) (suc k) d below within = rises_apart later rises.1 i k d (omega arith) (omega arith)
+
+-- of the cards in the list one alone has a device number
+others_differ : (cards : List CardBytes) (dev i k : ℕ) (d : CardBytes) → Rises (cards_of cards) →
+    position (λ card. card.card.dev == dev) cards ≡ Some i → k < length cards → k ≢ i → (get_or cards k d).card.dev ≢ dev
+others_differ cards dev i k d rises at_i within apart same =
+    let found : (i < length cards) × (((get_or cards i d).card.dev == dev) ≡ true) × ((j : ℕ) → j < i → ((get_or cards j d).card.dev == dev) ≡ false) =
+    position-Some (λ card. card.card.dev == dev) cards i d at_i in
+    elim (cases_lt k i) [
+      | inl before ↦ true_is_not_false (((get_or cards k d).card.dev) == dev) (eq-eqb _ _ same) (found.2 k before)
+      | inr after ↦
+          let here : (get_or cards i d).card.dev ≡ dev = eqb-true _ _ found.1 in
+          let above : (get_or cards i d).card.dev < (get_or cards k d).card.dev = rises_apart cards rises i k d (omega arith) within in
+          omega arith
+    ]
+
+-- ---- a byte is stored in a card
+
+stored_beside : (setup : Setup) (bytes : Bytes) (dev off written : ℕ) (card : CardBytes) → card.card.dev ≢ dev →
+    DecodesAs setup bytes card → DecodesAs setup (stored setup bytes (card_register dev off) written) card
+stored_beside setup bytes dev off written card apart is =
+    decodes-same setup bytes (stored setup bytes (card_register dev off) written) card
+    (λ at _. stored-elsewhere setup bytes (card_register dev off) written (card_register card.card.dev at) (inl (λ same. apart (sym same)))) is
+
+-- the card at a place becomes another state of the same card, in which the byte is stored
+pub card_written :
+    (setup : Setup) (bytes : Bytes) (cards : List CardBytes) (dev off written i : ℕ) (old new : CardBytes) → Rises (cards_of cards) →
+    position (λ card. card.card.dev == dev) cards ≡ Some i → old ≡ get_or cards i old → new.card ≡ old.card →
+    (DecodesAs setup bytes old → DecodesAs setup (stored setup bytes (card_register old.card.dev off) written) new) →
+    AreDecoded setup bytes cards → AreDecoded setup (stored setup bytes (card_register dev off) written) (set cards i new)
+card_written setup bytes cards dev off written i old new rises at_i is_old same_card step are =
+    let found : (i < length cards) × (((get_or cards i old).card.dev == dev) ≡ true) × ((j : ℕ) → j < i → ((get_or cards j old).card.dev == dev) ≡ false) =
+    position-Some (λ card. card.card.dev == dev) cards i old at_i in
+    let dev_is : old.card.dev ≡ dev = ap (λ (card : CardBytes). card.card.dev) is_old ∙ eqb-true _ _ found.1 in
+    let old_decodes : DecodesAs setup bytes old = subst (DecodesAs setup bytes) (sym is_old) (are.1 i old found.0) in
+    let new_decodes : DecodesAs setup (stored setup bytes (card_register dev off) written) new =
+    subst (λ (at : ℕ). DecodesAs setup (stored setup bytes (card_register at off) written) new) dev_is (step old_decodes) in
+    (are.0 ∙ sym (map-set_same (λ (it : CardBytes). it.card) cards i new old (same_card ∙ ap (λ (card : CardBytes). card.card) is_old)),
+    (λ k d within.
+    let in_list : k < length cards = omega (arith, length-set {A = CardBytes}) in
+    elim (cases_eq k i) [
+      | inl here ↦ subst (λ (j : ℕ). DecodesAs setup (stored setup bytes (card_register dev off) written) (get_or (set cards i new) j d)) (sym here)
+          (subst (DecodesAs setup (stored setup bytes (card_register dev off) written)) (sym (get_or-set_same cards i new d found.0)) new_decodes)
+      | inr apart ↦
+          subst (DecodesAs setup (stored setup bytes (card_register dev off) written)) (sym (get_or-set_other cards i k new d apart))
+          (stored_beside setup bytes dev off written (get_or cards k d) (others_differ cards dev i k d rises at_i in_list apart) (are.1 k d in_list))
+    ]))
+
+-- the cards are still these cards
+pub card_kept : (cards : List CardBytes) (i : ℕ) (old new : CardBytes) → old ≡ get_or cards i old → new.card ≡ old.card →
+    cards_of (set cards i new) ≡ cards_of cards
+card_kept cards i old new is_old same_card =
+    map-set_same (λ (it : CardBytes). it.card) cards i new old (same_card ∙ ap (λ (card : CardBytes). card.card) is_old)
+
+-- where no card has the device number no card changes
+pub no_card_written :
+    (setup : Setup) (bytes : Bytes) (cards : List CardBytes) (dev off written : ℕ) → position (λ card. card.card.dev == dev) cards ≡ None →
+    AreDecoded setup bytes cards → AreDecoded setup (stored setup bytes (card_register dev off) written) cards
+no_card_written setup bytes cards dev off written none are =
+    (are.0,
+    (λ k d within.
+    let is : DecodesAs setup bytes (get_or cards k d) = are.1 k d within in
+    stored_beside setup bytes dev off written (get_or cards k d)
+    (λ same. true_is_not_false (is_some (card_at setup dev))
+    (ap (λ (at : ℕ). is_some (card_at setup at)) (sym same) ∙ ap (λ (card : Option FittedCard). is_some card) is.fitted)
+    (sym (fitted_is setup cards dev are.0) ∙ ap (λ (place : Option ℕ). is_some place) none)) is))
+
+-- ---- after a reset
+
+find_at : (cards : List FittedCard) → Rises cards → (k : ℕ) (d : FittedCard) → k < length cards →
+    find (λ card. card.dev == (get_or cards k d).dev) cards ≡ Some (get_or cards k d)
+find_at [] rises k d within = absurd (omega arith)
+find_at (card ∷ later) rises zero d within =
+    cond-true (card.dev == card.dev) (Some card) (find (λ other. other.dev == card.dev) later) (eq-eqb card.dev card.dev refl)
+find_at (card ∷ later) rises (suc k) d within =
+    let above : card.dev < (get_or later k d).dev = rises.0 k d (omega arith) in
+    cond-false (card.dev == (get_or later k d).dev) (Some card) (find (λ other. other.dev == (get_or later k d).dev) later) (ne_eqb _ _ (omega arith))
+    ∙ find_at later rises.1 k d (omega arith)
+
+pub reset_decoded : (setup : Setup) (cards : List CardBytes) → AreFitted cards → AreReset cards → setup.cards ≡ cards_of cards →
+    AreDecoded setup (reset_byte setup) cards
+reset_decoded setup cards fitted reset same =
+    (same,
+    (λ k d within.
+    reset k d within setup
+    (ap (λ (list : List FittedCard). find (λ card. card.dev == (get_or cards k d).card.dev) list) same
+    ∙ subst (λ (card : FittedCard). find (λ other. other.dev == card.dev) (cards_of cards) ≡ Some card)
+    (get_or-map (λ (it : CardBytes). it.card) cards k d d.card within)
+    (find_at (cards_of cards) fitted.rises k d.card (omega (arith, length-map cards (λ (it : CardBytes). it.card)))))))
+
+-- ---- the same cards in other states
+
+pub fitted_same : (cards cards' : List CardBytes) → cards_of cards' ≡ cards_of cards → AreFitted cards → AreFitted cards'
+fitted_same cards cards' same fitted = record {
+  each = λ k d within.
+      let long : length cards' ≡ length cards =
+      sym (length-map cards' (λ (it : CardBytes). it.card)) ∙ ap (λ (list : List FittedCard). length list) same ∙ length-map cards (λ (it : CardBytes). it.card) in
+      let card_is : (get_or cards k d).card ≡ (get_or cards' k d).card =
+      sym (get_or-map (λ (it : CardBytes). it.card) cards k d d.card (omega arith))
+      ∙ sym (ap (λ (list : List FittedCard). get_or list k d.card) same)
+      ∙ get_or-map (λ (it : CardBytes). it.card) cards' k d d.card within in
+      subst IsCard card_is (fitted.each k d (omega arith));
+  rises = subst Rises (sym same) fitted.rises;
+}
+
+-- no card has the device number of a bridge
+no_low_find : (cards : List CardBytes) (dev : ℕ) → dev < 2 → AreCards cards → is_some (find (λ card. card.dev == dev) (cards_of cards)) ≡ false
+no_low_find [] dev low each = refl
+no_low_find (card ∷ later) dev low each =
+    let here : IsCard card.card = each 0 card (omega arith) in
+    rw (ne_eqb card.card.dev dev (omega (arith, here.first))) (no_low_find later dev low (λ k d within. each (suc k) d (omega arith)))
+
+pub no_low_card : (setup : Setup) (cards : List CardBytes) (dev : ℕ) → dev < 2 → AreCards cards → setup.cards ≡ cards_of cards →
+    is_some (card_at setup dev) ≡ false
+no_low_card setup cards dev low each same =
+    ap (λ (fitted : List FittedCard). is_some (find (λ card. card.dev == dev) fitted)) same ∙ no_low_find cards dev low each
+
+-- cards that can be fitted to a board
+pub fitted_list : (cards : List CardBytes) (specs : List FittedCard) → cards_of cards ≡ specs → IsCardList specs → AreFitted cards
+fitted_list cards specs same list = record {
+  each = λ k d within.
+      let long : length specs ≡ length cards =
+      sym (ap (λ (fitted : List FittedCard). length fitted) same) ∙ length-map cards (λ (it : CardBytes). it.card) in
+      let card_is : get_or specs k d.card ≡ (get_or cards k d).card =
+      sym (ap (λ (fitted : List FittedCard). get_or fitted k d.card) same) ∙ get_or-map (λ (it : CardBytes). it.card) cards k d d.card within in
+      subst IsCard card_is (list.each k d.card (omega arith));
+  rises = subst Rises (sym same) list.rises;
+}

@@ -1,0 +1,7 @@
+pub mod MemoryLemmas
+pub mod PortLemmas
+pub mod StoreLemmas
+pub mod TouchLemmas
+pub mod DenialLemmas
+pub mod CardLemmas
+pub mod StandsLemmas

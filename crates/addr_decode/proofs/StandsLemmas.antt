@@ -1,0 +1,343 @@
+-- The registers of the address map among those of a board: after a reset, and where a byte is stored.
+use Rattle.std.proofs.Common.{◌≡◌, ◌≢◌, ℕ, ◌+◌, ◌-◌, ◌<◌, ◌≤◌, ◌⊎◌, inl, inr, List, [], ◌∷◌, length, get_or, set, false, refl, sym, ◌∙◌, ap, subst, arith, get_or-set_same, get_or-set_other, add-one}
+use Rattle.std.specs.Prelude.{slice_index, ◌==◌}
+use Rattle.std.proofs.lemmas.Bool.{cases_eq, cond-true}
+use Rattle.board_base.specs.declared.access.Width.{Width}
+use Rattle.board_base.specs.declared.access.Width.TheVariants.{One}
+use Rattle.board_base.specs.Access.{bytes_of}
+use Rattle.board_base.specs.declared.target.Reg.{Reg}
+use Rattle.board_spec.specs.declared.map_change.MapChange.TheVariants.{Store}
+use Rattle.board_spec.specs.Setup.{Setup, IsCard}
+use Rattle.board_spec.specs.Bits.{merged, byte}
+use Rattle.board_spec.specs.RegisterTable.{isa_bridge, reset_byte, writable_bits}
+use Rattle.board_spec.specs.Registers.{changed_byte, smram_after}
+use Rattle.board_spec.specs.Decode.{Bytes, bridge, isa, card_register}
+use Rattle.board_spec.specs.MapWrites.{reg_after}
+use Rattle.board_spec.specs.WideStores.{after_stores}
+use Rattle.board_spec.proofs.StoreLemmas.{changed_byte-one_same, byte_by_byte}
+use Rattle.pmc_regs.specs.Pmc.{IsRowsOf}
+use Rattle.pmc_regs.proofs.TableLemmas.{rows_at_reset, hole_at_reset, writable_bits-row, writable_bits-hole}
+use Rattle.pmc_regs.proofs.PmcLemmas.{merged-all, there, elsewhere}
+use Rattle.pam_windows.specs.Pam.{IsPamOffset, IsPamOf}
+use Rattle.pam_windows.proofs.PamLemmas.{zeros_at_reset}
+use Rattle.smram_ctl.proofs.ControlLemmas.{reset_byte-smram}
+use Rattle.pci_bars.specs.Cards.{CardBytes, DecodesAs, AreCards, AreDecoded, cards_of}
+use Rattle.addr_decode.specs.MapRegs.{MapBytes, AreFitted, AreReset, IsRowOffset, StandsFor, stored}
+use Rattle.addr_decode.proofs.StoreLemmas.{Differs, stored-elsewhere}
+use Rattle.addr_decode.proofs.CardLemmas.{IsMapOffset, SameCard, decodes-same, reset_decoded}
+
+xbcs_at_reset : (setup : Setup) → 0x03 ≡ reset_byte setup (isa 0x4E)
+unfolding reset_byte isa_bridge
+xbcs_at_reset setup = refl
+
+-- the registers after a reset
+abbrev pub map_at_reset : List CardBytes → MapBytes
+map_at_reset cards = record {
+  drb = 1 ∷ 1 ∷ 1 ∷ 1 ∷ 1 ∷ 1 ∷ 1 ∷ 1 ∷ [];
+  fdhc = 0;
+  pam = 0 ∷ 0 ∷ 0 ∷ 0 ∷ 0 ∷ 0 ∷ 0 ∷ [];
+  smram = 2;
+  xbcs = 3;
+  cards = cards;
+}
+
+pub stands_at_reset : (setup : Setup) (cards : List CardBytes) → AreFitted cards → AreReset cards → setup.cards ≡ cards_of cards →
+    StandsFor setup (reset_byte setup) (map_at_reset cards)
+stands_at_reset setup cards fitted reset same = record {
+  rows = rows_at_reset setup;
+  hole = hole_at_reset setup;
+  windows = zeros_at_reset setup;
+  smram = reset_byte-smram setup;
+  xbcs = xbcs_at_reset setup;
+  cards = reset_decoded setup cards fitted reset same;
+}
+
+below_256 : (at off : ℕ) → 256 ≤ at → IsMapOffset off → at ≢ off
+below_256 at off past (inl command) = omega arith
+below_256 at off past (inr bases) = omega (arith, bases.1)
+
+-- ---- registers that agree
+
+abbrev pub SameRows : (bytes bytes' : Bytes) → Type 0
+SameRows bytes bytes' = (row : ℕ) → row < 8 → bytes' (bridge (0x60 + row)) ≡ bytes (bridge (0x60 + row))
+
+abbrev pub SameWindows : (bytes bytes' : Bytes) → Type 0
+SameWindows bytes bytes' = (off : ℕ) → IsPamOffset off → bytes' (bridge off) ≡ bytes (bridge off)
+
+abbrev pub SameCards : (bytes bytes' : Bytes) → Type 0
+SameCards bytes bytes' = (dev : ℕ) → 2 ≤ dev → SameCard bytes bytes' dev
+
+-- two states of the registers are the same in all that the address map depends on
+pub record SameMap (bytes bytes' : Bytes) : Type 0 where
+  pub rows : SameRows bytes bytes'
+  pub hole : bytes' (bridge 0x68) ≡ bytes (bridge 0x68)
+  pub windows : SameWindows bytes bytes'
+  pub smram : bytes' (bridge 0x72) ≡ bytes (bridge 0x72)
+  pub xbcs : bytes' (isa 0x4E) ≡ bytes (isa 0x4E)
+  pub cards : SameCards bytes bytes'
+
+rows-same : (bytes bytes' : Bytes) (drb : List ℕ) → SameRows bytes bytes' → IsRowsOf bytes drb → IsRowsOf bytes' drb
+rows-same bytes bytes' drb same is row below = is row below ∙ sym (same row below)
+
+windows-same : (bytes bytes' : Bytes) (pam : List ℕ) → SameWindows bytes bytes' → IsPamOf bytes pam → IsPamOf bytes' pam
+windows-same bytes bytes' pam same is off within = is off within ∙ sym (same off within)
+
+cards-same : (setup : Setup) (bytes bytes' : Bytes) (cards : List CardBytes) → AreCards cards → SameCards bytes bytes' →
+    AreDecoded setup bytes cards → AreDecoded setup bytes' cards
+cards-same setup bytes bytes' cards each same are =
+    (are.0,
+    (λ k d within.
+    let card : CardBytes = get_or cards k d in
+    decodes-same setup bytes bytes' card (same card.card.dev (each k d within).first) (are.1 k d within)))
+
+pub stands-same : (setup : Setup) (bytes bytes' : Bytes) (regs : MapBytes) → AreFitted regs.cards → SameMap bytes bytes' →
+    StandsFor setup bytes regs → StandsFor setup bytes' regs
+stands-same setup bytes bytes' regs fitted same stands = record {
+  rows = rows-same bytes bytes' regs.drb same.rows stands.rows;
+  hole = stands.hole ∙ sym same.hole;
+  windows = windows-same bytes bytes' regs.pam same.windows stands.windows;
+  smram = stands.smram ∙ sym same.smram;
+  xbcs = stands.xbcs ∙ sym same.xbcs;
+  cards = cards-same setup bytes bytes' regs.cards fitted.each same.cards stands.cards;
+}
+
+-- ---- a byte is stored in the host bridge
+
+-- the bytes of all other functions stay
+isa_stays : (setup : Setup) (bytes : Bytes) (off written : ℕ) → stored setup bytes (bridge off) written (isa 0x4E) ≡ bytes (isa 0x4E)
+isa_stays setup bytes off written = stored-elsewhere setup bytes (bridge off) written (isa 0x4E) (inl (omega arith))
+
+cards_stay : (setup : Setup) (bytes : Bytes) (off written : ℕ) → SameCards bytes (stored setup bytes (bridge off) written)
+cards_stay setup bytes off written dev above at _ =
+    stored-elsewhere setup bytes (bridge off) written (card_register dev at) (inl (omega arith))
+
+rows_stay : (setup : Setup) (bytes : Bytes) (off written : ℕ) → (off < 0x60) ⊎ (0x67 < off) → SameRows bytes (stored setup bytes (bridge off) written)
+rows_stay setup bytes off written (inl below) row within =
+    stored-elsewhere setup bytes (bridge off) written (bridge (0x60 + row)) (inr (inr (omega arith)))
+rows_stay setup bytes off written (inr above) row within =
+    stored-elsewhere setup bytes (bridge off) written (bridge (0x60 + row)) (inr (inr (omega arith)))
+
+windows_stay : (setup : Setup) (bytes : Bytes) (off written : ℕ) → (off < 0x59) ⊎ (0x5F < off) → SameWindows bytes (stored setup bytes (bridge off) written)
+windows_stay setup bytes off written (inl below) at within =
+    stored-elsewhere setup bytes (bridge off) written (bridge at) (inr (inr (omega (arith, within.0, within.1))))
+windows_stay setup bytes off written (inr above) at within =
+    stored-elsewhere setup bytes (bridge off) written (bridge at) (inr (inr (omega (arith, within.0, within.1))))
+
+one_stays : (setup : Setup) (bytes : Bytes) (off written at : ℕ) → off ≢ at → stored setup bytes (bridge off) written (bridge at) ≡ bytes (bridge at)
+one_stays setup bytes off written at apart = stored-elsewhere setup bytes (bridge off) written (bridge at) (inr (inr apart))
+
+pub pam_stored :
+    (setup : Setup) (bytes : Bytes) (regs : MapBytes) (pam : List ℕ) (off written : ℕ) → AreFitted regs.cards → IsPamOffset off →
+    IsPamOf (stored setup bytes (bridge off) written) pam → StandsFor setup bytes regs →
+    StandsFor setup (stored setup bytes (bridge off) written) (record regs { pam = pam })
+pam_stored setup bytes regs pam off written fitted within is stands =
+    let new : Bytes = stored setup bytes (bridge off) written in
+    record {
+      rows = rows-same bytes new regs.drb (rows_stay setup bytes off written (inl (omega (arith, within.1)))) stands.rows;
+      hole = stands.hole ∙ sym (one_stays setup bytes off written 0x68 (omega (arith, within.1)));
+      windows = is;
+      smram = stands.smram ∙ sym (one_stays setup bytes off written 0x72 (omega (arith, within.1)));
+      xbcs = stands.xbcs ∙ sym (isa_stays setup bytes off written);
+      cards = cards-same setup bytes new regs.cards fitted.each (cards_stay setup bytes off written) stands.cards;
+    }
+
+row_is_stored :
+    (setup : Setup) (bytes : Bytes) (drb : List ℕ) (row written : ℕ) → length drb ≡ 8 → row < 8 → written < 256 → IsRowsOf bytes drb →
+    IsRowsOf (stored setup bytes (bridge (0x60 + row)) written) (set drb row written)
+row_is_stored setup bytes drb row written eight within below is at at_within =
+    elim (cases_eq at row) [
+      | inl same ↦ subst (λ (k : ℕ). slice_index (set drb row written) k ≡ stored setup bytes (bridge (0x60 + row)) written (bridge (0x60 + k))) (sym same)
+          (get_or-set_same drb row written 0 (omega arith)
+          ∙ sym (there setup bytes (0x60 + row) written 0xFF below (omega arith) (writable_bits-row setup row within) ∙ merged-all (bytes (bridge (0x60 + row))) written below))
+      | inr apart ↦
+          get_or-set_other drb row at written 0 apart
+          ∙ is at at_within
+          ∙ sym (one_stays setup bytes (0x60 + row) written (0x60 + at) (λ e. apart (omega arith)))
+    ]
+
+pub rows_stored :
+    (setup : Setup) (bytes : Bytes) (drb : List ℕ) (off row written : ℕ) → length drb ≡ 8 → IsRowOffset off → row ≡ off - 0x60 → written < 256 →
+    IsRowsOf bytes drb → IsRowsOf (stored setup bytes (bridge off) written) (set drb row written)
+rows_stored setup bytes drb off row written eight within at_row below is =
+    let off_is : 0x60 + row ≡ off = omega (arith, within.0) in
+    subst (λ (at : ℕ). IsRowsOf (stored setup bytes (bridge at) written) (set drb row written)) off_is
+    (row_is_stored setup bytes drb row written eight (omega (arith, within.1)) below is)
+
+pub row_stored :
+    (setup : Setup) (bytes : Bytes) (regs : MapBytes) (drb : List ℕ) (off written : ℕ) → AreFitted regs.cards → IsRowOffset off →
+    IsRowsOf (stored setup bytes (bridge off) written) drb → StandsFor setup bytes regs →
+    StandsFor setup (stored setup bytes (bridge off) written) (record regs { drb = drb })
+row_stored setup bytes regs drb off written fitted within is stands =
+    let new : Bytes = stored setup bytes (bridge off) written in
+    record {
+      rows = is;
+      hole = stands.hole ∙ sym (one_stays setup bytes off written 0x68 (omega (arith, within.1)));
+      windows = windows-same bytes new regs.pam (windows_stay setup bytes off written (inr (omega (arith, within.0)))) stands.windows;
+      smram = stands.smram ∙ sym (one_stays setup bytes off written 0x72 (omega (arith, within.1)));
+      xbcs = stands.xbcs ∙ sym (isa_stays setup bytes off written);
+      cards = cards-same setup bytes new regs.cards fitted.each (cards_stay setup bytes off written) stands.cards;
+    }
+
+pub hole_stored :
+    (setup : Setup) (bytes : Bytes) (regs : MapBytes) (written : ℕ) → AreFitted regs.cards → written < 256 →
+    StandsFor setup bytes regs → StandsFor setup (stored setup bytes (bridge 0x68) written) (record regs { fdhc = merged 0xC0 regs.fdhc written })
+hole_stored setup bytes regs written fitted below stands =
+    let new : Bytes = stored setup bytes (bridge 0x68) written in
+    record {
+      rows = rows-same bytes new regs.drb (rows_stay setup bytes 0x68 written (inr (omega arith))) stands.rows;
+      hole = ap (λ (old : ℕ). merged 0xC0 old written) stands.hole ∙ sym (there setup bytes 0x68 written 0xC0 below (omega arith) (writable_bits-hole setup));
+      windows = windows-same bytes new regs.pam (windows_stay setup bytes 0x68 written (inr (omega arith))) stands.windows;
+      smram = stands.smram ∙ sym (one_stays setup bytes 0x68 written 0x72 (omega arith));
+      xbcs = stands.xbcs ∙ sym (isa_stays setup bytes 0x68 written);
+      cards = cards-same setup bytes new regs.cards fitted.each (cards_stay setup bytes 0x68 written) stands.cards;
+    }
+
+smram_byte : (setup : Setup) (bytes : Bytes) (written : ℕ) → written < 256 →
+    smram_after (bytes (bridge 0x72)) written ≡ stored setup bytes (bridge 0x72) written (bridge 0x72)
+smram_byte setup bytes written below =
+    let whole : byte written 0 ≡ written = omega arith in ap (λ (n : ℕ). smram_after (bytes (bridge 0x72)) n) (sym whole)
+
+pub smram_stored :
+    (setup : Setup) (bytes : Bytes) (regs : MapBytes) (written : ℕ) → AreFitted regs.cards → written < 256 →
+    StandsFor setup bytes regs → StandsFor setup (stored setup bytes (bridge 0x72) written) (record regs { smram = smram_after regs.smram written })
+smram_stored setup bytes regs written fitted below stands =
+    let new : Bytes = stored setup bytes (bridge 0x72) written in
+    record {
+      rows = rows-same bytes new regs.drb (rows_stay setup bytes 0x72 written (inr (omega arith))) stands.rows;
+      hole = stands.hole ∙ sym (one_stays setup bytes 0x72 written 0x68 (omega arith));
+      windows = windows-same bytes new regs.pam (windows_stay setup bytes 0x72 written (inr (omega arith))) stands.windows;
+      smram = ap (λ (old : ℕ). smram_after old written) stands.smram ∙ smram_byte setup bytes written below;
+      xbcs = stands.xbcs ∙ sym (isa_stays setup bytes 0x72 written);
+      cards = cards-same setup bytes new regs.cards fitted.each (cards_stay setup bytes 0x72 written) stands.cards;
+    }
+
+-- none of the registers of the map has this offset in the host bridge
+pub record IsBeside (off : ℕ) : Type 0 where
+  pub windows : (off < 0x59) ⊎ (0x5F < off)
+  pub rows : (off < 0x60) ⊎ (0x67 < off)
+  pub hole : off ≢ 0x68
+  pub smram : off ≢ 0x72
+
+pub beside_stored : (setup : Setup) (bytes : Bytes) (off written : ℕ) → IsBeside off → SameMap bytes (stored setup bytes (bridge off) written)
+beside_stored setup bytes off written beside = record {
+  rows = rows_stay setup bytes off written beside.rows;
+  hole = one_stays setup bytes off written 0x68 beside.hole;
+  windows = windows_stay setup bytes off written beside.windows;
+  smram = one_stays setup bytes off written 0x72 beside.smram;
+  xbcs = isa_stays setup bytes off written;
+  cards = cards_stay setup bytes off written;
+}
+
+-- ---- a byte is stored in the ISA bridge, in a function without registers of the map, or in a card
+
+isa_is_stored : (setup : Setup) (bytes : Bytes) (written : ℕ) → written < 256 →
+    merged 0xC7 (bytes (isa 0x4E)) written ≡ stored setup bytes (isa 0x4E) written (isa 0x4E)
+unfolding writable_bits isa_bridge
+isa_is_stored setup bytes written below = sym (changed_byte-one_same setup (isa 0x4E) (bytes (isa 0x4E)) written below refl)
+
+beside_bridge : (setup : Setup) (bytes : Bytes) (at : Reg) (written off : ℕ) → (at.dev ≢ 0) ⊎ (at.fun ≢ 0) →
+    stored setup bytes at written (bridge off) ≡ bytes (bridge off)
+beside_bridge setup bytes at written off (inl dev) = stored-elsewhere setup bytes at written (bridge off) (inl dev)
+beside_bridge setup bytes at written off (inr fun) = stored-elsewhere setup bytes at written (bridge off) (inr (inl fun))
+
+beside_cards : (setup : Setup) (bytes : Bytes) (at : Reg) (written : ℕ) → (at.dev < 2) ⊎ (at.fun ≢ 0) → SameCards bytes (stored setup bytes at written)
+beside_cards setup bytes at written (inl low) dev above off _ = stored-elsewhere setup bytes at written (card_register dev off) (inl (omega arith))
+beside_cards setup bytes at written (inr fun) dev above off _ = stored-elsewhere setup bytes at written (card_register dev off) (inr (inl fun))
+
+pub xbcs_stored :
+    (setup : Setup) (bytes : Bytes) (regs : MapBytes) (written : ℕ) → AreFitted regs.cards → written < 256 →
+    StandsFor setup bytes regs → StandsFor setup (stored setup bytes (isa 0x4E) written) (record regs { xbcs = merged 0xC7 regs.xbcs written })
+xbcs_stored setup bytes regs written fitted below stands =
+    let new : Bytes = stored setup bytes (isa 0x4E) written in
+    let stays : (off : ℕ) → new (bridge off) ≡ bytes (bridge off) = λ off. beside_bridge setup bytes (isa 0x4E) written off (inl (omega arith)) in
+    record {
+      rows = rows-same bytes new regs.drb (λ row _. stays (0x60 + row)) stands.rows;
+      hole = stands.hole ∙ sym (stays 0x68);
+      windows = windows-same bytes new regs.pam (λ off _. stays off) stands.windows;
+      smram = stands.smram ∙ sym (stays 0x72);
+      xbcs = ap (λ (old : ℕ). merged 0xC7 old written) stands.xbcs ∙ isa_is_stored setup bytes written below;
+      cards = cards-same setup bytes new regs.cards fitted.each (beside_cards setup bytes (isa 0x4E) written (inl (omega arith))) stands.cards;
+    }
+
+pub isa_beside : (setup : Setup) (bytes : Bytes) (off written : ℕ) → off ≢ 0x4E → SameMap bytes (stored setup bytes (isa off) written)
+isa_beside setup bytes off written apart = record {
+  rows = λ row _. beside_bridge setup bytes (isa off) written (0x60 + row) (inl (omega arith));
+  hole = beside_bridge setup bytes (isa off) written 0x68 (inl (omega arith));
+  windows = λ at _. beside_bridge setup bytes (isa off) written at (inl (omega arith));
+  smram = beside_bridge setup bytes (isa off) written 0x72 (inl (omega arith));
+  xbcs = stored-elsewhere setup bytes (isa off) written (isa 0x4E) (inr (inr apart));
+  cards = beside_cards setup bytes (isa off) written (inl (omega arith));
+}
+
+-- a function other than 0 has no register of the map
+pub function_beside : (setup : Setup) (bytes : Bytes) (at : Reg) (written : ℕ) → at.fun ≢ 0 → SameMap bytes (stored setup bytes at written)
+function_beside setup bytes at written fun = record {
+  rows = λ row _. beside_bridge setup bytes at written (0x60 + row) (inr fun);
+  hole = beside_bridge setup bytes at written 0x68 (inr fun);
+  windows = λ off _. beside_bridge setup bytes at written off (inr fun);
+  smram = beside_bridge setup bytes at written 0x72 (inr fun);
+  xbcs = stored-elsewhere setup bytes at written (isa 0x4E) (inr (inl fun));
+  cards = beside_cards setup bytes at written (inr fun);
+}
+
+-- the registers of the bridges stay where a byte is stored in a card
+pub card_stored :
+    (setup : Setup) (bytes : Bytes) (regs : MapBytes) (cards : List CardBytes) (dev off written : ℕ) → dev ≢ 0 → dev ≢ 1 →
+    AreDecoded setup (stored setup bytes (card_register dev off) written) cards →
+    StandsFor setup bytes regs → StandsFor setup (stored setup bytes (card_register dev off) written) (record regs { cards = cards })
+card_stored setup bytes regs cards dev off written not0 not1 are stands =
+    let new : Bytes = stored setup bytes (card_register dev off) written in
+    let stays : (at : ℕ) → new (bridge at) ≡ bytes (bridge at) = λ at. beside_bridge setup bytes (card_register dev off) written at (inl not0) in
+    record {
+      rows = rows-same bytes new regs.drb (λ row _. stays (0x60 + row)) stands.rows;
+      hole = stands.hole ∙ sym (stays 0x68);
+      windows = windows-same bytes new regs.pam (λ at _. stays at) stands.windows;
+      smram = stands.smram ∙ sym (stays 0x72);
+      xbcs = stands.xbcs ∙ sym (stored-elsewhere setup bytes (card_register dev off) written (isa 0x4E) (inl not1));
+      cards = are;
+    }
+
+-- nor has a byte past offset FFh
+pub beyond : (setup : Setup) (bytes : Bytes) (at : Reg) (written : ℕ) → 256 ≤ at.off → SameMap bytes (stored setup bytes at written)
+beyond setup bytes at written past = record {
+  rows = λ row below. stored-elsewhere setup bytes at written (bridge (0x60 + row)) (inr (inr (omega arith)));
+  hole = stored-elsewhere setup bytes at written (bridge 0x68) (inr (inr (omega arith)));
+  windows = λ off within. stored-elsewhere setup bytes at written (bridge off) (inr (inr (omega (arith, within.1))));
+  smram = stored-elsewhere setup bytes at written (bridge 0x72) (inr (inr (omega arith)));
+  xbcs = stored-elsewhere setup bytes at written (isa 0x4E) (inr (inr (omega arith)));
+  cards = λ dev above off inside. stored-elsewhere setup bytes at written (card_register dev off) (inr (inr (below_256 at.off off past inside)));
+}
+
+-- ---- the bytes of a store, one after the other
+
+abbrev pub stored_so_far : Setup → Bytes → (at : Reg) → (value count : ℕ) → Bytes
+stored_so_far setup bytes at value count = λ reg. after_stores setup at value count reg (bytes reg)
+
+pub none_stored : (setup : Setup) (bytes : Bytes) (at : Reg) (value : ℕ) (regs : MapBytes) → AreFitted regs.cards → StandsFor setup bytes regs →
+    StandsFor setup (stored_so_far setup bytes at value 0) regs
+unfolding after_stores
+none_stored setup bytes at value regs fitted stands = stands
+
+pub one_more_stored : (setup : Setup) (bytes : Bytes) (at : Reg) (value count : ℕ) (regs : MapBytes) →
+    StandsFor setup (stored setup (stored_so_far setup bytes at value count) (reg_after at count) (byte value count)) regs →
+    StandsFor setup (stored_so_far setup bytes at value (count + 1)) regs
+unfolding after_stores
+one_more_stored setup bytes at value count regs stands = rw (add-one count) stands
+
+pub all_stored : (setup : Setup) (bytes : Bytes) (at : Reg) (width : Width) (value : ℕ) (regs : MapBytes) → AreFitted regs.cards →
+    StandsFor setup (stored_so_far setup bytes at value (bytes_of width)) regs →
+    StandsFor setup (λ reg. changed_byte setup (Store at width value) reg (bytes reg)) regs
+all_stored setup bytes at width value regs fitted stands =
+    let new : Bytes = λ reg. changed_byte setup (Store at width value) reg (bytes reg) in
+    let far : Bytes = stored_so_far setup bytes at value (bytes_of width) in
+    let same : (reg : Reg) → new reg ≡ far reg = λ reg. byte_by_byte setup at width value reg (bytes reg) in
+    stands-same setup far new regs fitted
+    (record {
+      rows = λ row _. same (bridge (0x60 + row));
+      hole = same (bridge 0x68);
+      windows = λ off _. same (bridge off);
+      smram = same (bridge 0x72);
+      xbcs = same (isa 0x4E);
+      cards = λ dev _ off _. same (card_register dev off);
+    })
+    stands

@@ -1,0 +1,54 @@
+-- A byte that is stored in one register leaves all others, and a register takes it under its mask.
+use Rattle.std.proofs.Common.{◌≡◌, ◌≢◌, ◌≤◌, ℕ, zero, suc, List, ◌<◌, ◌+◌, Bool, true, false, ◌&&◌, ◌⊎◌, inl, inr, refl, sym, ◌∙◌, ap, arith}
+use Rattle.std.specs.Prelude.{◌==◌, slice_index, if◌then◌else◌}
+use Rattle.std.specs.Int.{w32, to_le_bytes}
+use Rattle.std.proofs.lemmas.Bool.{cond-false, and_left, and_right, cases_Bool}
+use Rattle.std.proofs.lemmas.Bool.Decides.{nat_tests}
+use Rattle.board_base.specs.declared.access.Width.{Width}
+use Rattle.board_base.specs.declared.access.Width.TheVariants.{One, Two, Four}
+use Rattle.board_base.specs.Access.{bytes_of}
+use Rattle.board_base.specs.declared.target.Reg.{Reg}
+use Rattle.board_spec.specs.declared.map_change.MapChange.TheVariants.{Store}
+use Rattle.board_spec.specs.Setup.{Setup}
+use Rattle.board_spec.specs.Bits.{byte}
+use Rattle.board_spec.specs.RegisterTable.{host_bridge, isa_bridge, writable_bits}
+use Rattle.board_spec.specs.Registers.{covers, changed_byte, smram_after, is_smram_register}
+use Rattle.board_spec.specs.Decode.{Bytes, card_register}
+use Rattle.addr_decode.specs.MapRegs.{stored}
+use Rattle.board_spec.proofs.StoreLemmas.{changed_byte-one_same}
+
+abbrev pub Differs : Reg → Reg → Type 0
+Differs at reg = (at.dev ≢ reg.dev) ⊎ (at.fun ≢ reg.fun) ⊎ (at.off ≢ reg.off)
+
+not_covered : (at reg : Reg) → Differs at reg → covers at One reg ≡ false
+not_covered at reg (inl dev) = grind (arith, nat_tests)
+not_covered at reg (inr (inl fun)) = grind (arith, nat_tests)
+not_covered at reg (inr (inr off)) = grind (arith, nat_tests)
+
+pub stored-elsewhere : (setup : Setup) (bytes : Bytes) (at : Reg) (written : ℕ) (reg : Reg) → Differs at reg → stored setup bytes at written reg ≡ bytes reg
+stored-elsewhere setup bytes at written reg apart = cond-false (covers at One reg) _ _ (not_covered at reg apart)
+
+abbrev reg_made : (dev fun off : ℕ) → Reg
+reg_made dev fun off = record { dev = dev; fun = fun; off = off }
+
+-- a register of function 0 by its device
+pub in_function_0 : (reg : Reg) (dev : ℕ) → reg.dev ≡ dev → reg.fun ≡ 0 → card_register dev reg.off ≡ reg
+in_function_0 reg dev is_dev is_fun =
+    ap (λ (d : ℕ). reg_made d 0 reg.off) (sym is_dev) ∙ ap (λ (f : ℕ). reg_made reg.dev f reg.off) (sym is_fun)
+
+-- ---- the bytes of a value
+
+byte_of_long : (value k : ℕ) → k < 4 → slice_index (to_le_bytes w32 value) k ≡ byte value k
+byte_of_long value zero below = omega arith
+byte_of_long value (suc zero) below = omega arith
+byte_of_long value (suc (suc zero)) below = omega arith
+byte_of_long value (suc (suc (suc zero))) below = omega arith
+byte_of_long value (suc (suc (suc (suc k)))) below = absurd (omega arith)
+
+pub byte_in_list : (value k place : ℕ) (bytes : List ℕ) → place ≡ k → k < 4 → bytes ≡ to_le_bytes w32 value → slice_index bytes place ≡ byte value k
+byte_in_list value k place bytes same below are = rw (are, same) (byte_of_long value k below)
+
+pub few_bytes : (width : Width) → bytes_of width ≤ 4
+few_bytes One = omega arith
+few_bytes Two = omega arith
+few_bytes Four = omega arith

@@ -1,0 +1,4 @@
+pub mod MapRegs
+pub mod Memory
+pub mod Onboard
+pub mod Ports

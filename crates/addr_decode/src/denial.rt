@@ -1,0 +1,109 @@
+//! Which register denies a memory access.
+ghost use Rattle.std.specs.Prelude.{◌≡◌, ◌≤◌, Some, None};
+ghost use Rattle.board_base.specs.declared.target.Denial.TheVariants.{Register};
+ghost use Rattle.board_spec.specs.Setup.{Setup};
+ghost use Rattle.board_spec.specs.Decode.{Bytes, isa, pam_register, top_of as top_by, memory_shut, abort_denial, rom_denial, denial_in};
+ghost use Rattle.addr_decode.specs.MapRegs.{AreFitted, StandsFor, map_bytes};
+ghost use Rattle.addr_decode.specs.Memory.{board_denial, card_denial};
+
+use crate::bits::is_set;
+use crate::offsets::{DRB7, FDHC, SMRAM, XBCS, card_command, host_bridge, isa_bridge};
+use crate::regs::MapRegs;
+
+use board_base::{Area, Denial, Kind};
+use pam_windows::window_of;
+use pci_bars::shut_mem;
+use pmc_regs::top_of;
+
+/// From here on no boundary register can put DRAM.
+const DRAM_END: u32 = 0x7F80_0000;
+/// The bit of XBCS that lets writes to the BIOS reach its chip.
+const BIOS_WRITE_ENABLE: u8 = 2;
+
+/// What denies an access that reaches this area. None where it is not denied.
+pub fn denial_in(regs: &MapRegs, area: Area, addr: u32, kind: Kind) -> Option<Denial>
+    requires cards { AreFitted regs.now.cards.items }
+    ensures denial { (setup : Setup) (bytes : Bytes) → StandsFor setup bytes (map_bytes regs.now)
+        → result ≡ denial_in area kind (abort_denial (top_by bytes) (memory_shut setup bytes addr) addr)
+            (rom_denial (bytes (isa 0x4E))) }
+{
+    match area {
+        Area::Abort => Some(abort_denial(regs, addr)),
+        Area::Rom => rom_denial_in(regs.xbcs, kind),
+        Area::Dram(_) | Area::Shadow(_) | Area::Smram | Area::Card(..) => None,
+    }
+}
+
+/// What denies an access to the ROM: a write is denied by XBCS, or else by the chip itself.
+fn rom_denial_in(xbcs: u8, kind: Kind) -> Option<Denial>
+    ensures denial { result ≡ denial_in Area.Rom kind Denial.NoRegister (rom_denial xbcs) }
+{
+    match kind {
+        Kind::Fetch | Kind::Read => None,
+        Kind::Write => Some(rom_denial(xbcs)),
+    }
+}
+
+/// What denies a write to the ROM.
+fn rom_denial(xbcs: u8) -> Denial
+    ensures denial { result ≡ rom_denial xbcs }
+{
+    if is_set(xbcs.into(), BIOS_WRITE_ENABLE) {
+        return Denial::NoRegister;
+    }
+    isa_bridge(XBCS)
+}
+
+/// What denies an access that nobody answers.
+fn abort_denial(regs: &MapRegs, addr: u32) -> Denial
+    requires cards { AreFitted regs.now.cards.items }
+    ensures denial { (setup : Setup) (bytes : Bytes) → StandsFor setup bytes (map_bytes regs.now)
+        → result ≡ abort_denial (top_by bytes) (memory_shut setup bytes addr) addr }
+{
+    if let Some(denial) = board_denial(top_of(&regs.drb), addr) {
+        return denial;
+    }
+    match shut_mem(&regs.cards, addr) {
+        Some(dev) => card_command(dev),
+        None => row_denial(addr),
+    }
+}
+
+/// What denies an access above the top of DRAM: DRB7, where it could put DRAM there.
+fn row_denial(addr: u32) -> Denial
+    ensures denial { result ≡ card_denial None addr }
+{
+    if addr < DRAM_END {
+        return host_bridge(DRB7);
+    }
+    Denial::NoRegister
+}
+
+/// The register of the board that keeps an address from an answer, by the top of DRAM: XBCS, SMRAM, PAM
+/// or FDHC. None where it is none of these.
+#[tactic(auto, unfolding(crate::specs::Memory::board_denial))]
+fn board_denial(top: u32, addr: u32) -> Option<Denial>
+    ensures denial { result ≡ board_denial top addr }
+{
+    if 0xFFF8_0000 <= addr && addr <= 0xFFFE_FFFF {
+        return Some(isa_bridge(XBCS));
+    }
+    if top == 0 {
+        return None;
+    }
+    match addr {
+        0xA_0000..=0xB_FFFF => Some(host_bridge(SMRAM)),
+        0xC_0000..=0xE_FFFF => pam_denial(addr),
+        _ => (addr < top).then_some(host_bridge(FDHC)),
+    }
+}
+
+/// The PAM register of an address. None outside the shadow windows.
+fn pam_denial(addr: u32) -> Option<Denial>
+    ensures denial { 0xC_0000 ≤ addr → addr ≤ 0xF_FFFF → result ≡ Some (Register (pam_register addr)) }
+{
+    match window_of(addr) {
+        Some(window) => Some(host_bridge(window.off)),
+        None => None,
+    }
+}

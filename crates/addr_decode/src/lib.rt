@@ -1,0 +1,22 @@
+//! Where an access lands and which register denied it: the address decode of the 82441FX, the 82371SB and the
+//! PCI cards, over the registers on which it depends.
+#![tactic(auto)]
+
+mod bits;
+mod cards;
+mod change;
+mod denial;
+mod memory;
+mod offsets;
+mod onboard;
+mod ports;
+mod regs;
+
+pub use board_spec::MapChange;
+pub use change::touches;
+pub use memory::decode;
+pub use ports::{PortRegs, decode_port};
+pub use regs::MapRegs;
+
+#[cfg(test)]
+mod tests;

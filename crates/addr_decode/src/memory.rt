@@ -1,0 +1,93 @@
+//! The memory map of the 82441FX and the 82371SB: which area an access reaches, and what denies it.
+ghost use Rattle.std.specs.Prelude.{◌≡◌, Some, option_map};
+ghost use Rattle.board_spec.specs.Setup.{Setup};
+ghost use Rattle.board_spec.specs.Decode.{Bytes, bridge, is_in, hole_of as hole_by, row_of as row_by, is_shadowed, smram_answers, area_of, denial_of};
+ghost use Rattle.pam_windows.specs.Pam.{IsPamOf};
+ghost use Rattle.addr_decode.specs.MapRegs.{AreFitted, StandsFor, map_bytes};
+ghost use Rattle.addr_decode.specs.Memory.{dram_area, row_area};
+
+use crate::denial::denial_in;
+use crate::offsets::PAM0;
+use crate::regs::MapRegs;
+use board_base::{Area, Denial, Kind};
+use pam_windows::window_of;
+use pci_bars::claim_mem;
+use pmc_regs::{hole_of, row_of};
+use smram_ctl::smram_reaches;
+use xbus_select::rom_selected;
+
+/// The area that a memory access reaches, and what denies it: None where the area answers, unless it is the ROM
+/// and the access writes.
+pub fn decode(regs: &MapRegs, addr: u32, kind: Kind, smm: bool) -> (Area, Option<Denial>)
+    requires cards { AreFitted regs.now.cards.items }
+    ensures area { (setup : Setup) (bytes : Bytes) → StandsFor setup bytes (map_bytes regs.now)
+        → result.0 ≡ area_of setup bytes addr kind smm }
+    ensures denial { (setup : Setup) (bytes : Bytes) → StandsFor setup bytes (map_bytes regs.now)
+        → result.1 ≡ denial_of setup bytes addr kind smm }
+{
+    let area = area_of(regs, addr, kind, smm);
+    (area, denial_in(regs, area, addr, kind))
+}
+
+/// The area that an access reaches.
+fn area_of(regs: &MapRegs, addr: u32, kind: Kind, smm: bool) -> Area
+    requires cards { AreFitted regs.now.cards.items }
+    ensures area { (setup : Setup) (bytes : Bytes) → StandsFor setup bytes (map_bytes regs.now)
+        → result ≡ area_of setup bytes addr kind smm }
+{
+    if let Some(area) = dram_area(regs, addr, kind, smm) {
+        return area;
+    }
+    if rom_selected(regs.xbcs, addr) {
+        return Area::Rom;
+    }
+    match claim_mem(&regs.cards, addr) {
+        Some((dev, base)) => Area::Card(dev, base),
+        None => Area::Abort,
+    }
+}
+
+/// Where an access reaches DRAM: in SMRAM, through a shadow window or directly. None where it does not.
+fn dram_area(regs: &MapRegs, addr: u32, kind: Kind, smm: bool) -> Option<Area>
+    ensures dram { (setup : Setup) (bytes : Bytes) → StandsFor setup bytes (map_bytes regs.now)
+        → result ≡ dram_area (row_by bytes addr) (smram_answers (bytes (bridge 0x72)) kind smm)
+            (is_shadowed bytes addr kind) (is_in (hole_by (bytes (bridge 0x68))) addr) addr }
+{
+    match row_of(&regs.drb, addr) {
+        Some(row) => row_area(regs, row, addr, kind, smm),
+        None => None,
+    }
+}
+
+/// Where an access at an address of a row reaches DRAM.
+fn row_area(regs: &MapRegs, row: u8, addr: u32, kind: Kind, smm: bool) -> Option<Area>
+    ensures dram { (setup : Setup) (bytes : Bytes) → StandsFor setup bytes (map_bytes regs.now)
+        → result ≡ row_area row (smram_answers (bytes (bridge 0x72)) kind smm)
+            (is_shadowed bytes addr kind) (is_in (hole_by (bytes (bridge 0x68))) addr) addr }
+{
+    match addr {
+        0xA_0000..=0xB_FFFF => smram_reaches(regs.smram, kind, smm).then_some(Area::Smram),
+        0xC_0000..=0xF_FFFF => is_shadowed(&regs.pam, addr, kind).then_some(Area::Shadow(row)),
+        _ => (!is_in_hole(regs.fdhc, addr)).then_some(Area::Dram(row)),
+    }
+}
+
+/// Whether a shadow window is open at an address.
+fn is_shadowed(pam: &[u8; 7], addr: u32, kind: Kind) -> bool
+    ensures shadowed { (bytes : Bytes) → IsPamOf bytes pam.now → result ≡ is_shadowed bytes addr kind }
+{
+    match window_of(addr) {
+        Some(window) => window.is_opened_by(pam[usize::from(window.off - PAM0)], kind),
+        None => false,
+    }
+}
+
+/// Whether an address lies in the hole that FDHC makes.
+fn is_in_hole(fdhc: u8, addr: u32) -> bool
+    ensures hole { result ≡ is_in (hole_by fdhc) addr }
+{
+    match hole_of(fdhc) {
+        Some((first, last)) => first <= addr && addr <= last,
+        None => false,
+    }
+}

@@ -1,0 +1,106 @@
+//! The board's own devices: which port is whose, and whether the registers select it.
+ghost use Rattle.std.specs.Prelude.{◌≡◌};
+ghost use Rattle.board_base.specs.declared.target.Dev.TheVariants.{Keyboard, Clock};
+ghost use Rattle.board_base.specs.declared.target.Denial.TheVariants.{Register};
+ghost use Rattle.board_spec.specs.Bits.{is_bit};
+ghost use Rattle.board_spec.specs.Decode.{isa};
+ghost use Rattle.addr_decode.specs.Onboard.{if_selected, disk_by, byte_port, wide_port, onboard_at};
+
+use crate::bits::is_set;
+use crate::offsets::{IDE_COMMAND, IDETIM, XBCS, ide_function, isa_bridge};
+use board_base::{Denial, Dev, Width};
+
+/// The data register of the primary IDE channel.
+const ATA_DATA: u16 = 0x1F0;
+
+/// The bits of XBCS that select the clock and the keyboard controller.
+const CLOCK_SELECT: u8 = 0;
+const KEYBOARD_SELECT: u8 = 1;
+
+/// The bit of the IDE command that enables the ports.
+const IO_ENABLE: u8 = 0;
+/// The bit of IDETIM that enables the primary channel.
+const CHANNEL_ENABLE: u8 = 15;
+
+/// What the board's own devices say to a port access.
+#[derive(Clone, Copy, PartialEq, Eq, Debug)]
+pub enum Onboard {
+    /// This device answers.
+    Answers(Dev),
+    /// The device of the port is not selected.
+    Denied(Denial),
+    /// The port is no device's.
+    Absent,
+}
+
+/// What the board's own devices say at a port, with this XBCS and this answer of the disk.
+pub fn onboard_at(xbcs: u8, disk: Onboard, port: u16, width: Width) -> Onboard
+    ensures onboard { result ≡ onboard_at xbcs disk port width }
+{
+    match width {
+        Width::One => byte_port(xbcs, disk, port),
+        Width::Two | Width::Four => wide_port(disk, port),
+    }
+}
+
+/// A register of one byte.
+#[tactic(auto, unfolding(crate::specs::Onboard::byte_port))]
+fn byte_port(xbcs: u8, disk: Onboard, port: u16) -> Onboard
+    ensures onboard { result ≡ byte_port xbcs disk port }
+{
+    match port {
+        0xCF9 => Onboard::Answers(Dev::Reset),
+        0x20..=0x21 => Onboard::Answers(Dev::Pic0),
+        0xA0..=0xA1 => Onboard::Answers(Dev::Pic1),
+        0x40..=0x43 => Onboard::Answers(Dev::Pit),
+        0x61 => Onboard::Answers(Dev::System),
+        0x4D0..=0x4D1 => Onboard::Answers(Dev::Elcr),
+        0x60 | 0x64 => keyboard(xbcs),
+        0x70..=0x71 => clock(xbcs),
+        0x1F1..=0x1F7 | 0x3F6 => disk,
+        _ => Onboard::Absent,
+    }
+}
+
+/// The data register of the disk, which takes two or four bytes.
+fn wide_port(disk: Onboard, port: u16) -> Onboard
+    ensures onboard { result ≡ wide_port disk port }
+{
+    if port == ATA_DATA { disk } else { Onboard::Absent }
+}
+
+/// The keyboard controller, where XBCS selects it.
+fn keyboard(xbcs: u8) -> Onboard
+    ensures selected { result ≡ if_selected (is_bit xbcs 1) Keyboard (Register (isa 0x4E)) }
+{
+    if !is_set(xbcs.into(), KEYBOARD_SELECT) {
+        return Onboard::Denied(isa_bridge(XBCS));
+    }
+    Onboard::Answers(Dev::Keyboard)
+}
+
+/// The clock, where XBCS selects it.
+fn clock(xbcs: u8) -> Onboard
+    ensures selected { result ≡ if_selected (is_bit xbcs 0) Clock (Register (isa 0x4E)) }
+{
+    if !is_set(xbcs.into(), CLOCK_SELECT) {
+        return Onboard::Denied(isa_bridge(XBCS));
+    }
+    Onboard::Answers(Dev::Clock)
+}
+
+/// The disk, where one is fitted: bit 0 of the IDE command and bit 15 of IDETIM select it.
+pub fn disk_by(disk: bool, ide_command: u8, idetim: u16) -> Onboard
+    ensures onboard { result ≡ disk_by disk ide_command idetim }
+{
+    if !disk {
+        return Onboard::Denied(Denial::NoRegister);
+    }
+    if !is_set(ide_command.into(), IO_ENABLE) {
+        return Onboard::Denied(ide_function(IDE_COMMAND));
+    }
+    if !is_set(idetim, CHANNEL_ENABLE) {
+        return Onboard::Denied(ide_function(IDETIM));
+    }
+    Onboard::Answers(Dev::Ata)
+}

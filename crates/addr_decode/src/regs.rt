@@ -1,0 +1,95 @@
+//! The registers that the address map depends on.
+ghost use Rattle.std.specs.Prelude.{◌≡◌};
+ghost use Rattle.board_spec.specs.Setup.{Setup, IsCardList};
+ghost use Rattle.board_spec.specs.RegisterTable.{reset_byte};
+ghost use Rattle.board_spec.specs.Decode.{Bytes};
+ghost use Rattle.pci_bars.specs.Cards.{cards_of};
+ghost use Rattle.addr_decode.specs.MapRegs.{AreFitted, AreReset, StandsFor, map_bytes};
+
+use arrayvec::ArrayVec;
+use crate::cards::push_card;
+use pci_bars::{CardRegs, CardSpec};
+
+/// A boundary register after a reset: all rows end at 8 MiB.
+const DRB_RESET: u8 = 0x01;
+/// SMRAM after a reset: closed, and the bits that read 010.
+const SMRAM_RESET: u8 = 0x02;
+/// XBCS after a reset: the clock and the keyboard controller are selected.
+const XBCS_RESET: u8 = 0x03;
+
+/// The registers that the address map depends on: DRB0 to DRB7, FDHC, PAM0 to PAM6 and SMRAM of the host
+/// bridge, XBCS of the ISA bridge, and the cards in rising order of device.
+#[derive(Drop)]
+pub struct MapRegs {
+    pub drb: [u8; 8],
+    pub fdhc: u8,
+    pub pam: [u8; 7],
+    pub smram: u8,
+    pub xbcs: u8,
+    pub cards: ArrayVec<CardRegs, 8>,
+}
+
+impl MapRegs {
+    /// The registers after a reset of a board with these cards: at most eight, in rising order of device.
+    pub fn reset_of(specs: &[CardSpec]) -> MapRegs
+        requires cards { IsCardList specs.now }
+        ensures stands { (setup : Setup) → setup.cards ≡ specs.now → StandsFor setup (reset_byte setup) (map_bytes result) }
+        ensures cards { cards_of result.cards.items ≡ specs.now }
+        ensures fitted { AreFitted result.cards.items }
+    {
+        let mut cards = ArrayVec::new();
+        for spec in specs {
+            push_card(&mut cards, spec.copy());
+        }
+        after_reset(cards)
+    }
+
+    /// An equal value. It takes no memory.
+    pub fn copy(&self) -> MapRegs
+        ensures equal { map_bytes result ≡ map_bytes self.now }
+    {
+        let mut cards = ArrayVec::new();
+        for card in self.cards.as_slice() {
+            cards.push(card.copy());
+        }
+        MapRegs {
+            drb: self.drb,
+            fdhc: self.fdhc,
+            pam: self.pam,
+            smram: self.smram,
+            xbcs: self.xbcs,
+            cards,
+        }
+    }
+
+    /// Gives every register its value after a reset.
+    pub(crate) fn reset(&mut self)
+        requires cards { AreFitted self.old.cards.items }
+        ensures stands { (setup : Setup) → setup.cards ≡ cards_of self.old.cards.items
+            → StandsFor setup (reset_byte setup) (map_bytes self.new) }
+        ensures same_cards { cards_of self.new.cards.items ≡ cards_of self.old.cards.items }
+    {
+        let mut cards = ArrayVec::new();
+        for card in self.cards.as_slice() {
+            push_card(&mut cards, card.spec.copy());
+        }
+        *self = after_reset(cards);
+    }
+}
+
+/// The registers after a reset, with cards that a reset left.
+fn after_reset(cards: ArrayVec<CardRegs, 8>) -> MapRegs
+    requires reset { AreReset cards.items }
+    requires cards { AreFitted cards.items }
+    ensures stands { (setup : Setup) → setup.cards ≡ cards_of cards.items → StandsFor setup (reset_byte setup) (map_bytes result) }
+    ensures cards { result.cards ≡ cards }
+{
+    MapRegs {
+        drb: [DRB_RESET; 8],
+        fdhc: 0,
+        pam: [0; 7],
+        smram: SMRAM_RESET,
+        xbcs: XBCS_RESET,
+        cards,
+    }
+}
