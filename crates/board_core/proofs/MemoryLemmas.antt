@@ -17,9 +17,10 @@ use Rattle.board_spec.specs.Setup.{Setup}
 use Rattle.board_spec.specs.Bits.{wide}
 use Rattle.board_spec.specs.Registers.{byte_of}
 use Rattle.board_spec.specs.Decode.{top_of, abort_denial, area_of, denial_of}
-use Rattle.board_spec.specs.Stored.{DramCell, stored_of, dram_byte, is_write, byte_put, entry_put}
+use Rattle.board_spec.specs.Stored.{DramCell, dram_byte, is_write, byte_put, entry_put}
 use Rattle.board_spec.specs.Answer.{memory_answer}
 use Rattle.dram_store.specs.Dram.{IsDramOf}
+use Rattle.dram_store.proofs.DramLemmas.{unwritten}
 use Rattle.board_core.specs.Areas.{IsHostArea}
 use Rattle.board_core.specs.Kept.{reply_lands}
 use Rattle.board_core.specs.Replies.{answered, aborted}
@@ -82,16 +83,7 @@ write_lands access (Bus v (Device dev) denial) at writes on = cc
 write_lands access (Bus v (Config reg) denial) at writes on = cc
 write_lands access (Bus v Abort denial) at writes on = cc
 
--- an access that puts nothing into the DRAM leaves it
-pub dram_stays :
-    (setup : Setup) (history : List Entry) (entry : Entry) (dram : List ℕ) →
-    ((at : ℕ) → entry_put entry.event entry.reply (DramCell at) ≡ None) → IsDramOf setup history dram → IsDramOf setup (entry ∷ history) dram
-unfolding stored_of
-dram_stays setup history entry dram nothing kept = record {
-  size = kept.size;
-  each = λ at within. rw (nothing at) (kept.each at within);
-}
-
+-- a read puts nothing
 pub no_write : (access : Access) (reply : Reply) (at : ℕ) → is_write access.kind ≡ false → entry_put (Memory access) reply (DramCell at) ≡ None
 no_write access (Saw look) at reads = refl
 no_write access (Bus v target denial) at reads = rw reads refl
@@ -137,12 +129,11 @@ pub port_dram :
     entry.event ≡ Port access → entry.reply ≡ reply → reply_lands reply ≡ false → IsDramOf setup history dram →
     IsDramOf setup (entry ∷ history) dram
 port_dram setup history entry access reply dram event replied off kept =
-    dram_stays setup history entry dram
+    unwritten setup history entry dram kept
     (λ at. rw (event, replied) (elim (cases_Bool access.write) [
       | inl writes ↦ port_off_dram access reply at writes off
       | inr reads ↦ no_port_write access reply at reads
     ]))
-    kept
 
 -- whether an access writes, as the code tells it
 pub write_flag : (kind : Kind) (flag : Bool) → IsTrue flag ↔ (kind ≡ Write) → flag ≡ is_write kind
