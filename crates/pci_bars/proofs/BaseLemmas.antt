@@ -1,5 +1,5 @@
 -- Base registers as four bytes, and the bases of a card by their numbers.
-use Rattle.std.proofs.Common.{◌≡◌, ◌≢◌, ℕ, zero, suc, ◌<◌, ◌≤◌, List, [], ◌∷◌, length, get_or, set, map, Some, None, inl, inr, ◌∙◌, refl, sym, ap, subst, arith, lit<, length-set, get_or-set_same, get_or-set_other}
+use Rattle.std.proofs.Common.{◌≡◌, ◌≢◌, ℕ, zero, suc, ◌<◌, List, length, get_or, set, map, Some, inl, inr, ◌∙◌, sym, ap, subst, arith, lit<, length-set, get_or-set_same, get_or-set_other}
 use Rattle.std.specs.Prelude.{All, slice_get}
 use Rattle.std.specs.Int.{w32, from_le_bytes, to_le_bytes}
 use Rattle.std.proofs.lemmas.Bool.{cases_eq}
@@ -44,7 +44,7 @@ pub other_bytes :
     byte new j ≡ byte n j
 other_bytes n lane v new j within below is j_below apart =
     let bytes : to_le_bytes w32 new ≡ set (to_le_bytes w32 n) lane v =
-        le_bytes_4 (set (to_le_bytes w32 n) lane v) new (four_set n lane v) (λ i. small_set n lane v i within below) is in
+    le_bytes_4 (set (to_le_bytes w32 n) lane v) new (four_set n lane v) (λ i. small_set n lane v i within below) is in
     sym (long_byte new j j_below)
     ∙ ap (λ bs. get_or bs j 0) bytes
     ∙ get_or-set_other (to_le_bytes w32 n) lane j v 0 apart

@@ -1,7 +1,7 @@
 -- The registers of a card after a reset, as they are read, and after a store of one byte.
-use Rattle.std.proofs.Common.{◌≡◌, ◌≢◌, ◌⊎◌, ℕ, zero, suc, ◌+◌, ◌-◌, ◌*◌, ◌/◌, ◌%◌, ◌^◌, ◌<◌, ◌≤◌, Bool, true, false, ◌&&◌, List, [], ◌∷◌, length, get_or, set, Some, inl, inr, ◌∙◌, refl, sym, ap, subst, arith, lit<, lit≤, add-zero, get_or-set_same, get_or-set_other}
+use Rattle.std.proofs.Common.{◌≡◌, ◌≢◌, ◌⊎◌, ℕ, zero, suc, ◌+◌, ◌*◌, ◌^◌, ◌<◌, ◌≤◌, false, List, [], ◌∷◌, length, get_or, set, Some, inl, inr, ◌∙◌, refl, sym, ap, subst, arith, lit<, lit≤, add-zero, get_or-set_same, get_or-set_other}
 use Rattle.std.specs.Prelude.{◌==◌, bit_and, slice_index}
-use Rattle.std.proofs.lemmas.Bool.{and_left, ne_eqb, cases_lt, cases_eq}
+use Rattle.std.proofs.lemmas.Bool.{and_left, ne_eqb, cases_eq}
 use Rattle.std.proofs.lemmas.Bool.Decides.{nat_tests}
 use Rattle.std.proofs.lemmas.Nat.{and_mask}
 use Rattle.std.specs.Int.Bits.{and_zero_r, or_zero_l, or_zero_r}
@@ -9,13 +9,13 @@ use Rattle.board_base.specs.declared.access.Width.TheVariants.{One, Four}
 use Rattle.board_spec.specs.declared.map_change.MapChange.TheVariants.{Store}
 use Rattle.board_spec.specs.Setup.{Base, MemoryBase, IoBase, FittedCard, Setup, IsCard, card_at}
 use Rattle.board_spec.specs.Bits.{byte, merged, wide}
-use Rattle.board_spec.specs.RegisterTable.{card_function, listed, base_reset, base_writable, reset_byte, writable_bits}
+use Rattle.board_spec.specs.RegisterTable.{card_function, listed, base_reset, base_writable, reset_byte}
 use Rattle.board_spec.specs.Registers.{is_smram_register, changed_byte}
 use Rattle.board_spec.specs.Decode.{Bytes, card_register, base_value}
 use Rattle.board_spec.proofs.StoreLemmas.{changed_byte-one_same, changed_byte-one_other}
 use Rattle.pci_bars.specs.Bases.{of_base}
 use Rattle.pci_bars.specs.Cards.{CardBytes, DecodesAs, IsCardOf, is_kept_offset, header_of}
-use Rattle.pci_bars.proofs.TableLemmas.{IsFixed, is_fixed, IsElsewhere, elsewhere, reset_byte-card, writable_bits-card, reset-base, writable-base, reset-header, reset-pin, reset-line, reset-command, writable-line, writable-command, past_pin}
+use Rattle.pci_bars.proofs.TableLemmas.{is_fixed, reset_byte-card, writable_bits-card, reset-base, writable-base, reset-header, reset-pin, reset-line, reset-command, writable-line, writable-command, past_pin}
 
 -- ---- four bytes as a number
 
@@ -265,16 +265,16 @@ fixed-stored setup bytes card off written fit below is at not_kept =
       | inl same ↦ subst (λ o. stored setup bytes card.card.dev o written (card_register card.card.dev at) ≡ reset_byte setup (card_register card.card.dev at)) same (here at not_kept)
       | inr apart ↦ stored-other setup bytes card.card.dev off written at apart ∙ is.fixed at not_kept
     ]
-    where
-      here : (at : ℕ) → is_kept_offset at ≡ false → stored setup bytes card.card.dev at written (card_register card.card.dev at) ≡ reset_byte setup (card_register card.card.dev at)
-      here at not_kept =
-          let fixed = is_fixed card.card fit at not_kept in
-          let stands = is.fixed at not_kept in
-          let in_table = reset_byte-card setup card.card at fit.first is.decodes.fitted in
-          stored-same setup bytes card.card at written fit is.decodes.fitted below
-          ∙ ap (λ mask. merged mask (bytes (card_register card.card.dev at)) written) fixed.writable
-          ∙ merged_none (bytes (card_register card.card.dev at)) written (subst (λ n. n < 256) (sym (stands ∙ in_table)) fixed.byte)
-          ∙ stands
+  where
+    here : (at : ℕ) → is_kept_offset at ≡ false → stored setup bytes card.card.dev at written (card_register card.card.dev at) ≡ reset_byte setup (card_register card.card.dev at)
+    here at not_kept =
+        let fixed = is_fixed card.card fit at not_kept in
+        let stands = is.fixed at not_kept in
+        let in_table = reset_byte-card setup card.card at fit.first is.decodes.fitted in
+        stored-same setup bytes card.card at written fit is.decodes.fitted below
+        ∙ ap (λ mask. merged mask (bytes (card_register card.card.dev at)) written) fixed.writable
+        ∙ merged_none (bytes (card_register card.card.dev at)) written (subst (λ n. n < 256) (sym (stands ∙ in_table)) fixed.byte)
+        ∙ stands
 
 pub line-stored :
     (setup : Setup) (bytes : Bytes) (card : CardBytes) (written : ℕ) → IsCard card.card → written < 256 → IsCardOf setup bytes card →

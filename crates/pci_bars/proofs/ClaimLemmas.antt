@@ -1,6 +1,6 @@
 -- Claims of the cards' registers are those of the windows that a board's registers make.
-use Rattle.std.proofs.Common.{◌≡◌, ℕ, ◌+◌, ◌*◌, ◌<◌, ◌≤◌, Bool, true, false, not, eqb, ◌&&◌, List, [], ◌∷◌, ◌++◌, map, length, Option, Some, None, inl, inr, ◌∙◌, refl, sym, ap, arith, add-one}
-use Rattle.std.specs.Prelude.{◌==◌, All, find, flat_map, option_map, if◌then◌else◌, slice_index}
+use Rattle.std.proofs.Common.{◌≡◌, ℕ, ◌+◌, ◌*◌, ◌<◌, ◌≤◌, Bool, true, false, not, eqb, ◌&&◌, List, [], ◌∷◌, ◌++◌, length, Option, Some, None, inl, inr, ◌∙◌, refl, sym, ap, arith}
+use Rattle.std.specs.Prelude.{All, flat_map, option_map, if◌then◌else◌, slice_index}
 use Rattle.std.specs.List.{enumerate_from}
 use Rattle.std.specs.Option.{option_or}
 use Rattle.std.specs.Int.RustNames.{bit_and}
@@ -11,12 +11,11 @@ use Rattle.std.proofs.lemmas.List.Elements.{All-head, All-tail}
 use Rattle.std.proofs.lemmas.List.Folds.{find-append}
 use Rattle.board_spec.specs.Setup.{Base, MemoryBase, IoBase, FittedCard, Setup, IsCard}
 use Rattle.board_spec.specs.Bits.{bit, is_bit}
-use Rattle.board_spec.specs.Decode.{Bytes, Window, is_covered, card_register, base_value, memory_window, io_window, vga_window, memory_windows, io_windows, is_enabled_for, first_window, memory_claim, memory_shut, io_claim, io_shut}
+use Rattle.board_spec.specs.Decode.{Bytes, Window, is_covered, base_value, memory_window, io_window, vga_window, memory_windows, io_windows, is_enabled_for, first_window, memory_claim, memory_shut, io_claim, io_shut}
 use Rattle.pci_bars.specs.declared.claims.Space.{Space}
 use Rattle.pci_bars.specs.declared.claims.Space.TheVariants.{Memory, Ports}
 use Rattle.pci_bars.specs.Cards.{CardBytes, DecodesAs, AreCards, AreDecoded, cards_of}
-use Rattle.pci_bars.specs.Claims.{agrees, covers, covering, vga_claim, covering_base, is_enabled, same_bool, first_claim}
-
+use Rattle.pci_bars.specs.Claims.{agrees, covering, vga_claim, covering_base, is_enabled, same_bool, first_claim}
 
 doubled_bit : (b : ℕ) → b < 2 → not (eqb (b * 2) 0) ≡ eqb b 1
 doubled_bit b below = grind (arith, nat_tests)
@@ -156,7 +155,7 @@ pick_cards counts space enabled setup bytes place counted [] fit are = refl
 pick_cards counts space enabled setup bytes place counted (card ∷ later) fit are =
     let is : DecodesAs setup bytes card = All-head (DecodesAs setup bytes) card later are in
     let rest : pick counts place (flat_map (windows_in space bytes) (cards_of later)) ≡ first_claim space enabled place later =
-        pick_cards counts space enabled setup bytes place counted later (All-tail (λ card. IsCard card.card) card later fit) (All-tail (DecodesAs setup bytes) card later are) in
+    pick_cards counts space enabled setup bytes place counted later (All-tail (λ card. IsCard card.card) card later fit) (All-tail (DecodesAs setup bytes) card later are) in
     let same = counted card is in
     pick-append counts place (windows_in space bytes card.card) (flat_map (windows_in space bytes) (cards_of later))
     ∙ ap (λ last. option_or (pick counts place (windows_in space bytes card.card)) last) rest

@@ -1,5 +1,5 @@
 -- The bytes behind the bases: as they begin, and after a write.
-use Rattle.std.proofs.Common.{◌≡◌, ◌≢◌, ℕ, zero, suc, ◌+◌, ◌-◌, ◌*◌, ◌/◌, ◌%◌, ◌<◌, ◌≤◌, Bool, true, false, ◌&&◌, List, [], ◌∷◌, ◌++◌, map, Vec, Global, length, get_or, set, take, drop, replicate, Option, Some, None, inl, inr, ◌∙◌, refl, sym, ap, subst, arith, lit≤, length-set, length-append, length-drop, get_or-set_same, get_or-set_other, append_assoc}
+use Rattle.std.proofs.Common.{◌≡◌, ◌≢◌, ℕ, zero, suc, ◌+◌, ◌-◌, ◌/◌, ◌%◌, ◌<◌, ◌≤◌, true, false, ◌&&◌, List, [], ◌∷◌, ◌++◌, map, Vec, Global, length, get_or, set, take, drop, replicate, inl, inr, ◌∙◌, refl, sym, ap, subst, arith, lit≤, length-append, length-drop, get_or-set_same, get_or-set_other}
 use Rattle.std.specs.Prelude.{◌==◌, nat_le, nat_lt, find, if◌then◌else◌, slice_index, unwrap_or, vec_len}
 use Rattle.std.specs.Vec.{with_items}
 use Rattle.std.proofs.lemmas.Bool.{and_from, and_left, and_right, eq-eqb, ne_eqb, le-leb, lt-leb, lt-ltb, le-ltb, cond-true, cond-false, cases_lt, cases_eq}
@@ -10,7 +10,7 @@ use Rattle.board_base.specs.declared.access.Width.TheVariants.{One, Two, Four}
 use Rattle.board_base.specs.declared.target.Target.TheVariants.{Card}
 use Rattle.board_base.specs.Access.{bytes_of}
 use Rattle.board_spec.specs.declared.event.Entry.{Entry}
-use Rattle.board_spec.specs.Setup.{FittedCard, Setup, card_at}
+use Rattle.board_spec.specs.Setup.{FittedCard, Setup}
 use Rattle.board_spec.specs.Bits.{byte}
 use Rattle.board_spec.specs.Stored.{CardCell, byte_put, entry_put, stored_of}
 use Rattle.pci_bars.specs.Contents.{IsBaseNumber, slot_number, held, held_byte, window_size, LiesIn, IsContentsOf}
@@ -143,9 +143,9 @@ bytes_written contents dev base off width value new d b at lies other put =
       | inl same ↦
           let both = same_slot dev base d b lies.number other same in
           rw (both.0, both.1) (
-            ap (λ bytes. slice_index bytes at) (get_or-set_same contents (slot_number dev base) new [] (slot_within contents (slot_number dev base) off width lies.fits))
-            ∙ put at
-            ∙ sym (written_here dev base off width value at (held_byte contents dev base at)))
+          ap (λ bytes. slice_index bytes at) (get_or-set_same contents (slot_number dev base) new [] (slot_within contents (slot_number dev base) off width lies.fits))
+          ∙ put at
+          ∙ sym (written_here dev base off width value at (held_byte contents dev base at)))
       | inr apart ↦
           ap (λ bytes. slice_index bytes at) (get_or-set_other contents (slot_number dev base) (slot_number d b) new [] apart)
           ∙ sym (written_elsewhere dev base off width value d b at (held_byte contents d b at) (other_slot dev base d b lies.number other apart))
@@ -211,7 +211,7 @@ zeros_held cards contents is dev base off =
       | inr past ↦ ap (λ bytes. slice_index bytes off) (get_or_past contents slot [] (omega arith))
     ]
 
-size_held :
+pub size_held :
     (cards : List FittedCard) (contents : List (List ℕ)) → IsFilled cards 64 contents → (dev base : ℕ) → IsBaseNumber dev base →
     length (held contents dev base) ≡ window_size (find (λ card. card.dev == dev) cards) base
 size_held cards contents is dev base number =
@@ -245,11 +245,11 @@ put_two xs buf at value k fits is =
     ap (λ part. slice_index (put_mid at (length xs - at) xs part) k) whole
     ∙ ap (λ bytes. slice_index bytes k) (put_part xs bs at 2 fits)
     ∙ put_bytes xs bs at 2 value k fits refl (each value)
-    where
-      each : (value j : ℕ) → j < 2 → get_or (value % 256 ∷ (value / 256 % 256) ∷ []) j 0 ≡ byte value j
-      each value zero below = omega arith
-      each value (suc zero) below = omega arith
-      each value (suc (suc j)) below = absurd (omega arith)
+  where
+    each : (value j : ℕ) → j < 2 → get_or (value % 256 ∷ (value / 256 % 256) ∷ []) j 0 ≡ byte value j
+    each value zero below = omega arith
+    each value (suc zero) below = omega arith
+    each value (suc (suc j)) below = absurd (omega arith)
 
 pub put_four :
     (xs buf : List ℕ) (at value k : ℕ) → at + 4 ≤ length xs →
@@ -261,13 +261,13 @@ put_four xs buf at value k fits is =
     ap (λ part. slice_index (put_mid at (length xs - at) xs part) k) whole
     ∙ ap (λ bytes. slice_index bytes k) (put_part xs bs at 4 fits)
     ∙ put_bytes xs bs at 4 value k fits refl (each value)
-    where
-      each : (value j : ℕ) → j < 4 → get_or (value % 256 ∷ (value / 256 % 256) ∷ (value / 65536 % 256) ∷ (value / 16777216 % 256) ∷ []) j 0 ≡ byte value j
-      each value zero below = omega arith
-      each value (suc zero) below = omega arith
-      each value (suc (suc zero)) below = omega arith
-      each value (suc (suc (suc zero))) below = omega arith
-      each value (suc (suc (suc (suc j)))) below = absurd (omega arith)
+  where
+    each : (value j : ℕ) → j < 4 → get_or (value % 256 ∷ (value / 256 % 256) ∷ (value / 65536 % 256) ∷ (value / 16777216 % 256) ∷ []) j 0 ≡ byte value j
+    each value zero below = omega arith
+    each value (suc zero) below = omega arith
+    each value (suc (suc zero)) below = omega arith
+    each value (suc (suc (suc zero))) below = omega arith
+    each value (suc (suc (suc (suc j)))) below = absurd (omega arith)
 
 -- the lists of buffers
 abbrev pub lists : List (Vec ℕ Global) → List (List ℕ)

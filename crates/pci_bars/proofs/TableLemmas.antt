@@ -1,12 +1,11 @@
 -- A card in the table of registers.
-use Rattle.std.proofs.Common.{◌≡◌, ◌≢◌, ◌⊎◌, ℕ, zero, suc, ◌+◌, ◌-◌, ◌*◌, ◌<◌, ◌≤◌, Bool, true, false, ◌&&◌, List, [], ◌∷◌, length, get_or, Some, inl, inr, ◌∙◌, refl, sym, ap, subst, arith, lit<, lit≤, length-append}
-use Rattle.std.specs.Prelude.{◌==◌, nat_le, nat_lt, flat_map, slice_get, if◌then◌else◌}
+use Rattle.std.proofs.Common.{◌≡◌, ◌≢◌, ◌⊎◌, ℕ, zero, suc, ◌+◌, ◌-◌, ◌*◌, ◌<◌, ◌≤◌, Bool, true, false, ◌&&◌, List, [], ◌∷◌, length, get_or, Some, inl, inr, ◌∙◌, refl, sym, ap, subst, arith, lit<, lit≤}
+use Rattle.std.specs.Prelude.{◌==◌, nat_le, nat_lt, flat_map, if◌then◌else◌}
 use Rattle.std.proofs.lemmas.Bool.{and_from, and_left, and_right, ne_eqb, le-leb, lt-leb, lt-ltb, le-ltb, cond-true, cond-false, cases_lt, cases_eq}
 use Rattle.std.proofs.lemmas.Bool.Decides.{nat_tests}
 use Rattle.std.proofs.lemmas.List.{get_or_append_left, get_or-append_right}
-use Rattle.std.specs.Int.Bits.{and_zero_r, or_zero_l}
 use Rattle.board_spec.specs.Setup.{Base, FittedCard, Setup, IsCard, card_at}
-use Rattle.board_spec.specs.Bits.{byte, merged, is_within, long_bytes}
+use Rattle.board_spec.specs.Bits.{byte, long_bytes}
 use Rattle.board_spec.specs.RegisterTable.{Line, line, read_only, card_function, function_lines, listed, base_reset, base_writable, reset_byte, writable_bits}
 use Rattle.board_spec.specs.Decode.{card_register}
 use Rattle.pci_bars.specs.Bases.{of_base}
@@ -96,18 +95,18 @@ base_line :
     listed column (entry ∷ later) (0x10 + 4 * k + j) ≡ byte (of_base number_of bases k) j
 base_line column number_of bases entry later k j first count same below rest =
     let inside : get_or (column entry) (0x10 + 4 * k + j - entry.first) 0 ≡ byte (of_base number_of bases k) j =
-        ap (λ i. get_or (column entry) i 0) (omega arith)
-        ∙ ap (λ bytes. get_or bytes (4 * k + j) 0) same
-        ∙ get_or-base_bytes number_of bases k j below in
+    ap (λ i. get_or (column entry) i 0) (omega arith)
+    ∙ ap (λ bytes. get_or bytes (4 * k + j) 0) same
+    ∙ get_or-base_bytes number_of bases k j below in
     elim (cases_lt (0x10 + 4 * k + j) (entry.first + length entry.reset)) [
       | inl within ↦ listed-here column entry later (0x10 + 4 * k + j) (omega arith) within ∙ inside
       | inr past ↦ listed-past column entry later (0x10 + 4 * k + j) past ∙ rest ∙ sym (past_bases number_of bases k j (omega arith))
     ]
-    where
-      past_bases : (number_of : Base → ℕ) (bases : List Base) (k j : ℕ) → length bases ≤ k → byte (of_base number_of bases k) j ≡ 0
-      past_bases number_of [] k j past = byte_of_zero j
-      past_bases number_of (base ∷ later) zero j past = absurd (omega arith)
-      past_bases number_of (base ∷ later) (suc k) j past = past_bases number_of later k j (omega arith)
+  where
+    past_bases : (number_of : Base → ℕ) (bases : List Base) (k j : ℕ) → length bases ≤ k → byte (of_base number_of bases k) j ≡ 0
+    past_bases number_of [] k j past = byte_of_zero j
+    past_bases number_of (base ∷ later) zero j past = absurd (omega arith)
+    past_bases number_of (base ∷ later) (suc k) j past = past_bases number_of later k j (omega arith)
 
 abbrev base_entry : FittedCard → Line
 base_entry card = line 0x10 (base_bytes base_reset card.bases) (base_bytes base_writable card.bases)

@@ -1,11 +1,10 @@
 -- The window that claims a place has the size of its base.
-use Rattle.std.proofs.Common.{◌≡◌, ℕ, ◌+◌, ◌<◌, ◌≤◌, Bool, true, false, ◌&&◌, List, [], ◌∷◌, ◌++◌, length, Option, Some, None, inl, inr, ◌∙◌, refl, sym, ap, subst, arith}
+use Rattle.std.proofs.Common.{◌≡◌, ℕ, ◌+◌, ◌<◌, ◌≤◌, Bool, false, ◌&&◌, List, [], ◌∷◌, length, Some, inl, inr, ◌∙◌, refl, sym, ap, subst, arith}
 use Rattle.std.specs.Prelude.{◌==◌, All, find, flat_map, slice_get}
-use Rattle.std.specs.List.{enumerate_from}
 use Rattle.std.proofs.lemmas.Bool.{cases_Bool, ne_eqb}
 use Rattle.std.proofs.lemmas.List.Elements.{All-nil, All-cons, All-head, All-tail, All-append}
 use Rattle.board_spec.specs.Setup.{Base, MemoryBase, IoBase, FittedCard, Setup, IsCard, card_at}
-use Rattle.board_spec.specs.Answer.{window_bits, bits_of_base, base_of_card}
+use Rattle.board_spec.specs.Answer.{window_bits, bits_of_base}
 use Rattle.board_spec.specs.Decode.{Bytes, Window, is_covered, vga_window, is_enabled_for, memory_claim, io_claim, base_value}
 use Rattle.pci_bars.specs.declared.claims.Space.{Space}
 use Rattle.pci_bars.specs.declared.claims.Space.TheVariants.{Memory, Ports}
@@ -24,7 +23,6 @@ All-find P test (first ∷ later) window each found =
       | inr miss ↦ All-find P test later window (All-tail P first later each) (rw miss at found)
     ]
 
-
 sized :
     (setup : Setup) (card : FittedCard) (k value bits : ℕ) (base : Base) → card_at setup card.dev ≡ Some card → k < 7 → slice_get card.bases k ≡ Some base →
     bits_of_base (Some base) ≡ bits → IsSized setup (record { dev = card.dev; base = k; inside = value; bits = bits })
@@ -41,18 +39,18 @@ sized_bases space setup bytes card fitted k (base ∷ later) few same =
     All-append (IsSized setup) (window_in space bytes card.dev k base) (base_windows space bytes card.dev (k + 1) later)
     (one space base (ap (slice_get card.bases) (sym_zero k) ∙ same 0))
     (sized_bases space setup bytes card fitted (k + 1) later (omega arith) (λ i. ap (slice_get card.bases) (omega arith) ∙ same (i + 1) ∙ next later base i))
-    where
-      sym_zero : (k : ℕ) → k ≡ k + 0
-      sym_zero k = omega arith
+  where
+    sym_zero : (k : ℕ) → k ≡ k + 0
+    sym_zero k = omega arith
 
-      next : (later : List Base) (base : Base) (i : ℕ) → slice_get (base ∷ later) (i + 1) ≡ slice_get later i
-      next later base i = grind arith
+    next : (later : List Base) (base : Base) (i : ℕ) → slice_get (base ∷ later) (i + 1) ≡ slice_get later i
+    next later base i = grind arith
 
-      one : (space : Space) (base : Base) → slice_get card.bases k ≡ Some base → All (IsSized setup) (window_in space bytes card.dev k base)
-      one Memory (MemoryBase bits) at = All-cons (IsSized setup) _ [] (sized setup card k (base_value bytes card.dev k) bits (MemoryBase bits) fitted (omega arith) at refl) (All-nil (IsSized setup))
-      one Memory (IoBase bits) at = All-nil (IsSized setup)
-      one Ports (MemoryBase bits) at = All-nil (IsSized setup)
-      one Ports (IoBase bits) at = All-cons (IsSized setup) _ [] (sized setup card k (base_value bytes card.dev k) bits (IoBase bits) fitted (omega arith) at refl) (All-nil (IsSized setup))
+    one : (space : Space) (base : Base) → slice_get card.bases k ≡ Some base → All (IsSized setup) (window_in space bytes card.dev k base)
+    one Memory (MemoryBase bits) at = All-cons (IsSized setup) _ [] (sized setup card k (base_value bytes card.dev k) bits (MemoryBase bits) fitted (omega arith) at refl) (All-nil (IsSized setup))
+    one Memory (IoBase bits) at = All-nil (IsSized setup)
+    one Ports (MemoryBase bits) at = All-nil (IsSized setup)
+    one Ports (IoBase bits) at = All-cons (IsSized setup) _ [] (sized setup card k (base_value bytes card.dev k) bits (IoBase bits) fitted (omega arith) at refl) (All-nil (IsSized setup))
 
 sized_vga : (setup : Setup) (card : FittedCard) → All (IsSized setup) (vga_window card)
 sized_vga setup card =

@@ -92,9 +92,9 @@ fn bits_at(cards: &[CardRegs], dev: u8, base: u8) -> u8
     ensures bits { result ≡ bits_in (find (λ card. card.dev == dev) (cards_of cards.now)) base }
     ensures most { result ≤ 24 }
 {
-    for card in cards {
-        if card.spec.dev == dev {
-            return card.spec.window_bits(base);
+    for fitted in cards {
+        if fitted.spec.dev == dev {
+            return fitted.spec.window_bits(base);
         }
     }
     if base == VGA_BASE { VGA_BITS } else { 0 }

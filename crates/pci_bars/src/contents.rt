@@ -29,17 +29,21 @@ pub struct Contents {
 }
 
 impl Model for Contents {
-    ghost use Rattle.std.specs.Prelude.{ℕ, List, map};
+    ghost use Rattle.std.specs.Prelude.{◌≡◌, ℕ, List, map, vec_len};
 
     ghost Value = { List (List ℕ) };
 
     ghost view = { λ contents. map (λ buffer. buffer.items) contents.buffers.items };
+
+    ghost invariant = { λ contents. vec_len contents.buffers ≡ 64 };
 }
 
 impl Contents {
     /// The contents of these cards, all zeros.
     pub fn open(alloc: Global, specs: &[CardSpec]) -> Result<Contents, NoMemory>
         requires cards { IsCardList specs.now }
+        ensures sizes { IfOk result (λ contents. (dev base : ℕ) → IsBaseNumber dev base
+            → length (held contents dev base) ≡ window_size (find (λ card. card.dev == dev) specs.now) base) }
         ensures zeros { IfOk result (λ contents. (dev base off : ℕ) → held_byte contents dev base off ≡ 0) }
         ensures stored { IfOk result (λ contents. (setup : Setup) → setup.cards ≡ specs.now
             → IsContentsOf setup [] contents) }
@@ -54,6 +58,15 @@ impl Contents {
             buffers.push(vec![in alloc; 0; size]?)?;
         }
         Ok(Contents { buffers })
+    }
+
+    /// How many bytes a base has: none where it does not exist. Devices are 2 to 9, and base numbers 0 to 7,
+    /// of which 7 is the VGA window.
+    pub fn size(&self, dev: u8, base: u8) -> usize
+        requires number { IsBaseNumber dev base }
+        ensures size { result ≡ length (held self.now dev base) }
+    {
+        self.buffers[slot_of(dev, base)].len()
     }
 
     /// The value at an offset in a base.

@@ -1,6 +1,5 @@
 use Rattle.std.proofs.Common.{◌≡◌}
 use Rattle.std.specs.Prelude.{drop}
-use Rattle.pci_bars.specs.Cards.{AreCards}
 use Rattle.pci_bars.specs.Claims.{first_claim}
 use Rattle.pci_bars.proofs.claims.first.Given as goal
 

@@ -1,4 +1,4 @@
-use Rattle.std.proofs.Common.{◌≡◌, length, map}
+use Rattle.std.proofs.Common.{◌≡◌, map}
 use Rattle.std.specs.Prelude.{drop}
 use Rattle.pci_bars.specs.Bases.{base_of}
 use Rattle.pci_bars.specs.Claims.{covering}

@@ -1,4 +1,4 @@
-use Rattle.std.proofs.Common.{◌≡◌, ℕ, ◌%◌, ◌^◌, List, Some, sym, ◌∙◌, ap}
+use Rattle.std.proofs.Common.{◌≡◌, ℕ, ◌%◌, ◌^◌, List, sym, ◌∙◌, ap}
 use Rattle.std.specs.Prelude.{◌==◌, find}
 use Rattle.board_spec.specs.Answer.{window_bits}
 use Rattle.board_spec.specs.Setup.{FittedCard, Setup}
@@ -25,7 +25,7 @@ by_window setup dev base place found bits window_dev window_base result same_dev
 pub returns : goal.returns
 returns c =
     let offset = λ (setup : Setup) (same : setup.cards ≡ cards_of c.args.cards.now).
-        by_setup setup (cards_of c.args.cards.now) c.args.dev c.args.base c.args.place c.bits_at.result c.low_bits.result same c.bits_at.ensures.bits c.low_bits.ensures.low in
+    by_setup setup (cards_of c.args.cards.now) c.args.dev c.args.base c.args.place c.bits_at.result c.low_bits.result same c.bits_at.ensures.bits c.low_bits.ensures.low in
     record {
       offset = offset;
       memory = λ setup bytes window are found same_dev same_base.

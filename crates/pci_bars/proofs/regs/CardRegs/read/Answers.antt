@@ -1,5 +1,5 @@
-use Rattle.std.proofs.Common.{arith, sym, ◌∙◌, ap, slice_index, get_or}
-use Rattle.pci_bars.proofs.CardLemmas.{read-header, read-base, read-pin, read-rest}
+use Rattle.std.proofs.Common.{arith}
+use Rattle.pci_bars.proofs.CardLemmas.{read-header, read-pin, read-rest}
 use Rattle.pci_bars.proofs.regs.CardRegs.read.Goals as goal
 
 pub returns-in-61 : goal.returns-in-61

@@ -1,9 +1,7 @@
 use Rattle.std.proofs.Common.{◌≡◌, ◌+◌, ◌*◌, ◌<◌, inl, inr, arith, slice_index}
-use Rattle.board_spec.specs.Setup.{IsCard}
 use Rattle.board_spec.specs.RegisterTable.{base_writable}
 use Rattle.pci_bars.specs.Bases.{of_base}
-use Rattle.pci_bars.specs.Cards.{CardBytes}
-use Rattle.pci_bars.proofs.CardLemmas.{IsByteWrite, IsBaseStore, decodes-command, card-command, decodes-base_stored, card-base_stored, card-apart, card-line_stored}
+use Rattle.pci_bars.proofs.CardLemmas.{IsByteWrite, decodes-command, card-command, decodes-base_stored, card-base_stored, card-apart, card-line_stored}
 use Rattle.pci_bars.proofs.regs.CardRegs.write.Goals as goal
 
 pub returns-in-4-clause-decodes : goal.returns-in-4-clause-decodes
@@ -19,13 +17,13 @@ returns-in-4-clause-written c =
 pub returns-then-off-lt16-clause-written : goal.returns-then-off-lt16-clause-written
 returns-then-off-lt16-clause-written c =
     λ setup bytes is. card-apart setup bytes c.args.self.now c.args.off c.args.byte c.requires.card c.ranges.byte.fits
-        (record { command = λ e. omega arith; bases = inl (omega arith) }) (λ e. omega arith) is
+    (record { command = λ e. omega arith; bases = inl (omega arith) }) (λ e. omega arith) is
 
 pub returns-in-16-to-39-clause-written : goal.returns-in-16-to-39-clause-written
 returns-in-16-to-39-clause-written c =
     let fit = rw (← c.self.view_is) at c.requires.card in
     let write : IsByteWrite (of_base base_writable c.self.inside.spec.bases c.from-index.result) (slice_index c.self.inside.bases c.from-index.result) c.from.result c.args.byte c.with_byte.result =
-        record { fits = c.with_byte.type_inv; here = rw c.writable-writable.ensures.writable at c.with_byte.ensures.here; others = c.with_byte.ensures.others } in
+    record { fits = c.with_byte.type_inv; here = rw c.writable-writable.ensures.writable at c.with_byte.ensures.here; others = c.with_byte.ensures.others } in
     let in_bases : c.from-index.result < 6 = omega arith in
     let in_long : c.from.result < 4 = omega arith in
     let place : c.args.off ≡ 0x10 + 4 * c.from-index.result + c.from.result = omega arith in
@@ -35,7 +33,7 @@ pub returns-in-16-to-39-clause-decodes : goal.returns-in-16-to-39-clause-decodes
 returns-in-16-to-39-clause-decodes c =
     let fit = rw (← c.self.view_is) at c.requires.card in
     let write : IsByteWrite (of_base base_writable c.self.inside.spec.bases c.from-index.result) (slice_index c.self.inside.bases c.from-index.result) c.from.result c.args.byte c.with_byte.result =
-        record { fits = c.with_byte.type_inv; here = rw c.writable-writable.ensures.writable at c.with_byte.ensures.here; others = c.with_byte.ensures.others } in
+    record { fits = c.with_byte.type_inv; here = rw c.writable-writable.ensures.writable at c.with_byte.ensures.here; others = c.with_byte.ensures.others } in
     let in_bases : c.from-index.result < 6 = omega arith in
     let in_long : c.from.result < 4 = omega arith in
     let place : c.args.off ≡ 0x10 + 4 * c.from-index.result + c.from.result = omega arith in
@@ -44,7 +42,7 @@ returns-in-16-to-39-clause-decodes c =
 pub returns-else-off-lt40-clause-written : goal.returns-else-off-lt40-clause-written
 returns-else-off-lt40-clause-written c =
     λ setup bytes is. card-apart setup bytes c.args.self.now c.args.off c.args.byte c.requires.card c.ranges.byte.fits
-        (record { command = λ e. omega arith; bases = inr (omega arith) }) (λ e. omega arith) is
+    (record { command = λ e. omega arith; bases = inr (omega arith) }) (λ e. omega arith) is
 
 pub returns-in-60-clause-written : goal.returns-in-60-clause-written
 returns-in-60-clause-written c =

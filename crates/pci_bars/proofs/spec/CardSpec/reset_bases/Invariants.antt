@@ -1,4 +1,4 @@
-use Rattle.std.proofs.Common.{◌≡◌, ℕ, ◌<◌, ◌≤◌, length, slice_index}
+use Rattle.std.proofs.Common.{◌≡◌, ℕ, ◌≤◌, length, slice_index}
 use Rattle.std.specs.Prelude.{take}
 use Rattle.board_spec.specs.RegisterTable.{base_reset}
 use Rattle.pci_bars.specs.Bases.{of_base}
