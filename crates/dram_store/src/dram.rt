@@ -136,11 +136,11 @@ mod tests {
     }
 
     #[test]
-    fn the_largest_dram_is_zeros(rt: HostRuntime) -> Result<(), NoMemory> {
-        let dram = Dram::open(rt.alloc(), 64)?;
+    fn a_new_dram_is_zeros(rt: HostRuntime) -> Result<(), NoMemory> {
+        let dram = Dram::open(rt.alloc(), 2)?;
         assert_eq!(rt; dram.read(0, Four), 0);
-        assert_eq!(rt; dram.read(0x3FF_FFFC, Four), 0);
-        assert_eq!(rt; dram.read(0x400_0000, Four), 0xFFFF_FFFF);
+        assert_eq!(rt; dram.read(0x1F_FFFC, Four), 0);
+        assert_eq!(rt; dram.read(0x20_0000, Four), 0xFFFF_FFFF);
         Ok(())
     }
 }
