@@ -102,17 +102,18 @@ card_written setup bytes cards dev off written i old new rises at_i is_old same_
     let dev_is : old.card.dev ≡ dev = ap (λ (card : CardBytes). card.card.dev) is_old ∙ eqb-true _ _ found.1 in
     let old_decodes : DecodesAs setup bytes old = subst (DecodesAs setup bytes) (sym is_old) (are.1 i old found.0) in
     let new_decodes : DecodesAs setup (stored setup bytes (card_register dev off) written) new =
-    subst (λ (at : ℕ). DecodesAs setup (stored setup bytes (card_register at off) written) new) dev_is (step old_decodes) in
-    (are.0 ∙ sym (map-set_same (λ (it : CardBytes). it.card) cards i new old (same_card ∙ ap (λ (card : CardBytes). card.card) is_old)),
-    (λ k d within.
-    let in_list : k < length cards = omega (arith, length-set {A = CardBytes}) in
-    elim (cases_eq k i) [
-      | inl here ↦ subst (λ (j : ℕ). DecodesAs setup (stored setup bytes (card_register dev off) written) (get_or (set cards i new) j d)) (sym here)
-          (subst (DecodesAs setup (stored setup bytes (card_register dev off) written)) (sym (get_or-set_same cards i new d found.0)) new_decodes)
-      | inr apart ↦
-          subst (DecodesAs setup (stored setup bytes (card_register dev off) written)) (sym (get_or-set_other cards i k new d apart))
-          (stored_beside setup bytes dev off written (get_or cards k d) (others_differ cards dev i k d rises at_i in_list apart) (are.1 k d in_list))
-    ]))
+    subst (λ (at : ℕ). DecodesAs setup (stored setup bytes (card_register at off) written) new) dev_is (step old_decodes) in (
+      are.0 ∙ sym (map-set_same (λ (it : CardBytes). it.card) cards i new old (same_card ∙ ap (λ (card : CardBytes). card.card) is_old)),
+      (λ k d within.
+          let in_list : k < length cards = omega (arith, length-set {A = CardBytes}) in
+          elim (cases_eq k i) [
+            | inl here ↦ subst (λ (j : ℕ). DecodesAs setup (stored setup bytes (card_register dev off) written) (get_or (set cards i new) j d)) (sym here)
+                (subst (DecodesAs setup (stored setup bytes (card_register dev off) written)) (sym (get_or-set_same cards i new d found.0)) new_decodes)
+            | inr apart ↦
+                subst (DecodesAs setup (stored setup bytes (card_register dev off) written)) (sym (get_or-set_other cards i k new d apart))
+                (stored_beside setup bytes dev off written (get_or cards k d) (others_differ cards dev i k d rises at_i in_list apart) (are.1 k d in_list))
+          ]),
+    )
 
 -- the cards are still these cards
 pub card_kept : (cards : List CardBytes) (i : ℕ) (old new : CardBytes) → old ≡ get_or cards i old → new.card ≡ old.card →
@@ -124,14 +125,15 @@ card_kept cards i old new is_old same_card =
 pub no_card_written :
     (setup : Setup) (bytes : Bytes) (cards : List CardBytes) (dev off written : ℕ) → position (λ card. card.card.dev == dev) cards ≡ None →
     AreDecoded setup bytes cards → AreDecoded setup (stored setup bytes (card_register dev off) written) cards
-no_card_written setup bytes cards dev off written none are =
-    (are.0,
-    (λ k d within.
-    let is : DecodesAs setup bytes (get_or cards k d) = are.1 k d within in
-    stored_beside setup bytes dev off written (get_or cards k d)
-    (λ same. true_is_not_false (is_some (card_at setup dev))
-    (ap (λ (at : ℕ). is_some (card_at setup at)) (sym same) ∙ ap (λ (card : Option FittedCard). is_some card) is.fitted)
-    (sym (fitted_is setup cards dev are.0) ∙ ap (λ (place : Option ℕ). is_some place) none)) is))
+no_card_written setup bytes cards dev off written none are = (
+  are.0,
+  (λ k d within.
+      let is : DecodesAs setup bytes (get_or cards k d) = are.1 k d within in
+      stored_beside setup bytes dev off written (get_or cards k d)
+      (λ same. true_is_not_false (is_some (card_at setup dev))
+      (ap (λ (at : ℕ). is_some (card_at setup at)) (sym same) ∙ ap (λ (card : Option FittedCard). is_some card) is.fitted)
+      (sym (fitted_is setup cards dev are.0) ∙ ap (λ (place : Option ℕ). is_some place) none)) is),
+)
 
 -- ---- after a reset
 
@@ -147,14 +149,15 @@ find_at (card ∷ later) rises (suc k) d within =
 
 pub reset_decoded : (setup : Setup) (cards : List CardBytes) → AreFitted cards → AreReset cards → setup.cards ≡ cards_of cards →
     AreDecoded setup (reset_byte setup) cards
-reset_decoded setup cards fitted reset same =
-    (same,
-    (λ k d within.
-    reset k d within setup
-    (ap (λ (list : List FittedCard). find (λ card. card.dev == (get_or cards k d).card.dev) list) same
-    ∙ subst (λ (card : FittedCard). find (λ other. other.dev == card.dev) (cards_of cards) ≡ Some card)
-    (get_or-map (λ (it : CardBytes). it.card) cards k d d.card within)
-    (find_at (cards_of cards) fitted.rises k d.card (omega (arith, length-map cards (λ (it : CardBytes). it.card)))))))
+reset_decoded setup cards fitted reset same = (
+  same,
+  (λ k d within.
+      reset k d within setup
+      (ap (λ (list : List FittedCard). find (λ card. card.dev == (get_or cards k d).card.dev) list) same
+      ∙ subst (λ (card : FittedCard). find (λ other. other.dev == card.dev) (cards_of cards) ≡ Some card)
+      (get_or-map (λ (it : CardBytes). it.card) cards k d d.card within)
+      (find_at (cards_of cards) fitted.rises k d.card (omega (arith, length-map cards (λ (it : CardBytes). it.card)))))),
+)
 
 -- ---- the same cards in other states
 

@@ -84,11 +84,12 @@ windows-same bytes bytes' pam same is off within = is off within ∙ sym (same o
 
 cards-same : (setup : Setup) (bytes bytes' : Bytes) (cards : List CardBytes) → AreCards cards → SameCards bytes bytes' →
     AreDecoded setup bytes cards → AreDecoded setup bytes' cards
-cards-same setup bytes bytes' cards each same are =
-    (are.0,
-    (λ k d within.
-    let card : CardBytes = get_or cards k d in
-    decodes-same setup bytes bytes' card (same card.card.dev (each k d within).first) (are.1 k d within)))
+cards-same setup bytes bytes' cards each same are = (
+  are.0,
+  (λ k d within.
+      let card : CardBytes = get_or cards k d in
+      decodes-same setup bytes bytes' card (same card.card.dev (each k d within).first) (are.1 k d within)),
+)
 
 pub stands-same : (setup : Setup) (bytes bytes' : Bytes) (regs : MapBytes) → AreFitted regs.cards → SameMap bytes bytes' →
     StandsFor setup bytes regs → StandsFor setup bytes' regs

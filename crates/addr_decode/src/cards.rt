@@ -8,7 +8,6 @@ ghost use Rattle.pci_bars.specs.Cards.{AreDecoded, cards_of};
 ghost use Rattle.addr_decode.specs.MapRegs.{AreFitted, AreReset, stored};
 
 use arrayvec::ArrayVec;
-
 use pci_bars::{CardRegs, CardSpec};
 
 /// The place of the card at a device number in the list. None where there is no such card.

@@ -11,7 +11,9 @@ ghost use Rattle.pmc_regs.specs.Pmc.{IsRowsOf};
 ghost use Rattle.addr_decode.specs.MapRegs.{AreFitted, IsRowOffset, StandsFor, map_bytes, stored, overlaps};
 
 use crate::cards::{is_fitted, write_card};
-use crate::offsets::{BASES, BASES_END, COMMAND, DRB0, DRB7, FDHC, PAM0, PAM6, SMRAM, XBCS, HOST_BRIDGE, ISA_BRIDGE};
+use crate::offsets::{
+    BASES, BASES_END, COMMAND, DRB0, DRB7, FDHC, HOST_BRIDGE, ISA_BRIDGE, PAM0, PAM6, SMRAM, XBCS,
+};
 use crate::regs::MapRegs;
 use board_base::{Reg, Width};
 use board_spec::MapChange;

@@ -9,7 +9,6 @@ ghost use Rattle.addr_decode.specs.Memory.{board_denial, card_denial};
 use crate::bits::is_set;
 use crate::offsets::{DRB7, FDHC, SMRAM, XBCS, card_command, host_bridge, isa_bridge};
 use crate::regs::MapRegs;
-
 use board_base::{Area, Denial, Kind};
 use pam_windows::window_of;
 use pci_bars::shut_mem;
@@ -25,7 +24,7 @@ pub fn denial_in(regs: &MapRegs, area: Area, addr: u32, kind: Kind) -> Option<De
     requires cards { AreFitted regs.now.cards.items }
     ensures denial { (setup : Setup) (bytes : Bytes) → StandsFor setup bytes (map_bytes regs.now)
         → result ≡ denial_in area kind (abort_denial (top_by bytes) (memory_shut setup bytes addr) addr)
-            (rom_denial (bytes (isa 0x4E))) }
+        (rom_denial (bytes (isa 0x4E))) }
 {
     match area {
         Area::Abort => Some(abort_denial(regs, addr)),

@@ -51,7 +51,7 @@ fn area_of(regs: &MapRegs, addr: u32, kind: Kind, smm: bool) -> Area
 fn dram_area(regs: &MapRegs, addr: u32, kind: Kind, smm: bool) -> Option<Area>
     ensures dram { (setup : Setup) (bytes : Bytes) → StandsFor setup bytes (map_bytes regs.now)
         → result ≡ dram_area (row_by bytes addr) (smram_answers (bytes (bridge 0x72)) kind smm)
-            (is_shadowed bytes addr kind) (is_in (hole_by (bytes (bridge 0x68))) addr) addr }
+        (is_shadowed bytes addr kind) (is_in (hole_by (bytes (bridge 0x68))) addr) addr }
 {
     match row_of(&regs.drb, addr) {
         Some(row) => row_area(regs, row, addr, kind, smm),
@@ -63,7 +63,7 @@ fn dram_area(regs: &MapRegs, addr: u32, kind: Kind, smm: bool) -> Option<Area>
 fn row_area(regs: &MapRegs, row: u8, addr: u32, kind: Kind, smm: bool) -> Option<Area>
     ensures dram { (setup : Setup) (bytes : Bytes) → StandsFor setup bytes (map_bytes regs.now)
         → result ≡ row_area row (smram_answers (bytes (bridge 0x72)) kind smm)
-            (is_shadowed bytes addr kind) (is_in (hole_by (bytes (bridge 0x68))) addr) addr }
+        (is_shadowed bytes addr kind) (is_in (hole_by (bytes (bridge 0x68))) addr) addr }
 {
     match addr {
         0xA_0000..=0xB_FFFF => smram_reaches(regs.smram, kind, smm).then_some(Area::Smram),

@@ -7,12 +7,15 @@ use board_base::{Denial, Reg};
 
 /// The device numbers of the host bridge and of the ISA bridge, each in function 0.
 pub const HOST_BRIDGE: u8 = 0;
+
 pub const ISA_BRIDGE: u8 = 1;
 /// The PAM registers of the host bridge, PAM0 to PAM6.
 pub const PAM0: u8 = 0x59;
+
 pub const PAM6: u8 = 0x5F;
 /// The row boundary registers of the host bridge, DRB0 to DRB7.
 pub const DRB0: u8 = 0x60;
+
 pub const DRB7: u8 = 0x67;
 /// The fixed hole control register of the host bridge.
 pub const FDHC: u8 = 0x68;
@@ -28,6 +31,7 @@ pub const IDETIM: u8 = 0x40;
 pub const COMMAND: u8 = 0x04;
 /// The base address registers of a card, the first and the last byte.
 pub const BASES: u8 = 0x10;
+
 pub const BASES_END: u8 = 0x27;
 
 /// A denial by a register of the host bridge, 00.0.

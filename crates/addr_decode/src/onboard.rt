@@ -15,6 +15,7 @@ const ATA_DATA: u16 = 0x1F0;
 
 /// The bits of XBCS that select the clock and the keyboard controller.
 const CLOCK_SELECT: u8 = 0;
+
 const KEYBOARD_SELECT: u8 = 1;
 
 /// The bit of the IDE command that enables the ports.
@@ -66,7 +67,11 @@ fn byte_port(xbcs: u8, disk: Onboard, port: u16) -> Onboard
 fn wide_port(disk: Onboard, port: u16) -> Onboard
     ensures onboard { result ≡ wide_port disk port }
 {
-    if port == ATA_DATA { disk } else { Onboard::Absent }
+    if port == ATA_DATA {
+        disk
+    } else {
+        Onboard::Absent
+    }
 }
 
 /// The keyboard controller, where XBCS selects it.

@@ -22,6 +22,7 @@ use pci_bars::{CardRegs, claim_io, offset_in, shut_io};
 const CONFIG_ADDRESS: u16 = 0xCF8;
 /// The ports of the configuration data, the first and the last.
 const CONFIG_DATA: u16 = 0xCFC;
+
 const CONFIG_DATA_END: u16 = 0xCFF;
 
 /// What the ports depend on beside the registers of the address map: the configuration address, of which the
@@ -36,7 +37,12 @@ pub struct PortRegs {
 }
 
 /// What a port access reaches, and what denies it: None exactly where something answers.
-pub fn decode_port(regs: &MapRegs, ports: &PortRegs, port: u16, width: Width) -> (Target, Option<Denial>)
+pub fn decode_port(
+    regs: &MapRegs,
+    ports: &PortRegs,
+    port: u16,
+    width: Width,
+) -> (Target, Option<Denial>)
     requires cards { AreFitted regs.now.cards.items }
     ensures decoded { (setup : Setup) (bytes : Bytes) → StandsFor setup bytes (map_bytes regs.now)
         → IsIdeOf bytes ports.now.ide_command ports.now.idetim
@@ -104,7 +110,7 @@ fn config_port(cards: &[CardRegs], confadd: u32, port: u16) -> (Target, Option<D
 fn selected_port(cards: &[CardRegs], selected: Selected) -> (Target, Option<Denial>)
     ensures target { (setup : Setup) (bytes : Bytes) → AreDecoded setup bytes cards.now
         → result ≡ (if function_exists setup selected.bus selected.reg.dev selected.reg.fun
-            then (Target.Config selected.reg, None) else (Target.Abort, Some Denial.NoRegister)) }
+        then (Target.Config selected.reg, None) else (Target.Abort, Some Denial.NoRegister)) }
     ensures denied { IsDenied result }
 {
     if function_exists(cards, &selected) {
@@ -148,7 +154,11 @@ fn claimed_or(cards: &[CardRegs], port: u16, denial: Denial) -> (Target, Option<
     ensures denied { IsDenied result }
 {
     match claim_io(cards, port) {
-        Some((dev, base)) => answered(Target::Card(dev, base, offset_in(cards, dev, base, port.into()))),
+        Some((dev, base)) => answered(Target::Card(
+            dev,
+            base,
+            offset_in(cards, dev, base, port.into()),
+        )),
         None => denied(denial),
     }
 }

@@ -6,8 +6,8 @@ ghost use Rattle.board_spec.specs.Decode.{Bytes};
 ghost use Rattle.pci_bars.specs.Cards.{cards_of};
 ghost use Rattle.addr_decode.specs.MapRegs.{AreFitted, AreReset, StandsFor, map_bytes};
 
-use arrayvec::ArrayVec;
 use crate::cards::push_card;
+use arrayvec::ArrayVec;
 use pci_bars::{CardRegs, CardSpec};
 
 /// A boundary register after a reset: all rows end at 8 MiB.

@@ -37,7 +37,11 @@ fn reg(dev: u8, fun: u8, off: u8) -> Reg {
     Reg { dev, fun, off }
 }
 
-/// Nothing changes.
+fn config(dev: u8, fun: u8, off: u8) -> Target {
+    Target::Config(reg(dev, fun, off))
+}
+
+/// A store that changes nothing.
 fn nothing() -> MapChange {
     store(reg(0, 0, 0x00), Width::One, 0)
 }
@@ -52,118 +56,174 @@ fn by(dev: u8, fun: u8, off: u8) -> Option<Denial> {
 
 #[test]
 fn memory_of_a_board_without_cards(rt: HostRuntime) {
+    let (read, write) = (Kind::Read, Kind::Write);
+    let (abort, rom, dram) = (Area::Abort, Area::Rom, Area::Dram(0));
+    let (shadow, smram) = (Area::Shadow(0), Area::Smram);
+    let (idle, reset) = (nothing(), MapChange::Reset);
     let none = Some(Denial::NoRegister);
-    let pam2 = store(reg(0, 0, 0x5B), Width::One, 0x20);
     let pam0 = store(reg(0, 0, 0x59), Width::One, 0x30);
-    let smram = store(reg(0, 0, 0x72), Width::One, 0x48);
+    let pam2 = store(reg(0, 0, 0x5B), Width::One, 0x20);
     let drb7 = store(reg(0, 0, 0x67), Width::One, 0x00);
+    let open = store(reg(0, 0, 0x72), Width::One, 0x48);
     let xbcs = store(reg(1, 0, 0x4E), Width::One, 0x47);
     let mut regs = MapRegs::reset_of(&[]);
     for (change, addr, kind, area, denial) in [
-        (nothing(), 0x0009_FFFF, Kind::Read, Area::Dram(0), None),
-        (nothing(), 0x000A_0000, Kind::Read, Area::Abort, by(0, 0, 0x72)),
-        (nothing(), 0x000B_FFFF, Kind::Read, Area::Abort, by(0, 0, 0x72)),
-        (nothing(), 0x000C_0000, Kind::Read, Area::Abort, by(0, 0, 0x5A)),
-        (nothing(), 0x0080_0000, Kind::Write, Area::Abort, by(0, 0, 0x67)),
-        (nothing(), 0xE000_0000, Kind::Read, Area::Abort, none),
-        (nothing(), 0xFFFE_0000, Kind::Read, Area::Abort, by(1, 0, 0x4E)),
-        (nothing(), 0x000F_0012, Kind::Write, Area::Rom, by(1, 0, 0x4E)),
-        (pam2, 0x000C_BFFF, Kind::Write, Area::Abort, by(0, 0, 0x5B)),
-        (nothing(), 0x000C_C000, Kind::Write, Area::Shadow(0), None),
-        (nothing(), 0x000C_C000, Kind::Read, Area::Abort, by(0, 0, 0x5B)),
-        (nothing(), 0x000C_FFFF, Kind::Write, Area::Shadow(0), None),
-        (nothing(), 0x000D_0000, Kind::Write, Area::Abort, by(0, 0, 0x5C)),
-        (xbcs, 0x000F_0000, Kind::Write, Area::Rom, none),
-        (nothing(), 0x000E_0005, Kind::Read, Area::Rom, None),
-        (MapChange::Reset, 0x000F_0000, Kind::Write, Area::Rom, by(1, 0, 0x4E)),
-        (pam0, 0x000F_0001, Kind::Read, Area::Shadow(0), None),
-        (smram, 0x000A_0000, Kind::Read, Area::Smram, None),
-        (drb7, 0x000A_0000, Kind::Read, Area::Abort, by(0, 0, 0x67)),
-        (nothing(), 0x0000_0000, Kind::Read, Area::Abort, by(0, 0, 0x67)),
-        (nothing(), 0x000F_0001, Kind::Read, Area::Rom, None),
+        (idle, 0x0009_FFFF, read, dram, None),
+        (idle, 0x000A_0000, read, abort, by(0, 0, 0x72)),
+        (idle, 0x000B_FFFF, read, abort, by(0, 0, 0x72)),
+        (idle, 0x000C_0000, read, abort, by(0, 0, 0x5A)),
+        (idle, 0x0080_0000, write, abort, by(0, 0, 0x67)),
+        (idle, 0xE000_0000, read, abort, none),
+        (idle, 0xFFFE_0000, read, abort, by(1, 0, 0x4E)),
+        (idle, 0x000F_0012, write, rom, by(1, 0, 0x4E)),
+        (pam2, 0x000C_BFFF, write, abort, by(0, 0, 0x5B)),
+        (idle, 0x000C_C000, write, shadow, None),
+        (idle, 0x000C_C000, read, abort, by(0, 0, 0x5B)),
+        (idle, 0x000C_FFFF, write, shadow, None),
+        (idle, 0x000D_0000, write, abort, by(0, 0, 0x5C)),
+        (xbcs, 0x000F_0000, write, rom, none),
+        (idle, 0x000E_0005, read, rom, None),
+        (reset, 0x000F_0000, write, rom, by(1, 0, 0x4E)),
+        (pam0, 0x000F_0001, read, shadow, None),
+        (open, 0x000A_0000, read, smram, None),
+        (drb7, 0x000A_0000, read, abort, by(0, 0, 0x67)),
+        (idle, 0x0000_0000, read, abort, by(0, 0, 0x67)),
+        (idle, 0x000F_0001, read, rom, None),
     ] {
         regs.apply(&change);
-        assert_eq!(rt; decode(&regs, addr, kind, false), (area, denial), "at {addr}");
-        assert_eq!(rt; decode(&regs.copy(), addr, kind, false), (area, denial), "of a copy at {addr}");
+        let copy = regs.copy();
+        assert_eq!(rt;
+            decode(&regs, addr, kind, false),
+            (area, denial),
+            "at {addr}"
+        );
+        assert_eq!(rt;
+            decode(&copy, addr, kind, false),
+            (area, denial),
+            "at {addr}"
+        );
     }
 }
 
 #[test]
 fn memory_of_a_board_with_cards(rt: HostRuntime) {
+    let (read, write) = (Kind::Read, Kind::Write);
+    let (abort, dram) = (Area::Abort, Area::Dram(0));
+    let (card2, card3) = (Area::Card(2, 0), Area::Card(3, 0));
+    let idle = nothing();
     let rows = store(reg(0, 0, 0x60), Width::Four, 0x0202_0202);
-    let later_rows = store(reg(0, 0, 0x64), Width::Four, 0x0202_0202);
-    let base = store(reg(2, 0, 0x10), Width::Four, 0x00F0_0000);
-    let enable = store(reg(2, 0, 0x04), Width::One, 0x02);
+    let top = store(reg(0, 0, 0x64), Width::Four, 0x0202_0202);
     let hole = store(reg(0, 0, 0x68), Width::One, 0x80);
+    let base = store(reg(2, 0, 0x10), Width::Four, 0x00F0_0000);
     let moved = store(reg(2, 0, 0x10), Width::Four, 0x00E0_0000);
     let high = store(reg(2, 0, 0x10), Width::Four, 0xC000_0000);
-    let high_too = store(reg(3, 0, 0x10), Width::Four, 0xC000_0000);
-    let shut = store(reg(2, 0, 0x04), Width::One, 0x00);
-    let enable_too = store(reg(3, 0, 0x04), Width::One, 0x02);
+    let also = store(reg(3, 0, 0x10), Width::Four, 0xC000_0000);
+    let on2 = store(reg(2, 0, 0x04), Width::One, 0x02);
+    let off2 = store(reg(2, 0, 0x04), Width::One, 0x00);
+    let on3 = store(reg(3, 0, 0x04), Width::One, 0x02);
     let mut regs = board(BaseSpec::Memory(20), BaseSpec::Memory(12));
     for (change, addr, kind, area, denial) in [
-        (rows, 0x00F0_0004, Kind::Write, Area::Abort, by(0, 0, 0x67)),
-        (later_rows, 0x00F0_0004, Kind::Write, Area::Dram(0), None),
-        (base, 0x00F0_0004, Kind::Write, Area::Dram(0), None),
-        (hole, 0x00F0_0004, Kind::Write, Area::Abort, by(0, 0, 0x68)),
-        (enable, 0x00F0_0004, Kind::Write, Area::Card(2, 0), None),
-        (moved, 0x00E0_0004, Kind::Read, Area::Dram(0), None),
-        (nothing(), 0x00F0_0004, Kind::Read, Area::Abort, by(0, 0, 0x68)),
-        (high, 0xC000_0000, Kind::Read, Area::Card(2, 0), None),
-        (high_too, 0xC000_0FFF, Kind::Read, Area::Card(2, 0), None),
-        (shut, 0xC000_0000, Kind::Read, Area::Abort, by(2, 0, 0x04)),
-        (enable_too, 0xC000_0000, Kind::Write, Area::Card(3, 0), None),
-        (nothing(), 0xC000_1000, Kind::Write, Area::Abort, by(2, 0, 0x04)),
-        (enable, 0xC000_0000, Kind::Read, Area::Card(2, 0), None),
+        (rows, 0x00F0_0004, write, abort, by(0, 0, 0x67)),
+        (top, 0x00F0_0004, write, dram, None),
+        (base, 0x00F0_0004, write, dram, None),
+        (hole, 0x00F0_0004, write, abort, by(0, 0, 0x68)),
+        (on2, 0x00F0_0004, write, card2, None),
+        (moved, 0x00E0_0004, read, dram, None),
+        (idle, 0x00F0_0004, read, abort, by(0, 0, 0x68)),
+        (high, 0xC000_0000, read, card2, None),
+        (also, 0xC000_0FFF, read, card2, None),
+        (off2, 0xC000_0000, read, abort, by(2, 0, 0x04)),
+        (on3, 0xC000_0000, write, card3, None),
+        (idle, 0xC000_1000, write, abort, by(2, 0, 0x04)),
+        (on2, 0xC000_0000, read, card2, None),
     ] {
         regs.apply(&change);
-        assert_eq!(rt; decode(&regs, addr, kind, false), (area, denial), "at {addr}");
+        assert_eq!(rt;
+            decode(&regs, addr, kind, false),
+            (area, denial),
+            "at {addr}"
+        );
     }
 }
 
 #[test]
-fn ports_of_a_board(rt: HostRuntime) {
-    let none = Some(Denial::NoRegister);
-    let confadd = Some(Denial::Confadd);
+fn configuration_ports(rt: HostRuntime) {
+    let (one, two, four) = (Width::One, Width::Two, Width::Four);
+    let (none, confadd) = (Some(Denial::NoRegister), Some(Denial::Confadd));
+    let (abort, address) = (Target::Abort, Target::Device(Dev::Confadd));
+    let regs = board(BaseSpec::Io(4), BaseSpec::Memory(12));
+    for (value, port, width, target, denial) in [
+        (0x0000_0000, 0xCF8, one, abort, none),
+        (0x0000_0000, 0xCF8, four, address, None),
+        (0x0000_0000, 0xCFC, one, abort, confadd),
+        (0x8000_0000, 0xCFE, two, config(0, 0, 0x02), None),
+        (0x8000_0000, 0xCFC, four, config(0, 0, 0x00), None),
+        (0x8000_F800, 0xCFC, four, abort, none),
+        (0x8001_0000, 0xCFC, four, abort, none),
+        (0x8000_0A00, 0xCFC, one, abort, none),
+        (0x8000_0904, 0xCFD, one, config(1, 1, 0x05), None),
+        (0x8000_1810, 0xCFC, four, config(3, 0, 0x10), None),
+        (0x8000_1910, 0xCFC, four, abort, none),
+        (0x8000_2010, 0xCFC, four, abort, none),
+    ] {
+        let ports = PortRegs {
+            confadd: value,
+            ide_command: 0,
+            idetim: 0,
+            disk: false,
+        };
+        assert_eq!(rt;
+            decode_port(&regs, &ports, port, width),
+            (target, denial),
+            "by {value}"
+        );
+    }
+}
+
+#[test]
+fn device_ports(rt: HostRuntime) {
+    let (one, two) = (Width::One, Width::Two);
+    let (abort, card) = (Target::Abort, Target::Card(2, 0, 5));
+    let (none, idle) = (Some(Denial::NoRegister), nothing());
+    let [pit, reset, keyboard, ata] = [Dev::Pit, Dev::Reset, Dev::Keyboard, Dev::Ata].map(
+        Target::Device,
+    );
     let xbcs = store(reg(1, 0, 0x4E), Width::One, 0x00);
     let base = store(reg(2, 0, 0x10), Width::Two, 0x0300);
-    let enable = store(reg(2, 0, 0x04), Width::One, 0x01);
-    let (one, two, four) = (Width::One, Width::Two, Width::Four);
+    let on = store(reg(2, 0, 0x04), Width::One, 0x01);
     let mut regs = board(BaseSpec::Io(4), BaseSpec::Memory(12));
-    for (change, address, ide_command, idetim, port, width, target, denial) in [
-        (nothing(), 0x0000_0000, 0, 0, 0xCF8, one, Target::Abort, none),
-        (nothing(), 0x0000_0000, 0, 0, 0xCF8, four, Target::Device(Dev::Confadd), None),
-        (nothing(), 0x0000_0000, 0, 0, 0xCFC, one, Target::Abort, confadd),
-        (nothing(), 0x8000_0000, 0, 0, 0xCFE, two, Target::Config(reg(0, 0, 0x02)), None),
-        (nothing(), 0x8000_0000, 0, 0, 0xCFC, four, Target::Config(reg(0, 0, 0x00)), None),
-        (nothing(), 0x8000_F800, 0, 0, 0xCFC, four, Target::Abort, none),
-        (nothing(), 0x8001_0000, 0, 0, 0xCFC, four, Target::Abort, none),
-        (nothing(), 0x8000_0A00, 0, 0, 0xCFC, one, Target::Abort, none),
-        (nothing(), 0x8000_0904, 0, 0, 0xCFD, one, Target::Config(reg(1, 1, 0x05)), None),
-        (nothing(), 0x8000_1810, 0, 0, 0xCFC, four, Target::Config(reg(3, 0, 0x10)), None),
-        (nothing(), 0x8000_2010, 0, 0, 0xCFC, four, Target::Abort, none),
-        (nothing(), 0, 0, 0, 0xCF9, one, Target::Device(Dev::Reset), None),
-        (nothing(), 0, 0, 0, 0x43, one, Target::Device(Dev::Pit), None),
-        (nothing(), 0, 0, 0, 0x43, two, Target::Abort, none),
-        (nothing(), 0, 0, 0, 0x64, one, Target::Device(Dev::Keyboard), None),
-        (xbcs, 0, 0, 0, 0x64, one, Target::Abort, by(1, 0, 0x4E)),
-        (nothing(), 0, 0, 0, 0x71, one, Target::Abort, by(1, 0, 0x4E)),
-        (nothing(), 0, 0, 0x8000, 0x1F0, two, Target::Abort, by(1, 1, 0x04)),
-        (nothing(), 0, 1, 0x00FF, 0x1F7, one, Target::Abort, by(1, 1, 0x40)),
-        (nothing(), 0, 1, 0x8000, 0x1F7, one, Target::Device(Dev::Ata), None),
-        (nothing(), 0, 1, 0x8000, 0x1F0, one, Target::Abort, none),
-        (base, 0, 0, 0, 0x305, one, Target::Abort, by(2, 0, 0x04)),
-        (enable, 0, 0, 0, 0x305, one, Target::Card(2, 0, 5), None),
-        (nothing(), 0, 0, 0, 0x310, one, Target::Abort, none),
+    for (change, idetim, port, width, target, denial) in [
+        (idle, 0, 0xCF9, one, reset, None),
+        (idle, 0, 0x43, one, pit, None),
+        (idle, 0, 0x43, two, abort, none),
+        (idle, 0, 0x64, one, keyboard, None),
+        (xbcs, 0, 0x64, one, abort, by(1, 0, 0x4E)),
+        (idle, 0, 0x71, one, abort, by(1, 0, 0x4E)),
+        (idle, 0x00FF, 0x1F7, one, abort, by(1, 1, 0x40)),
+        (idle, 0x8000, 0x1F7, one, ata, None),
+        (idle, 0x8000, 0x1F0, two, ata, None),
+        (idle, 0x8000, 0x1F0, one, abort, none),
+        (base, 0, 0x305, one, abort, by(2, 0, 0x04)),
+        (on, 0, 0x305, one, card, None),
+        (idle, 0, 0x310, one, abort, none),
     ] {
         regs.apply(&change);
-        let ports = PortRegs {
-            confadd: address,
-            ide_command,
+        let mut ports = PortRegs {
+            confadd: 0,
+            ide_command: 1,
             idetim,
             disk: true,
         };
-        assert_eq!(rt; decode_port(&regs, &ports, port, width), (target, denial), "at {port}");
+        assert_eq!(rt;
+            decode_port(&regs, &ports, port, width),
+            (target, denial),
+            "at {port}"
+        );
+        ports.ide_command = 0;
+        let off = decode_port(&regs, &ports, 0x1F7, one);
+        assert_eq!(rt; off, (abort, by(1, 1, 0x04)));
+        ports.disk = false;
+        assert_eq!(rt; decode_port(&regs, &ports, 0x1F7, one), (abort, none));
     }
 }
 
