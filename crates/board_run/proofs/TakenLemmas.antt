@@ -55,19 +55,17 @@ written_address false value h writes = cc
 
 address_access : (access : PortAccess) → is_address_access access ≡ true → IsAddressAccess access
 address_access access h =
-    let place : (access.port == 0xCF8 && bytes_of access.width == 4) ≡ true = and_first _ (not access.write || is_taken_configuration access.value) h in
-    (
-        eqb-true access.port 0xCF8 (and_first _ (bytes_of access.width == 4) place),
-        four_wide access.width (and_second (access.port == 0xCF8) _ place),
-        written_address access.write access.value (and_second (access.port == 0xCF8 && bytes_of access.width == 4) _ h)
+    let place : (access.port == 0xCF8 && bytes_of access.width == 4) ≡ true = and_first _ (not access.write || is_taken_configuration access.value) h in (
+      eqb-true access.port 0xCF8 (and_first _ (bytes_of access.width == 4) place),
+      four_wide access.width (and_second (access.port == 0xCF8) _ place),
+      written_address access.write access.value (and_second (access.port == 0xCF8 && bytes_of access.width == 4) _ h),
     )
 
 reset_access : (access : PortAccess) → is_reset_access access ≡ true → IsResetAccess access
-reset_access access h =
-    (
-        eqb-true access.port 0xCF9 (and_first _ (bytes_of access.width == 1) h),
-        byte_wide access.width (and_second (access.port == 0xCF9) _ h)
-    )
+reset_access access h = (
+  eqb-true access.port 0xCF9 (and_first _ (bytes_of access.width == 1) h),
+  byte_wide access.width (and_second (access.port == 0xCF9) _ h),
+)
 
 port_access : (access : PortAccess) → is_taken_port access ≡ true → IsTakenPort access
 unfolding is_taken_port
@@ -75,9 +73,9 @@ port_access access h =
     elim (cases_Bool (is_address_access access)) [
       | inl address ↦ inl (address_access access address)
       | inr no_address ↦ elim (cases_Bool (is_data_access access)) [
-          | inl data_access ↦ inr (inl (and_first (is_config_port access.port) (is_aligned access.port access.width) data_access))
-          | inr no_data ↦ inr (inr (reset_access access (rw (no_address, no_data) at h)))
-        ]
+        | inl data_access ↦ inr (inl (and_first (is_config_port access.port) (is_aligned access.port access.width) data_access))
+        | inr no_data ↦ inr (inr (reset_access access (rw (no_address, no_data) at h)))
+      ]
     ]
 
 taken_event : (event : Event) → is_taken event ≡ true → IsTaken event
