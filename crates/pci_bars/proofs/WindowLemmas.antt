@@ -1,19 +1,31 @@
--- The window that claims a place has the size of its base.
-use Rattle.std.proofs.Common.{◌≡◌, ℕ, ◌+◌, ◌<◌, ◌≤◌, Bool, false, ◌&&◌, List, [], ◌∷◌, length, Some, inl, inr, ◌∙◌, refl, sym, ap, subst, arith}
+-- The window that claims a place has the size of its base, and an access that it claims lies in its contents.
+use Rattle.std.proofs.Common.{◌≡◌, ℕ, ◌+◌, ◌-◌, ◌*◌, ◌/◌, ◌%◌, ◌^◌, ◌<◌, ◌≤◌, Bool, false, ◌&&◌, List, [], ◌∷◌, length, Some, inl, inr, ◌∙◌, refl, sym, ap, subst, arith, lit<, lit≤}
 use Rattle.std.specs.Prelude.{◌==◌, All, find, flat_map, slice_get}
 use Rattle.std.proofs.lemmas.Bool.{cases_Bool, ne_eqb}
+use Rattle.std.proofs.lemmas.Nat.{pow-add, pow_pos, mod-pow-add}
+use Rattle.std.proofs.Math.Nat.{mod-lt}
 use Rattle.std.proofs.lemmas.List.Elements.{All-nil, All-cons, All-head, All-tail, All-append}
-use Rattle.board_spec.specs.Setup.{Base, MemoryBase, IoBase, FittedCard, Setup, IsCard, card_at}
+use Rattle.board_spec.specs.Setup.{Base, MemoryBase, IoBase, FittedCard, Setup, IsBase, IsCard, card_at}
+use Rattle.board_base.specs.declared.access.Width.{Width}
+use Rattle.board_base.specs.declared.access.Width.TheVariants.{One, Two, Four}
+use Rattle.board_base.specs.Access.{bytes_of}
+use Rattle.board_spec.specs.declared.event.Entry.{Entry}
 use Rattle.board_spec.specs.Answer.{window_bits, bits_of_base}
 use Rattle.board_spec.specs.Decode.{Bytes, Window, is_covered, vga_window, is_enabled_for, memory_claim, io_claim, base_value}
 use Rattle.pci_bars.specs.declared.claims.Space.{Space}
 use Rattle.pci_bars.specs.declared.claims.Space.TheVariants.{Memory, Ports}
 use Rattle.pci_bars.specs.Cards.{CardBytes, DecodesAs, AreCards, AreDecoded, cards_of}
+use Rattle.pci_bars.specs.Bases.{base_size}
+use Rattle.pci_bars.specs.Contents.{IsBaseNumber, LiesIn, IsContentsOf, window_size}
+use Rattle.pci_bars.proofs.BaseLemmas.{is_base}
 use Rattle.pci_bars.proofs.ClaimLemmas.{window_in, base_windows, windows_in}
 
--- a window has the bits of its base
+-- a window is that of a base of the setup's cards, and has its size
 pub record IsSized (setup : Setup) (window : Window) : Type 0 where
+  pub number : IsBaseNumber window.dev window.base
+  pub least : 2 ≤ window.bits
   pub bits : window.bits ≡ window_bits setup window.dev window.base
+  pub size : window_size (card_at setup window.dev) window.base ≡ 2 ^ window.bits
 
 All-find : (P : Window → Type 0) (test : Window → Bool) (windows : List Window) (window : Window) → All P windows → find test windows ≡ Some window → P window
 All-find P test [] window each found = absurd (cc)
@@ -23,39 +35,59 @@ All-find P test (first ∷ later) window each found =
       | inr miss ↦ All-find P test later window (All-tail P first later each) (rw miss at found)
     ]
 
+least_bits : (base : Base) → IsBase base → 2 ≤ bits_of_base (Some base)
+least_bits (MemoryBase bits) fit = omega (arith, fit.0)
+least_bits (IoBase bits) fit = fit.0
+
+size_of_bits : (base : Base) → base_size base ≡ 2 ^ bits_of_base (Some base)
+size_of_bits (MemoryBase bits) = refl
+size_of_bits (IoBase bits) = refl
+
+-- a window of base number k of a card
 sized :
-    (setup : Setup) (card : FittedCard) (k value bits : ℕ) (base : Base) → card_at setup card.dev ≡ Some card → k < 7 → slice_get card.bases k ≡ Some base →
-    bits_of_base (Some base) ≡ bits → IsSized setup (record { dev = card.dev; base = k; inside = value; bits = bits })
-sized setup card k value bits base fitted below at is =
+    (setup : Setup) (card : FittedCard) (k value : ℕ) (base : Base) → IsCard card → card_at setup card.dev ≡ Some card → k < 6 →
+    slice_get card.bases k ≡ Some base → IsSized setup (record { dev = card.dev; base = k; inside = value; bits = bits_of_base (Some base) })
+sized setup card k value base fit fitted below at =
     let not_vga : (k == 7) ≡ false = ne_eqb k 7 (λ (e : k ≡ 7). omega arith) in
-    record { bits = rw (not_vga, fitted, at) (sym is) }
+    record {
+      number = record { first = fit.first; last = fit.last; below = omega arith };
+      least = least_bits base (is_base card.bases k base fit.each at);
+      bits = rw (not_vga, fitted, at) refl;
+      size = rw (fitted, not_vga, at) (size_of_bits base);
+    }
 
 sized_bases :
-    (space : Space) (setup : Setup) (bytes : Bytes) (card : FittedCard) → card_at setup card.dev ≡ Some card →
+    (space : Space) (setup : Setup) (bytes : Bytes) (card : FittedCard) → IsCard card → card_at setup card.dev ≡ Some card →
     (k : ℕ) (bases : List Base) → k + length bases ≤ 6 → ((i : ℕ) → slice_get card.bases (k + i) ≡ slice_get bases i) →
     All (IsSized setup) (base_windows space bytes card.dev k bases)
-sized_bases space setup bytes card fitted k [] few same = All-nil (IsSized setup)
-sized_bases space setup bytes card fitted k (base ∷ later) few same =
+sized_bases space setup bytes card fit fitted k [] few same = All-nil (IsSized setup)
+sized_bases space setup bytes card fit fitted k (base ∷ later) few same =
     All-append (IsSized setup) (window_in space bytes card.dev k base) (base_windows space bytes card.dev (k + 1) later)
-    (one space base (ap (slice_get card.bases) (sym_zero k) ∙ same 0))
-    (sized_bases space setup bytes card fitted (k + 1) later (omega arith) (λ i. ap (slice_get card.bases) (omega arith) ∙ same (i + 1) ∙ next later base i))
+    (one space base (ap (slice_get card.bases) (plus_zero k) ∙ same 0))
+    (sized_bases space setup bytes card fit fitted (k + 1) later (omega arith) (λ i. ap (slice_get card.bases) (omega arith) ∙ same (i + 1) ∙ next later base i))
   where
-    sym_zero : (k : ℕ) → k ≡ k + 0
-    sym_zero k = omega arith
+    plus_zero : (k : ℕ) → k ≡ k + 0
+    plus_zero k = omega arith
 
     next : (later : List Base) (base : Base) (i : ℕ) → slice_get (base ∷ later) (i + 1) ≡ slice_get later i
     next later base i = grind arith
 
     one : (space : Space) (base : Base) → slice_get card.bases k ≡ Some base → All (IsSized setup) (window_in space bytes card.dev k base)
-    one Memory (MemoryBase bits) at = All-cons (IsSized setup) _ [] (sized setup card k (base_value bytes card.dev k) bits (MemoryBase bits) fitted (omega arith) at refl) (All-nil (IsSized setup))
+    one Memory (MemoryBase bits) at = All-cons (IsSized setup) _ [] (sized setup card k (base_value bytes card.dev k) (MemoryBase bits) fit fitted (omega arith) at) (All-nil (IsSized setup))
     one Memory (IoBase bits) at = All-nil (IsSized setup)
     one Ports (MemoryBase bits) at = All-nil (IsSized setup)
-    one Ports (IoBase bits) at = All-cons (IsSized setup) _ [] (sized setup card k (base_value bytes card.dev k) bits (IoBase bits) fitted (omega arith) at refl) (All-nil (IsSized setup))
+    one Ports (IoBase bits) at = All-cons (IsSized setup) _ [] (sized setup card k (base_value bytes card.dev k) (IoBase bits) fit fitted (omega arith) at) (All-nil (IsSized setup))
 
-sized_vga : (setup : Setup) (card : FittedCard) → All (IsSized setup) (vga_window card)
-sized_vga setup card =
+sized_vga : (setup : Setup) (card : FittedCard) → IsCard card → card_at setup card.dev ≡ Some card → All (IsSized setup) (vga_window card)
+sized_vga setup card fit fitted =
     elim (cases_Bool card.vga) [
-      | inl vga ↦ rw vga (All-cons (IsSized setup) _ [] (record { bits = refl }) (All-nil (IsSized setup)))
+      | inl vga ↦
+          rw vga (All-cons (IsSized setup) _ [] (record {
+            number = record { first = fit.first; last = fit.last; below = lit< tt };
+            least = lit≤ tt;
+            bits = refl;
+            size = rw (fitted, vga) refl;
+          }) (All-nil (IsSized setup)))
       | inr plain ↦ rw plain (All-nil (IsSized setup))
     ]
 
@@ -64,10 +96,10 @@ sized_card :
     All (IsSized setup) (windows_in space bytes card)
 sized_card Memory setup bytes card fit fitted =
     All-append (IsSized setup) (base_windows Memory bytes card.dev 0 card.bases) (vga_window card)
-    (sized_bases Memory setup bytes card fitted 0 card.bases (let few = fit.count in omega arith) (λ i. ap (slice_get card.bases) (omega arith)))
-    (sized_vga setup card)
+    (sized_bases Memory setup bytes card fit fitted 0 card.bases (let few = fit.count in omega arith) (λ i. ap (slice_get card.bases) (omega arith)))
+    (sized_vga setup card fit fitted)
 sized_card Ports setup bytes card fit fitted =
-    sized_bases Ports setup bytes card fitted 0 card.bases (let few = fit.count in omega arith) (λ i. ap (slice_get card.bases) (omega arith))
+    sized_bases Ports setup bytes card fit fitted 0 card.bases (let few = fit.count in omega arith) (λ i. ap (slice_get card.bases) (omega arith))
 
 sized_cards :
     (space : Space) (setup : Setup) (bytes : Bytes) (cards : List CardBytes) → AreCards cards → All (DecodesAs setup bytes) cards →
@@ -79,20 +111,53 @@ sized_cards space setup bytes (card ∷ later) fit are =
     (sized_card space setup bytes card.card (All-head (λ card. IsCard card.card) card later fit) is.fitted)
     (sized_cards space setup bytes later (All-tail (λ card. IsCard card.card) card later fit) (All-tail (DecodesAs setup bytes) card later are))
 
--- the window that claims an address has the size of its base
-pub memory_claim_bits :
+-- the window that claims an address is that of a base
+pub memory_claim_sized :
     (setup : Setup) (bytes : Bytes) (cards : List CardBytes) (addr : ℕ) (window : Window) → AreCards cards → AreDecoded setup bytes cards →
-    memory_claim setup bytes addr ≡ Some window → window.bits ≡ window_bits setup window.dev window.base
+    memory_claim setup bytes addr ≡ Some window → IsSized setup window
 unfolding memory_claim
-memory_claim_bits setup bytes cards addr window fit are found =
-    let sized = All-find (IsSized setup) (λ window. is_enabled_for 1 bytes window.dev && is_covered addr window) (flat_map (windows_in Memory bytes) (cards_of cards)) window (sized_cards Memory setup bytes cards fit are.1) (rw are.0 at found) in
-    sized.bits
+memory_claim_sized setup bytes cards addr window fit are found =
+    All-find (IsSized setup) (λ window. is_enabled_for 1 bytes window.dev && is_covered addr window) (flat_map (windows_in Memory bytes) (cards_of cards)) window
+    (sized_cards Memory setup bytes cards fit are.1) (rw are.0 at found)
 
--- and so has the window that claims a port
-pub io_claim_bits :
+-- and so is the window that claims a port
+pub io_claim_sized :
     (setup : Setup) (bytes : Bytes) (cards : List CardBytes) (port : ℕ) (window : Window) → AreCards cards → AreDecoded setup bytes cards →
-    io_claim setup bytes port ≡ Some window → window.bits ≡ window_bits setup window.dev window.base
+    io_claim setup bytes port ≡ Some window → IsSized setup window
 unfolding io_claim
-io_claim_bits setup bytes cards port window fit are found =
-    let sized = All-find (IsSized setup) (λ window. is_enabled_for 0 bytes window.dev && is_covered port window) (flat_map (windows_in Ports bytes) (cards_of cards)) window (sized_cards Ports setup bytes cards fit are.1) (rw are.0 at found) in
-    sized.bits
+io_claim_sized setup bytes cards port window fit are found =
+    All-find (IsSized setup) (λ window. is_enabled_for 0 bytes window.dev && is_covered port window) (flat_map (windows_in Ports bytes) (cards_of cards)) window
+    (sized_cards Ports setup bytes cards fit are.1) (rw are.0 at found)
+
+-- ---- an aligned access in a window
+
+-- the low two bits of a place are those of its offset
+low_two : (place bits : ℕ) → 2 ≤ bits → place % 2 ^ bits % 4 ≡ place % 4
+low_two place bits above =
+    let split : place % 2 ^ (bits - 2 + 2) ≡ (place / 2 ^ 2 % 2 ^ (bits - 2)) * 2 ^ 2 + place % 2 ^ 2 = mod-pow-add place (bits - 2) 2 in
+    ap (λ n. place % 2 ^ n % 4) (omega arith) ∙ ap (λ n. n % 4) split ∙ omega arith
+
+quarter : (bits : ℕ) → 2 ≤ bits → 2 ^ bits ≡ 2 ^ (bits - 2) * 4
+quarter bits above = ap (λ n. 2 ^ n) (omega arith) ∙ pow-add 2 (bits - 2) 2
+
+fits_below : (place off size : ℕ) (width : Width) → off < size * 4 → off % 4 ≡ place % 4 → place % bytes_of width ≡ 0 → off + bytes_of width ≤ size * 4
+fits_below place off size One below same aligned = omega arith
+fits_below place off size Two below same aligned = omega arith
+fits_below place off size Four below same aligned = omega arith
+
+fits_window : (place bits : ℕ) (width : Width) → 2 ≤ bits → place % bytes_of width ≡ 0 → place % 2 ^ bits + bytes_of width ≤ 2 ^ bits
+fits_window place bits width above aligned =
+    let whole : 2 ^ bits ≡ 2 ^ (bits - 2) * 4 = quarter bits above in
+    let below : place % 2 ^ bits < 2 ^ bits = mod-lt place (pow_pos bits) in
+    subst (λ size. place % 2 ^ bits + bytes_of width ≤ size) (sym whole)
+    (fits_below place (place % 2 ^ bits) (2 ^ (bits - 2)) width (subst (λ size. place % 2 ^ bits < size) whole below) (low_two place bits above) aligned)
+
+-- an access that a window claims lies in the contents of its base
+pub lies_in_window :
+    (setup : Setup) (history : List Entry) (contents : List (List ℕ)) (window : Window) (place : ℕ) (width : Width) → IsSized setup window →
+    IsContentsOf setup history contents → place % bytes_of width ≡ 0 → LiesIn contents window.dev window.base (place % 2 ^ window.bits) width
+lies_in_window setup history contents window place width sized is aligned =
+    record {
+      number = sized.number;
+      fits = rw (is.sizes window.dev window.base sized.number ∙ sized.size) (fits_window place window.bits width sized.least aligned);
+    }

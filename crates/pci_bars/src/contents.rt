@@ -4,7 +4,7 @@ ghost use Rattle.board_base.specs.declared.access.Width.{Width};
 ghost use Rattle.board_base.specs.declared.target.Target.TheVariants.{Card};
 ghost use Rattle.board_base.specs.Access.{bytes_of, largest_of};
 ghost use Rattle.board_spec.specs.declared.event.Entry.{Entry};
-ghost use Rattle.board_spec.specs.Setup.{Setup, IsCard, IsCardList};
+ghost use Rattle.board_spec.specs.Setup.{Setup, IsCard};
 ghost use Rattle.board_spec.specs.Bits.{byte, wide};
 ghost use Rattle.board_spec.specs.Stored.{CardCell, byte_put, entry_put, stored_of};
 ghost use Rattle.pci_bars.specs.Contents.{IsBaseNumber, slot_number, held, held_byte, window_size, LiesIn, IsContentsOf};
@@ -41,7 +41,7 @@ impl Model for Contents {
 impl Contents {
     /// The contents of these cards, all zeros.
     pub fn open(alloc: Global, specs: &[CardSpec]) -> Result<Contents, NoMemory>
-        requires cards { IsCardList specs.now }
+        requires cards { All IsCard specs.now }
         ensures sizes { IfOk result (λ contents. (dev base : ℕ) → IsBaseNumber dev base
             → length (held contents dev base) ≡ window_size (find (λ card. card.dev == dev) specs.now) base) }
         ensures zeros { IfOk result (λ contents. (dev base off : ℕ) → held_byte contents dev base off ≡ 0) }

@@ -4,7 +4,7 @@ use Rattle.board_spec.specs.Answer.{window_bits}
 use Rattle.board_spec.specs.Setup.{FittedCard, Setup}
 use Rattle.pci_bars.specs.Bases.{bits_in}
 use Rattle.pci_bars.specs.Cards.{cards_of}
-use Rattle.pci_bars.proofs.WindowLemmas.{memory_claim_bits, io_claim_bits}
+use Rattle.pci_bars.proofs.WindowLemmas.{memory_claim_sized, io_claim_sized}
 use Rattle.pci_bars.proofs.claims.offset_in.Goals as goal
 
 -- by the bits of the base that the setup's card has
@@ -30,8 +30,8 @@ returns c =
       offset = offset;
       memory = λ setup bytes window are found same_dev same_base.
           by_window setup c.args.dev c.args.base c.args.place c.low_bits.result window.bits window.dev window.base (offset setup are.0) same_dev same_base
-          (memory_claim_bits setup bytes c.args.cards.now c.args.place window c.requires.cards are found);
+          (memory_claim_sized setup bytes c.args.cards.now c.args.place window c.requires.cards are found).bits;
       ports = λ setup bytes window are found same_dev same_base.
           by_window setup c.args.dev c.args.base c.args.place c.low_bits.result window.bits window.dev window.base (offset setup are.0) same_dev same_base
-          (io_claim_bits setup bytes c.args.cards.now c.args.place window c.requires.cards are found);
+          (io_claim_sized setup bytes c.args.cards.now c.args.place window c.requires.cards are found).bits;
     }
