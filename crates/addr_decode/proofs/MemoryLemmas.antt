@@ -1,7 +1,6 @@
 -- The memory map in the order of the code is that of the definitions.
 use Rattle.std.proofs.Common.{◌≡◌, ℕ, Bool, true, false, not, ◌&&◌, Option, Some, None, refl, sym, ◌∙◌, ap, arith}
 use Rattle.std.specs.Prelude.{is_some, unwrap_or, [], ◌∷◌, option_map, if◌then◌else◌}
-use Rattle.std.proofs.lemmas.Bool.{cases_Bool}
 use Rattle.std.proofs.lemmas.Bool.Decides.{nat_tests}
 use Rattle.board_base.specs.declared.target.Area.{Area}
 use Rattle.board_base.specs.declared.target.Area.TheVariants.{Dram, Shadow, Smram, Rom, Abort}
@@ -9,7 +8,7 @@ use Rattle.board_base.specs.declared.access.Kind.{Kind}
 use Rattle.board_spec.specs.Setup.{Setup}
 use Rattle.board_spec.specs.Bits.{is_within}
 use Rattle.board_spec.specs.Decode.{Window, first_of, line_where, is_smram_range, is_shadow_range, card_area, area_under, Bytes, bridge, isa, row_of, is_in, hole_of, pam_register, is_high_window, nibble, is_open, is_shadowed, smram_answers, is_rom_selected, memory_claim, area_of}
-use Rattle.addr_decode.specs.Memory.{row_area, dram_area, above_dram, area_by}
+use Rattle.addr_decode.specs.Memory.{dram_area, above_dram, area_by}
 
 -- the table over the ranges that the address lies in
 abbrev table : Option ℕ → (smram shadow legacy answers open' hole rom : Bool) → Option Window → Area

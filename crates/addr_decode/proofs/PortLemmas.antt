@@ -1,12 +1,11 @@
 -- The ports in the order of the code are those of the definitions.
-use Rattle.std.proofs.Common.{◌≡◌, ◌≢◌, ℕ, List, ◌/◌, ◌%◌, Bool, true, false, not, ◌&&◌, ◌||◌, Option, Some, None, refl, inl, inr, ◌∙◌, sym, ap, arith}
+use Rattle.std.proofs.Common.{◌≡◌, ◌≢◌, ℕ, List, ◌/◌, ◌%◌, Bool, true, false, ◌&&◌, ◌||◌, Option, Some, None, refl, inl, inr, ◌∙◌, sym, ap, arith}
 use Rattle.std.specs.Prelude.{[], ◌∷◌, ◌==◌, is_some, option_map, if◌then◌else◌}
 use Rattle.std.proofs.lemmas.Bool.{cases_Bool, cond-false, ne_eqb}
-use Rattle.std.proofs.lemmas.Bool.Decides.{nat_tests}
 use Rattle.board_base.specs.declared.access.Width.{Width}
 use Rattle.board_base.specs.declared.access.Width.TheVariants.{One, Two, Four}
 use Rattle.board_base.specs.declared.target.Dev.{Dev}
-use Rattle.board_base.specs.declared.target.Dev.TheVariants.{Confadd as AddressPort, Reset, Pic0, Pic1, Pit, System, Keyboard, Clock, Elcr, Ata}
+use Rattle.board_base.specs.declared.target.Dev.TheVariants.{Confadd as AddressPort, Reset, Pic0, Pic1, Pit, System, Keyboard, Clock, Elcr}
 use Rattle.board_base.specs.declared.target.Reg.{Reg}
 use Rattle.board_base.specs.declared.target.Target.{Target}
 use Rattle.board_base.specs.declared.target.Target.TheVariants.{Config, Abort}
@@ -17,12 +16,12 @@ use Rattle.board_spec.specs.Setup.{Setup, FittedCard, card_at}
 use Rattle.board_spec.specs.Bits.{is_bit, is_within}
 use Rattle.board_spec.specs.Registers.{is_enabled, is_config_port, config_register}
 use Rattle.board_spec.specs.Decode.{Bytes, isa, ide, first_of, line_where}
-use Rattle.board_spec.specs.Ports.{Decoded, device, config_port, byte_device, is_ata_port, unselected, selected_by, disk_port, other_port, port_target_of}
+use Rattle.board_spec.specs.Ports.{Decoded, device, config_port, byte_device, is_ata_port, selected_by, disk_port, other_port, port_target_of}
 use Rattle.board_spec.specs.RegisterTable.{Line, card_function, function_at, function_exists}
 use Rattle.cfg_ports.specs.declared.conf_add.Selected.{Selected}
 use Rattle.cfg_ports.specs.Selection.{existing}
 use Rattle.addr_decode.specs.declared.onboard.Onboard.{Onboard}
-use Rattle.addr_decode.specs.declared.onboard.Onboard.TheVariants.{Answers, Denied, Absent}
+use Rattle.addr_decode.specs.declared.onboard.Onboard.TheVariants.{Answers, Absent}
 use Rattle.addr_decode.specs.Onboard.{if_selected, disk_by, byte_port, onboard_at}
 use Rattle.addr_decode.specs.MapRegs.{IsIdeOf}
 use Rattle.addr_decode.specs.Ports.{as_decoded, after_onboard, ports_in_order}

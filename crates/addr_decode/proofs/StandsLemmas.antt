@@ -1,13 +1,12 @@
 -- The registers of the address map among those of a board: after a reset, and where a byte is stored.
-use Rattle.std.proofs.Common.{◌≡◌, ◌≢◌, ℕ, ◌+◌, ◌-◌, ◌<◌, ◌≤◌, ◌⊎◌, inl, inr, List, [], ◌∷◌, length, get_or, set, false, refl, sym, ◌∙◌, ap, subst, arith, get_or-set_same, get_or-set_other, add-one}
-use Rattle.std.specs.Prelude.{slice_index, ◌==◌}
-use Rattle.std.proofs.lemmas.Bool.{cases_eq, cond-true}
+use Rattle.std.proofs.Common.{◌≡◌, ◌≢◌, ℕ, ◌+◌, ◌-◌, ◌<◌, ◌≤◌, ◌⊎◌, inl, inr, List, [], ◌∷◌, length, get_or, set, refl, sym, ◌∙◌, ap, subst, arith, get_or-set_same, get_or-set_other, add-one}
+use Rattle.std.specs.Prelude.{slice_index}
+use Rattle.std.proofs.lemmas.Bool.{cases_eq}
 use Rattle.board_base.specs.declared.access.Width.{Width}
-use Rattle.board_base.specs.declared.access.Width.TheVariants.{One}
 use Rattle.board_base.specs.Access.{bytes_of}
 use Rattle.board_base.specs.declared.target.Reg.{Reg}
 use Rattle.board_spec.specs.declared.map_change.MapChange.TheVariants.{Store}
-use Rattle.board_spec.specs.Setup.{Setup, IsCard}
+use Rattle.board_spec.specs.Setup.{Setup}
 use Rattle.board_spec.specs.Bits.{merged, byte}
 use Rattle.board_spec.specs.RegisterTable.{isa_bridge, reset_byte, writable_bits}
 use Rattle.board_spec.specs.Registers.{changed_byte, smram_after}
@@ -17,13 +16,13 @@ use Rattle.board_spec.specs.WideStores.{after_stores}
 use Rattle.board_spec.proofs.StoreLemmas.{changed_byte-one_same, byte_by_byte}
 use Rattle.pmc_regs.specs.Pmc.{IsRowsOf}
 use Rattle.pmc_regs.proofs.TableLemmas.{rows_at_reset, hole_at_reset, writable_bits-row, writable_bits-hole}
-use Rattle.pmc_regs.proofs.PmcLemmas.{merged-all, there, elsewhere}
+use Rattle.pmc_regs.proofs.PmcLemmas.{merged-all, there}
 use Rattle.pam_windows.specs.Pam.{IsPamOffset, IsPamOf}
 use Rattle.pam_windows.proofs.PamLemmas.{zeros_at_reset}
 use Rattle.smram_ctl.proofs.ControlLemmas.{reset_byte-smram}
-use Rattle.pci_bars.specs.Cards.{CardBytes, DecodesAs, AreCards, AreDecoded, cards_of}
+use Rattle.pci_bars.specs.Cards.{CardBytes, AreCards, AreDecoded, cards_of}
 use Rattle.addr_decode.specs.MapRegs.{MapBytes, AreFitted, AreReset, IsRowOffset, StandsFor, stored}
-use Rattle.addr_decode.proofs.StoreLemmas.{Differs, stored-elsewhere}
+use Rattle.addr_decode.proofs.StoreLemmas.{stored-elsewhere}
 use Rattle.addr_decode.proofs.CardLemmas.{IsMapOffset, SameCard, decodes-same, reset_decoded}
 
 xbcs_at_reset : (setup : Setup) → 0x03 ≡ reset_byte setup (isa 0x4E)

@@ -13,12 +13,11 @@ use board_base::{Denial, Dev, Width};
 /// The data register of the primary IDE channel.
 const ATA_DATA: u16 = 0x1F0;
 
-/// The bits of XBCS that select the clock and the keyboard controller.
+/// The bit of XBCS that selects the clock.
 const CLOCK_SELECT: u8 = 0;
-
+/// The bit of XBCS that selects the keyboard controller.
 const KEYBOARD_SELECT: u8 = 1;
-
-/// The bit of the IDE command that enables the ports.
+/// The bit of the IDE command that enables its ports.
 const IO_ENABLE: u8 = 0;
 /// The bit of IDETIM that enables the primary channel.
 const CHANNEL_ENABLE: u8 = 15;

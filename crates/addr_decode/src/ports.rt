@@ -20,9 +20,9 @@ use pci_bars::{CardRegs, claim_io, offset_in, shut_io};
 
 /// The port of the configuration address, which takes four bytes.
 const CONFIG_ADDRESS: u16 = 0xCF8;
-/// The ports of the configuration data, the first and the last.
+/// The first port of the configuration data.
 const CONFIG_DATA: u16 = 0xCFC;
-
+/// The last port of the configuration data.
 const CONFIG_DATA_END: u16 = 0xCFF;
 
 /// What the ports depend on beside the registers of the address map: the configuration address, of which the

@@ -1,5 +1,4 @@
-use Rattle.std.proofs.Common.{ℕ, Some, None, sym, ◌∙◌, ap, subst, Bool}
-use Rattle.std.proofs.lemmas.Bool.{lt-ltb, le-ltb, cond-true, cond-false}
+use Rattle.std.proofs.Common.{Some, None, sym, ◌∙◌, subst}
 use Rattle.board_spec.specs.Decode.{memory_shut, top_of}
 use Rattle.pci_bars.specs.Cards.{AreDecoded}
 use Rattle.addr_decode.proofs.DenialLemmas.{board_denies, card_denies}

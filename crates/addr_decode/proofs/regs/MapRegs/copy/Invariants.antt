@@ -1,4 +1,4 @@
-use Rattle.std.proofs.Common.{◌≡◌, ◌≤◌, ℕ, length, take}
+use Rattle.std.proofs.Common.{◌≡◌, ◌≤◌, length, take}
 use Rattle.arrayvec.specs.ArrayVec.{array_vec_len}
 use Rattle.addr_decode.proofs.regs.MapRegs.copy.Given as goal
 

@@ -1,9 +1,6 @@
-use Rattle.std.proofs.Common.{◌≡◌, ◌≤◌, ◌∙◌, ap, subst, sym, List, length, arith}
+use Rattle.std.proofs.Common.{◌≡◌, ◌≤◌, ◌∙◌, ap, sym, List, length, arith}
 use Rattle.std.proofs.lemmas.List.{length-map, take_all}
-use Rattle.board_spec.specs.Setup.{FittedCard}
-use Rattle.board_spec.specs.RegisterTable.{reset_byte}
 use Rattle.pci_bars.specs.Cards.{CardBytes, cards_of}
-use Rattle.addr_decode.specs.MapRegs.{StandsFor, map_bytes}
 use Rattle.addr_decode.proofs.CardLemmas.{fitted_same}
 use Rattle.addr_decode.proofs.regs.MapRegs.reset.Goals as goal
 

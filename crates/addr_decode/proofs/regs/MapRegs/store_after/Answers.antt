@@ -1,5 +1,4 @@
 use Rattle.std.proofs.Common.{◌≡◌, ◌≤◌, ◌+◌, ℕ, subst, arith}
-use Rattle.board_base.specs.declared.target.Reg.{Reg}
 use Rattle.board_spec.specs.MapWrites.{reg_after}
 use Rattle.addr_decode.specs.MapRegs.{StandsFor, map_bytes, stored}
 use Rattle.addr_decode.proofs.StandsLemmas.{stands-same, beyond}

@@ -1,6 +1,5 @@
 use Rattle.std.proofs.Common.{refl, subst, arith}
 use Rattle.board_base.specs.declared.target.Reg.{Reg}
-use Rattle.board_spec.specs.Decode.{card_register}
 use Rattle.addr_decode.specs.MapRegs.{StandsFor, map_bytes, stored}
 use Rattle.addr_decode.proofs.StoreLemmas.{in_function_0}
 use Rattle.addr_decode.proofs.StandsLemmas.{stands-same, function_beside, card_stored}
