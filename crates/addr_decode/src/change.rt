@@ -6,7 +6,6 @@ ghost use Rattle.board_spec.specs.Registers.{changed_byte};
 ghost use Rattle.board_spec.specs.Decode.{Bytes, bridge, isa};
 ghost use Rattle.board_spec.specs.MapWrites.{reg_after, touches_map};
 ghost use Rattle.pci_bars.specs.Cards.{cards_of};
-ghost use Rattle.pam_windows.specs.Pam.{IsPamOf, IsPamOffset};
 ghost use Rattle.pmc_regs.specs.Pmc.{IsRowsOf};
 ghost use Rattle.addr_decode.specs.MapRegs.{AreFitted, IsRowOffset, StandsFor, map_bytes, stored, overlaps};
 
@@ -17,12 +16,10 @@ use crate::offsets::{
 use crate::regs::MapRegs;
 use board_base::{Reg, Width};
 use board_spec::MapChange;
+use pam_windows::store_pam;
 use pmc_regs::fdhc_after;
 use smram_ctl::smram_after;
 use xbus_select::xbcs_after;
-
-/// The bits of each PAM register that can be written. The others read 0.
-const PAM_WRITABLE: [u8; 7] = [0x30, 0x33, 0x33, 0x33, 0x33, 0x33, 0x33];
 
 /// Whether a store covers a byte that the address map depends on, whether or not it changes it. Bytes past
 /// offset FFh do not count.
@@ -147,16 +144,6 @@ impl MapRegs {
             self.xbcs = xbcs_after(self.xbcs, byte);
         }
     }
-}
-
-/// Stores a byte in a PAM register. Reserved bits stay 0.
-fn store_pam(pam: &mut [u8; 7], off: u8, byte: u8)
-    requires offset { IsPamOffset off }
-    ensures stored { (setup : Setup) (bytes : Bytes) → IsPamOf bytes pam.old
-        → IsPamOf (stored setup bytes (bridge off) byte) pam.new }
-{
-    let at = usize::from(off - PAM0);
-    pam[at] = byte & PAM_WRITABLE[at] | pam[at] & !PAM_WRITABLE[at];
 }
 
 /// Stores a byte in a row boundary register.

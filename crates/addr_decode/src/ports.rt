@@ -1,10 +1,10 @@
 //! The ports of the 82371SB and of the cards: what an access to a port reaches, and what denies it.
-ghost use Rattle.std.specs.Prelude.{◌≡◌, ◌==◌, ◌&&◌, IsTrue, Some, None, is_some, if◌then◌else◌};
+ghost use Rattle.std.specs.Prelude.{◌≡◌, ◌≢◌, ◌%◌, ◌^◌, ◌==◌, ◌&&◌, IsTrue, IfSome, Some, None, is_some, option_map, unwrap_or, if◌then◌else◌};
 ghost use Rattle.board_base.specs.Access.{bytes_of};
 ghost use Rattle.board_spec.specs.Setup.{Setup};
 ghost use Rattle.board_spec.specs.RegisterTable.{function_at, function_exists};
 ghost use Rattle.board_spec.specs.Registers.{kept_address, config_register, is_config_port};
-ghost use Rattle.board_spec.specs.Decode.{Bytes};
+ghost use Rattle.board_spec.specs.Decode.{Bytes, command_of, io_claim, io_shut};
 ghost use Rattle.board_spec.specs.Ports.{port_target_of, config_port, unselected, other_port};
 ghost use Rattle.pci_bars.specs.Cards.{AreCards, AreDecoded};
 ghost use Rattle.addr_decode.specs.MapRegs.{AreFitted, IsIdeOf, StandsFor, map_bytes};
@@ -146,6 +146,23 @@ fn has_function_0(cards: &[CardRegs], dev: u8) -> bool
     }
 }
 
+/// What a card answers at a port: the first whose enabled base covers it, at its place there. None where none does.
+fn claim(cards: &[CardRegs], port: u16) -> Option<Target>
+    requires cards { AreCards cards.now }
+    ensures claim { (setup : Setup) (bytes : Bytes) → AreDecoded setup bytes cards.now
+        → result ≡ option_map (λ window. Target.Card window.dev window.base (port % 2 ^ window.bits)) (io_claim setup bytes port) }
+    ensures answers { IfSome result (λ target. target ≢ Target.Abort) }
+{
+    match claim_io(cards, port) {
+        Some((dev, base)) => Some(Target::Card(
+            dev,
+            base,
+            offset_in(cards, dev, base, port.into()),
+        )),
+        None => None,
+    }
+}
+
 /// The card that claims a port, or else this denial.
 fn claimed_or(cards: &[CardRegs], port: u16, denial: Denial) -> (Target, Option<Denial>)
     requires cards { AreCards cards.now }
@@ -153,12 +170,8 @@ fn claimed_or(cards: &[CardRegs], port: u16, denial: Denial) -> (Target, Option<
         → as_decoded result ≡ unselected setup bytes port denial }
     ensures denied { IsDenied result }
 {
-    match claim_io(cards, port) {
-        Some((dev, base)) => answered(Target::Card(
-            dev,
-            base,
-            offset_in(cards, dev, base, port.into()),
-        )),
+    match claim(cards, port) {
+        Some(target) => answered(target),
         None => denied(denial),
     }
 }
@@ -171,8 +184,20 @@ fn other_port(cards: &[CardRegs], port: u16) -> (Target, Option<Denial>)
         → as_decoded result ≡ other_port setup bytes port }
     ensures denied { IsDenied result }
 {
+    match claim(cards, port) {
+        Some(target) => answered(target),
+        None => denied(shut_denial(cards, port)),
+    }
+}
+
+/// What denies a port that nobody claims: the command of the first card that would if it were enabled.
+fn shut_denial(cards: &[CardRegs], port: u16) -> Denial
+    requires cards { AreCards cards.now }
+    ensures denial { (setup : Setup) (bytes : Bytes) → AreDecoded setup bytes cards.now
+        → result ≡ unwrap_or (option_map command_of (io_shut setup bytes port)) Denial.NoRegister }
+{
     match shut_io(cards, port) {
-        Some(dev) => claimed_or(cards, port, card_command(dev)),
-        None => claimed_or(cards, port, Denial::NoRegister),
+        Some(dev) => card_command(dev),
+        None => Denial::NoRegister,
     }
 }

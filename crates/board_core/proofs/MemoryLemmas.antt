@@ -4,10 +4,12 @@ use Rattle.std.specs.Prelude.{IsTrue, ◌↔◌}
 use Rattle.std.proofs.lemmas.Bool.{cases_Bool}
 use Rattle.board_base.specs.declared.access.Kind.{Kind}
 use Rattle.board_base.specs.declared.access.Kind.TheVariants.{Fetch, Read, Write}
+use Rattle.board_base.specs.declared.access.Width.{Width}
 use Rattle.board_base.specs.declared.access.Access.{Access}
 use Rattle.board_base.specs.declared.access.PortAccess.{PortAccess}
 use Rattle.board_base.specs.declared.target.Area.{Area}
 use Rattle.board_base.specs.declared.target.Area.TheVariants.{Dram as DramArea, Shadow as ShadowArea, Smram as SmramArea, Rom as RomArea, Card as CardArea, Abort as AbortArea}
+use Rattle.board_base.specs.declared.target.Target.{Target}
 use Rattle.board_base.specs.declared.target.Target.TheVariants.{Dram, Shadow, Smram, Rom, Card, Device, Config, Abort}
 use Rattle.board_spec.specs.declared.event.Event.TheVariants.{Memory, Port}
 use Rattle.board_spec.specs.declared.event.Entry.{Entry}
@@ -22,7 +24,7 @@ use Rattle.board_spec.specs.Answer.{memory_answer}
 use Rattle.dram_store.specs.Dram.{IsDramOf}
 use Rattle.dram_store.proofs.DramLemmas.{unwritten}
 use Rattle.board_core.specs.Areas.{IsHostArea}
-use Rattle.board_core.specs.Kept.{reply_lands}
+use Rattle.board_core.specs.Kept.{lands, reply_lands}
 use Rattle.board_core.specs.Replies.{answered, aborted}
 use Rattle.board_core.proofs.DecodeLemmas.{no_shut}
 
@@ -88,41 +90,34 @@ pub no_write : (access : Access) (reply : Reply) (at : ℕ) → is_write access.
 no_write access (Saw look) at reads = refl
 no_write access (Bus v target denial) at reads = rw reads refl
 
-off_dram : (access : Access) (reply : Reply) (at : ℕ) → is_write access.kind ≡ true → reply_lands reply ≡ false →
-    entry_put (Memory access) reply (DramCell at) ≡ None
-off_dram access (Saw look) at writes off = refl
-off_dram access (Bus v (Dram row) denial) at writes off = cc
-off_dram access (Bus v (Shadow row) denial) at writes off = cc
-off_dram access (Bus v Smram denial) at writes off = cc
-off_dram access (Bus v (Rom o) denial) at writes off = rw writes refl
-off_dram access (Bus v (Card dev base o) denial) at writes off = rw writes refl
-off_dram access (Bus v (Device dev) denial) at writes off = rw writes refl
-off_dram access (Bus v (Config reg) denial) at writes off = rw writes refl
-off_dram access (Bus v Abort denial) at writes off = rw writes refl
+-- a target that is none of DRAM's takes no byte of the DRAM
+no_cell : (target : Target) (place : ℕ) (width : Width) (value at : ℕ) → lands target ≡ false →
+    byte_put target place width value (DramCell at) ≡ None
+no_cell (Dram row) place width value at off = cc
+no_cell (Shadow row) place width value at off = cc
+no_cell Smram place width value at off = cc
+no_cell (Rom o) place width value at off = refl
+no_cell (Card dev base o) place width value at off = refl
+no_cell (Device dev) place width value at off = refl
+no_cell (Config reg) place width value at off = refl
+no_cell Abort place width value at off = refl
 
 pub no_landing : (access : Access) (reply : Reply) (at : ℕ) → reply_lands reply ≡ false → entry_put (Memory access) reply (DramCell at) ≡ None
-no_landing access reply at off =
+no_landing access (Saw look) at off = refl
+no_landing access (Bus v target denial) at off =
     elim (cases_Bool (is_write access.kind)) [
-      | inl writes ↦ off_dram access reply at writes off
-      | inr reads ↦ no_write access reply at reads
+      | inl writes ↦ rw writes (no_cell target access.addr access.width access.value at off)
+      | inr reads ↦ rw reads refl
     ]
 
 -- nor does an access to a port
-port_off_dram : (access : PortAccess) (reply : Reply) (at : ℕ) → access.write ≡ true → reply_lands reply ≡ false →
-    entry_put (Port access) reply (DramCell at) ≡ None
-port_off_dram access (Saw look) at writes off = refl
-port_off_dram access (Bus v (Dram row) denial) at writes off = cc
-port_off_dram access (Bus v (Shadow row) denial) at writes off = cc
-port_off_dram access (Bus v Smram denial) at writes off = cc
-port_off_dram access (Bus v (Rom o) denial) at writes off = rw writes refl
-port_off_dram access (Bus v (Card dev base o) denial) at writes off = rw writes refl
-port_off_dram access (Bus v (Device dev) denial) at writes off = rw writes refl
-port_off_dram access (Bus v (Config reg) denial) at writes off = rw writes refl
-port_off_dram access (Bus v Abort denial) at writes off = rw writes refl
-
-no_port_write : (access : PortAccess) (reply : Reply) (at : ℕ) → access.write ≡ false → entry_put (Port access) reply (DramCell at) ≡ None
-no_port_write access (Saw look) at reads = refl
-no_port_write access (Bus v target denial) at reads = rw reads refl
+no_port_landing : (access : PortAccess) (reply : Reply) (at : ℕ) → reply_lands reply ≡ false → entry_put (Port access) reply (DramCell at) ≡ None
+no_port_landing access (Saw look) at off = refl
+no_port_landing access (Bus v target denial) at off =
+    elim (cases_Bool access.write) [
+      | inl writes ↦ rw writes (no_cell target access.port access.width access.value at off)
+      | inr reads ↦ rw reads refl
+    ]
 
 pub port_dram :
     (setup : Setup) (history : List Entry) (entry : Entry) (access : PortAccess) (reply : Reply) (dram : List ℕ) →
@@ -130,10 +125,7 @@ pub port_dram :
     IsDramOf setup (entry ∷ history) dram
 port_dram setup history entry access reply dram event replied off kept =
     unwritten setup history entry dram kept
-    (λ at. rw (event, replied) (elim (cases_Bool access.write) [
-      | inl writes ↦ port_off_dram access reply at writes off
-      | inr reads ↦ no_port_write access reply at reads
-    ]))
+    (λ at. rw (event, replied) (no_port_landing access reply at off))
 
 -- whether an access writes, as the code tells it
 pub write_flag : (kind : Kind) (flag : Bool) → IsTrue flag ↔ (kind ≡ Write) → flag ≡ is_write kind

@@ -33,7 +33,7 @@ use Rattle.board_spec.specs.declared.event.Reply.TheVariants.{Bus}
 use Rattle.cfg_ports.specs.declared.conf_add.Selected.{Selected}
 use Rattle.cfg_ports.specs.Selection.{selected_at}
 use Rattle.board_core.specs.Bridge.{IsBridgeOf}
-use Rattle.board_core.specs.Kept.{HasRegisters, reply_lands}
+use Rattle.board_core.specs.Kept.{HasRegisters, lands, reply_lands}
 use Rattle.board_core.specs.PortSteps.{DoesPort}
 use Rattle.board_core.specs.Replies.{answered, aborted}
 
@@ -311,54 +311,75 @@ written_reply writes value target is = rw is refl
 read_reply : (writes : Bool) (value : ℕ) (target : Target) → writes ≡ false → Bus (Some value) target None ≡ answered writes value target
 read_reply writes value target is = rw is refl
 
+-- a target that gives after each history what `held` says, and is none of DRAM's: an access that writes it, and one that reads it
+abbrev Gives : PortAccess → Registers → Target → (Setup → List Entry → ℕ) → Type 0
+Gives access old target held =
+    (setup : Setup) (history : List Entry) → HasRegisters setup history old → port_answer setup history access ≡ answered access.write (held setup history) target
+
+abbrev Follows : PortAccess → (old new : Registers) → Type 0
+Follows access old new =
+    (setup : Setup) (history : List Entry) (entry : Entry) → HasRegisters setup history old → entry.event ≡ Port access → HasRegisters setup (entry ∷ history) new
+
+written_done :
+    (access : PortAccess) (old new : Registers) (reply : Reply) (target : Target) (held : Setup → List Entry → ℕ) → lands target ≡ false →
+    access.write ≡ true → Gives access old target held → Follows access old new → reply ≡ Bus None target None → DoesPort access old new reply
+written_done access old new reply target held off writes gives follow replied = record {
+  answer = λ setup history kept. replied ∙ written_reply access.write (held setup history) target writes ∙ sym (gives setup history kept);
+  registers = follow;
+  off_dram = rw replied off;
+}
+
+read_done :
+    (access : PortAccess) (old : Registers) (reply : Reply) (target : Target) (held : Setup → List Entry → ℕ) (value : ℕ) → lands target ≡ false →
+    access.write ≡ false → Gives access old target held → Follows access old old →
+    ((setup : Setup) (history : List Entry) → HasRegisters setup history old → value ≡ held setup history) →
+    reply ≡ Bus (Some value) target None → DoesPort access old old reply
+read_done access old reply target held value off reads gives follow value_is replied = record {
+  answer = λ setup history kept.
+      replied
+      ∙ ap (λ (v : ℕ). Bus (Some v) target None) (value_is setup history kept)
+      ∙ read_reply access.write (held setup history) target reads
+      ∙ sym (gives setup history kept);
+  registers = follow;
+  off_dram = rw replied off;
+}
+
 pub address_written_done :
     (access : PortAccess) (old new : Registers) (reply : Reply) → IsAddressAccess access → access.write ≡ true →
     new.address ≡ kept_address access.value → new.control ≡ old.control → new.host ≡ old.host →
     reply ≡ Bus None (Device AddressPort) None → DoesPort access old new reply
-address_written_done access old new reply is writes address control host replied = record {
-  answer = λ setup history kept.
-      replied ∙ written_reply access.write (config_address history) (Device AddressPort) writes ∙ sym (address_answer setup history access is);
-  registers = λ setup history entry kept event.
-      address_writes setup history entry access old new is writes event kept address control host (taken_kept access.value (is.2 writes));
-  off_dram = rw replied refl;
-}
+address_written_done access old new reply is writes address control host =
+    written_done access old new reply (Device AddressPort) (λ setup history. config_address history) refl writes
+    (λ setup history kept. address_answer setup history access is)
+    (λ setup history entry kept event.
+    address_writes setup history entry access old new is writes event kept address control host (taken_kept access.value (is.2 writes)))
 
 pub address_read_done :
     (access : PortAccess) (old : Registers) (reply : Reply) (value : ℕ) → IsAddressAccess access → access.write ≡ false →
     value ≡ old.address → reply ≡ Bus (Some value) (Device AddressPort) None → DoesPort access old old reply
-address_read_done access old reply value is reads value_is replied = record {
-  answer = λ setup history kept.
-      replied
-      ∙ ap (λ (v : ℕ). Bus (Some v) (Device AddressPort) None) (value_is ∙ kept.address)
-      ∙ read_reply access.write (config_address history) (Device AddressPort) reads
-      ∙ sym (address_answer setup history access is);
-  registers = λ setup history entry kept event. address_reads setup history entry access old is reads event kept;
-  off_dram = rw replied refl;
-}
+address_read_done access old reply value is reads value_is =
+    read_done access old reply (Device AddressPort) (λ setup history. config_address history) value refl reads
+    (λ setup history kept. address_answer setup history access is)
+    (λ setup history entry kept event. address_reads setup history entry access old is reads event kept)
+    (λ setup history kept. value_is ∙ kept.address)
 
 pub control_written_done :
     (access : PortAccess) (old new : Registers) (reply : Reply) → IsResetAccess access → access.write ≡ true →
     ((setup : Setup) (history : List Entry) (entry : Entry) → control_written entry.event ≡ Some access.value → HasRegisters setup history old → HasRegisters setup (entry ∷ history) new) →
     reply ≡ Bus None (Device ResetPort) None → DoesPort access old new reply
-control_written_done access old new reply is writes after replied = record {
-  answer = λ setup history kept.
-      replied ∙ written_reply access.write (reset_control history) (Device ResetPort) writes ∙ sym (control_answer setup history access is);
-  registers = λ setup history entry kept event. after setup history entry (rw event (control_put access is writes)) kept;
-  off_dram = rw replied refl;
-}
+control_written_done access old new reply is writes after =
+    written_done access old new reply (Device ResetPort) (λ setup history. reset_control history) refl writes
+    (λ setup history kept. control_answer setup history access is)
+    (λ setup history entry kept event. after setup history entry (rw event (control_put access is writes)) kept)
 
 pub control_read_done :
     (access : PortAccess) (old : Registers) (reply : Reply) (value : ℕ) → IsResetAccess access → access.write ≡ false →
     value ≡ old.control → reply ≡ Bus (Some value) (Device ResetPort) None → DoesPort access old old reply
-control_read_done access old reply value is reads value_is replied = record {
-  answer = λ setup history kept.
-      replied
-      ∙ ap (λ (v : ℕ). Bus (Some v) (Device ResetPort) None) (value_is ∙ kept.control)
-      ∙ read_reply access.write (reset_control history) (Device ResetPort) reads
-      ∙ sym (control_answer setup history access is);
-  registers = λ setup history entry kept event. control_reads setup history entry access old is reads event kept;
-  off_dram = rw replied refl;
-}
+control_read_done access old reply value is reads value_is =
+    read_done access old reply (Device ResetPort) (λ setup history. reset_control history) value refl reads
+    (λ setup history kept. control_answer setup history access is)
+    (λ setup history entry kept event. control_reads setup history entry access old is reads event kept)
+    (λ setup history kept. value_is ∙ kept.control)
 
 off_aborted : (writes : Bool) (width : Width) → reply_lands (aborted writes width Confadd) ≡ false
 off_aborted writes width = refl
@@ -384,6 +405,19 @@ selected_bridge address port selected is taken on =
     let low : address / 0x100 % 0x1_0000 ≡ 0 = low_halves address taken on in
     ap (λ (s : Selected). s.reg) is ∙ of_bridge address port (omega arith) (omega arith)
 
+-- the register bytes that an access at a data port reaches
+abbrev reached : Reg → Width → Setup → List Entry → ℕ
+reached reg width setup history = wide (λ off. byte_of setup history (record reg { off = off })) reg.off width
+
+data_gives :
+    (access : PortAccess) (old : Registers) (selected : Selected) → IsDataAccess access → IsTakenAddress old.address → is_enabled old.address ≡ true →
+    selected ≡ selected_at old.address access.port → Gives access old (Config selected.reg) (reached selected.reg access.width)
+data_gives access old selected is taken on selected_is setup history kept =
+    let reg : selected.reg ≡ bridge (register_of old.address + access.port % 4) = selected_bridge old.address access.port selected selected_is taken on in
+    let name : config_register setup (config_address history) access.port ≡ Some selected.reg =
+    rw (← kept.address) (named setup old.address access.port taken on ∙ ap Some (sym reg)) in
+    register_answer setup history access selected.reg is name
+
 pub data_written_done :
     (access : PortAccess) (old new : Registers) (reply : Reply) (selected : Selected) → IsDataAccess access → access.write ≡ true →
     IsTakenAddress old.address → is_enabled old.address ≡ true → selected ≡ selected_at old.address access.port →
@@ -391,42 +425,28 @@ pub data_written_done :
     ((setup : Setup) (bytes : Bytes) → IsRegisters setup bytes old.host →
     IsRegisters setup (λ reg. changed_byte setup (Store (bridge selected.reg.off) access.width access.value) reg (bytes reg)) new.host) →
     reply ≡ Bus None (Config selected.reg) None → DoesPort access old new reply
-data_written_done access old new reply selected is writes taken on selected_is address control host replied =
+data_written_done access old new reply selected is writes taken on selected_is address control host =
     let reg : selected.reg ≡ bridge (register_of old.address + access.port % 4) = selected_bridge old.address access.port selected selected_is taken on in
-    record {
-      answer = λ setup history kept.
-          let name : config_register setup (config_address history) access.port ≡ Some selected.reg =
-          rw (← kept.address) (named setup old.address access.port taken on ∙ ap Some (sym reg)) in
-          replied
-          ∙ written_reply access.write (wide (λ off. byte_of setup history (record selected.reg { off = off })) selected.reg.off access.width) (Config selected.reg) writes
-          ∙ sym (register_answer setup history access selected.reg is name);
-      registers = λ setup history entry kept event.
-          data_writes setup history entry access old new selected.reg.off is writes on (ap (λ (r : Reg). r.off) reg) event kept address control
-          (host setup (byte_of setup history) kept.bytes);
-      off_dram = rw replied refl;
-    }
+    written_done access old new reply (Config selected.reg) (reached selected.reg access.width) refl writes
+    (data_gives access old selected is taken on selected_is)
+    (λ setup history entry kept event.
+    data_writes setup history entry access old new selected.reg.off is writes on (ap (λ (r : Reg). r.off) reg) event kept address control
+    (host setup (byte_of setup history) kept.bytes))
 
 pub data_read_done :
     (access : PortAccess) (old : Registers) (reply : Reply) (selected : Selected) (value : ℕ) → IsDataAccess access → access.write ≡ false →
     IsTakenAddress old.address → is_enabled old.address ≡ true → selected ≡ selected_at old.address access.port →
     ((bytes : Bytes) → IsBridgeOf bytes old.host → value ≡ wide (λ at. bytes (bridge at)) selected.reg.off access.width) →
     reply ≡ Bus (Some value) (Config selected.reg) None → DoesPort access old old reply
-data_read_done access old reply selected value is reads taken on selected_is value_is replied =
+data_read_done access old reply selected value is reads taken on selected_is value_is =
     let reg : selected.reg ≡ bridge (register_of old.address + access.port % 4) = selected_bridge old.address access.port selected selected_is taken on in
     let here : selected.reg ≡ bridge selected.reg.off = reg ∙ ap (λ (r : Reg). bridge r.off) (sym reg) in
-    record {
-      answer = λ setup history kept.
-          let name : config_register setup (config_address history) access.port ≡ Some selected.reg =
-          rw (← kept.address) (named setup old.address access.port taken on ∙ ap Some (sym reg)) in
-          replied
-          ∙ ap (λ (v : ℕ). Bus (Some v) (Config selected.reg) None)
-          (value_is (byte_of setup history) kept.bytes.here
-          ∙ ap (λ (r : Reg). wide (λ at. byte_of setup history (record r { off = at })) selected.reg.off access.width) (sym here))
-          ∙ read_reply access.write (wide (λ off. byte_of setup history (record selected.reg { off = off })) selected.reg.off access.width) (Config selected.reg) reads
-          ∙ sym (register_answer setup history access selected.reg is name);
-      registers = λ setup history entry kept event. data_reads setup history entry access old is reads event kept;
-      off_dram = rw replied refl;
-    }
+    read_done access old reply (Config selected.reg) (reached selected.reg access.width) value refl reads
+    (data_gives access old selected is taken on selected_is)
+    (λ setup history entry kept event. data_reads setup history entry access old is reads event kept)
+    (λ setup history kept.
+    value_is (byte_of setup history) kept.bytes.here
+    ∙ ap (λ (r : Reg). wide (λ at. byte_of setup history (record r { off = at })) selected.reg.off access.width) (sym here))
 
 -- what is not disabled is enabled
 pub enabled_by : (address : ℕ) → (is_enabled address ≡ false → true ≡ false) → is_enabled address ≡ true

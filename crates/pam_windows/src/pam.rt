@@ -51,8 +51,7 @@ impl Pam {
         ensures written { (setup : Setup) (bytes : Bytes) → IsPamOf bytes self.old
             → IsPamOf (λ reg. changed_byte setup (Store (bridge off) One byte) reg (bytes reg)) self.new }
     {
-        let at = usize::from(off - PAM0);
-        self.bytes[at] = byte & WRITABLE[at] | self.bytes[at] & !WRITABLE[at];
+        store_pam(&mut self.bytes, off, byte);
     }
 
     /// Closes every window.
@@ -69,6 +68,17 @@ impl Pam {
     {
         window.is_opened_by(self.read(window.off), kind)
     }
+}
+
+/// Stores a byte in one of seven PAM registers that stand as plain bytes, by its offset, 59h to 5Fh. Reserved bits
+/// stay as they were.
+pub fn store_pam(pam: &mut [u8; 7], off: u8, byte: u8)
+    requires offset { IsPamOffset off }
+    ensures stored { (setup : Setup) (bytes : Bytes) → IsPamOf bytes pam.old
+        → IsPamOf (λ reg. changed_byte setup (Store (bridge off) One byte) reg (bytes reg)) pam.new }
+{
+    let at = usize::from(off - PAM0);
+    pam[at] = byte & WRITABLE[at] | pam[at] & !WRITABLE[at];
 }
 
 #[cfg(test)]

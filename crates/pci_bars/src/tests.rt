@@ -178,6 +178,35 @@ fn a_base_of_zero_decodes_like_any_other(rt: HostRuntime) {
     assert_eq!(rt; offset_in(&cards, 5, 0, 0xB_0001), 0);
 }
 
+/// A VGA card with 1 MiB of memory at this base.
+fn card_based_at(base: u32) -> [CardRegs; 1]
+    ensures cards { AreCards result }
+{
+    let mut card = card(2, true, BaseSpec::Memory(20), BaseSpec::Io(4));
+    write_long(&mut card, 0x10, base);
+    card.write(0x04, 0x02);
+    [card]
+}
+
+#[test]
+fn a_card_answers_where_its_base_was_put(rt: HostRuntime) {
+    for (base, addr, claim, offset) in [
+        (0x00F0_0000, 0x00F0_0004, Some((2, 0)), 0x4),
+        (0x00E0_0000, 0x00E0_0004, Some((2, 0)), 0x4),
+        (0x00E0_0000, 0x00F0_0004, None, 0),
+        (0xE000_0000, 0xE00F_FFFF, Some((2, 0)), 0xF_FFFF),
+        (0xFFFF_FFFF, 0xE000_0000, None, 0),
+        (0xFFFF_FFFF, 0xFFFE_0000, Some((2, 0)), 0xE_0000),
+        (0xFFFF_FFFF, 0x000A_0010, Some((2, 7)), 0x10),
+    ] {
+        let cards = card_based_at(base);
+        assert_eq!(rt; claim_mem(&cards, addr), claim, "at {addr} of {base}");
+        if let Some((dev, base)) = claim {
+            assert_eq!(rt; offset_in(&cards, dev, base, addr), offset, "at {addr}");
+        }
+    }
+}
+
 /// What a base holds at an offset, where it has so many bytes.
 fn read_at(contents: &Contents, dev: u8, base: u8, off: u32, width: Width) -> Option<u32> {
     if !(2..=9).contains(&dev)

@@ -1,5 +1,5 @@
 use Rattle.pam_windows.proofs.PamLemmas.{stored_byte}
-use Rattle.addr_decode.proofs.change.store_pam.Goals as goal
+use Rattle.pam_windows.proofs.pam.store_pam.Goals as goal
 
 pub returns : goal.returns
 returns c = record {
