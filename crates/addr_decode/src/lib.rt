@@ -2,12 +2,11 @@
 //! PCI cards, over the registers on which it depends.
 #![tactic(auto)]
 
-mod bits;
 mod cards;
 mod change;
 mod denial;
+mod denied_by;
 mod memory;
-mod offsets;
 mod onboard;
 mod ports;
 mod regs;
