@@ -8,6 +8,7 @@ mod memory_sink;
 mod moment;
 mod outside;
 mod pieces;
+mod steps;
 mod target;
 
 pub use access::{Access, Kind, PortAccess, Width};
@@ -17,6 +18,7 @@ pub use memory_sink::{MemSink, SafeSink};
 pub use moment::Moment;
 pub use outside::{Gate, QuietGate, Shelf, Sink};
 pub use pieces::keep_name;
+pub use steps::Steps;
 pub use target::{Area, Denial, Dev, Reg, Target};
 
 #[cfg(test)]

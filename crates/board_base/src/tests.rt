@@ -1,6 +1,10 @@
+ghost use Rattle.std.specs.Prelude.{◌≡◌, ◌<◌};
+
 use super::*;
 use arrayvec::ArrayVec;
 use std::alloc::Global;
+use std::marker::Brand;
+use std::sync::ledger::{Blank, Ledger};
 use std::test::Fail;
 
 // 260 bytes: ten times the alphabet.
@@ -139,4 +143,20 @@ fn reads<S: Shelf>(shelf: &mut S, name: &str, at: u64, want: Option<&str>) -> bo
 
 fn puts<K: Sink>(sink: &mut K, piece: &[u8; 3]) -> Result<usize, PutFault> {
     sink.put(piece)
+}
+
+// Two steps under a ledger of its own.
+fn two_steps<L: Ledger>(blank: Blank)
+    requires name { blank.name ≡ L.name }
+    requires parts { blank.parts ≡ L.parts }
+    requires some_part { 0 < L.parts }
+{
+    let mut steps = Steps::<L>::new(blank);
+    steps.tick();
+    steps.tick();
+}
+
+#[test]
+fn a_counter_opens_a_ledger_of_its_own() {
+    two_steps::<Brand>(Blank::new(1));
 }

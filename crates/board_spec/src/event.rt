@@ -1,5 +1,7 @@
 //! One statement of a script, what it asks of the board, and what the board replies.
 
+ghost use Rattle.std.specs.Prelude.{◌≡◌};
+
 use board_base::{Access, Area, Denial, Kind, Moment, PortAccess, Target};
 
 /// What one statement asks of the board.
@@ -48,6 +50,15 @@ pub enum Reply {
     Saw(Look),
 }
 
+impl Reply {
+    /// An equal reply. It takes no memory.
+    pub fn copy(&self) -> Reply
+        ensures equal { result ≡ self.now }
+    {
+        *self
+    }
+}
+
 /// One entry of a history: who, the how manieth of that processor's entries (from 1), what it asked
 /// and what was replied.
 #[derive(Clone, Copy, PartialEq, Eq, Debug)]
@@ -56,6 +67,15 @@ pub struct Entry {
     pub seq: u32,
     pub event: Event,
     pub reply: Reply,
+}
+
+impl Entry {
+    /// An equal entry. It takes no memory.
+    pub fn copy(&self) -> Entry
+        ensures equal { result ≡ self.now }
+    {
+        *self
+    }
 }
 
 /// One statement of a script: a processor and what it asks.

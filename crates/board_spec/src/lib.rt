@@ -2,10 +2,12 @@
 //! `specs/` the definitions that every contract above cites. `laws` proves what shows them right.
 #![tactic(auto)]
 
+pub mod bits;
 mod event;
 pub mod examples;
 pub mod laws;
 mod map_change;
+pub mod offset;
 
 pub use event::{Entry, Event, Look, Reply, Statement};
 pub use map_change::MapChange;

@@ -1,0 +1,19 @@
+//! Bits of registers.
+
+ghost use Rattle.std.specs.Prelude.{◌≡◌, ◌<◌};
+ghost use Rattle.board_spec.specs.Bits.{is_bit, merged};
+
+/// Whether a bit of a number is set; bit 0 is the lowest, 31 the highest.
+pub fn is_set(value: u32, bit: u32) -> bool
+    requires bit { bit < 32 }
+    ensures set { result ≡ is_bit value bit }
+{
+    value >> bit & 1 == 1
+}
+
+/// A register after a write: the bits of the mask as written, and the others as they were.
+pub fn merged(mask: u8, old: u8, written: u8) -> u8
+    ensures merged { result ≡ merged mask old written }
+{
+    written & mask | old & !mask
+}
