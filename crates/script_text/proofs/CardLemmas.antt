@@ -1,7 +1,7 @@
 -- Cards: how much memory their bases decode, and how they stand in rising order.
-use Rattle.std.proofs.Common.{◌≡◌, ℕ, ◌+◌, ◌*◌, ◌^◌, ◌<◌, ◌≤◌, inl, inr, Bool, true, false, not, ◌&&◌, ◌||◌, List, [], ◌∷◌, ◌++◌, length, map, take, get_or, insert, sum_by, All, flat_map, refl, sym, ap, subst, ◌∙◌, arith, lit<, lit≤, one-add}
+use Rattle.std.proofs.Common.{◌≡◌, ℕ, ◌+◌, ◌<◌, ◌≤◌, inl, inr, Bool, true, false, not, ◌&&◌, ◌||◌, List, [], ◌∷◌, length, map, take, get_or, insert, sum_by, All, flat_map, refl, sym, ap, subst, ◌∙◌, arith, lit<, lit≤, one-add}
 use Rattle.std.specs.Prelude.{◌==◌, nat_lt, nat_le, Result, Ok, Err, OnOk, is_ok, if◌then◌else◌, position, unwrap_or}
-use Rattle.std.specs.List.{position_or_len, list_any}
+use Rattle.std.specs.List.{position_or_len}
 use Rattle.std.proofs.lemmas.Bool.{cases_Bool}
 use Rattle.std.proofs.lemmas.Bool.Decides.{nat_tests}
 use Rattle.std.proofs.lemmas.List.Elements.{All-cons, All-head, All-tail, All-nil, All-get_or}
@@ -127,8 +127,8 @@ rises_insert card (first ∷ later) new rises =
     let p = or_none (first.dev == card.dev) (is_there later card) new in
     elim (cases_Bool (nat_lt card.dev first.dev)) [
       | inl below ↦
-        let lt : card.dev < first.dev = ltb-true card.dev first.dev below in
-        rw below (All-cons (λ other. card.dev < other.dev) first later lt (below_all card.dev first.dev later (omega arith) rises.0), rises)
+          let lt : card.dev < first.dev = ltb-true card.dev first.dev below in
+          rw below (All-cons (λ other. card.dev < other.dev) first later lt (below_all card.dev first.dev later (omega arith) rises.0), rises)
       | inr above ↦ rw above (all_insert (λ other. first.dev < other.dev) card later (apart card first p.0 above) rises.0, rises_insert card later p.1 rises.1)
     ]
 

@@ -1,8 +1,7 @@
 -- The cards that lines say can be fitted.
-use Rattle.std.proofs.Common.{◌≡◌, ℕ, ◌+◌, ◌<◌, ◌≤◌, Bool, true, false, cond, eqb, leb, List, [], ◌∷◌, length, Option, Some, None, Result, Ok, Err, All, refl, sym, subst, arith}
-use Rattle.std.specs.Prelude.{codes, bytes_eq, IfSome, IfOk}
+use Rattle.std.proofs.Common.{◌≡◌, ℕ, ◌+◌, ◌≤◌, Bool, true, false, cond, eqb, leb, List, [], ◌∷◌, length, Option, Some, None, Ok, All, refl, sym, subst, arith}
+use Rattle.std.specs.Prelude.{codes, bytes_eq, IfSome}
 use Rattle.std.specs.Option.{option_and_then}
-use Rattle.std.proofs.lemmas.Bool.{cases_Bool}
 use Rattle.std.proofs.lemmas.List.Elements.{All-nil, All-cons}
 use borrow.Author.Tests.{leb-true}
 use Rattle.board_spec.specs.Setup.{Base, MemoryBase, IoBase, FittedCard, IsBase, IsCard}
@@ -10,7 +9,7 @@ use Rattle.board_spec.specs.Bits.{is_within}
 use Rattle.script_text.specs.Numbers.{decimal_of}
 use Rattle.script_text.specs.Lines.{fields_of}
 use Rattle.script_text.specs.CardText.{memory_base, io_base, base_of, each_base, bases_of, device_in_range, device_of, vga_of, fitted_of, card_of, fits_beside, next_card, insert_card}
-use Rattle.script_text.specs.ScriptText.{Refusal, ◌>>=◌, on_line, card_line, cards_from}
+use Rattle.script_text.specs.ScriptText.{◌>>=◌, card_line, cards_from}
 use Rattle.script_text.specs.Taken.{AreFitted}
 use Rattle.script_text.proofs.ChainLemmas.{some_is, guarded, then_said, is_within_is, bind_ok, on_line_ok, read_ok, ok_is}
 use Rattle.script_text.proofs.CardLemmas.{fitted_more}

@@ -1,11 +1,11 @@
 -- What a script says is in range.
-use Rattle.std.proofs.Common.{◌≡◌, ℕ, ◌+◌, ◌*◌, ◌%◌, ◌^◌, ◌<◌, ◌≤◌, inl, inr, Bool, true, false, cond, eqb, ltb, leb, ◌&&◌, not, List, [], ◌∷◌, length, Option, Some, None, Result, Ok, Err, refl, subst, arith, lit<}
+use Rattle.std.proofs.Common.{◌≡◌, ℕ, ◌+◌, ◌*◌, ◌%◌, ◌^◌, ◌<◌, ◌≤◌, Bool, true, false, cond, eqb, ltb, ◌&&◌, not, List, [], ◌∷◌, length, Option, Some, None, Result, Ok, Err, refl, subst, arith, lit<}
 use Rattle.std.specs.Prelude.{codes, bytes_eq, IfOk}
 use Rattle.std.specs.List.{AllByRecursion}
 use Rattle.std.specs.Option.{option_and_then}
-use Rattle.std.proofs.lemmas.Bool.{eqb-true, cases_Bool}
+use Rattle.std.proofs.lemmas.Bool.{eqb-true}
 use Rattle.std.proofs.lemmas.List.Elements.{All-from_recursion}
-use borrow.Author.Tests.{ltb-true, leb-true}
+use borrow.Author.Tests.{ltb-true}
 use Rattle.board_base.specs.Access.{bytes_of, largest_of}
 use Rattle.board_base.specs.declared.access.Width.{Width}
 use Rattle.board_base.specs.declared.access.Width.TheVariants.{One, Two, Four}
@@ -17,7 +17,6 @@ use Rattle.board_spec.specs.declared.event.Event.{Event}
 use Rattle.board_spec.specs.declared.event.Event.TheVariants.{Memory, Port, Look as LookAt, Ack, Pulses, Time, Wire, Line, BadSector}
 use Rattle.board_spec.specs.declared.event.Statement.{Statement}
 use Rattle.board_spec.specs.Bits.{is_within}
-use Rattle.board_spec.specs.Registers.{is_config_port}
 use Rattle.board_spec.specs.Stored.{is_write}
 use Rattle.board_spec.specs.Setup.{Setup}
 use Rattle.board_spec.specs.InRange.{FitsAccess, IsInRange}
@@ -25,7 +24,7 @@ use Rattle.script_text.specs.Numbers.{digit_value, digit_of, number_after, hex_o
 use Rattle.script_text.specs.StatementText.{width_of, kind_of, address_of, port_of, value_of, smm_of, read_of, write_of, in_of, out_of, look_of, event_of_fields}
 use Rattle.script_text.specs.Forms.{is_aligned, is_taken_access, is_absent_port, names_routing, is_taken_port, is_taken}
 use Rattle.script_text.specs.Lines.{lines_of, fields_of}
-use Rattle.script_text.specs.ScriptText.{Said, Refusal, ◌>>=◌, most_statements, on_line, front_line, fixed_line, mib_of, mib_in_range, memory_line, is_name, rom_of, rom_line, statement_of, next_statement, cards_from, statements_from, script_from}
+use Rattle.script_text.specs.ScriptText.{Said, ◌>>=◌, most_statements, on_line, front_line, fixed_line, mib_of, mib_in_range, memory_line, is_name, rom_of, rom_line, statement_of, next_statement, cards_from, statements_from, script_from}
 use Rattle.script_text.specs.declared.fault.ScriptFault.{ScriptFault}
 use Rattle.script_text.specs.declared.script.Script.{Script}
 use Rattle.script_text.specs.Reading.{Gives, said_of}

@@ -1,7 +1,7 @@
 use Rattle.std.proofs.Common.{◌≡◌, ◌≤◌, ◌<◌, ◌++◌, ◌∷◌, [], Some, None, length, map, get_or, sym, ap, ◌∙◌, arith}
 use Rattle.std.proofs.lemmas.List.{get_or-map, length-map, map-append}
 use Rattle.pci_bars.specs.Bases.{base_of as as_base}
-use Rattle.script_text.specs.CardText.{base_of, bases_of, each_base}
+use Rattle.script_text.specs.CardText.{base_of}
 use Rattle.script_text.proofs.CardRuns.{field_read, field_refused, fields_end, bases_are}
 use Rattle.script_text.proofs.card.bases_of.Goals as goal
 
@@ -12,7 +12,7 @@ returns-in_err-base_of c =
     let none : base_of (get_or (map (λ field. field.now) c.args.fields.now) c.loop-field.field-index []) ≡ None = ap base_of (get_or-map (λ field. field.now) c.args.fields.now c.loop-field.field-index _ [] c.loop-field-test.true) ∙ sym c.in_err-base_of.ensures.base in
     record {
       bases = rw (c.from_residual.ensures, bases_are (map (λ field. field.now) c.args.fields.now) few)
-      (sym (field_refused (map as_base c.loop-field.bases.items) c.loop-field.field-index (map (λ field. field.now) c.args.fields.now) _ within none c.loop-field.invariant.said));
+          (sym (field_refused (map as_base c.loop-field.bases.items) c.loop-field.field-index (map (λ field. field.now) c.args.fields.now) _ within none c.loop-field.invariant.said));
     }
 
 pub loop-field-preserved : goal.loop-field-preserved

@@ -1,7 +1,6 @@
-use Rattle.std.proofs.Common.{sym, ◌∙◌, subst}
+use Rattle.std.proofs.Common.{sym}
 use Rattle.std.proofs.lemmas.Result.{err_from_is_err_and}
 use Rattle.script_text.specs.Lines.{lines_of}
-use Rattle.script_text.specs.Taken.{AreFitted}
 use Rattle.script_text.proofs.CardRuns.{line_read, line_refused, phase_read, lines_end}
 use Rattle.script_text.proofs.CardTaken.{line_fits}
 use Rattle.script_text.proofs.cards.cards_from.Goals as goal
@@ -17,11 +16,11 @@ returns-in_err-card-clause-said c =
 
 pub loop-line-preserved : goal.loop-line-preserved
 loop-line-preserved c =
-   let said = rw c.deref.ensures.value at c.in_ok-card.ensures.said in
-   record {
-     fitted = rw c.in_ok-insert_card.ensures.cards (line_fits c.loop-line.cards.items c.in-Some.line.now c.in_ok-card.card c.loop-line.invariant.fitted said);
-     said = rw c.in_ok-insert_card.ensures.cards (line_read c.loop-line.cards.items c.in_ok-card.card c.in-Some.line.now (lines_of c.in-Some.after.now) (lines_of c.loop-line.rest.now) _ c.in-Some.ensures.cases (sym c.if-is_phase.ensures.phase) said c.loop-line.invariant.said);
-   }
+    let said = rw c.deref.ensures.value at c.in_ok-card.ensures.said in
+    record {
+      fitted = rw c.in_ok-insert_card.ensures.cards (line_fits c.loop-line.cards.items c.in-Some.line.now c.in_ok-card.card c.loop-line.invariant.fitted said);
+      said = rw c.in_ok-insert_card.ensures.cards (line_read c.loop-line.cards.items c.in_ok-card.card c.in-Some.line.now (lines_of c.in-Some.after.now) (lines_of c.loop-line.rest.now) _ c.in-Some.ensures.cases (sym c.if-is_phase.ensures.phase) said c.loop-line.invariant.said);
+    }
 
 pub returns-clause-said : goal.returns-clause-said
 returns-clause-said c = lines_end c.loop-line.cards.items (lines_of c.loop-line.rest.now) _ c.in_default.ensures.cases c.loop-line.invariant.said
