@@ -37,7 +37,7 @@ card_edges bytes card =
 
 -- all of them, in no order, and some perhaps twice
 unfoldable pub edges_of : Setup → Bytes → List ℕ
-edges_of setup bytes = fixed_edges ++ row_edges bytes ++ flat_map (card_edges bytes) setup.cards
+edges_of setup bytes = fixed_edges ++ (row_edges bytes ++ flat_map (card_edges bytes) setup.cards)
 
 -- an edge is one of these that is an address: a window may end after the last address
 pub record IsEdge (setup : Setup) (bytes : Bytes) (edge : ℕ) : Type 0 where
