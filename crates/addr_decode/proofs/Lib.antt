@@ -5,4 +5,5 @@ pub mod TouchLemmas
 pub mod DenialLemmas
 pub mod CardLemmas
 pub mod StandsLemmas
+pub mod EdgeLaws
 pub mod EdgeSearchLemmas
