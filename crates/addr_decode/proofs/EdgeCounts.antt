@@ -1,6 +1,6 @@
 -- How many edges a board has, and how many of them lie above an address.
-use Rattle.std.proofs.Common.{◌≡◌, ℕ, ◌+◌, ◌*◌, ◌<◌, ◌≤◌, inl, inr, Bool, true, false, List, [], ◌∷◌, ◌++◌, length, refl, arith}
-use Rattle.std.specs.Prelude.{nat_lt, All, filter, flat_map}
+use Rattle.std.proofs.Common.{◌≡◌, ℕ, ◌+◌, ◌*◌, ◌<◌, ◌≤◌, inl, inr, Bool, true, false, List, [], ◌∷◌, ◌++◌, length, Option, Some, None, refl, arith}
+use Rattle.std.specs.Prelude.{nat_lt, All, filter, flat_map, IfSome}
 use Rattle.std.specs.List.{Contains, enumerate_from}
 use Rattle.std.proofs.lemmas.Bool.{cases_Bool}
 use Rattle.std.proofs.lemmas.Bool.Decides.{nat_tests}
@@ -88,3 +88,7 @@ one_less addr edge (first ∷ later) above has =
 -- fewer edges lie above the next edge
 pub fewer_after_next : (setup : Setup) (bytes : Bytes) (addr edge : ℕ) → IsNextEdge setup bytes addr edge → edges_after setup bytes edge < edges_after setup bytes addr
 fewer_after_next setup bytes addr edge next = one_less addr edge (edges_of setup bytes) next.above next.is_edge.listed
+
+pub fewer_after : (setup : Setup) (bytes : Bytes) (addr : ℕ) (found : Option ℕ) → IfSome found (IsNextEdge setup bytes addr) → IfSome found (λ edge. edges_after setup bytes edge < edges_after setup bytes addr)
+fewer_after setup bytes addr None next = tt
+fewer_after setup bytes addr (Some edge) next = fewer_after_next setup bytes addr edge next
