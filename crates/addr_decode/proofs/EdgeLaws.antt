@@ -93,11 +93,13 @@ hole_same setup bytes addr x fdhc between =
 rom_same : (setup : Setup) (bytes : Bytes) (addr x xbcs : ℕ) → Between setup bytes addr x → is_rom_selected xbcs x ≡ is_rom_selected xbcs addr
 unfolding fixed_edges
 rom_same setup bytes addr x xbcs between =
-    rw (within_same 0xF_0000 0xF_FFFF addr x between.order (fixed_clear setup bytes addr x 14 0xF_0000 between (omega arith) refl) (fixed_clear setup bytes addr x 15 0x10_0000 between (omega arith) refl),
-        within_same 0xFFFF_0000 0xFFFF_FFFF addr x between.order (fixed_clear setup bytes addr x 20 0xFFFF_0000 between (omega arith) refl) (λ _. between.last),
-        within_same 0xE_0000 0xE_FFFF addr x between.order (fixed_clear setup bytes addr x 10 0xE_0000 between (omega arith) refl) (fixed_clear setup bytes addr x 14 0xF_0000 between (omega arith) refl),
-        within_same 0xFFFE_0000 0xFFFE_FFFF addr x between.order (fixed_clear setup bytes addr x 19 0xFFFE_0000 between (omega arith) refl) (fixed_clear setup bytes addr x 20 0xFFFF_0000 between (omega arith) refl),
-        within_same 0xFFF8_0000 0xFFFD_FFFF addr x between.order (fixed_clear setup bytes addr x 18 0xFFF8_0000 between (omega arith) refl) (fixed_clear setup bytes addr x 19 0xFFFE_0000 between (omega arith) refl)) refl
+    rw (
+      within_same 0xF_0000 0xF_FFFF addr x between.order (fixed_clear setup bytes addr x 14 0xF_0000 between (omega arith) refl) (fixed_clear setup bytes addr x 15 0x10_0000 between (omega arith) refl),
+      within_same 0xFFFF_0000 0xFFFF_FFFF addr x between.order (fixed_clear setup bytes addr x 20 0xFFFF_0000 between (omega arith) refl) (λ _. between.last),
+      within_same 0xE_0000 0xE_FFFF addr x between.order (fixed_clear setup bytes addr x 10 0xE_0000 between (omega arith) refl) (fixed_clear setup bytes addr x 14 0xF_0000 between (omega arith) refl),
+      within_same 0xFFFE_0000 0xFFFE_FFFF addr x between.order (fixed_clear setup bytes addr x 19 0xFFFE_0000 between (omega arith) refl) (fixed_clear setup bytes addr x 20 0xFFFF_0000 between (omega arith) refl),
+      within_same 0xFFF8_0000 0xFFFD_FFFF addr x between.order (fixed_clear setup bytes addr x 18 0xFFF8_0000 between (omega arith) refl) (fixed_clear setup bytes addr x 19 0xFFFE_0000 between (omega arith) refl),
+    ) refl
 
 -- ---- shadow windows
 
@@ -175,10 +177,16 @@ below_same setup bytes addr x row between within is =
 row_same : (setup : Setup) (bytes : Bytes) (addr x : ℕ) → Between setup bytes addr x → row_of bytes x ≡ row_of bytes addr
 unfolding row_of
 row_same setup bytes addr x between =
-    rw (below_same setup bytes addr x 0 between (omega arith) refl, below_same setup bytes addr x 1 between (omega arith) refl,
-        below_same setup bytes addr x 2 between (omega arith) refl, below_same setup bytes addr x 3 between (omega arith) refl,
-        below_same setup bytes addr x 4 between (omega arith) refl, below_same setup bytes addr x 5 between (omega arith) refl,
-        below_same setup bytes addr x 6 between (omega arith) refl, below_same setup bytes addr x 7 between (omega arith) refl) refl
+    rw (
+      below_same setup bytes addr x 0 between (omega arith) refl,
+      below_same setup bytes addr x 1 between (omega arith) refl,
+      below_same setup bytes addr x 2 between (omega arith) refl,
+      below_same setup bytes addr x 3 between (omega arith) refl,
+      below_same setup bytes addr x 4 between (omega arith) refl,
+      below_same setup bytes addr x 5 between (omega arith) refl,
+      below_same setup bytes addr x 6 between (omega arith) refl,
+      below_same setup bytes addr x 7 between (omega arith) refl,
+    ) refl
 
 -- ---- memory bases of cards
 
@@ -311,8 +319,14 @@ area_same setup bytes addr x kind smm between =
 
 six_same : (setup : Setup) (bytes : Bytes) (addr x : ℕ) → Between setup bytes addr x → six_areas setup bytes x ≡ six_areas setup bytes addr
 six_same setup bytes addr x between =
-    rw (area_same setup bytes addr x Fetch false between, area_same setup bytes addr x Read false between, area_same setup bytes addr x Write false between,
-        area_same setup bytes addr x Fetch true between, area_same setup bytes addr x Read true between, area_same setup bytes addr x Write true between) refl
+    rw (
+      area_same setup bytes addr x Fetch false between,
+      area_same setup bytes addr x Read false between,
+      area_same setup bytes addr x Write false between,
+      area_same setup bytes addr x Fetch true between,
+      area_same setup bytes addr x Read true between,
+      area_same setup bytes addr x Write true between,
+    ) refl
 
 pub areas_change_at_edges : AreasChangeAtEdges
 areas_change_at_edges setup bytes addr x order last clear =

@@ -181,7 +181,7 @@ is_last setup bytes addr None is = (
         | inl above ↦ absurd (found_reaches addr edge (edges_of setup bytes) None is there.listed above there.address)
         | inr not_above ↦ not_above
       ]),
-  (λ _. refl)
+  (λ _. refl),
 )
 is_last setup bytes addr (Some edge) is =
     let here : IsAbove addr (edges_of setup bytes) edge = found_above addr (edges_of setup bytes) (Some edge) is in
@@ -204,8 +204,13 @@ pub in_parts :
     all ≡ nearest addr rows (flat_map ends_of_card cards) → all ≡ nearest addr None (kept_edges drb cards)
 unfolding nearest
 in_parts addr fixed rows all drb cards is_fixed is_rows is_all =
-    rw (is_all, is_rows, is_fixed, fold-append (nearer addr) None fixed_edges (map (λ b. b * 0x80_0000) drb ++ flat_map ends_of_card cards),
-        fold-append (nearer addr) (fold (nearer addr) None fixed_edges) (map (λ b. b * 0x80_0000) drb) (flat_map ends_of_card cards)) refl
+    rw (
+      is_all,
+      is_rows,
+      is_fixed,
+      fold-append (nearer addr) None fixed_edges (map (λ b. b * 0x80_0000) drb ++ flat_map ends_of_card cards),
+      fold-append (nearer addr) (fold (nearer addr) None fixed_edges) (map (λ b. b * 0x80_0000) drb) (flat_map ends_of_card cards),
+    ) refl
 
 pub kept_are_edges :
     (setup : Setup) (bytes : Bytes) (drb : List ℕ) (cards : List CardBytes) → length drb ≡ 8 → IsRowsOf bytes drb →
