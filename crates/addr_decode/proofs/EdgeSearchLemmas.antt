@@ -1,6 +1,6 @@
 -- The edges that the code looks through are those of the board, and what it finds is the next one.
-use Rattle.std.proofs.Common.{◌≡◌, ℕ, zero, suc, ◌+◌, ◌*◌, ◌<◌, ◌≤◌, ◌⊎◌, inl, inr, Bool, true, false, ◌&&◌, List, [], ◌∷◌, ◌++◌, length, map, Option, Some, None, refl, sym, ◌∙◌, ap, subst, arith}
-use Rattle.std.specs.Prelude.{nat_lt, min, All, flat_map, unwrap_or, slice_index, IfSome, IsNone, ◌↔◌}
+use Rattle.std.proofs.Common.{◌≡◌, ℕ, zero, suc, ◌+◌, ◌*◌, ◌<◌, ◌≤◌, ◌⊎◌, inl, inr, ◌&&◌, List, [], ◌∷◌, ◌++◌, length, map, Option, Some, None, refl, sym, ◌∙◌, ap, subst, arith}
+use Rattle.std.specs.Prelude.{nat_lt, min, All, flat_map, slice_index, IfSome, IsNone, ◌↔◌}
 use Rattle.std.specs.List.{Contains, enumerate_from, fold}
 use Rattle.std.proofs.lemmas.Bool.{cases_Bool, cases_lt}
 use Rattle.std.proofs.lemmas.Bool.Decides.{nat_tests}
@@ -13,7 +13,7 @@ use Rattle.board_spec.specs.FlatMap.{address_count}
 use Rattle.pmc_regs.specs.Pmc.{IsRowsOf}
 use Rattle.pci_bars.specs.Cards.{CardBytes, DecodesAs, AreCards, AreDecoded, cards_of}
 use Rattle.addr_decode.specs.Edges.{fixed_edges, row_edges, window_edges, card_edges, edges_of, IsEdge, IsNextEdge, NoEdgeAbove}
-use Rattle.addr_decode.specs.EdgeSearch.{nearer, nearest, ends_of, ends_from, ends_of_card}
+use Rattle.addr_decode.specs.EdgeSearch.{nearer, nearest, ends_from, ends_of_card}
 
 -- ---- the edges, as the code keeps them
 

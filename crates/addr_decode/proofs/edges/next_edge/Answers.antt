@@ -1,5 +1,5 @@
-use Rattle.std.proofs.Common.{rules, ◌≡◌, ◌∙◌, ℕ, None, Option, ap, arith}
-use Rattle.std.specs.Prelude.{All, length}
+use Rattle.std.proofs.Common.{rules, ◌≡◌, ◌∙◌, None, ap}
+use Rattle.std.specs.Prelude.{length}
 use Rattle.addr_decode.specs.Edges.{edges_of, fixed_edges}
 use Rattle.addr_decode.specs.EdgeSearch.{nearest}
 use Rattle.addr_decode.specs.MapRegs.{StandsFor, map_bytes}
