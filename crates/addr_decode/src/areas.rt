@@ -1,11 +1,11 @@
 //! A row of the memory map: what every kind of access at an address reaches.
 ghost use Rattle.std.specs.Prelude.{◌≡◌, ◌+◌};
 ghost use Rattle.board_spec.specs.Setup.{Setup};
-ghost use Rattle.board_spec.specs.Decode.{Bytes, area_of};
+ghost use Rattle.board_spec.specs.Decode.{Bytes};
 ghost use Rattle.board_spec.specs.FlatMap.{six_areas};
 ghost use Rattle.addr_decode.specs.MapRegs.{AreFitted, StandsFor, map_bytes};
 
-use crate::memory::decode;
+use crate::memory::area_of;
 use crate::regs::MapRegs;
 use board_base::{Area, Kind, Steps};
 use std::sync::ledger::Ledger;
@@ -44,21 +44,12 @@ pub fn areas_at(regs: &MapRegs, addr: u32) -> SixAreas
     let (fetch, read, write) = (Kind::Fetch, Kind::Read, Kind::Write);
     SixAreas {
         areas: [
-            area(regs, addr, fetch, false),
-            area(regs, addr, read, false),
-            area(regs, addr, write, false),
-            area(regs, addr, fetch, true),
-            area(regs, addr, read, true),
-            area(regs, addr, write, true),
+            area_of(regs, addr, fetch, false),
+            area_of(regs, addr, read, false),
+            area_of(regs, addr, write, false),
+            area_of(regs, addr, fetch, true),
+            area_of(regs, addr, read, true),
+            area_of(regs, addr, write, true),
         ],
     }
-}
-
-/// The area that an access reaches.
-fn area(regs: &MapRegs, addr: u32, kind: Kind, smm: bool) -> Area
-    requires cards { AreFitted regs.now.cards.items }
-    ensures area { (setup : Setup) (bytes : Bytes) → StandsFor setup bytes (map_bytes regs.now)
-        → result ≡ area_of setup bytes addr kind smm }
-{
-    decode(regs, addr, kind, smm).0
 }

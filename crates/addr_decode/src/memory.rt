@@ -30,7 +30,7 @@ pub fn decode(regs: &MapRegs, addr: u32, kind: Kind, smm: bool) -> (Area, Option
 }
 
 /// The area that an access reaches.
-fn area_of(regs: &MapRegs, addr: u32, kind: Kind, smm: bool) -> Area
+pub(crate) fn area_of(regs: &MapRegs, addr: u32, kind: Kind, smm: bool) -> Area
     requires cards { AreFitted regs.now.cards.items }
     ensures area { (setup : Setup) (bytes : Bytes) → StandsFor setup bytes (map_bytes regs.now)
         → result ≡ area_of setup bytes addr kind smm }
