@@ -1,5 +1,7 @@
 pub mod MergedLemmas
 pub mod StoreLemmas
+pub mod TableLemmas
+pub mod MapByteLaws
 mod FlatMapLaws
 mod SpanLaws
 mod MapWriteLaws

@@ -8,10 +8,10 @@ use Rattle.board_spec.specs.declared.event.Event.TheVariants.{Look as LookAt}
 use Rattle.board_spec.specs.declared.event.Reply.{Reply}
 use Rattle.board_spec.specs.declared.event.Entry.{Entry}
 use Rattle.board_spec.specs.declared.event.Statement.{Statement}
-use Rattle.board_spec.specs.Setup.{Setup}
+use Rattle.board_spec.specs.Setup.{Setup, IsCardList}
 use Rattle.board_spec.specs.Registers.{byte_of}
 use Rattle.board_spec.specs.MapWrites.{is_map_byte, map_writes_of, registers_after}
-use Rattle.board_spec.specs.Decode.{Bytes}
+use Rattle.board_spec.specs.Decode.{Bytes, area_of, denial_of}
 use Rattle.board_spec.specs.FlatMap.{MapRange, IsFlatMapOf, IsSpan, address_count}
 use Rattle.board_spec.specs.Answer.{IsAnswer}
 use Rattle.board_spec.specs.Legal.{IsLegal}
@@ -23,6 +23,19 @@ abbrev pub MapWritesDecide : Type 0
 MapWritesDecide =
     (setup : Setup) (history : List Entry) (reg : Reg) →
     is_map_byte setup reg ≡ true → byte_of setup history reg ≡ registers_after setup (map_writes_of setup history) reg
+
+-- two states of the registers have the same map bytes
+abbrev pub SameMapBytes : Setup → (bytes other : Bytes) → Type 0
+SameMapBytes setup bytes other = (reg : Reg) → is_map_byte setup reg ≡ true → bytes reg ≡ other reg
+
+-- where the map bytes are the same, so are the areas and the denials. A card has at most six bases, so
+-- that all of them lie in map bytes
+abbrev pub MapBytesDecide : Type 0
+MapBytesDecide =
+    (setup : Setup) (bytes other : Bytes) → IsCardList setup.cards → SameMapBytes setup bytes other →
+    (addr : ℕ) (kind : Kind) (smm : Bool) →
+    (area_of setup bytes addr kind smm ≡ area_of setup other addr kind smm)
+    × (denial_of setup bytes addr kind smm ≡ denial_of setup other addr kind smm)
 
 -- two flat maps of the same registers are one list
 abbrev pub OneFlatMap : Type 0

@@ -1,12 +1,17 @@
 //! Laws of the definitions. Each function does nothing: its clause is the law.
 
-ghost use Rattle.board_spec.specs.Laws.{LegalKeepsLock, MapWritesDecide, OneAnswer, OneFlatMap, OneReplay, OneSpan, SomeAnswer, SomeReplay, SomeSpan};
+ghost use Rattle.board_spec.specs.Laws.{LegalKeepsLock, MapBytesDecide, MapWritesDecide, OneAnswer, OneFlatMap, OneReplay, OneSpan, SomeAnswer, SomeReplay, SomeSpan};
 ghost use Rattle.board_spec.specs.MergedBits.{MergedBits};
 ghost use Rattle.board_spec.specs.WideStores.{ByteByByte};
 
 /// The registers that the address map depends on are those after the map writes alone.
 pub fn law_map_registers()
     ensures decided { MapWritesDecide }
+{}
+
+/// Areas and denials depend on the map bytes alone.
+pub fn law_map_bytes()
+    ensures decided { MapBytesDecide }
 {}
 
 /// Two flat maps of the same registers are one list of ranges.

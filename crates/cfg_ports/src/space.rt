@@ -9,6 +9,7 @@ ghost use Rattle.board_spec.specs.RegisterTable.{writable_bits};
 ghost use Rattle.board_spec.specs.Registers.{is_smram_register, changed_byte};
 ghost use Rattle.cfg_ports.specs.Space.{byte_at, mask_at, reset_at, SameTable};
 
+use board_spec::bits::merged;
 use std::marker::Model;
 
 /// The 256 bytes of a function's configuration space. Each has a value after a reset, and bits that
@@ -62,7 +63,7 @@ impl Space {
             ≡ changed_byte setup (Store (record reg { off = off }) One byte) reg (byte_at self.old reg.off) }
     {
         let at = usize::from(off);
-        self.bytes[at] = merge(self.mask[at], self.bytes[at], byte);
+        self.bytes[at] = merged(self.mask[at], self.bytes[at], byte);
     }
 
     /// Gives each byte its value after a reset.
@@ -72,14 +73,6 @@ impl Space {
     {
         self.bytes = self.reset;
     }
-}
-
-/// The bits of `mask` as written, and the others as they were.
-fn merge(mask: u8, old: u8, written: u8) -> u8
-    ensures merged { result ≡ merged mask old written }
-    ensures bits { (k : ℕ) → k < 8 → bit result k ≡ (if is_bit mask k then bit written k else bit old k) }
-{
-    written & mask | old & !mask
 }
 
 #[cfg(test)]

@@ -8,8 +8,10 @@ ghost use Rattle.board_spec.specs.Registers.{changed_byte};
 ghost use Rattle.board_spec.specs.Decode.{Bytes, bridge, is_shadowed};
 ghost use Rattle.pam_windows.specs.Pam.{IsPamOffset, IsPamOf, pam_byte};
 
-use crate::window::{PAM0, Window};
+use crate::window::Window;
 use board_base::Kind;
+use board_spec::bits::merged;
+use board_spec::offset::PAM0;
 use std::marker::Model;
 
 /// The bits of each register that can be written. PAM0 governs one window, by its high nibble.
@@ -78,7 +80,7 @@ pub fn store_pam(pam: &mut [u8; 7], off: u8, byte: u8)
         → IsPamOf (λ reg. changed_byte setup (Store (bridge off) One byte) reg (bytes reg)) pam.new }
 {
     let at = usize::from(off - PAM0);
-    pam[at] = byte & WRITABLE[at] | pam[at] & !WRITABLE[at];
+    pam[at] = merged(WRITABLE[at], pam[at], byte);
 }
 
 #[cfg(test)]

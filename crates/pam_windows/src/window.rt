@@ -4,11 +4,11 @@ ghost use Rattle.board_spec.specs.Decode.{bridge, pam_register, is_high_window, 
 ghost use Rattle.pam_windows.specs.Windows.{first_address, last_address, register_offset};
 
 use board_base::Kind;
+use board_spec::offset::PAM0;
 
-/// The offset of the first PAM register, which governs the last window alone.
-pub const PAM0: u8 = 0x59;
-/// The offset of the second PAM register. From here on each governs two windows.
-const PAM1: u8 = 0x5A;
+/// The offset of the second PAM register. From here on each governs two windows, where PAM0 governs
+/// the last window alone.
+const PAM1: u8 = PAM0 + 1;
 
 /// The first address of the first window.
 const FIRST: u32 = 0xC_0000;

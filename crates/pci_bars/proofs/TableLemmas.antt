@@ -1,13 +1,14 @@
 -- A card in the table of registers.
-use Rattle.std.proofs.Common.{◌≡◌, ◌≢◌, ◌⊎◌, ℕ, zero, suc, ◌+◌, ◌-◌, ◌*◌, ◌<◌, ◌≤◌, Bool, true, false, ◌&&◌, List, [], ◌∷◌, length, get_or, Some, inl, inr, ◌∙◌, refl, sym, ap, subst, arith, lit<, lit≤}
-use Rattle.std.specs.Prelude.{◌==◌, nat_le, nat_lt, flat_map, if◌then◌else◌}
-use Rattle.std.proofs.lemmas.Bool.{and_from, and_left, and_right, ne_eqb, le-leb, lt-leb, lt-ltb, le-ltb, cond-true, cond-false, cases_lt, cases_eq}
+use Rattle.std.proofs.Common.{◌≡◌, ◌≢◌, ◌⊎◌, ℕ, zero, suc, ◌+◌, ◌-◌, ◌*◌, ◌<◌, ◌≤◌, Bool, true, false, List, [], ◌∷◌, length, get_or, Some, inl, inr, ◌∙◌, refl, sym, ap, subst, arith, lit<, lit≤}
+use Rattle.std.specs.Prelude.{◌==◌, flat_map, if◌then◌else◌}
+use Rattle.std.proofs.lemmas.Bool.{ne_eqb, cases_lt, cases_eq}
 use Rattle.std.proofs.lemmas.Bool.Decides.{nat_tests}
 use Rattle.std.proofs.lemmas.List.{get_or_append_left, get_or-append_right}
 use Rattle.board_spec.specs.Setup.{Base, FittedCard, Setup, IsCard, card_at}
 use Rattle.board_spec.specs.Bits.{byte, long_bytes}
 use Rattle.board_spec.specs.RegisterTable.{Line, line, read_only, card_function, function_lines, listed, base_reset, base_writable, reset_byte, writable_bits}
 use Rattle.board_spec.specs.Decode.{card_register}
+use Rattle.board_spec.proofs.TableLemmas.{listed-past, listed-before, listed-here, at_or_above}
 use Rattle.pci_bars.specs.Bases.{of_base}
 use Rattle.pci_bars.specs.Cards.{CardBytes, is_kept_offset, header_of}
 
@@ -34,26 +35,6 @@ pub writable_bits-card :
 unfolding writable_bits
 writable_bits-card setup card off above fitted =
     ap (λ lines. listed (λ entry. entry.writable) lines off) (card_lines setup card above fitted)
-
--- ---- one line of a table
-
-listed-past :
-    (column : Line → List ℕ) (entry : Line) (later : List Line) (off : ℕ) → entry.first + length entry.reset ≤ off →
-    listed column (entry ∷ later) off ≡ listed column later off
-listed-past column entry later off past =
-    cond-false (nat_le entry.first off && nat_lt off (entry.first + length entry.reset)) _ _ (and_right _ _ (le-ltb _ _ past))
-
-listed-before :
-    (column : Line → List ℕ) (entry : Line) (later : List Line) (off : ℕ) → off < entry.first →
-    listed column (entry ∷ later) off ≡ listed column later off
-listed-before column entry later off before =
-    cond-false (nat_le entry.first off && nat_lt off (entry.first + length entry.reset)) _ _ (and_left _ _ (lt-leb _ _ before))
-
-listed-here :
-    (column : Line → List ℕ) (entry : Line) (later : List Line) (off : ℕ) → entry.first ≤ off → off < entry.first + length entry.reset →
-    listed column (entry ∷ later) off ≡ get_or (column entry) (off - entry.first) 0
-listed-here column entry later off from below =
-    cond-true (nat_le entry.first off && nat_lt off (entry.first + length entry.reset)) _ _ (and_from _ _ (le-leb _ _ from) (lt-ltb _ _ below))
 
 -- ---- the bases
 
@@ -160,10 +141,6 @@ past_bases column card off count above =
     ∙ listed-past column (base_entry card) (last_entry ∷ []) off (let size = length-base_bytes base_reset card.bases in omega arith)
 
 -- ---- the header, and what is not kept
-
-at_or_above : (P : ℕ → Type 0) (first off : ℕ) → first ≤ off → P first → (first + 1 ≤ off → P off) → P off
-at_or_above P first off from here above =
-    elim (cases_lt first off) [ inl below ↦ above (omega arith) | inr past ↦ subst P (omega arith) here ]
 
 -- what holds at each of the first sixteen offsets
 each_of_header :

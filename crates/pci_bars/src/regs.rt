@@ -10,19 +10,13 @@ ghost use Rattle.board_spec.specs.Decode.{Bytes, card_register};
 ghost use Rattle.pci_bars.specs.Cards.{DecodesAs, IsCardOf, header_of};
 
 use crate::spec::{BASES, CardSpec};
+use board_spec::bits::merged;
+use board_spec::offset::{self, COMMAND, INTERRUPT_LINE, INTERRUPT_PIN};
 use std::marker::Model;
 
-/// The offset of the command register.
-const COMMAND: u8 = 0x04;
 /// The bits of the command register that can be written: I/O ports, memory and bus master.
 const COMMAND_WRITABLE: u8 = 0x07;
-/// The offset of the first base address register.
-const FIRST_BASE: u8 = 0x10;
-/// The offset of the interrupt line.
-const LINE: u8 = 0x3C;
-/// The offset of the interrupt pin, and its value for INTA#.
-const PIN: u8 = 0x3D;
-
+/// The value of the interrupt pin register for INTA#.
 const INTA: u8 = 0x01;
 
 /// A card's registers: its command, 0 to 7, its interrupt line, and its six base address registers.
@@ -90,9 +84,9 @@ impl CardRegs {
     {
         match off {
             0x00..=0x0F => self.header()[usize::from(off)],
-            0x10..=0x27 => self.base_byte(off - FIRST_BASE),
-            LINE => self.line,
-            PIN => INTA,
+            offset::BASES..=offset::BASES_END => self.base_byte(off - offset::BASES),
+            INTERRUPT_LINE => self.line,
+            INTERRUPT_PIN => INTA,
             _ => 0,
         }
     }
@@ -107,9 +101,9 @@ impl CardRegs {
         ensures same_card { self.new.card ≡ self.old.card }
     {
         match off {
-            COMMAND => self.command = merge(COMMAND_WRITABLE, self.command, byte),
-            0x10..=0x27 => {
-                let index = usize::from((off - FIRST_BASE) / 4);
+            COMMAND => self.command = merged(COMMAND_WRITABLE, self.command, byte),
+            offset::BASES..=offset::BASES_END => {
+                let index = usize::from((off - offset::BASES) / 4);
                 let writable = self.spec.writable(index);
                 self.bases[index] = with_byte(
                     self.bases[index],
@@ -118,7 +112,7 @@ impl CardRegs {
                     byte,
                 );
             }
-            LINE => self.line = byte,
+            INTERRUPT_LINE => self.line = byte,
             _ => {}
         }
     }
@@ -176,13 +170,6 @@ fn with_byte(register: u32, writable: u32, lane: usize, written: u8) -> u32
 {
     let mask = writable.to_le_bytes();
     let mut bytes = register.to_le_bytes();
-    bytes[lane] = merge(mask[lane], bytes[lane], written);
+    bytes[lane] = merged(mask[lane], bytes[lane], written);
     u32::from_le_bytes(bytes)
-}
-
-/// The bits of `mask` as written, and the others as they were.
-fn merge(mask: u8, old: u8, written: u8) -> u8
-    ensures merged { result ≡ merged mask old written }
-{
-    written & mask | old & !mask
 }

@@ -1,15 +1,12 @@
 -- The registers of the host bridge in the table of registers.
-use Rattle.std.proofs.Common.{◌≡◌, ℕ, ◌+◌, ◌<◌, ◌≤◌, ◌⊎◌, List, [], ◌∷◌, length, ◌∙◌, refl, subst, arith, inl, inr}
+use Rattle.std.proofs.Common.{◌≡◌, ℕ, ◌+◌, ◌<◌, ◌≤◌, ◌⊎◌, List, [], ◌∷◌, length, ◌∙◌, refl, arith, inl, inr}
 use Rattle.std.specs.Prelude.{slice_index}
-use Rattle.std.proofs.lemmas.Bool.{cases_lt, and_left, and_right, lt-leb, le-ltb, cond-false}
+use Rattle.std.proofs.lemmas.Bool.{cases_lt}
 use Rattle.board_spec.specs.Setup.{Setup}
 use Rattle.board_spec.specs.RegisterTable.{Line, host_bridge, listed, reset_byte, writable_bits}
 use Rattle.board_spec.specs.Decode.{bridge}
+use Rattle.board_spec.proofs.TableLemmas.{listed-past, listed-before, at_or_above}
 use Rattle.pmc_regs.specs.Pmc.{IsFixedOffset, IsRowsOf}
-
-at_or_above : (P : ℕ → Type 0) (first n : ℕ) → first ≤ n → P first → (first + 1 ≤ n → P n) → P n
-at_or_above P first n from here above =
-    elim (cases_lt first n) [ inl below ↦ above (omega arith) | inr past ↦ subst P (omega arith) here ]
 
 -- ---- the rows and the hole
 
@@ -86,9 +83,9 @@ IsOutside off (entry ∷ later) = ((off < entry.first) ⊎ (entry.first + length
 unlisted : (column : Line → List ℕ) (lines : List Line) (off : ℕ) → IsOutside off lines → listed column lines off ≡ 0
 unlisted column [] off outside = refl
 unlisted column (entry ∷ later) off (inl below, outside) =
-    cond-false _ _ _ (and_left _ _ (lt-leb entry.first off below)) ∙ unlisted column later off outside
+    listed-before column entry later off below ∙ unlisted column later off outside
 unlisted column (entry ∷ later) off (inr above, outside) =
-    cond-false _ _ _ (and_right _ _ (le-ltb off (entry.first + length entry.reset) above)) ∙ unlisted column later off outside
+    listed-past column entry later off above ∙ unlisted column later off outside
 
 -- a fixed offset past the header lies outside all lines
 outside : (off : ℕ) → IsFixedOffset off → 12 ≤ off → IsOutside off host_bridge

@@ -3,6 +3,8 @@ ghost use Rattle.std.specs.Prelude.{◌≡◌, ◌/◌, ◌↔◌, ◌⊎◌, Is
 ghost use Rattle.board_spec.specs.Bits.{merged};
 ghost use Rattle.board_spec.specs.Decode.{hole_of as hole_by};
 
+use board_spec::bits::merged;
+
 /// The bits of FDHC that can be written: 7 and 6, the hole enable. The others read 0.
 const HOLE_ENABLE: u8 = 0xC0;
 /// The hole enable of the hole at 512 KiB.
@@ -27,7 +29,7 @@ pub fn hole_of(fdhc: u8) -> Option<(u32, u32)>
 pub fn fdhc_after(old: u8, written: u8) -> u8
     ensures merged { result ≡ merged 0xC0 old written }
 {
-    written & HOLE_ENABLE | old & !HOLE_ENABLE
+    merged(HOLE_ENABLE, old, written)
 }
 
 #[cfg(test)]

@@ -19,14 +19,8 @@ ghost use Rattle.pmc_regs.specs.Pmc.{IsPmcOffset, IsFixedOffset, IsPmcOf};
 
 use crate::hole::{fdhc_after, hole_of};
 use crate::rows::{row_of, top_of};
+use board_spec::offset::{DRB0, DRB7, FDHC};
 use std::marker::Model;
-
-/// The offset of the register that ends the first row of DRAM.
-const DRB0: u8 = 0x60;
-/// The offset of the register that ends the last row of DRAM.
-const DRB7: u8 = 0x67;
-/// The offset of the fixed DRAM hole control register.
-const FDHC: u8 = 0x68;
 
 /// What each boundary register holds after a reset: 8 MiB, all of them in row 0.
 const DRB_RESET: u8 = 0x01;

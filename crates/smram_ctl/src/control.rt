@@ -1,19 +1,19 @@
 //! The SMRAM control byte: what a write makes of it, and which accesses it lets reach SMRAM.
 ghost use Rattle.std.specs.Prelude.{◌≡◌, ◌<◌, ◌^◌, if◌then◌else◌};
-ghost use Rattle.board_spec.specs.Bits.{is_bit};
 ghost use Rattle.board_spec.specs.Registers.{smram_after};
 ghost use Rattle.board_spec.specs.Decode.{smram_answers};
 
 use board_base::Kind;
+use board_spec::bits::is_set;
 
 /// The bit of SMM space open: SMRAM answers outside system management mode too.
-const DOPEN: u8 = 6;
+const DOPEN: u32 = 6;
 /// The bit of SMM space closed: SMRAM answers code fetches alone.
-const DCLS: u8 = 5;
+const DCLS: u32 = 5;
 /// The bit of SMM space locked: DOPEN stays 0, and this bit stays 1 until a reset.
-pub const DLCK: u8 = 4;
+pub const DLCK: u32 = 4;
 /// The bit of SMRAM enable: where it is 0, SMRAM never answers.
-const SMRAME: u8 = 3;
+const SMRAME: u32 = 3;
 /// The SMM space base segment in bits 2 to 0, which is always A0000h.
 pub const C_BASE_SEG: u8 = 0b010;
 
@@ -22,6 +22,7 @@ pub const C_BASE_SEG: u8 = 0b010;
 pub fn smram_after(old: u8, written: u8) -> u8
     ensures after { result ≡ smram_after old written }
 {
+    let (old, written) = (u32::from(old), u32::from(written));
     let locked = is_set(old, DLCK) || is_set(written, DLCK);
     let open = is_set(written, DOPEN) && !locked;
     let closed = is_set(written, DCLS);
@@ -34,6 +35,7 @@ pub fn smram_after(old: u8, written: u8) -> u8
 pub fn smram_reaches(smram: u8, kind: Kind, smm: bool) -> bool
     ensures reaches { result ≡ smram_answers smram kind smm }
 {
+    let smram = u32::from(smram);
     let open = smm || is_set(smram, DOPEN);
     match (is_set(smram, SMRAME), is_set(smram, DCLS)) {
         (false, _) => false,
@@ -42,16 +44,8 @@ pub fn smram_reaches(smram: u8, kind: Kind, smm: bool) -> bool
     }
 }
 
-/// Whether a bit of a byte, 0 to 7, is set.
-pub fn is_set(byte: u8, bit: u8) -> bool
-    requires bit { bit < 8 }
-    ensures set { result ≡ is_bit byte bit }
-{
-    byte >> bit & 1 == 1
-}
-
 /// A byte in which one bit, 0 to 7, is on or off, and the others are 0.
-fn mask(bit: u8, on: bool) -> u8
+fn mask(bit: u32, on: bool) -> u8
     requires bit { bit < 8 }
     ensures mask { result ≡ (if on then 2 ^ bit else 0) }
 {

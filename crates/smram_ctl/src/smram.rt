@@ -9,8 +9,9 @@ ghost use Rattle.board_spec.specs.Registers.{smram_after, changed_byte};
 ghost use Rattle.board_spec.specs.Decode.{Bytes, bridge, smram_answers};
 ghost use Rattle.smram_ctl.specs.Control.{IsSmramByte};
 
-use crate::control::{C_BASE_SEG, DLCK, is_set, smram_after, smram_reaches};
+use crate::control::{C_BASE_SEG, DLCK, smram_after, smram_reaches};
 use board_base::Kind;
+use board_spec::bits::is_set;
 use std::marker::Model;
 
 /// The SMRAM control register. Contracts see its byte.
@@ -69,7 +70,7 @@ impl Smram {
     pub fn locked(&self) -> bool
         ensures locked { result ≡ is_bit self.now 4 }
     {
-        is_set(self.byte, DLCK)
+        is_set(u32::from(self.byte), DLCK)
     }
 
     /// Whether an access at A0000h to BFFFFh reaches SMRAM. `smm` says that it is made in system

@@ -9,22 +9,10 @@ ghost use Rattle.board_spec.specs.Registers.{changed_byte};
 ghost use Rattle.board_spec.specs.Decode.{Bytes, isa, ide};
 ghost use Rattle.xbus_select.specs.Piix.{IsPiixRegister, piix_register, IsPiixOf, is_selected};
 
-use crate::xbcs::{XBCS_RESET, merge, selects_clock, selects_keyboard, xbcs_after};
+use crate::xbcs::{XBCS_RESET, selects_clock, selects_keyboard, xbcs_after};
+use board_spec::bits::merged;
+use board_spec::offset::{COMMAND, IDETIM, IDETIM_HIGH, ISA_BRIDGE, XBCS};
 use std::marker::Model;
-
-/// The function number of the ISA bridge.
-const ISA_BRIDGE: u8 = 0;
-/// The function number of the IDE function.
-const IDE: u8 = 1;
-
-/// The offset of the command register of each function.
-const COMMAND: u8 = 0x04;
-/// The offset of the low byte of IDETIM, the timing of the primary IDE channel.
-const IDETIM_LOW: u8 = 0x40;
-/// The offset of the high byte of IDETIM.
-const IDETIM_HIGH: u8 = 0x41;
-/// The offset of the X-Bus chip select register in the ISA bridge.
-const XBCS: u8 = 0x4E;
 
 /// The bit of the IDE command that lets the function answer at its ports.
 const IO_SPACE_ENABLE: u8 = 1 << 0;
@@ -111,7 +99,7 @@ impl Piix {
     {
         match off {
             COMMAND => self.ide_command,
-            IDETIM_LOW => self.timing_low,
+            IDETIM => self.timing_low,
             IDETIM_HIGH => self.timing_high,
             _ => header_byte(&IDE_HEADER, off),
         }
@@ -146,8 +134,8 @@ impl Piix {
             → IsPiixOf (λ reg. changed_byte setup (Store (ide off) One byte) reg (bytes reg)) self.new }
     {
         match off {
-            COMMAND => self.ide_command = merge(COMMAND_WRITABLE, self.ide_command, byte),
-            IDETIM_LOW => self.timing_low = byte,
+            COMMAND => self.ide_command = merged(COMMAND_WRITABLE, self.ide_command, byte),
+            IDETIM => self.timing_low = byte,
             IDETIM_HIGH => self.timing_high = byte,
             _ => {}
         }

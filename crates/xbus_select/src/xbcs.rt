@@ -3,6 +3,8 @@ ghost use Rattle.std.specs.Prelude.{◌≡◌, ◌<◌, ◌%◌, ◌↔◌, ℕ,
 ghost use Rattle.board_spec.specs.Bits.{is_bit, merged};
 ghost use Rattle.board_spec.specs.Decode.{is_rom_selected};
 
+use board_spec::bits::merged;
+
 /// The bit that selects the real-time clock at ports 70h and 71h.
 const CLOCK_SELECT: u8 = 1 << 0;
 /// The bit that selects the keyboard controller at ports 60h and 64h.
@@ -27,14 +29,7 @@ const WRITABLE: u8 = CLOCK_SELECT
 pub fn xbcs_after(old: u8, written: u8) -> u8
     ensures merged { result ≡ merged 0xC7 old written }
 {
-    merge(WRITABLE, old, written)
-}
-
-/// The bits of `mask` as written, and the others as they were.
-pub(crate) fn merge(mask: u8, old: u8, written: u8) -> u8
-    ensures merged { result ≡ merged mask old written }
-{
-    written & mask | old & !mask
+    merged(WRITABLE, old, written)
 }
 
 /// Whether XBCS selects the real-time clock.

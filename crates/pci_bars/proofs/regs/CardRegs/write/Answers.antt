@@ -7,12 +7,12 @@ use Rattle.pci_bars.proofs.regs.CardRegs.write.Goals as goal
 pub returns-in-4-clause-decodes : goal.returns-in-4-clause-decodes
 returns-in-4-clause-decodes c =
     let fit = rw (← c.self.view_is) at c.requires.card in
-    rw (← c.self.view_is, c.in-4.is, c.merge-self-inside.ensures.merged) (λ setup bytes is. decodes-command setup bytes _ c.args.byte fit c.ranges.byte.fits is)
+    rw (← c.self.view_is, c.in-4.is, c.merged-self-inside.ensures.merged) (λ setup bytes is. decodes-command setup bytes _ c.args.byte fit c.ranges.byte.fits is)
 
 pub returns-in-4-clause-written : goal.returns-in-4-clause-written
 returns-in-4-clause-written c =
     let fit = rw (← c.self.view_is) at c.requires.card in
-    rw (← c.self.view_is, c.in-4.is, c.merge-self-inside.ensures.merged) (λ setup bytes is. card-command setup bytes _ c.args.byte fit c.ranges.byte.fits is)
+    rw (← c.self.view_is, c.in-4.is, c.merged-self-inside.ensures.merged) (λ setup bytes is. card-command setup bytes _ c.args.byte fit c.ranges.byte.fits is)
 
 pub returns-then-off-lt16-clause-written : goal.returns-then-off-lt16-clause-written
 returns-then-off-lt16-clause-written c =

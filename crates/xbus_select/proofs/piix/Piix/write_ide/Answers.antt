@@ -4,7 +4,7 @@ use Rattle.xbus_select.proofs.piix.Piix.write_ide.Goals as goal
 
 pub returns-in-4 : goal.returns-in-4
 returns-in-4 c =
-    record { written = rw (← c.self.view_is, c.in-4.is, c.merge-self-inside.ensures.merged) (λ setup bytes is_piix. command_stored setup bytes _ c.args.byte c.ranges.byte.fits is_piix) }
+    record { written = rw (← c.self.view_is, c.in-4.is, c.merged-self-inside.ensures.merged) (λ setup bytes is_piix. command_stored setup bytes _ c.args.byte c.ranges.byte.fits is_piix) }
 
 pub returns-in-64 : goal.returns-in-64
 returns-in-64 c =

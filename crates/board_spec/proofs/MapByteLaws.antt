@@ -1,0 +1,183 @@
+-- Areas and denials depend on the map bytes alone.
+use Rattle.std.proofs.Common.{◌≡◌, ℕ, zero, suc, ◌+◌, ◌-◌, ◌*◌, ◌/◌, ◌<◌, ◌≤◌, inl, inr, Bool, true, false, cond, ◌&&◌, ◌||◌, not, List, [], ◌∷◌, ◌++◌, length, get_or, Some, refl, ◌∙◌, ap, arith, lit<}
+use Rattle.std.specs.Prelude.{◌==◌, nat_le, nat_lt, is_some, find, flat_map, All, if◌then◌else◌}
+use Rattle.std.specs.List.{AllByRecursion, enumerate_from}
+use Rattle.std.proofs.lemmas.Bool.{cases_Bool, eq-eqb}
+use Rattle.std.proofs.lemmas.Bool.Decides.{nat_tests}
+use Rattle.std.proofs.lemmas.List.Elements.{All-nil, All-cons, All-append, recursion_from_All}
+use Rattle.board_base.specs.declared.access.Kind.{Kind}
+use Rattle.board_spec.specs.Setup.{Base, MemoryBase, IoBase, FittedCard, Setup, IsCard, IsCardList, card_at}
+use Rattle.board_spec.specs.Bits.{is_bit, is_within}
+use Rattle.board_spec.specs.Decode.{Bytes, bridge, isa, card_register, boundary, row_of, is_high_window, is_open, nibble, is_shadow_range, is_shadowed, Window, is_covered, base_value, memory_window, vga_window, memory_windows, is_enabled_for, first_window, memory_claim, memory_shut, area_of, denial_of}
+use Rattle.board_spec.specs.Laws.{SameMapBytes, MapBytesDecide}
+
+-- ---- searches in lists
+
+find_same : {X : Type 0} (p q : X → Bool) (xs : List X) → AllByRecursion (λ x. p x ≡ q x) xs → find p xs ≡ find q xs
+find_same p q [] same = refl
+find_same p q (x ∷ xs) (here, later) = rw here (ap (λ rest. cond (q x) (Some x) rest) (find_same p q xs later))
+
+-- each card of a list is found by its device number
+found : (cards : List FittedCard) (k : ℕ) (d : FittedCard) → k < length cards → is_some (find (λ card. card.dev == (get_or cards k d).dev) cards) ≡ true
+found [] k d below = absurd (omega arith)
+found (card ∷ later) zero d below = rw (eq-eqb card.dev card.dev refl) refl
+found (card ∷ later) (suc k) d below =
+    elim (cases_Bool (card.dev == (get_or later k d).dev)) [
+      | inl here ↦ rw here refl
+      | inr not ↦ rw not (found later k d (omega arith))
+    ]
+
+or_right : (a b : Bool) → b ≡ true → (a || b) ≡ true
+or_right true b h = refl
+or_right false b h = h
+
+third : (a b fitted is : Bool) → fitted ≡ true → is ≡ true → (a || b || fitted && true && is) ≡ true
+third true b fitted is h k = refl
+third false true fitted is h k = refl
+third false false fitted is h k = rw (h, k) refl
+
+module _ (setup : Setup) (bytes other : Bytes) (same : SameMapBytes setup bytes other) where
+  -- ---- rows and windows of the host bridge
+
+  bridge_same : (off : ℕ) → is_within 0x59 0x68 off ≡ true → bytes (bridge off) ≡ other (bridge off)
+  bridge_same off within = same (bridge off) (rw within refl)
+
+  boundary_same : (row : ℕ) → row < 8 → boundary bytes row ≡ boundary other row
+  boundary_same row below = ap (λ byte. byte * 0x80_0000) (bridge_same (0x60 + row) (grind (arith, nat_tests)))
+
+  row_same : (addr : ℕ) → row_of bytes addr ≡ row_of other addr
+  unfolding row_of
+  row_same addr =
+      let below : (row : ℕ) → row < 8 → nat_lt addr (boundary bytes row) ≡ nat_lt addr (boundary other row) =
+      λ row within. ap (λ end. nat_lt addr end) (boundary_same row within) in
+      rw (below 0 (lit< tt), below 1 (lit< tt), below 2 (lit< tt), below 3 (lit< tt), below 4 (lit< tt), below 5 (lit< tt), below 6 (lit< tt), below 7 (lit< tt)) refl
+
+  pam_offset : (addr : ℕ) → is_shadow_range addr ≡ true → is_within 0x59 0x68 (if nat_le 0xF_0000 addr then 0x59 else 0x5A + (addr - 0xC_0000) / 0x8000) ≡ true
+  pam_offset addr within =
+      elim (cases_Bool (nat_le 0xF_0000 addr)) [
+        | inl high ↦ rw high refl
+        | inr low ↦ rw low (grind (arith, nat_tests))
+      ]
+
+  shadow_same : (addr : ℕ) (kind : Kind) → is_shadowed bytes addr kind ≡ is_shadowed other addr kind
+  shadow_same addr kind =
+      elim (cases_Bool (is_shadow_range addr)) [
+        | inl within ↦
+            rw within
+            (ap (λ pam. is_open (nibble pam (is_high_window addr)) kind)
+            (bridge_same (if nat_le 0xF_0000 addr then 0x59 else 0x5A + (addr - 0xC_0000) / 0x8000) (pam_offset addr within)))
+        | inr outside ↦ rw outside refl
+      ]
+
+  -- ---- windows of the cards
+
+  abbrev IsFitted : ℕ → Type 0
+  IsFitted dev = is_some (card_at setup dev) ≡ true
+
+  card_same : (dev off : ℕ) → IsFitted dev → (off == 0x04 || is_within 0x10 0x27 off) ≡ true → bytes (card_register dev off) ≡ other (card_register dev off)
+  card_same dev off fitted is =
+      same (card_register dev off)
+      (third (dev == 0 && 0 == 0 && (is_within 0x59 0x68 off || off == 0x72)) (dev == 1 && 0 == 0 && off == 0x4E)
+      (is_some (card_at setup dev)) (off == 0x04 || is_within 0x10 0x27 off) fitted is)
+
+  base_same : (dev k : ℕ) → IsFitted dev → k < 6 → base_value bytes dev k ≡ base_value other dev k
+  base_same dev k fitted below =
+      let byte : (off : ℕ) → is_within 0x10 0x27 off ≡ true → bytes (card_register dev off) ≡ other (card_register dev off) =
+      λ off within. card_same dev off fitted (or_right (off == 0x04) (is_within 0x10 0x27 off) within) in
+      rw (byte (0x10 + 4 * k) (grind (arith, nat_tests)), byte (0x10 + 4 * k + 1) (grind (arith, nat_tests)), byte (0x10 + 4 * k + 2) (grind (arith, nat_tests)), byte (0x10 + 4 * k + 3) (grind (arith, nat_tests))) refl
+
+  window_same : (dev k : ℕ) (base : Base) → IsFitted dev → k < 6 → memory_window bytes dev k base ≡ memory_window other dev k base
+  window_same dev k (MemoryBase bits) fitted below =
+      ap (λ inside. record { dev = dev; base = k; inside = inside; bits = bits } ∷ []) (base_same dev k fitted below)
+  window_same dev k (IoBase bits) fitted below = refl
+
+  abbrev windows_from : Bytes → (dev first : ℕ) → List Base → List Window
+  windows_from registers dev first bases = flat_map (λ numbered. memory_window registers dev numbered.0 numbered.1) (enumerate_from first bases)
+
+  bases_same : (dev first : ℕ) (bases : List Base) → IsFitted dev → first + length bases ≤ 6 → windows_from bytes dev first bases ≡ windows_from other dev first bases
+  bases_same dev first [] fitted count = refl
+  bases_same dev first (base ∷ later) fitted count =
+      ap (λ windows. windows ++ windows_from bytes dev (first + 1) later) (window_same dev first base fitted (omega arith))
+      ∙ ap (λ windows. memory_window other dev first base ++ windows) (bases_same dev (first + 1) later fitted (omega arith))
+
+  card_windows_same : (card : FittedCard) → IsFitted card.dev → length card.bases ≤ 6 → memory_windows bytes card ≡ memory_windows other card
+  card_windows_same card fitted count = ap (λ windows. windows ++ vga_window card) (bases_same card.dev 0 card.bases fitted (omega arith))
+
+  windows_same :
+      (cards : List FittedCard) → AllByRecursion (λ card. IsFitted card.dev) cards → AllByRecursion IsCard cards →
+      flat_map (memory_windows bytes) cards ≡ flat_map (memory_windows other) cards
+  windows_same [] fitted each = refl
+  windows_same (card ∷ later) fitted each =
+      ap (λ windows. windows ++ flat_map (memory_windows bytes) later) (card_windows_same card fitted.0 each.0.count)
+      ∙ ap (λ windows. memory_windows other card ++ windows) (windows_same later fitted.1 each.1)
+
+  -- each window is one of a fitted card
+  abbrev IsOfCard : Window → Type 0
+  IsOfCard window = IsFitted window.dev
+
+  of_bases : (dev first : ℕ) (bases : List Base) → IsFitted dev → All IsOfCard (windows_from other dev first bases)
+  of_bases dev first [] fitted = All-nil IsOfCard
+  of_bases dev first (MemoryBase bits ∷ later) fitted =
+      All-cons IsOfCard (record { dev = dev; base = first; inside = base_value other dev first; bits = bits }) (windows_from other dev (first + 1) later) fitted (of_bases dev (first + 1) later fitted)
+  of_bases dev first (IoBase bits ∷ later) fitted = of_bases dev (first + 1) later fitted
+
+  of_vga : (card : FittedCard) → IsFitted card.dev → All IsOfCard (vga_window card)
+  of_vga card fitted =
+      elim (cases_Bool card.vga) [
+        | inl vga ↦ rw vga (All-cons IsOfCard (record { dev = card.dev; base = 7; inside = 0xA_0000; bits = 17 }) [] fitted (All-nil IsOfCard))
+        | inr plain ↦ rw plain (All-nil IsOfCard)
+      ]
+
+  of_cards : (cards : List FittedCard) → AllByRecursion (λ card. IsFitted card.dev) cards → All IsOfCard (flat_map (memory_windows other) cards)
+  of_cards [] fitted = All-nil IsOfCard
+  of_cards (card ∷ later) fitted =
+      All-append IsOfCard (memory_windows other card) (flat_map (memory_windows other) later)
+      (All-append IsOfCard (windows_from other card.dev 0 card.bases) (vga_window card) (of_bases card.dev 0 card.bases fitted.0) (of_vga card fitted.0))
+      (of_cards later fitted.1)
+
+  enabled_same : (dev : ℕ) → IsFitted dev → is_enabled_for 1 bytes dev ≡ is_enabled_for 1 other dev
+  enabled_same dev fitted = ap (λ command. is_bit command 1) (card_same dev 0x04 fitted refl)
+
+  -- ---- which card answers, and which would
+
+  fitted_cards : AllByRecursion (λ card. IsFitted card.dev) setup.cards
+  fitted_cards = recursion_from_All (λ card. IsFitted card.dev) setup.cards (λ k d below. found setup.cards k d below)
+
+  first_same :
+      (left right : ℕ → Bool) (addr : ℕ) → ((dev : ℕ) → IsFitted dev → left dev ≡ right dev) → IsCardList setup.cards →
+      first_window left addr (flat_map (memory_windows bytes) setup.cards) ≡ first_window right addr (flat_map (memory_windows other) setup.cards)
+  first_same left right addr counted list =
+      ap (λ windows. first_window left addr windows) (windows_same setup.cards fitted_cards (recursion_from_All IsCard setup.cards list.each))
+      ∙ find_same (λ window. left window.dev && is_covered addr window) (λ window. right window.dev && is_covered addr window)
+      (flat_map (memory_windows other) setup.cards)
+      (recursion_from_All (λ window. (left window.dev && is_covered addr window) ≡ (right window.dev && is_covered addr window))
+      (flat_map (memory_windows other) setup.cards)
+      (λ k d below.
+      let window : Window = get_or (flat_map (memory_windows other) setup.cards) k d in
+      ap (λ counts. counts && is_covered addr window) (counted window.dev (of_cards setup.cards fitted_cards k d below))))
+
+  claim_same : (addr : ℕ) → IsCardList setup.cards → memory_claim setup bytes addr ≡ memory_claim setup other addr
+  unfolding memory_claim
+  claim_same addr list = first_same (is_enabled_for 1 bytes) (is_enabled_for 1 other) addr enabled_same list
+
+  shut_same : (addr : ℕ) → IsCardList setup.cards → memory_shut setup bytes addr ≡ memory_shut setup other addr
+  unfolding memory_shut
+  shut_same addr list =
+      first_same (λ dev. not (is_enabled_for 1 bytes dev)) (λ dev. not (is_enabled_for 1 other dev)) addr
+      (λ dev fitted. ap (λ enabled. not enabled) (enabled_same dev fitted)) list
+
+  -- ---- areas and denials
+
+  area_same : (addr : ℕ) (kind : Kind) (smm : Bool) → IsCardList setup.cards → area_of setup bytes addr kind smm ≡ area_of setup other addr kind smm
+  unfolding area_of
+  area_same addr kind smm list =
+      rw (row_same addr, same (bridge 0x72) refl, shadow_same addr kind, same (bridge 0x68) refl, same (isa 0x4E) refl, claim_same addr list) refl
+
+  denial_same : (addr : ℕ) (kind : Kind) (smm : Bool) → IsCardList setup.cards → denial_of setup bytes addr kind smm ≡ denial_of setup other addr kind smm
+  unfolding denial_of
+  denial_same addr kind smm list =
+      rw (area_same addr kind smm list, boundary_same 7 (lit< tt), shut_same addr list, same (isa 0x4E) refl) refl
+
+pub map_bytes_decide : MapBytesDecide
+map_bytes_decide setup bytes other list same addr kind smm =
+    (area_same setup bytes other same addr kind smm list, denial_same setup bytes other same addr kind smm list)
