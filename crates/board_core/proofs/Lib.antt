@@ -1,1 +1,2 @@
 mod BridgeLemmas
+mod CardLemmas

@@ -1,13 +1,14 @@
 -- The registers in configuration space of bus 0, among the register bytes of a board.
-use Rattle.std.specs.Prelude.{ℕ, ◌≡◌, ◌==◌, Bool, ◌&&◌}
+use Rattle.std.specs.Prelude.{ℕ, ◌≡◌, ◌==◌, Bool, ◌&&◌, List, All, Some}
 use Rattle.board_base.specs.declared.target.Reg.{Reg}
-use Rattle.board_spec.specs.Setup.{Setup}
+use Rattle.board_spec.specs.Setup.{Setup, card_at}
 use Rattle.board_spec.specs.Bits.{is_within}
+use Rattle.board_spec.specs.RegisterTable.{reset_byte}
 use Rattle.board_spec.specs.Decode.{Bytes, bridge}
 use Rattle.pmc_regs.specs.Pmc.{IsPmcOf}
 use Rattle.pam_windows.specs.Pam.{IsPamOf}
 use Rattle.xbus_select.specs.Piix.{IsPiixOf}
-use Rattle.pci_bars.specs.Cards.{AreCardsOf}
+use Rattle.pci_bars.specs.Cards.{CardBytes, IsCardOf, AreCardsOf}
 use Rattle.addr_decode.specs.MapRegs.{AreFitted}
 use Rattle.board_core.specs.declared.bridge.HostBridge.{HostBridge}
 use Rattle.board_core.specs.declared.config_space.ConfigSpace.{ConfigSpace}
@@ -28,3 +29,10 @@ pub record IsSpaceOf (setup : Setup) (bytes : Bytes) (space : ConfigSpace) : Typ
   pub south : IsPiixOf bytes space.south
   pub cards : AreCardsOf setup bytes space.cards.items
   pub fitted : AreFitted space.cards.items
+
+-- a card as a reset leaves it, in each setup that has it
+abbrev pub IsCardReset : CardBytes → Type 0
+IsCardReset card = (setup : Setup) → card_at setup card.card.dev ≡ Some card.card → IsCardOf setup (reset_byte setup) card
+
+abbrev pub AreCardsReset : List CardBytes → Type 0
+AreCardsReset cards = All IsCardReset cards
