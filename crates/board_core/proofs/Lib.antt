@@ -1,2 +1,3 @@
 mod BridgeLemmas
 mod CardLemmas
+mod SpaceLemmas
