@@ -1,3 +1,4 @@
 mod BridgeLemmas
 mod CardLemmas
 mod SpaceLemmas
+mod RegisterLemmas

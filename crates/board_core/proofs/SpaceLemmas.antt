@@ -1,5 +1,5 @@
 -- The registers in configuration space: which part has a register, and what a byte that is stored leaves.
-use Rattle.std.proofs.Common.{◌≡◌, ◌≢◌, ℕ, ◌+◌, ◌*◌, ◌%◌, ◌≤◌, ◌<◌, ◌⊎◌, inl, inr, Bool, true, false, ◌&&◌, List, Option, Some, None, refl, sym, ◌∙◌, ap, subst, arith}
+use Rattle.std.proofs.Common.{◌≡◌, ◌≢◌, ℕ, ◌+◌, ◌*◌, ◌%◌, ◌≤◌, ◌<◌, ◌⊎◌, inl, inr, Bool, true, false, ◌&&◌, List, Option, Some, None, refl, sym, ◌∙◌, ap, subst, arith, add-one}
 use Rattle.std.specs.Prelude.{◌==◌, is_some, option_map}
 use Rattle.std.proofs.lemmas.Bool.{cases_eq, ne_eqb}
 use Rattle.arrayvec.specs.ArrayVec.{ArrayVec}
@@ -7,15 +7,20 @@ use Rattle.board_base.specs.declared.access.Width.{Width}
 use Rattle.board_base.specs.declared.access.Width.TheVariants.{One, Two, Four}
 use Rattle.board_base.specs.declared.target.Reg.{Reg}
 use Rattle.board_base.specs.Access.{bytes_of}
+use Rattle.board_spec.specs.declared.map_change.MapChange.TheVariants.{Store}
 use Rattle.board_spec.specs.Setup.{FittedCard, Setup, card_at}
 use Rattle.board_spec.specs.RegisterTable.{Line, card_function, function_at}
-use Rattle.board_spec.specs.Bits.{is_within}
+use Rattle.board_spec.specs.Bits.{byte, is_within}
+use Rattle.board_spec.specs.Registers.{changed_byte}
+use Rattle.board_spec.specs.WideStores.{after_stores}
+use Rattle.board_spec.proofs.StoreLemmas.{byte_by_byte}
 use Rattle.board_spec.specs.MapWrites.{reg_after}
 use Rattle.board_spec.specs.Decode.{Bytes, bridge, isa, ide, card_register}
 use Rattle.xbus_select.specs.Piix.{PiixBytes, piix_register, IsPiixRegister, IsPiixOf}
 use Rattle.pci_bars.specs.Cards.{CardBytes, IsCardOf, AreCards, AreCardsOf}
 use Rattle.addr_decode.specs.MapRegs.{AreFitted, stored}
 use Rattle.addr_decode.proofs.StoreLemmas.{stored-elsewhere}
+use Rattle.addr_decode.proofs.StandsLemmas.{stored_so_far}
 use Rattle.board_core.specs.declared.bridge.HostBridge.{HostBridge}
 use Rattle.board_core.specs.declared.config_space.ConfigSpace.{ConfigSpace}
 use Rattle.board_core.specs.Space.{IsBridgeOf, IsSpaceOf, is_routing, IsOffRouting}
@@ -214,3 +219,23 @@ pub off_high_word : (reg : Reg) → IsOffRouting reg Four → IsOffRouting (reg_
 off_high_word reg off k below =
     let same : reg.off + (2 + k) ≡ reg.off + 2 + k = omega arith in
     subst (λ (o : ℕ). is_routing (record reg { off = o }) ≡ false) same (off (2 + k) (omega arith))
+
+-- ---- the bytes of a value, one after the other
+
+pub none_so_far : (setup : Setup) (bytes : Bytes) (at : Reg) (value : ℕ) (space : ConfigSpace) → IsSpaceOf setup bytes space →
+    IsSpaceOf setup (stored_so_far setup bytes at value 0) space
+unfolding after_stores
+none_so_far setup bytes at value space is = is
+
+pub one_more : (setup : Setup) (bytes : Bytes) (at : Reg) (value count : ℕ) (space : ConfigSpace) →
+    IsSpaceOf setup (stored setup (stored_so_far setup bytes at value count) (reg_after at count) (byte value count)) space →
+    IsSpaceOf setup (stored_so_far setup bytes at value (count + 1)) space
+unfolding after_stores
+one_more setup bytes at value count space is = rw (add-one count) is
+
+pub all_so_far : (setup : Setup) (bytes : Bytes) (at : Reg) (width : Width) (value : ℕ) (space : ConfigSpace) →
+    IsSpaceOf setup (stored_so_far setup bytes at value (bytes_of width)) space →
+    IsSpaceOf setup (λ reg. changed_byte setup (Store at width value) reg (bytes reg)) space
+all_so_far setup bytes at width value space is =
+    space_agrees setup (stored_so_far setup bytes at value (bytes_of width)) (λ reg. changed_byte setup (Store at width value) reg (bytes reg)) space
+    (λ reg. byte_by_byte setup at width value reg (bytes reg)) is

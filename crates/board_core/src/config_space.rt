@@ -105,6 +105,19 @@ impl ConfigSpace {
         }
     }
 
+    /// Writes the bytes of a value from a register on, the low one first, in rising offset.
+    pub fn write_wide(&mut self, reg: Reg, width: Width, value: u32)
+        requires within { reg.off + bytes_of width ≤ 0x100 }
+        requires fitted { AreFitted self.old.cards.items }
+        ensures written { (setup : Setup) (bytes : Bytes) → IsSpaceOf setup bytes self.old
+            → IsSpaceOf setup (λ r. changed_byte setup (Store reg width value) r (bytes r)) self.new }
+    {
+        let bytes = value.to_le_bytes();
+        for index in 0..width.bytes() as u8 {
+            self.write(after(reg, index), bytes[usize::from(index)]);
+        }
+    }
+
     /// Gives each register its value after a reset.
     pub fn reset(&mut self)
         requires fitted { AreFitted self.old.cards.items }

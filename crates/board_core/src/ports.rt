@@ -12,7 +12,6 @@ ghost use Rattle.board_core.specs.Kept.{IsChipset, IsChipsetOf};
 
 use crate::chipset::Chipset;
 use crate::registers::Registers;
-use addr_decode::decode_port;
 use board_base::{Dev, PortAccess, Target};
 use board_spec::Reply;
 
@@ -71,13 +70,7 @@ pub fn perform(chipset: &mut Chipset, access: &PortAccess) -> Reply
     ensures board { (setup : Setup) (history : List Entry) (entry : Entry) → IsChipsetOf setup history chipset.old
         → entry.event ≡ Port access.now → entry.reply ≡ result → IsChipsetOf setup (entry ∷ history) chipset.new }
 {
-    let registers = &chipset.registers;
-    let (target, denial) = decode_port(
-        &registers.map,
-        &registers.port_regs(),
-        access.port,
-        access.width,
-    );
+    let (target, denial) = chipset.registers.decode_port(access.port, access.width);
     if access.write {
         write(chipset, target, access);
         return Reply::Bus {

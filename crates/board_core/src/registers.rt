@@ -1,17 +1,24 @@
 //! The registers of the board.
 
-ghost use Rattle.std.specs.Prelude.{◌≡◌, ◌≢◌, ◌+◌, ◌≤◌, List, [], ◌∷◌, Some};
+ghost use Rattle.std.specs.Prelude.{◌≡◌, ◌+◌, ◌≤◌, false, List, [], ◌∷◌, Some};
 ghost use Rattle.board_base.specs.Access.{bytes_of};
 ghost use Rattle.board_spec.specs.declared.event.Entry.{Entry};
 ghost use Rattle.board_spec.specs.declared.map_change.MapChange.TheVariants.{Store};
 ghost use Rattle.board_spec.specs.Setup.{Setup, IsCardList};
-ghost use Rattle.board_spec.specs.Registers.{control_written, register_change};
+ghost use Rattle.board_spec.specs.RegisterTable.{reset_byte};
+ghost use Rattle.board_spec.specs.Registers.{byte_of, config_address, control_written, register_change};
+ghost use Rattle.board_spec.specs.Decode.{Bytes};
+ghost use Rattle.board_spec.specs.Ports.{port_target_of};
+ghost use Rattle.addr_decode.specs.MapRegs.{AreFitted, StandsFor, map_bytes};
+ghost use Rattle.addr_decode.specs.Ports.{as_decoded};
+ghost use Rattle.board_core.specs.Space.{IsSpaceOf};
 ghost use Rattle.board_core.specs.Kept.{HasRegisters};
 
 use crate::config_space::ConfigSpace;
 use crate::reset_control::ResetControl;
-use addr_decode::{MapChange, MapRegs, PortRegs};
-use board_base::{Reg, Width};
+use addr_decode::{MapChange, MapRegs, PortRegs, decode_port};
+use board_base::{Denial, Reg, Target, Width};
+use board_spec::offset::{IDE, IDETIM_HIGH};
 use cfg_ports::ConfAdd;
 use pci_bars::CardSpec;
 
@@ -39,34 +46,40 @@ impl Registers {
         }
     }
 
-    /// What the decode of ports asks beside the address map. No disk is fitted yet.
-    pub fn port_regs(&self) -> PortRegs {
-        PortRegs {
+    /// What an access at a port reaches, and what denies it. No disk is fitted yet.
+    pub fn decode_port(&self, port: u16, width: Width) -> (Target, Option<Denial>)
+        requires fitted { AreFitted self.now.map.cards.items }
+        ensures decoded { (setup : Setup) (history : List Entry) → HasRegisters setup history self.now
+            → as_decoded result ≡ port_target_of setup (byte_of setup history) (config_address history) false port width }
+    {
+        // Of IDETIM the high byte alone decides.
+        let timing = self.space.south.read(IDE, IDETIM_HIGH);
+        let ports = PortRegs {
             confadd: self.address.read(),
             ide_command: self.space.south.ide_command(),
-            idetim: self.space.south.idetim(),
+            idetim: u16::from(timing) << 8,
             disk: false,
-        }
+        };
+        decode_port(&self.map, &ports, port, width)
     }
 
     /// Stores the bytes of a value in configuration space, the low one first, in rising offset.
     pub fn store(&mut self, reg: Reg, width: Width, value: u32)
         requires within { reg.off + bytes_of width ≤ 0x100 }
+        requires space { AreFitted self.old.space.cards.items }
+        requires map { AreFitted self.old.map.cards.items }
         ensures registers { (setup : Setup) (history : List Entry) (entry : Entry) → HasRegisters setup history self.old
             → register_change setup history entry.event ≡ Some (Store reg width value)
             → HasRegisters setup (entry ∷ history) self.new }
     {
-        let bytes = value.to_le_bytes();
-        for index in 0..width.bytes() as u8 {
-            let off = reg.off + index;
-            self.space
-                .write(Reg { off, ..reg }, bytes[usize::from(index)]);
-        }
+        self.space.write_wide(reg, width, value);
         self.map.apply(&MapChange::Store { reg, width, value });
     }
 
     /// Writes reset control. A hard reset gives each register its value after a reset.
     pub fn write_control(&mut self, byte: u8)
+        requires space { AreFitted self.old.space.cards.items }
+        requires map { AreFitted self.old.map.cards.items }
         ensures registers { (setup : Setup) (history : List Entry) (entry : Entry)
             → control_written entry.event ≡ Some byte
             → HasRegisters setup history self.old → HasRegisters setup (entry ∷ history) self.new }
@@ -77,7 +90,17 @@ impl Registers {
     }
 
     /// Gives each register but reset control its value after a reset.
-    fn reset(&mut self) {
+    fn reset(&mut self)
+        requires space { AreFitted self.old.space.cards.items }
+        requires map { AreFitted self.old.map.cards.items }
+        ensures address { self.new.address ≡ 0 }
+        ensures control { self.new.control ≡ self.old.control }
+        ensures space { (setup : Setup) (bytes : Bytes) → IsSpaceOf setup bytes self.old.space
+            → IsSpaceOf setup (reset_byte setup) self.new.space }
+        ensures map { (setup : Setup) (bytes : Bytes) → StandsFor setup bytes (map_bytes self.old.map)
+            → StandsFor setup (reset_byte setup) (map_bytes self.new.map) }
+        ensures fitted { AreFitted self.new.map.cards.items }
+    {
         self.address.reset();
         self.space.reset();
         self.map.apply(&MapChange::Reset);
