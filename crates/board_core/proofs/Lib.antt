@@ -1,1 +1,3 @@
 mod BridgeLemmas
+mod StoresLemmas
+mod MemoryLemmas
