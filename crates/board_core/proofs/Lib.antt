@@ -1,3 +1,4 @@
 mod BridgeLemmas
 mod StoresLemmas
 mod MemoryLemmas
+mod KeptLemmas
