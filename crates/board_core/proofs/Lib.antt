@@ -1,4 +1,6 @@
 mod BridgeLemmas
+mod CardLemmas
+mod SpaceLemmas
 mod StoresLemmas
 mod MemoryLemmas
 mod KeptLemmas

@@ -5,6 +5,7 @@
 
 mod board;
 mod bridge;
+mod cards;
 mod chipset;
 mod config_space;
 mod memory;
