@@ -2,7 +2,7 @@
 
 ghost use Rattle.std.specs.Prelude.{◌≡◌, ◌-◌, ◌+◌, ◌<◌, ◌≤◌, ◌↔◌, List, [], ◌∷◌, length, max, None, Err, IsTrue, IfOk, OnOk, OnErr};
 ghost use Rattle.board_spec.specs.declared.event.Entry.{Entry};
-ghost use Rattle.board_spec.specs.Setup.{Setup, IsCardList, IsRomSize, memory_of_cards};
+ghost use Rattle.board_spec.specs.Setup.{IsCardList, IsRomSize, memory_of_cards};
 ghost use Rattle.board_spec.specs.InRange.{IsInRange};
 ghost use Rattle.board_spec.specs.Answer.{IsAnswer};
 ghost use Rattle.board_spec.specs.Legal.{IsLegal};
