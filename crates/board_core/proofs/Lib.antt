@@ -2,3 +2,6 @@ mod BridgeLemmas
 mod CardLemmas
 mod SpaceLemmas
 mod RegisterLemmas
+mod StoresLemmas
+mod MemoryLemmas
+mod KeptLemmas

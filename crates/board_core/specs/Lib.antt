@@ -1,4 +1,5 @@
 pub mod Space
 pub mod Stores
+pub mod Decoded
 pub mod Forms
 pub mod Kept

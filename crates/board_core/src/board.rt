@@ -2,7 +2,7 @@
 
 ghost use Rattle.std.specs.Prelude.{◌≡◌, ◌-◌, ◌+◌, ◌<◌, ◌≤◌, ◌↔◌, List, [], ◌∷◌, length, max, None, Err, IsTrue, IfOk, OnOk, OnErr};
 ghost use Rattle.board_spec.specs.declared.event.Entry.{Entry};
-ghost use Rattle.board_spec.specs.Setup.{Setup, IsCardList, IsRomSize, memory_of_cards};
+ghost use Rattle.board_spec.specs.Setup.{IsCardList, IsRomSize, memory_of_cards};
 ghost use Rattle.board_spec.specs.InRange.{IsInRange};
 ghost use Rattle.board_spec.specs.Answer.{IsAnswer};
 ghost use Rattle.board_spec.specs.Legal.{IsLegal};
@@ -84,7 +84,7 @@ impl Board {
         ensures fresh { IfOk result (λ board. board ≡ record { setup = setup; entries = []; spare = 0 }) }
         ensures bad_rom { (result ≡ Err BoardOpen.BadRom) ↔ ¬ IsRomSize (length setup.rom) }
     {
-        if !is_rom_size(setup.rom.len()) {
+        if !is_rom_size(setup.rom().len()) {
             return Err(BoardOpen::BadRom);
         }
         let stores = Stores::open(alloc, setup.mib, &setup.cards)?;
@@ -119,7 +119,7 @@ impl Board {
           spare = self.old.spare - 1;
         } }
     {
-        let reply = perform(&mut self.chipset, &self.setup.rom, event);
+        let reply = perform(&mut self.chipset, self.setup.rom(), event);
         let seq = self.counts[usize::from(actor)] + 1;
         self.counts[usize::from(actor)] = seq;
         self.history.push(Entry {

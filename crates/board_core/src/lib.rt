@@ -18,3 +18,6 @@ mod stores;
 
 pub use board::Board;
 pub use setup::{BoardOpen, Setup};
+
+#[cfg(test)]
+mod tests;

@@ -30,6 +30,15 @@ impl Model for Setup {
     } };
 }
 
+impl Setup {
+    /// The bytes of the BIOS ROM.
+    pub(crate) fn rom(&self) -> &[u8]
+        ensures bytes { result.now ≡ self.now.rom }
+    {
+        &self.rom
+    }
+}
+
 /// Why a board was not opened.
 #[derive(Clone, Copy, PartialEq, Eq, Debug)]
 pub enum BoardOpen {
