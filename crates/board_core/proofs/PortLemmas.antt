@@ -2,7 +2,7 @@
 use Rattle.std.proofs.Common.{◌≡◌, ◌≢◌, ℕ, ◌+◌, ◌*◌, ◌/◌, ◌%◌, ◌^◌, ◌≤◌, ◌<◌, Bool, true, false, ◌&&◌, ◌||◌, inl, inr, List, [], ◌∷◌, Option, Some, None, refl, sym, ◌∙◌, ap, subst, arith}
 use Rattle.std.specs.Prelude.{◌==◌, if◌then◌else◌, is_some, unwrap_or, option_map}
 use Rattle.std.proofs.Math.Bool.{and-true}
-use Rattle.std.proofs.lemmas.Bool.{cases_Bool, cases_eq, ne_eqb, eqb-true, false≢true}
+use Rattle.std.proofs.lemmas.Bool.{cases_Bool, eq-eqb, eqb-true, false≢true}
 use Rattle.std.proofs.lemmas.Bool.Decides.{nat_tests}
 use Rattle.std.proofs.lemmas.Nat.{and_le_r}
 use Rattle.board_base.specs.declared.access.Width.{Width}
@@ -26,58 +26,26 @@ use Rattle.board_spec.specs.Setup.{Setup}
 use Rattle.board_spec.specs.Bits.{is_within}
 use Rattle.board_spec.specs.RegisterTable.{function_at, function_exists}
 use Rattle.board_spec.specs.Registers.{control_written, address_written, kept_address, config_address, is_hard_reset, is_enabled, bus_of, device_of, function_of, register_of, is_config_port, config_register, config_store, register_change, byte_of}
+use Rattle.board_spec.specs.MapWrites.{reg_after}
+use Rattle.board_spec.specs.InRange.{FitsAccess}
+use Rattle.board_spec.specs.Stored.{Cell, byte_put, entry_put}
+use Rattle.board_spec.specs.Answer.{value_at, bus_reply, port_answer}
 use Rattle.board_spec.specs.Decode.{Bytes, isa, ide, Window, io_claim}
 use Rattle.board_spec.specs.Ports.{Decoded, nobody, card_port, config_port, unselected, other_port, port_target_of}
 use Rattle.addr_decode.specs.Onboard.{byte_port}
 use Rattle.addr_decode.specs.Ports.{ports_in_order}
 use Rattle.addr_decode.proofs.PortLemmas.{in_order}
+use Rattle.pci_bars.proofs.WindowLemmas.{IsSized, io_claim_sized, lies_in_window}
 use Rattle.board_core.specs.declared.registers.Registers.{Registers}
-use Rattle.board_core.specs.Forms.{routing_address, is_device_port, IsTakenPort}
+use Rattle.board_core.specs.declared.chipset.Chipset.{Chipset}
+use Rattle.board_core.specs.Space.{is_routing, IsOffRouting}
+use Rattle.board_core.specs.Forms.{routing_address, names_routing, IsTakenPort}
 use Rattle.board_core.specs.Ports.{reached, IsPortTarget, IsThere, FitsTarget, WritesNone, WritesAddress, Writes}
 use Rattle.board_core.specs.Kept.{HasRegisters, HasStores, IsChipsetOf}
-use Rattle.board_core.proofs.RegisterLemmas.{no_control, no_address, quiet}
-
--- ---- the ports of the devices that are still to come
-
-record IsNoDevice (port : ℕ) : Type 0 where
-  pic0 : is_within 0x20 0x21 port ≡ false
-  pic1 : is_within 0xA0 0xA1 port ≡ false
-  pit : is_within 0x40 0x43 port ≡ false
-  system : (port == 0x61) ≡ false
-  clock : is_within 0x70 0x71 port ≡ false
-  disk_data : (port == 0x1F0) ≡ false
-  disk : (is_within 0x1F1 0x1F7 port || port == 0x3F6) ≡ false
-  elcr : is_within 0x4D0 0x4D1 port ≡ false
-
-neither : (a b : Bool) → (a || b) ≡ false → (a ≡ false) × (b ≡ false)
-neither true b is = absurd (cc)
-neither false b is = (refl, is)
-
-no_disk_data : (port : ℕ) → is_within 0x1F0 0x1F7 port ≡ false → (port == 0x1F0) ≡ false
-no_disk_data port is = grind (arith, nat_tests)
-
-no_disk_register : (port : ℕ) → is_within 0x1F0 0x1F7 port ≡ false → is_within 0x1F1 0x1F7 port ≡ false
-no_disk_register port is = grind (arith, nat_tests)
-
-no_device : (port : ℕ) → is_device_port port ≡ false → IsNoDevice port
-no_device port is =
-    let to_disk = neither _ _ is in
-    let to_disk_data = neither _ _ (to_disk.0) in
-    let to_clock = neither _ _ (to_disk_data.0) in
-    let to_system = neither _ _ (to_clock.0) in
-    let to_pit = neither _ _ (to_system.0) in
-    let to_pic1 = neither _ _ (to_pit.0) in
-    let to_pic0 = neither _ _ (to_pic1.0) in
-    record {
-      pic0 = to_pic0.0;
-      pic1 = to_pic0.1;
-      pit = to_pic1.1;
-      system = to_pit.1;
-      clock = to_system.1;
-      disk_data = no_disk_data port to_clock.1;
-      disk = rw (no_disk_register port to_clock.1, to_disk_data.1) refl;
-      elcr = to_disk.1;
-    }
+use Rattle.cfg_ports.proofs.AddressLemmas.{kept_address-again, kept_address-low_bits, within_space}
+use Rattle.board_core.proofs.StoresLemmas.{stores_unwritten}
+use Rattle.board_core.proofs.ReachLemmas.{IsBeside, IsReached, reaches}
+use Rattle.board_core.proofs.RegisterLemmas.{no_control, no_address, both_right, data_is_not_control, quiet}
 
 -- ---- what a write does to the registers
 
@@ -100,3 +68,332 @@ writes_none setup history event (Card dev base off) width value device config wr
 writes_none setup history event (Device dev) width value device config writes = absurd (device dev refl)
 writes_none setup history event (Config reg) width value device config writes = absurd (config reg refl)
 writes_none setup history event Abort width value device config writes = writes
+
+-- ---- the configuration address
+
+kept_after : (hard : Bool) (written : Option ℕ) (old : ℕ) → kept_address old ≡ old →
+    kept_address (if hard then 0 else unwrap_or (option_map kept_address written) old) ≡ (if hard then 0 else unwrap_or (option_map kept_address written) old)
+kept_after true written old is = refl
+kept_after false None old is = is
+kept_after false (Some value) old is = kept_address-again value
+
+address_kept : (history : List Entry) → kept_address (config_address history) ≡ config_address history
+unfolding config_address
+address_kept [] = refl
+address_kept (entry ∷ before) =
+    kept_after (is_hard_reset before entry.event) (address_written entry.event) (config_address before) (address_kept before)
+
+-- the parts of the register that an address names
+record IsNamed (setup : Setup) (address port : ℕ) (reg : Reg) : Type 0 where
+  enabled : is_enabled address ≡ true
+  bus : bus_of address ≡ 0
+  exists' : function_exists setup 0 reg.dev reg.fun ≡ true
+  dev : reg.dev ≡ device_of address
+  fun : reg.fun ≡ function_of address
+  off : reg.off ≡ register_of address + port % 4
+
+both_left : (a b : Bool) → (a && b) ≡ true → a ≡ true
+both_left true b is = refl
+both_left false b is = absurd (cc)
+
+named_by : (setup : Setup) (address port : ℕ) (reg : Reg) → is_enabled address ≡ true →
+    function_exists setup (bus_of address) (device_of address) (function_of address) ≡ true →
+    record { dev = device_of address; fun = function_of address; off = register_of address + port % 4 } ≡ reg → IsNamed setup address port reg
+named_by setup address port reg on exists' is = record {
+  enabled = on;
+  bus = eqb-true _ _ (both_left (bus_of address == 0) _ exists');
+  exists' = rw (← is) (both_right (bus_of address == 0) _ exists');
+  dev = rw (← is) refl;
+  fun = rw (← is) refl;
+  off = rw (← is) refl;
+}
+
+named : (setup : Setup) (address port : ℕ) (reg : Reg) → config_register setup address port ≡ Some reg → IsNamed setup address port reg
+named setup address port reg is =
+    elim (cases_Bool (is_enabled address && function_exists setup (bus_of address) (device_of address) (function_of address))) [
+      | inl both ↦
+          let same = rw both at is in
+          named_by setup address port reg (both_left (is_enabled address) _ both) (both_right (is_enabled address) _ both) (cc)
+      | inr none ↦ let no = rw none at is in absurd (cc)
+    ]
+
+-- an access to a register that an address names stays within its function
+within_function :
+    (setup : Setup) (history : List Entry) (port : ℕ) (width : Width) (reg : Reg) → port % bytes_of width ≡ 0 →
+    config_register setup (config_address history) port ≡ Some reg → reg.off + bytes_of width ≤ 0x100
+within_function setup history port width reg aligned is =
+    let it : IsNamed setup (config_address history) port reg = named setup (config_address history) port reg is in
+    rw (it.off)
+    (within_space (config_address history) port (register_of (config_address history)) (port % 4) width
+    (kept_address-low_bits (config_address history) (address_kept history)) refl refl aligned)
+
+last_lane : (port k : ℕ) (width : Width) → port % bytes_of width ≡ 0 → k < bytes_of width → port % 4 + k < 4
+last_lane port k One aligned below = omega arith
+last_lane port k Two aligned below = omega arith
+last_lane port k Four aligned below = omega arith
+
+-- the address of the interrupt routing, by its parts
+routing_named :
+    (address : ℕ) → address ≤ 0x80FF_FFFC → is_enabled address ≡ true → bus_of address ≡ 0 → device_of address ≡ 1 → function_of address ≡ 0 →
+    register_of address ≡ 0x60 → address ≡ routing_address
+routing_named address most on bus dev fun off =
+    let high : address / 2 ^ 31 % 2 ≡ 1 = eqb-true _ _ on in
+    omega arith
+
+low_register : (low place k : ℕ) → low % 4 ≡ 0 → place + k < 4 → 0x60 ≤ low + place + k → low + place + k ≤ 0x63 → low ≡ 0x60
+low_register low place k fourth lanes from to = omega arith
+
+routing_offset : (reg : Reg) → is_routing reg ≡ true → (reg.dev ≡ 1) × (reg.fun ≡ 0) × (0x60 ≤ reg.off) × (reg.off ≤ 0x63)
+routing_offset reg is = (grind (arith, nat_tests), grind (arith, nat_tests), grind (arith, nat_tests), grind (arith, nat_tests))
+
+-- an access to a register that an address names is off the interrupt routing, since the address does not name it
+off_routing :
+    (setup : Setup) (history : List Entry) (port : ℕ) (width : Width) (reg : Reg) → port % bytes_of width ≡ 0 →
+    config_register setup (config_address history) port ≡ Some reg → config_address history ≢ routing_address → IsOffRouting reg width
+off_routing setup history port width reg aligned is taken k below =
+    let address : ℕ = config_address history in
+    let it : IsNamed setup address port reg = named setup address port reg is in
+    let most : address ≤ 0x80FF_FFFC = rw (← address_kept history) (and_le_r (config_address history) 0x80FF_FFFC) in
+    let fourth : address % 4 ≡ 0 = kept_address-low_bits address (address_kept history) in
+    elim (cases_Bool (is_routing (reg_after reg k))) [
+      | inl routes ↦
+          let at = routing_offset (reg_after reg k) routes in
+          let low : register_of address ≡ 0x60 =
+          low_register (register_of address) (port % 4) k (omega arith) (last_lane port k width aligned below) (rw (← it.off) at.2) (rw (← it.off) at.3) in
+          absurd (taken (routing_named address most it.enabled it.bus (sym it.dev ∙ at.0) (sym it.fun ∙ at.1) low))
+      | inr off ↦ off
+    ]
+
+-- ---- what an access that reaches a target needs
+
+held_target :
+    (setup : Setup) (history : List Entry) (chipset : Chipset) (port : ℕ) (width : Width) (target : Target) → IsChipsetOf setup history chipset →
+    port % bytes_of width ≡ 0 → IsReached setup (byte_of setup history) (config_address history) port width target →
+    IsPortTarget chipset.stores.contents target width
+held_target setup history chipset port width (Device Confadd) kept aligned is = tt
+held_target setup history chipset port width (Device Reset) kept aligned is = tt
+held_target setup history chipset port width (Device Keyboard) kept aligned is = tt
+held_target setup history chipset port width (Device _) kept aligned is = absurd is
+held_target setup history chipset port width (Config reg) kept aligned is = within_function setup history port width reg aligned is.1
+held_target setup history chipset port width (Card dev base off) kept aligned is =
+    let window : Window = is.1.0 in
+    let sized : IsSized setup window =
+    io_claim_sized setup (byte_of setup history) chipset.registers.map.cards.items port window kept.registers.fitted.each kept.registers.map.cards is.1.1 in
+    rw (← is.1.2, ← is.1.3, ← is.1.4) (lies_in_window setup history chipset.stores.contents window port width sized kept.stores.contents aligned)
+held_target setup history chipset port width Abort kept aligned is = tt
+held_target setup history chipset port width _ kept aligned is = absurd is
+
+there_target :
+    (setup : Setup) (history : List Entry) (port : ℕ) (width : Width) (target : Target) → config_address history ≢ routing_address →
+    port % bytes_of width ≡ 0 → IsReached setup (byte_of setup history) (config_address history) port width target → IsThere setup target width
+there_target setup history port width (Config reg) taken aligned is =
+    let it : IsNamed setup (config_address history) port reg = named setup (config_address history) port reg is.1 in
+    (it.exists', off_routing setup history port width reg aligned is.1 taken)
+there_target setup history port width _ taken aligned is = tt
+
+-- ---- what an access writes
+
+-- where no register is written
+beside_control : (access : PortAccess) → (access.port == 0xCF9 && bytes_of access.width == 1) ≡ false → control_written (Port access) ≡ None
+beside_control access other =
+    elim (cases_Bool access.write) [ inl writes ↦ rw (writes, other) refl | inr reads ↦ rw reads refl ]
+
+beside_address : (access : PortAccess) → (access.port == 0xCF8 && bytes_of access.width == 4) ≡ false → address_written (Port access) ≡ None
+beside_address access other =
+    elim (cases_Bool access.write) [ inl writes ↦ rw (writes, other) refl | inr reads ↦ rw reads refl ]
+
+beside_config : (setup : Setup) (address : ℕ) (access : PortAccess) →
+    (is_config_port access.port ≡ true → config_register setup address access.port ≡ None) → config_store setup address (Port access) ≡ None
+beside_config setup address access none =
+    elim (cases_Bool access.write) [
+      | inl writes ↦ elim (cases_Bool (is_config_port access.port)) [
+        | inl config ↦ rw (writes, config, none config) refl
+        | inr other ↦ rw (writes, other) refl
+      ]
+      | inr reads ↦ rw reads refl
+    ]
+
+by_store : (setup : Setup) (history : List Entry) (access : PortAccess) (change : Option MapChange) → control_written (Port access) ≡ None →
+    config_store setup (config_address history) (Port access) ≡ change → register_change setup history (Port access) ≡ change
+by_store setup history access change none is = rw none is
+
+writes_beside :
+    (setup : Setup) (history : List Entry) (access : PortAccess) → IsBeside setup (config_address history) access.port access.width →
+    WritesNone setup history (Port access)
+writes_beside setup history access beside =
+    let control : control_written (Port access) ≡ None = beside_control access beside.control in
+    record {
+      control = control;
+      address = beside_address access beside.address_port;
+      change = by_store setup history access None control (beside_config setup (config_address history) access beside.config);
+    }
+
+writes_address :
+    (setup : Setup) (history : List Entry) (access : PortAccess) → access.write ≡ true → access.port ≡ 0xCF8 → bytes_of access.width ≡ 4 →
+    WritesAddress setup history (Port access) access.value
+writes_address setup history access writes port width =
+    let elsewhere : (access.port == 0xCF9) ≡ false = rw port refl in
+    let not_config : is_config_port access.port ≡ false = rw port refl in
+    let control : control_written (Port access) ≡ None = no_control access elsewhere in
+    record {
+      control = control;
+      address = rw (writes, port, width) refl;
+      change = by_store setup history access None control (rw (writes, not_config) refl);
+    }
+
+writes_register :
+    (setup : Setup) (history : List Entry) (access : PortAccess) (reg : Reg) → access.write ≡ true → is_config_port access.port ≡ true →
+    config_register setup (config_address history) access.port ≡ Some reg →
+    register_change setup history (Port access) ≡ Some (Store reg access.width access.value)
+writes_register setup history access reg writes config is =
+    by_store setup history access (Some (Store reg access.width access.value)) (no_control access (data_is_not_control access.port config))
+    (rw (writes, config, is) refl)
+
+writes_target :
+    (setup : Setup) (history : List Entry) (access : PortAccess) (target : Target) → access.write ≡ true →
+    IsReached setup (byte_of setup history) (config_address history) access.port access.width target →
+    Writes setup history (Port access) target access.width access.value
+writes_target setup history access (Device Confadd) writes is = writes_address setup history access writes is.0 is.1
+writes_target setup history access (Device Reset) writes is = rw (writes, is.0, is.1) refl
+writes_target setup history access (Device Keyboard) writes is = writes_beside setup history access is
+writes_target setup history access (Device _) writes is = absurd is
+writes_target setup history access (Config reg) writes is = writes_register setup history access reg writes is.0 is.1
+writes_target setup history access (Card dev base off) writes is = writes_beside setup history access is.0
+writes_target setup history access Abort writes is = writes_beside setup history access is
+writes_target setup history access _ writes is = absurd is
+
+-- a value that does not name the interrupt routing
+off_address : (access : PortAccess) → access.write ≡ true → access.port ≡ 0xCF8 → bytes_of access.width ≡ 4 → names_routing access ≡ false →
+    kept_address access.value ≢ routing_address
+off_address access writes port width off same =
+    let not : (kept_address access.value == routing_address) ≡ false = rw (writes, port, width) at off in
+    false≢true (sym not ∙ eq-eqb _ _ same)
+
+fits_byte : (width : Width) (value : ℕ) → bytes_of width ≡ 1 → value ≤ largest_of width → value ≤ 0xFF
+fits_byte One value byte fits = fits
+fits_byte Two value byte fits = absurd (omega arith)
+fits_byte Four value byte fits = absurd (omega arith)
+
+pub written_fits : (writes : Bool) (width : Width) (value : ℕ) → writes ≡ true → FitsAccess writes width value → value ≤ largest_of width
+written_fits true width value is fits = fits
+written_fits false width value is fits = absurd (cc)
+
+fits_target :
+    (setup : Setup) (bytes : Bytes) (address : ℕ) (access : PortAccess) (target : Target) → access.write ≡ true → names_routing access ≡ false →
+    access.value ≤ largest_of access.width → IsReached setup bytes address access.port access.width target → FitsTarget target access.value
+fits_target setup bytes address access (Device Confadd) writes off fits is = off_address access writes is.0 is.1 off
+fits_target setup bytes address access (Device Reset) writes off fits is = fits_byte access.width access.value is.1 fits
+fits_target setup bytes address access (Device Keyboard) writes off fits is = tt
+fits_target setup bytes address access (Device _) writes off fits is = absurd is
+fits_target setup bytes address access _ writes off fits is = tt
+
+-- ---- whole accesses
+
+-- an access reaches this target, and is denied so
+abbrev pub IsPortDecoded : Setup → List Entry → PortAccess → Target → Option Denial → Type 0
+IsPortDecoded setup history access target denial = record { target = target; denial = denial } ≡ reached setup history access
+
+target_reached :
+    (setup : Setup) (history : List Entry) (access : PortAccess) (target : Target) (denial : Option Denial) → IsTakenPort access →
+    IsPortDecoded setup history access target denial →
+    IsReached setup (byte_of setup history) (config_address history) access.port access.width target
+target_reached setup history access target denial taken is =
+    subst (λ (decoded : Decoded). IsReached setup (byte_of setup history) (config_address history) access.port access.width decoded.target) (sym is)
+    (reaches setup (byte_of setup history) (config_address history) access.port access.width taken.port)
+
+pub held :
+    (setup : Setup) (history : List Entry) (chipset : Chipset) (access : PortAccess) (target : Target) (denial : Option Denial) → IsTakenPort access →
+    access.port % bytes_of access.width ≡ 0 → IsChipsetOf setup history chipset → IsPortDecoded setup history access target denial →
+    IsPortTarget chipset.stores.contents target access.width
+held setup history chipset access target denial taken aligned kept is =
+    held_target setup history chipset access.port access.width target kept aligned (target_reached setup history access target denial taken is)
+
+pub there :
+    (setup : Setup) (history : List Entry) (chipset : Chipset) (access : PortAccess) (target : Target) (denial : Option Denial) → IsTakenPort access →
+    access.port % bytes_of access.width ≡ 0 → IsChipsetOf setup history chipset → IsPortDecoded setup history access target denial →
+    IsThere setup target access.width
+there setup history chipset access target denial taken aligned kept is =
+    there_target setup history access.port access.width target (rw (← kept.registers.address) kept.registers.taken) aligned
+    (target_reached setup history access target denial taken is)
+
+pub fits :
+    (setup : Setup) (history : List Entry) (access : PortAccess) (target : Target) (denial : Option Denial) → IsTakenPort access →
+    access.write ≡ true → access.value ≤ largest_of access.width → IsPortDecoded setup history access target denial → FitsTarget target access.value
+fits setup history access target denial taken writes small is =
+    fits_target setup (byte_of setup history) (config_address history) access target writes taken.address small
+    (target_reached setup history access target denial taken is)
+
+-- the reply to an access of which this is decoded
+abbrev reply_by : Setup → List Entry → PortAccess → Decoded → Reply
+reply_by setup history access decoded =
+    bus_reply setup history access.write decoded.target decoded.denial access.port access.width
+
+without_disk : (setup : Setup) (history : List Entry) (access : PortAccess) → setup.disk ≡ None →
+    reply_by setup history access (reached setup history access) ≡ port_answer setup history access
+unfolding port_answer
+without_disk setup history access no_disk =
+    ap
+    (λ (disk : Option (List ℕ)).
+      reply_by setup history access (port_target_of setup (byte_of setup history) (config_address history) (is_some disk) access.port access.width))
+    (sym no_disk)
+
+pub write_answer :
+    (setup : Setup) (history : List Entry) (access : PortAccess) (target : Target) (denial : Option Denial) → setup.disk ≡ None → access.write ≡ true →
+    IsPortDecoded setup history access target denial → Bus None target denial ≡ port_answer setup history access
+write_answer setup history access target denial no_disk writes is =
+    written setup history access target denial writes
+    ∙ ap (λ (decoded : Decoded). reply_by setup history access decoded) is
+    ∙ without_disk setup history access no_disk
+  where
+    written : (setup : Setup) (history : List Entry) (access : PortAccess) (target : Target) (denial : Option Denial) → access.write ≡ true →
+        Bus None target denial ≡ reply_by setup history access (record { target = target; denial = denial })
+    written setup history access target denial writes = rw writes refl
+
+pub read_answer :
+    (setup : Setup) (history : List Entry) (access : PortAccess) (target : Target) (denial : Option Denial) (value : ℕ) → setup.disk ≡ None →
+    access.write ≡ false → IsPortDecoded setup history access target denial → value ≡ value_at setup history target access.port access.width →
+    Bus (Some value) target denial ≡ port_answer setup history access
+read_answer setup history access target denial value no_disk reads is value_is =
+    given setup history access target denial value reads value_is
+    ∙ ap (λ (decoded : Decoded). reply_by setup history access decoded) is
+    ∙ without_disk setup history access no_disk
+  where
+    given : (setup : Setup) (history : List Entry) (access : PortAccess) (target : Target) (denial : Option Denial) (value : ℕ) → access.write ≡ false →
+        value ≡ value_at setup history target access.port access.width →
+        Bus (Some value) target denial ≡ reply_by setup history access (record { target = target; denial = denial })
+    given setup history access target denial value reads value_is = rw (reads, value_is) refl
+
+pub chipset_written :
+    (setup : Setup) (history : List Entry) (entry : Entry) (access : PortAccess) (target : Target) (denial : Option Denial) (old new : Chipset) →
+    IsTakenPort access → access.write ≡ true → entry.event ≡ Port access → entry.reply ≡ Bus None target denial →
+    IsPortDecoded setup history access target denial → IsChipsetOf setup history old →
+    (Writes setup history entry.event target access.width access.value → HasRegisters setup (entry ∷ history) new.registers) →
+    (((cell : Cell) → entry_put entry.event entry.reply cell ≡ byte_put target access.port access.width access.value cell) →
+    HasStores setup (entry ∷ history) new.stores) →
+    IsChipsetOf setup (entry ∷ history) new
+chipset_written setup history entry access target denial old new taken writes event replied is kept registers stores = record {
+  setup_fits = kept.setup_fits;
+  no_disk = kept.no_disk;
+  registers = registers (rw event (writes_target setup history access target writes (target_reached setup history access target denial taken is)));
+  stores = stores (λ cell. rw (event, replied, writes) refl);
+}
+
+-- a read leaves all as it is
+pub chipset_read :
+    (setup : Setup) (history : List Entry) (entry : Entry) (access : PortAccess) (value : Option ℕ) (target : Target) (denial : Option Denial)
+    (chipset : Chipset) → access.write ≡ false → entry.event ≡ Port access → entry.reply ≡ Bus value target denial → IsChipsetOf setup history chipset →
+    IsChipsetOf setup (entry ∷ history) chipset
+chipset_read setup history entry access value target denial chipset reads event replied kept = record {
+  setup_fits = kept.setup_fits;
+  no_disk = kept.no_disk;
+  registers = quiet_write setup history entry chipset.registers (reads_none setup history entry access reads event) kept.registers;
+  stores = stores_unwritten setup history entry chipset.stores kept.stores (λ cell. rw (event, replied, reads) refl);
+}
+  where
+    reads_none : (setup : Setup) (history : List Entry) (entry : Entry) (access : PortAccess) → access.write ≡ false → entry.event ≡ Port access →
+        WritesNone setup history entry.event
+    reads_none setup history entry access reads event = record {
+      control = rw (event, reads) refl;
+      address = rw (event, reads) refl;
+      change = rw (event, reads) refl;
+    }

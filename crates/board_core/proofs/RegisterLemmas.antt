@@ -31,7 +31,7 @@ pub no_address : (access : PortAccess) → (access.port == 0xCF8) ≡ false → 
 no_address access other =
     elim (cases_Bool access.write) [ inl writes ↦ rw (writes, other) refl | inr reads ↦ rw reads refl ]
 
-data_is_not_control : (port : ℕ) → is_config_port port ≡ true → (port == 0xCF9) ≡ false
+pub data_is_not_control : (port : ℕ) → is_config_port port ≡ true → (port == 0xCF9) ≡ false
 data_is_not_control port is = grind (arith, nat_tests)
 
 data_is_not_address : (port : ℕ) → is_config_port port ≡ true → (port == 0xCF8) ≡ false
@@ -48,7 +48,7 @@ by_data access config = record {
   address = no_address access (data_is_not_address access.port config);
 }
 
-both_right : (a b : Bool) → (a && b) ≡ true → b ≡ true
+pub both_right : (a b : Bool) → (a && b) ≡ true → b ≡ true
 both_right true b is = is
 both_right false b is = absurd (cc)
 
