@@ -1,26 +1,20 @@
 -- What a step leaves of what the board keeps.
-use Rattle.std.proofs.Common.{◌≡◌, ℕ, ◌+◌, ◌-◌, ◌<◌, ◌≤◌, inl, inr, true, false, List, [], ◌∷◌, zero, suc, ◌^◌, length, refl, sym, ◌∙◌, ap, subst, arith, get_or-set_same, get_or-set_other}
+use Rattle.std.proofs.Common.{◌≡◌, ℕ, ◌+◌, ◌-◌, ◌<◌, ◌≤◌, inl, inr, true, false, List, [], ◌∷◌, zero, suc, ◌^◌, None, length, refl, sym, ◌∙◌, ap, subst, arith, get_or-set_same, get_or-set_other}
 use Rattle.std.specs.Prelude.{if◌then◌else◌, ◌==◌, slice_index, slice_set, replicate}
 use Rattle.std.proofs.lemmas.Bool.{cases_eq, cases_Bool}
 use Rattle.std.proofs.lemmas.Bool.Decides.{nat_tests}
-use Rattle.board_base.specs.declared.access.Access.{Access}
-use Rattle.board_base.specs.declared.access.PortAccess.{PortAccess}
 use Rattle.board_spec.specs.declared.event.Event.{Event}
 use Rattle.board_spec.specs.declared.event.Event.TheVariants.{Memory, Port}
 use Rattle.board_spec.specs.declared.event.Reply.{Reply}
 use Rattle.board_spec.specs.declared.event.Entry.{Entry}
-use Rattle.board_spec.specs.Setup.{Setup}
+use Rattle.board_spec.specs.Setup.{Setup, IsSetup}
 use Rattle.board_spec.specs.InRange.{IsInRange}
-use Rattle.board_spec.specs.Registers.{reset_control, config_address, byte_of}
 use Rattle.board_spec.specs.Legal.{entries_by}
 use Rattle.board_spec.specs.Answer.{IsAnswer}
-use Rattle.dram_store.specs.Dram.{IsDramOf}
 use Rattle.access_history.specs.Past.{Past}
-use Rattle.board_core.specs.declared.registers.Registers.{Registers}
+use Rattle.board_core.specs.declared.chipset.Chipset.{Chipset}
 use Rattle.board_core.specs.Forms.{IsTaken}
-use Rattle.board_core.specs.Kept.{HasRegisters, IsBoardOf, IsKept, next_entry, plain_setup}
-use Rattle.board_core.specs.PortSteps.{DoesPort}
-use Rattle.board_core.proofs.MemoryLemmas.{port_dram}
+use Rattle.board_core.specs.Kept.{HasRegisters, HasStores, IsChipsetOf, IsKept, next_entry}
 
 -- an event that the board takes is in range for every board or for none
 pub in_range_anywhere : (here there : Setup) (event : Event) → IsTaken event → IsInRange here event → IsInRange there event
@@ -28,38 +22,7 @@ in_range_anywhere here there (Memory access) taken is = is
 in_range_anywhere here there (Port access) taken is = is
 in_range_anywhere here there _ taken is = absurd taken
 
--- an access to memory leaves the registers
-memory_registers : (setup : Setup) (history : List Entry) (entry : Entry) (access : Access) (registers : Registers) → entry.event ≡ Memory access →
-    HasRegisters setup history registers → HasRegisters setup (entry ∷ history) registers
-unfolding byte_of config_address reset_control
-memory_registers setup history entry access registers event kept = record {
-  address = rw event kept.address;
-  control = rw event kept.control;
-  bytes = rw event kept.bytes;
-  taken = kept.taken;
-}
-
-pub memory_board :
-    (setup : Setup) (history : List Entry) (entry : Entry) (access : Access) (registers : Registers) (old new : List ℕ) →
-    entry.event ≡ Memory access → IsBoardOf setup history registers old → IsDramOf setup (entry ∷ history) new →
-    IsBoardOf setup (entry ∷ history) registers new
-memory_board setup history entry access registers old new event kept dram = record {
-  cards = kept.cards;
-  registers = memory_registers setup history entry access registers event kept.registers;
-  bytes = dram;
-}
-
-pub port_board :
-    (setup : Setup) (history : List Entry) (entry : Entry) (access : PortAccess) (reply : Reply) (old new : Registers) (dram : List ℕ) →
-    DoesPort access old new reply → entry.event ≡ Port access → entry.reply ≡ reply → IsBoardOf setup history old dram →
-    IsBoardOf setup (entry ∷ history) new dram
-port_board setup history entry access reply old new dram done event replied kept = record {
-  cards = kept.cards;
-  registers = done.registers setup history entry kept.registers event;
-  bytes = port_dram setup history entry access reply dram event replied done.off_dram kept.bytes;
-}
-
--- ---- whole boards
+-- ---- a new board
 
 all_zero : (n k : ℕ) → slice_index (replicate n 0) k ≡ 0
 all_zero zero k = refl
@@ -67,15 +30,17 @@ all_zero (suc n) zero = refl
 all_zero (suc n) (suc k) = all_zero n k
 
 pub fresh :
-    (mib : ℕ) (past : Past) (registers : Registers) (dram : List ℕ) → past ≡ record { entries = []; spare = 0 } →
-    ((setup : Setup) → HasRegisters setup [] registers) → ((setup : Setup) → setup.mib ≡ mib → IsDramOf setup [] dram) →
-    IsKept (plain_setup mib) past.entries past.spare registers dram (0 ∷ 0 ∷ 0 ∷ 0 ∷ 0 ∷ 0 ∷ 0 ∷ 0 ∷ [])
-fresh mib past registers dram none reset zeros = rw none (record {
+    (setup : Setup) (past : Past) (chipset : Chipset) → IsSetup setup → setup.disk ≡ None → past ≡ record { entries = []; spare = 0 } →
+    HasRegisters setup [] chipset.registers → HasStores setup [] chipset.stores →
+    IsKept setup past.entries past.spare chipset (0 ∷ 0 ∷ 0 ∷ 0 ∷ 0 ∷ 0 ∷ 0 ∷ 0 ∷ [])
+fresh setup past chipset fits no_disk empty registers stores = rw empty (record {
   room = omega arith;
   legal = tt;
-  board = record { cards = refl; registers = reset (plain_setup mib); bytes = zeros (plain_setup mib) refl };
+  board = record { setup_fits = fits; no_disk = no_disk; registers = registers; stores = stores };
   counted = λ actor below. all_zero 8 actor;
 })
+
+-- ---- the numbers of entries
 
 -- the entries of a processor after one more entry
 more_by : (history : List Entry) (actor who : ℕ) (event : Event) (reply : Reply) →
@@ -109,28 +74,30 @@ counted_after history counts actor event reply within counted below who below' =
     ]
 
 -- a processor has no more entries than the history
-pub no_more_by : (history : List Entry) (actor : ℕ) → length (entries_by actor history) ≤ length history
+no_more_by : (history : List Entry) (actor : ℕ) → length (entries_by actor history) ≤ length history
 no_more_by [] actor = omega arith
 no_more_by (entry ∷ before) actor =
     let below : length (entries_by actor before) ≤ length before = no_more_by before actor in
     elim (cases_Bool (entry.actor == actor)) [ inl same ↦ rw same (omega arith) | inr other ↦ rw other (omega arith) ]
 
 pub count_fits :
-    (setup : Setup) (history : List Entry) (spare : ℕ) (registers : Registers) (dram counts : List ℕ) (actor at : ℕ) → at ≡ actor → actor < 8 →
-    IsKept setup history spare registers dram counts → slice_index counts at + 1 < 2 ^ 32
-count_fits setup history spare registers dram counts actor at same below kept =
+    (setup : Setup) (history : List Entry) (spare : ℕ) (chipset : Chipset) (counts : List ℕ) (actor at : ℕ) → at ≡ actor → actor < 8 →
+    IsKept setup history spare chipset counts → slice_index counts at + 1 < 2 ^ 32
+count_fits setup history spare chipset counts actor at same below kept =
     let count : slice_index counts actor ≡ length (entries_by actor history) = kept.counted actor below in
     let few : length (entries_by actor history) ≤ length history = no_more_by history actor in
     rw same (omega (arith, kept.room))
 
+-- ---- a step
+
 stepped :
     (setup : Setup) (history : List Entry) (counts : List ℕ) (actor : ℕ) (event : Event) (reply : Reply)
-    (spare : ℕ) (old new : Registers) (dram dram' : List ℕ) → length counts ≡ 8 → actor < 8 → 1 ≤ spare →
-    IsKept setup history spare old dram counts → IsAnswer setup history event reply →
-    IsBoardOf setup (next_entry history actor event reply ∷ history) new dram' →
-    IsKept setup (next_entry history actor event reply ∷ history) (spare - 1) new dram'
+    (spare : ℕ) (old new : Chipset) → length counts ≡ 8 → actor < 8 → 1 ≤ spare →
+    IsKept setup history spare old counts → IsAnswer setup history event reply →
+    IsChipsetOf setup (next_entry history actor event reply ∷ history) new →
+    IsKept setup (next_entry history actor event reply ∷ history) (spare - 1) new
     (slice_set counts actor (slice_index counts actor + 1))
-stepped setup history counts actor event reply spare old new dram dram' eight below some kept answer board = record {
+stepped setup history counts actor event reply spare old new eight below some kept answer board = record {
   room = omega (arith, kept.room);
   legal = (record { number = refl; answer = answer }, kept.legal);
   board = board;
@@ -142,16 +109,16 @@ entry_made actor seq event reply = record { actor = actor; seq = seq; event = ev
 
 pub stepped_by :
     (setup : Setup) (history : List Entry) (counts : List ℕ) (actor at at' : ℕ) (event : Event) (reply : Reply) (past : Past)
-    (spare : ℕ) (old new : Registers) (dram dram' : List ℕ) → at ≡ actor → at' ≡ actor → length counts ≡ 8 → actor < 8 → 1 ≤ spare →
+    (spare : ℕ) (old new : Chipset) → at ≡ actor → at' ≡ actor → length counts ≡ 8 → actor < 8 → 1 ≤ spare →
     past ≡ record {
       entries = record { actor = actor; seq = slice_index counts at + 1; event = event; reply = reply } ∷ history;
       spare = spare - 1;
     } →
-    IsKept setup history spare old dram counts → IsAnswer setup history event reply →
-    IsBoardOf setup (next_entry history actor event reply ∷ history) new dram' →
-    IsKept setup past.entries past.spare new dram' (slice_set counts at' (slice_index counts at + 1))
+    IsKept setup history spare old counts → IsAnswer setup history event reply →
+    IsChipsetOf setup (next_entry history actor event reply ∷ history) new →
+    IsKept setup past.entries past.spare new (slice_set counts at' (slice_index counts at + 1))
 unfolding entry_made
-stepped_by setup history counts actor at at' event reply past spare old new dram dram' here here' eight below some pushed kept answer board =
+stepped_by setup history counts actor at at' event reply past spare old new here here' eight below some pushed kept answer board =
     let seq : slice_index counts at + 1 ≡ length (entries_by actor history) + 1 =
     ap (λ (a : ℕ). slice_index counts a + 1) here ∙ ap (λ (n : ℕ). n + 1) (kept.counted actor below) in
     let entry : entry_made actor (slice_index counts at + 1) event reply ≡ next_entry history actor event reply =
@@ -162,4 +129,4 @@ stepped_by setup history counts actor at at' event reply past spare old new dram
     let places : slice_set counts at' (slice_index counts at + 1) ≡ slice_set counts actor (slice_index counts actor + 1) =
     ap (λ (a : ℕ). slice_set counts a (slice_index counts at + 1)) here' ∙ ap (λ (a : ℕ). slice_set counts actor (slice_index counts a + 1)) here in
     rw (entries, room, places)
-    (stepped setup history counts actor event reply spare old new dram dram' eight below some kept answer board)
+    (stepped setup history counts actor event reply spare old new eight below some kept answer board)

@@ -1,5 +1,9 @@
 mod BridgeLemmas
+mod CardLemmas
+mod SpaceLemmas
+mod RegisterLemmas
+mod ReachLemmas
 mod PortLemmas
-mod DecodeLemmas
+mod StoresLemmas
 mod MemoryLemmas
 mod KeptLemmas

@@ -1,137 +1,191 @@
--- The answer to an access to memory, by its area, and what it leaves of the DRAM.
-use Rattle.std.proofs.Common.{◌≡◌, ℕ, Bool, true, false, List, [], ◌∷◌, None, refl, inl, inr}
-use Rattle.std.specs.Prelude.{IsTrue, ◌↔◌}
-use Rattle.std.proofs.lemmas.Bool.{cases_Bool}
+-- What an access to memory reaches, what is replied, and what it leaves.
+use Rattle.std.proofs.Common.{◌≡◌, ℕ, ◌+◌, ◌%◌, ◌^◌, ◌≤◌, Bool, true, false, ◌&&◌, not, List, [], ◌∷◌, length, Option, Some, None, inl, inr, ◌∙◌, refl, sym, ap, arith}
+use Rattle.std.specs.Prelude.{IsTrue, ◌↔◌, is_some, unwrap_or, option_map}
 use Rattle.board_base.specs.declared.access.Kind.{Kind}
 use Rattle.board_base.specs.declared.access.Kind.TheVariants.{Fetch, Read, Write}
 use Rattle.board_base.specs.declared.access.Width.{Width}
+use Rattle.board_base.specs.declared.access.Width.TheVariants.{One, Two, Four}
 use Rattle.board_base.specs.declared.access.Access.{Access}
-use Rattle.board_base.specs.declared.access.PortAccess.{PortAccess}
 use Rattle.board_base.specs.declared.target.Area.{Area}
 use Rattle.board_base.specs.declared.target.Area.TheVariants.{Dram as DramArea, Shadow as ShadowArea, Smram as SmramArea, Rom as RomArea, Card as CardArea, Abort as AbortArea}
 use Rattle.board_base.specs.declared.target.Target.{Target}
-use Rattle.board_base.specs.declared.target.Target.TheVariants.{Dram, Shadow, Smram, Rom, Card, Device, Config, Abort}
-use Rattle.board_spec.specs.declared.event.Event.TheVariants.{Memory, Port}
+use Rattle.board_base.specs.declared.target.Denial.{Denial}
+use Rattle.board_base.specs.Access.{bytes_of, largest_of}
+use Rattle.board_spec.specs.declared.event.Event.TheVariants.{Memory}
 use Rattle.board_spec.specs.declared.event.Entry.{Entry}
 use Rattle.board_spec.specs.declared.event.Reply.{Reply}
-use Rattle.board_spec.specs.declared.event.Reply.TheVariants.{Bus, Saw}
-use Rattle.board_spec.specs.Setup.{Setup}
-use Rattle.board_spec.specs.Bits.{wide}
-use Rattle.board_spec.specs.Registers.{byte_of}
-use Rattle.board_spec.specs.Decode.{top_of, abort_denial, area_of, denial_of}
-use Rattle.board_spec.specs.Stored.{DramCell, dram_byte, is_write, byte_put, entry_put}
-use Rattle.board_spec.specs.Answer.{memory_answer}
-use Rattle.dram_store.specs.Dram.{IsDramOf}
-use Rattle.dram_store.proofs.DramLemmas.{unwritten}
-use Rattle.board_core.specs.Areas.{IsHostArea}
-use Rattle.board_core.specs.Kept.{lands, reply_lands}
-use Rattle.board_core.specs.Replies.{answered, aborted}
-use Rattle.board_core.proofs.DecodeLemmas.{no_shut}
+use Rattle.board_spec.specs.declared.event.Reply.TheVariants.{Bus}
+use Rattle.board_spec.specs.Setup.{Setup, IsRomSize}
+use Rattle.board_spec.specs.Registers.{reset_control, config_address, byte_of}
+use Rattle.board_spec.specs.Decode.{Bytes, Window, bridge, isa, first_of, line_where, card_area, row_of, hole_of, is_in, is_smram_range, is_shadowed, smram_answers, is_rom_selected, memory_claim, area_of, denial_of}
+use Rattle.board_spec.specs.Bits.{is_within}
+use Rattle.board_spec.specs.InRange.{FitsAccess}
+use Rattle.board_spec.specs.Stored.{Cell, is_write, byte_put, entry_put}
+use Rattle.board_spec.specs.Answer.{window_bits, target_at, value_at, memory_answer}
+use Rattle.pci_bars.specs.Contents.{LiesIn}
+use Rattle.pci_bars.proofs.WindowLemmas.{IsSized, memory_claim_sized, lies_in_window}
+use Rattle.board_core.specs.declared.registers.Registers.{Registers}
+use Rattle.board_core.specs.declared.chipset.Chipset.{Chipset}
+use Rattle.board_core.specs.Stores.{IsHeld}
+use Rattle.board_core.specs.Decoded.{IsDecoded}
+use Rattle.board_core.specs.Kept.{HasRegisters, HasStores, IsChipsetOf}
+use Rattle.board_core.proofs.StoresLemmas.{stores_unwritten}
 
--- ---- answers
+-- ---- what is reached
 
-pub dram_answer :
-    (setup : Setup) (history : List Entry) (access : Access) (row : ℕ) →
-    DramArea row ≡ area_of setup (byte_of setup history) access.addr access.kind access.smm →
-    memory_answer setup history access ≡ answered (is_write access.kind) (wide (dram_byte setup history) access.addr access.width) (Dram row)
-unfolding memory_answer denial_of
-dram_answer setup history access row area = rw (← area) refl
+-- a card answers where one of its windows claims the address
+abbrev IsClaim : Option Window → ℕ → ℕ → Type 0
+IsClaim claim dev base = (window : Window) × (claim ≡ Some window) × (window.dev ≡ dev) × (window.base ≡ base)
 
-pub shadow_answer :
-    (setup : Setup) (history : List Entry) (access : Access) (row : ℕ) →
-    ShadowArea row ≡ area_of setup (byte_of setup history) access.addr access.kind access.smm →
-    memory_answer setup history access ≡ answered (is_write access.kind) (wide (dram_byte setup history) access.addr access.width) (Shadow row)
-unfolding memory_answer denial_of
-shadow_answer setup history access row area = rw (← area) refl
+last_line : (claim : Option Window) (dev base : ℕ) → first_of (option_map card_area claim ∷ []) AbortArea ≡ CardArea dev base → IsClaim claim dev base
+last_line None dev base is = cc
+last_line (Some window) dev base is = (window, refl, cc, cc)
 
-pub smram_answer :
-    (setup : Setup) (history : List Entry) (access : Access) →
-    SmramArea ≡ area_of setup (byte_of setup history) access.addr access.kind access.smm →
-    memory_answer setup history access ≡ answered (is_write access.kind) (wide (dram_byte setup history) access.addr access.width) Smram
-unfolding memory_answer denial_of
-smram_answer setup history access area = rw (← area) refl
+claim_line :
+    (smram shadow dram rom : Bool) (row : ℕ) (claim : Option Window) (dev base : ℕ) →
+    first_of
+    (line_where smram SmramArea ∷ line_where shadow (ShadowArea row) ∷ line_where dram (DramArea row) ∷ line_where rom RomArea
+    ∷ option_map card_area claim ∷ [])
+    AbortArea
+    ≡ CardArea dev base →
+    IsClaim claim dev base
+claim_line true shadow dram rom row claim dev base is = cc
+claim_line false true dram rom row claim dev base is = cc
+claim_line false false true rom row claim dev base is = cc
+claim_line false false false true row claim dev base is = cc
+claim_line false false false false row claim dev base is = last_line claim dev base is
 
-pub abort_answer :
-    (setup : Setup) (history : List Entry) (access : Access) → setup.cards ≡ [] →
-    AbortArea ≡ area_of setup (byte_of setup history) access.addr access.kind access.smm →
-    memory_answer setup history access
-    ≡ aborted (is_write access.kind) access.width (abort_denial (top_of (byte_of setup history)) None access.addr)
-unfolding memory_answer denial_of
-abort_answer setup history access none area = rw (← area, no_shut setup (byte_of setup history) access.addr none) refl
+claimed :
+    (setup : Setup) (bytes : Bytes) (addr : ℕ) (kind : Kind) (smm : Bool) (dev base : ℕ) → area_of setup bytes addr kind smm ≡ CardArea dev base →
+    IsClaim (memory_claim setup bytes addr) dev base
+unfolding area_of
+claimed setup bytes addr kind smm dev base is =
+    claim_line
+    (is_smram_range addr && is_some (row_of bytes addr) && smram_answers (bytes (bridge 0x72)) kind smm)
+    (is_some (row_of bytes addr) && is_shadowed bytes addr kind)
+    (not (is_within 0xA_0000 0xF_FFFF addr) && is_some (row_of bytes addr) && not (is_in (hole_of (bytes (bridge 0x68))) addr))
+    (is_rom_selected (bytes (isa 0x4E)) addr)
+    (unwrap_or (row_of bytes addr) 0) (memory_claim setup bytes addr) dev base is
 
--- an area of the host bridge that is none of DRAM's is nobody's
-pub host_rest :
-    (area : Area) → IsHostArea area → ((row : ℕ) → area ≡ DramArea row → ⊥) → ((row : ℕ) → area ≡ ShadowArea row → ⊥) → (area ≡ SmramArea → ⊥) →
-    AbortArea ≡ area
-host_rest (DramArea row) host dram shadow smram = absurd (dram row refl)
-host_rest (ShadowArea row) host dram shadow smram = absurd (shadow row refl)
-host_rest SmramArea host dram shadow smram = absurd (smram refl)
-host_rest RomArea host dram shadow smram = absurd host
-host_rest (CardArea dev base) host dram shadow smram = absurd host
-host_rest AbortArea host dram shadow smram = refl
+-- an aligned access ends within the ROM
+rom_within : (addr size : ℕ) (width : Width) → IsRomSize size → addr % bytes_of width ≡ 0 → addr % size + bytes_of width ≤ size
+rom_within addr size One (inl is) aligned = rw is (omega arith)
+rom_within addr size Two (inl is) aligned = rw is (omega arith)
+rom_within addr size Four (inl is) aligned = rw is (omega arith)
+rom_within addr size One (inr (inl is)) aligned = rw is (omega arith)
+rom_within addr size Two (inr (inl is)) aligned = rw is (omega arith)
+rom_within addr size Four (inr (inl is)) aligned = rw is (omega arith)
+rom_within addr size One (inr (inr (inl is))) aligned = rw is (omega arith)
+rom_within addr size Two (inr (inr (inl is))) aligned = rw is (omega arith)
+rom_within addr size Four (inr (inr (inl is))) aligned = rw is (omega arith)
+rom_within addr size One (inr (inr (inr is))) aligned = rw is (omega arith)
+rom_within addr size Two (inr (inr (inr is))) aligned = rw is (omega arith)
+rom_within addr size Four (inr (inr (inr is))) aligned = rw is (omega arith)
 
--- ---- the DRAM
+lies_in_base :
+    (setup : Setup) (contents : List (List ℕ)) (window : Window) (dev base place : ℕ) (width : Width) → IsSized setup window → window.dev ≡ dev →
+    window.base ≡ base → LiesIn contents window.dev window.base (place % 2 ^ window.bits) width →
+    LiesIn contents dev base (place % 2 ^ window_bits setup dev base) width
+lies_in_base setup contents window dev base place width sized device number lies = rw (← device, ← number, ← sized.bits) lies
 
--- a write that lands puts its bytes at its own address
-pub write_lands : (access : Access) (reply : Reply) (at : ℕ) → is_write access.kind ≡ true → reply_lands reply ≡ true →
-    entry_put (Memory access) reply (DramCell at) ≡ byte_put (Dram 0) access.addr access.width access.value (DramCell at)
-write_lands access (Saw look) at writes off = cc
-write_lands access (Bus v (Dram row) denial) at writes on = rw writes refl
-write_lands access (Bus v (Shadow row) denial) at writes on = rw writes refl
-write_lands access (Bus v Smram denial) at writes on = rw writes refl
-write_lands access (Bus v (Rom o) denial) at writes on = cc
-write_lands access (Bus v (Card dev base o) denial) at writes on = cc
-write_lands access (Bus v (Device dev) denial) at writes on = cc
-write_lands access (Bus v (Config reg) denial) at writes on = cc
-write_lands access (Bus v Abort denial) at writes on = cc
+held_in :
+    (setup : Setup) (history : List Entry) (chipset : Chipset) (addr : ℕ) (width : Width) (area : Area) → IsChipsetOf setup history chipset →
+    addr % bytes_of width ≡ 0 →
+    ((dev base : ℕ) → area ≡ CardArea dev base → IsClaim (memory_claim setup (byte_of setup history) addr) dev base) →
+    IsHeld setup.rom chipset.stores.contents (target_at setup area addr) width
+held_in setup history chipset addr width (DramArea row) kept aligned claim = tt
+held_in setup history chipset addr width (ShadowArea row) kept aligned claim = tt
+held_in setup history chipset addr width SmramArea kept aligned claim = tt
+held_in setup history chipset addr width RomArea kept aligned claim = rom_within addr (length setup.rom) width kept.setup_fits.rom aligned
+held_in setup history chipset addr width (CardArea dev base) kept aligned claim =
+    let by = claim dev base refl in
+    let sized : IsSized setup by.0 =
+    memory_claim_sized setup (byte_of setup history) chipset.registers.map.cards.items addr by.0 kept.registers.fitted.each kept.registers.map.cards by.1 in
+    lies_in_base setup chipset.stores.contents by.0 dev base addr width sized by.2 by.3
+    (lies_in_window setup history chipset.stores.contents by.0 addr width sized kept.stores.contents aligned)
+held_in setup history chipset addr width AbortArea kept aligned claim = tt
 
--- a read puts nothing
-pub no_write : (access : Access) (reply : Reply) (at : ℕ) → is_write access.kind ≡ false → entry_put (Memory access) reply (DramCell at) ≡ None
-no_write access (Saw look) at reads = refl
-no_write access (Bus v target denial) at reads = rw reads refl
+-- what is reached has these bytes
+pub held :
+    (setup : Setup) (history : List Entry) (chipset : Chipset) (rom : List ℕ) (access : Access) (target : Target) (denial : Option Denial) →
+    IsChipsetOf setup history chipset → setup.rom ≡ rom → access.addr % bytes_of access.width ≡ 0 → IsDecoded setup history access target denial →
+    IsHeld rom chipset.stores.contents target access.width
+held setup history chipset rom access target denial kept same aligned is =
+    rw (is.target_is, ← same)
+    (held_in setup history chipset access.addr access.width (area_of setup (byte_of setup history) access.addr access.kind access.smm) kept aligned
+    (λ dev base card. claimed setup (byte_of setup history) access.addr access.kind access.smm dev base card))
 
--- a target that is none of DRAM's takes no byte of the DRAM
-no_cell : (target : Target) (place : ℕ) (width : Width) (value at : ℕ) → lands target ≡ false →
-    byte_put target place width value (DramCell at) ≡ None
-no_cell (Dram row) place width value at off = cc
-no_cell (Shadow row) place width value at off = cc
-no_cell Smram place width value at off = cc
-no_cell (Rom o) place width value at off = refl
-no_cell (Card dev base o) place width value at off = refl
-no_cell (Device dev) place width value at off = refl
-no_cell (Config reg) place width value at off = refl
-no_cell Abort place width value at off = refl
-
-pub no_landing : (access : Access) (reply : Reply) (at : ℕ) → reply_lands reply ≡ false → entry_put (Memory access) reply (DramCell at) ≡ None
-no_landing access (Saw look) at off = refl
-no_landing access (Bus v target denial) at off =
-    elim (cases_Bool (is_write access.kind)) [
-      | inl writes ↦ rw writes (no_cell target access.addr access.width access.value at off)
-      | inr reads ↦ rw reads refl
-    ]
-
--- nor does an access to a port
-no_port_landing : (access : PortAccess) (reply : Reply) (at : ℕ) → reply_lands reply ≡ false → entry_put (Port access) reply (DramCell at) ≡ None
-no_port_landing access (Saw look) at off = refl
-no_port_landing access (Bus v target denial) at off =
-    elim (cases_Bool access.write) [
-      | inl writes ↦ rw writes (no_cell target access.port access.width access.value at off)
-      | inr reads ↦ rw reads refl
-    ]
-
-pub port_dram :
-    (setup : Setup) (history : List Entry) (entry : Entry) (access : PortAccess) (reply : Reply) (dram : List ℕ) →
-    entry.event ≡ Port access → entry.reply ≡ reply → reply_lands reply ≡ false → IsDramOf setup history dram →
-    IsDramOf setup (entry ∷ history) dram
-port_dram setup history entry access reply dram event replied off kept =
-    unwritten setup history entry dram kept
-    (λ at. rw (event, replied) (no_port_landing access reply at off))
+-- ---- what is replied
 
 -- whether an access writes, as the code tells it
-pub write_flag : (kind : Kind) (flag : Bool) → IsTrue flag ↔ (kind ≡ Write) → flag ≡ is_write kind
-write_flag Fetch true is = let same = is.0 refl in cc
-write_flag Fetch false is = refl
-write_flag Read true is = let same = is.0 refl in cc
-write_flag Read false is = refl
-write_flag Write true is = refl
-write_flag Write false is = let same = is.1 refl in cc
+pub writes_when : (kind : Kind) (flag : Bool) → IsTrue flag ↔ (kind ≡ Write) → is_write kind ≡ flag
+writes_when Fetch true is = let same = is.0 refl in cc
+writes_when Fetch false is = refl
+writes_when Read true is = let same = is.0 refl in cc
+writes_when Read false is = refl
+writes_when Write true is = refl
+writes_when Write false is = let same = is.1 refl in cc
+
+-- the value of a write fits its width
+pub written_fits : (kind : Kind) (width : Width) (value : ℕ) → is_write kind ≡ true → FitsAccess (is_write kind) width value → value ≤ largest_of width
+written_fits Fetch width value writes fits = cc
+written_fits Read width value writes fits = cc
+written_fits Write width value writes fits = fits
+
+pub write_answer :
+    (setup : Setup) (history : List Entry) (access : Access) (target : Target) (denial : Option Denial) → is_write access.kind ≡ true →
+    IsDecoded setup history access target denial → Bus None target denial ≡ memory_answer setup history access
+unfolding memory_answer
+write_answer setup history access target denial writes is = rw (writes, ← is.target_is, ← is.denial_is) refl
+
+pub read_answer :
+    (setup : Setup) (history : List Entry) (access : Access) (target : Target) (denial : Option Denial) (value : ℕ) → is_write access.kind ≡ false →
+    IsDecoded setup history access target denial → value ≡ value_at setup history target access.addr access.width →
+    Bus (Some value) target denial ≡ memory_answer setup history access
+unfolding memory_answer
+read_answer setup history access target denial value reads is value_is = rw (reads, value_is, ← is.target_is, ← is.denial_is) refl
+
+-- ---- what it leaves
+
+-- an access to memory leaves the registers
+registers_after : (setup : Setup) (history : List Entry) (entry : Entry) (access : Access) (registers : Registers) → entry.event ≡ Memory access →
+    HasRegisters setup history registers → HasRegisters setup (entry ∷ history) registers
+unfolding byte_of config_address reset_control
+registers_after setup history entry access registers event kept = record {
+  address = rw event kept.address;
+  control = rw event kept.control;
+  space = rw event kept.space;
+  map = rw event kept.map;
+  fitted = kept.fitted;
+  taken = kept.taken;
+}
+
+-- and stores what a write puts
+pub write_puts :
+    (entry : Entry) (access : Access) (value : Option ℕ) (target : Target) (denial : Option Denial) (cell : Cell) → entry.event ≡ Memory access →
+    entry.reply ≡ Bus value target denial → is_write access.kind ≡ true →
+    entry_put entry.event entry.reply cell ≡ byte_put target access.addr access.width access.value cell
+write_puts entry access value target denial cell event replied writes = rw (event, replied, writes) refl
+
+pub chipset_written :
+    (setup : Setup) (history : List Entry) (entry : Entry) (access : Access) (old new : Chipset) → entry.event ≡ Memory access →
+    IsChipsetOf setup history old → new.registers ≡ old.registers → HasStores setup (entry ∷ history) new.stores →
+    IsChipsetOf setup (entry ∷ history) new
+chipset_written setup history entry access old new event kept same stores = record {
+  setup_fits = kept.setup_fits;
+  no_disk = kept.no_disk;
+  registers = rw same (registers_after setup history entry access old.registers event kept.registers);
+  stores = stores;
+}
+
+-- a read leaves all as it is
+pub chipset_read :
+    (setup : Setup) (history : List Entry) (entry : Entry) (access : Access) (value : Option ℕ) (target : Target) (denial : Option Denial) (chipset : Chipset) →
+    entry.event ≡ Memory access → entry.reply ≡ Bus value target denial → is_write access.kind ≡ false → IsChipsetOf setup history chipset →
+    IsChipsetOf setup (entry ∷ history) chipset
+chipset_read setup history entry access value target denial chipset event replied reads kept = record {
+  setup_fits = kept.setup_fits;
+  no_disk = kept.no_disk;
+  registers = registers_after setup history entry access chipset.registers event kept.registers;
+  stores = stores_unwritten setup history entry chipset.stores kept.stores (λ cell. rw (event, replied, reads) refl);
+}

@@ -1,453 +1,399 @@
--- What an access at the configuration ports and at reset control answers, and what it does to the registers.
-use Rattle.std.proofs.Common.{◌^◌, ◌≡◌, ℕ, ◌+◌, ◌≤◌, ◌<◌, ◌/◌, ◌%◌, inl, inr, Bool, true, false, List, [], ◌∷◌, Option, Some, None, refl, sym, ◌∙◌, ap, subst, arith}
-use Rattle.std.specs.Prelude.{◌==◌, unwrap_or, option_map}
-use Rattle.std.proofs.lemmas.Bool.{cases_Bool, cases_eq}
+-- What an access at a port reaches, what is replied, and what it does to the registers.
+use Rattle.std.proofs.Common.{◌≡◌, ◌≢◌, ℕ, ◌+◌, ◌*◌, ◌/◌, ◌%◌, ◌^◌, ◌≤◌, ◌<◌, Bool, true, false, ◌&&◌, ◌||◌, inl, inr, List, [], ◌∷◌, Option, Some, None, refl, sym, ◌∙◌, ap, subst, arith}
+use Rattle.std.specs.Prelude.{◌==◌, if◌then◌else◌, is_some, unwrap_or, option_map}
+use Rattle.std.proofs.Math.Bool.{and-true}
+use Rattle.std.proofs.lemmas.Bool.{cases_Bool, eq-eqb, eqb-true, false≢true}
 use Rattle.std.proofs.lemmas.Bool.Decides.{nat_tests}
-use Rattle.std.proofs.lemmas.Nat.{and_le_l, and_mod}
-use Rattle.std.specs.Int.Bits.{bit_and}
+use Rattle.std.proofs.lemmas.Nat.{and_le_r}
 use Rattle.board_base.specs.declared.access.Width.{Width}
+use Rattle.board_base.specs.declared.access.Width.TheVariants.{One, Two, Four}
 use Rattle.board_base.specs.declared.access.PortAccess.{PortAccess}
 use Rattle.board_base.specs.declared.target.Reg.{Reg}
-use Rattle.board_base.specs.declared.target.Dev.TheVariants.{Confadd as AddressPort, Reset as ResetPort}
+use Rattle.board_base.specs.declared.target.Dev.{Dev}
+use Rattle.board_base.specs.declared.target.Dev.TheVariants.{Confadd, Reset, Keyboard}
 use Rattle.board_base.specs.declared.target.Target.{Target}
-use Rattle.board_base.specs.declared.target.Target.TheVariants.{Device, Config}
-use Rattle.board_base.specs.declared.target.Denial.TheVariants.{Confadd}
+use Rattle.board_base.specs.declared.target.Target.TheVariants.{Dram, Shadow, Smram, Rom, Card, Device, Config, Abort}
+use Rattle.board_base.specs.declared.target.Denial.{Denial}
+use Rattle.board_base.specs.Access.{bytes_of, largest_of}
 use Rattle.board_spec.specs.declared.event.Event.{Event}
 use Rattle.board_spec.specs.declared.event.Event.TheVariants.{Port}
 use Rattle.board_spec.specs.declared.event.Entry.{Entry}
 use Rattle.board_spec.specs.declared.event.Reply.{Reply}
-use Rattle.board_spec.specs.declared.map_change.MapChange.{MapChange}
-use Rattle.board_spec.specs.declared.map_change.MapChange.TheVariants.{Store, Reset}
-use Rattle.board_spec.specs.Setup.{Setup}
-use Rattle.board_spec.specs.Bits.{wide}
-use Rattle.board_spec.specs.RegisterTable.{reset_byte}
-use Rattle.board_spec.specs.Registers.{is_hard_value, control_after, control_written, address_written, kept_address, reset_control, config_address, is_enabled, bus_of, device_of, function_of, register_of, is_config_port, config_register, config_store, register_change, changed_byte, byte_with, byte_of}
-use Rattle.board_spec.specs.Decode.{Bytes, bridge}
-use Rattle.board_spec.specs.Ports.{port_target_of}
-use Rattle.board_spec.specs.Answer.{port_answer}
-use Rattle.board_core.specs.declared.registers.Registers.{Registers}
-use Rattle.board_core.specs.declared.bridge.HostBridge.{HostBridge}
-use Rattle.board_core.specs.Bridge.{IsRegisters}
-use Rattle.board_core.specs.Forms.{IsTakenAddress, IsAddressAccess, IsDataAccess, IsResetAccess}
 use Rattle.board_spec.specs.declared.event.Reply.TheVariants.{Bus}
-use Rattle.cfg_ports.specs.declared.conf_add.Selected.{Selected}
-use Rattle.cfg_ports.specs.Selection.{selected_at}
-use Rattle.board_core.specs.Bridge.{IsBridgeOf}
-use Rattle.board_core.specs.Kept.{HasRegisters, lands, reply_lands}
-use Rattle.board_core.specs.PortSteps.{DoesPort}
-use Rattle.board_core.specs.Replies.{answered, aborted}
+use Rattle.board_spec.specs.declared.map_change.MapChange.{MapChange}
+use Rattle.board_spec.specs.declared.map_change.MapChange.TheVariants.{Store}
+use Rattle.board_spec.specs.Setup.{Setup}
+use Rattle.board_spec.specs.Bits.{is_within}
+use Rattle.board_spec.specs.RegisterTable.{function_at, function_exists}
+use Rattle.board_spec.specs.Registers.{control_written, address_written, kept_address, config_address, is_hard_reset, is_enabled, bus_of, device_of, function_of, register_of, is_config_port, config_register, config_store, register_change, byte_of}
+use Rattle.board_spec.specs.MapWrites.{reg_after}
+use Rattle.board_spec.specs.InRange.{FitsAccess}
+use Rattle.board_spec.specs.Stored.{Cell, byte_put, entry_put}
+use Rattle.board_spec.specs.Answer.{value_at, bus_reply, port_answer}
+use Rattle.board_spec.specs.Decode.{Bytes, isa, ide, Window, io_claim}
+use Rattle.board_spec.specs.Ports.{Decoded, nobody, card_port, config_port, unselected, other_port, port_target_of}
+use Rattle.addr_decode.specs.Onboard.{byte_port}
+use Rattle.addr_decode.specs.Ports.{ports_in_order}
+use Rattle.addr_decode.proofs.PortLemmas.{in_order}
+use Rattle.pci_bars.proofs.WindowLemmas.{IsSized, io_claim_sized, lies_in_window}
+use Rattle.board_core.specs.declared.registers.Registers.{Registers}
+use Rattle.board_core.specs.declared.chipset.Chipset.{Chipset}
+use Rattle.board_core.specs.Space.{is_routing, IsOffRouting}
+use Rattle.board_core.specs.Forms.{routing_address, names_routing, IsTakenPort}
+use Rattle.board_core.specs.Ports.{reached, IsPortTarget, IsThere, FitsTarget, WritesNone, WritesAddress, Writes}
+use Rattle.board_core.specs.Kept.{HasRegisters, HasStores, IsChipsetOf}
+use Rattle.cfg_ports.proofs.AddressLemmas.{kept_address-again, kept_address-low_bits, within_space}
+use Rattle.board_core.proofs.StoresLemmas.{stores_unwritten}
+use Rattle.board_core.proofs.ReachLemmas.{IsBeside, IsReached, reaches}
+use Rattle.board_core.proofs.RegisterLemmas.{no_control, no_address, both_right, data_is_not_control, quiet}
 
--- ---- what is written to reset control
+-- ---- what a write does to the registers
 
-pub no_control : (access : PortAccess) → (access.port == 0xCF9) ≡ false → control_written (Port access) ≡ None
-no_control access other =
-    elim (cases_Bool access.write) [ inl writes ↦ rw (writes, other) refl | inr reads ↦ rw reads refl ]
+pub quiet_write :
+    (setup : Setup) (history : List Entry) (entry : Entry) (old : Registers) → WritesNone setup history entry.event →
+    HasRegisters setup history old → HasRegisters setup (entry ∷ history) old
+quiet_write setup history entry old none kept =
+    quiet setup history entry old (record { control = none.control; address = none.address }) none.change kept
 
-not_control : (port : ℕ) → is_config_port port ≡ true → (port == 0xCF9) ≡ false
-not_control port is = grind (arith, nat_tests)
-
-not_address : (port : ℕ) → is_config_port port ≡ true → (port == 0xCF8) ≡ false
-not_address port is = grind (arith, nat_tests)
-
-data_control : (access : PortAccess) → IsDataAccess access → control_written (Port access) ≡ None
-data_control access is = no_control access (not_control access.port is)
-
-address_control : (access : PortAccess) → IsAddressAccess access → control_written (Port access) ≡ None
-address_control access is = let other : (access.port == 0xCF9) ≡ false = rw (is.0) refl in no_control access other
-
--- ---- the registers after an access that does not write reset control
-
--- the registers after an entry, by its change
-bytes_after :
-    (setup : Setup) (history : List Entry) (entry : Entry) (host : HostBridge) (change : Option MapChange) →
-    register_change setup history entry.event ≡ change →
-    IsRegisters setup (λ reg. byte_with setup change reg (byte_of setup history reg)) host →
-    IsRegisters setup (byte_of setup (entry ∷ history)) host
-unfolding byte_of
-bytes_after setup history entry host change is kept =
-    subst (λ (c : Option MapChange). IsRegisters setup (λ reg. byte_with setup c reg (byte_of setup history reg)) host) (sym is) kept
-
-pub follows :
-    (setup : Setup) (history : List Entry) (entry : Entry) (access : PortAccess) (old new : Registers) (change : Option MapChange) →
-    entry.event ≡ Port access → control_written (Port access) ≡ None → register_change setup history (Port access) ≡ change →
-    HasRegisters setup history old →
-    new.address ≡ unwrap_or (option_map kept_address (address_written (Port access))) old.address → new.control ≡ old.control →
-    IsRegisters setup (λ reg. byte_with setup change reg (byte_of setup history reg)) new.host → IsTakenAddress new.address →
-    HasRegisters setup (entry ∷ history) new
-unfolding config_address reset_control
-follows setup history entry access old new change event none is kept address control host taken = record {
-  address = rw (event, none) (address ∙ ap (λ (a : ℕ). unwrap_or (option_map kept_address (address_written (Port access))) a) kept.address);
-  control = rw (event, none) (control ∙ kept.control);
-  bytes = bytes_after setup history entry new.host change (rw event is) host;
-  taken = taken;
-}
+-- a target that is no device and no register
+pub writes_none :
+    (setup : Setup) (history : List Entry) (event : Event) (target : Target) (width : Width) (value : ℕ) →
+    ((dev : Dev) → target ≡ Device dev → ⊥) → ((reg : Reg) → target ≡ Config reg → ⊥) → Writes setup history event target width value →
+    WritesNone setup history event
+writes_none setup history event (Dram row) width value device config writes = writes
+writes_none setup history event (Shadow row) width value device config writes = writes
+writes_none setup history event Smram width value device config writes = writes
+writes_none setup history event (Rom off) width value device config writes = writes
+writes_none setup history event (Card dev base off) width value device config writes = writes
+writes_none setup history event (Device dev) width value device config writes = absurd (device dev refl)
+writes_none setup history event (Config reg) width value device config writes = absurd (config reg refl)
+writes_none setup history event Abort width value device config writes = writes
 
 -- ---- the configuration address
 
-pub address_answer :
-    (setup : Setup) (history : List Entry) (access : PortAccess) → IsAddressAccess access →
-    port_answer setup history access ≡ answered access.write (config_address history) (Device AddressPort)
-unfolding port_answer port_target_of
-address_answer setup history access is = rw (is.0, is.1) refl
+kept_after : (hard : Bool) (written : Option ℕ) (old : ℕ) → kept_address old ≡ old →
+    kept_address (if hard then 0 else unwrap_or (option_map kept_address written) old) ≡ (if hard then 0 else unwrap_or (option_map kept_address written) old)
+kept_after true written old is = refl
+kept_after false None old is = is
+kept_after false (Some value) old is = kept_address-again value
 
-address_change : (setup : Setup) (history : List Entry) (access : PortAccess) → IsAddressAccess access →
-    register_change setup history (Port access) ≡ None
-address_change setup history access is =
-    let none : control_written (Port access) ≡ None = address_control access is in
-    let no_data : is_config_port access.port ≡ false = rw (is.0) refl in
-    elim (cases_Bool access.write) [ inl writes ↦ rw (none, writes, no_data) refl | inr reads ↦ rw (none, reads) refl ]
+address_kept : (history : List Entry) → kept_address (config_address history) ≡ config_address history
+unfolding config_address
+address_kept [] = refl
+address_kept (entry ∷ before) =
+    kept_after (is_hard_reset before entry.event) (address_written entry.event) (config_address before) (address_kept before)
 
-address_put : (access : PortAccess) → IsAddressAccess access → access.write ≡ true → address_written (Port access) ≡ Some access.value
-address_put access is writes = rw (writes, is.0, is.1) refl
+-- the parts of the register that an address names
+record IsNamed (setup : Setup) (address port : ℕ) (reg : Reg) : Type 0 where
+  enabled : is_enabled address ≡ true
+  bus : bus_of address ≡ 0
+  exists' : function_exists setup 0 reg.dev reg.fun ≡ true
+  dev : reg.dev ≡ device_of address
+  fun : reg.fun ≡ function_of address
+  off : reg.off ≡ register_of address + port % 4
 
-not_put : (access : PortAccess) → access.write ≡ false → address_written (Port access) ≡ None
-not_put access reads = rw reads refl
+both_left : (a b : Bool) → (a && b) ≡ true → a ≡ true
+both_left true b is = refl
+both_left false b is = absurd (cc)
 
-pub address_writes :
-    (setup : Setup) (history : List Entry) (entry : Entry) (access : PortAccess) (old new : Registers) →
-    IsAddressAccess access → access.write ≡ true → entry.event ≡ Port access → HasRegisters setup history old →
-    new.address ≡ kept_address access.value → new.control ≡ old.control → new.host ≡ old.host → IsTakenAddress (kept_address access.value) →
-    HasRegisters setup (entry ∷ history) new
-address_writes setup history entry access old new is writes event kept address control host taken =
-    follows setup history entry access old new None event (address_control access is) (address_change setup history access is) kept
-    (address ∙ sym (rw (address_put access is writes) refl)) control (rw host kept.bytes) (rw address taken)
-
-pub quiet :
-    (setup : Setup) (history : List Entry) (entry : Entry) (access : PortAccess) (old : Registers) →
-    control_written (Port access) ≡ None → register_change setup history (Port access) ≡ None → address_written (Port access) ≡ None →
-    entry.event ≡ Port access → HasRegisters setup history old → HasRegisters setup (entry ∷ history) old
-quiet setup history entry access old control none put event kept =
-    follows setup history entry access old old None event control none kept (rw put refl) refl kept.bytes kept.taken
-
-pub address_reads :
-    (setup : Setup) (history : List Entry) (entry : Entry) (access : PortAccess) (old : Registers) →
-    IsAddressAccess access → access.write ≡ false → entry.event ≡ Port access → HasRegisters setup history old →
-    HasRegisters setup (entry ∷ history) old
-address_reads setup history entry access old is reads =
-    quiet setup history entry access old (address_control access is) (address_change setup history access is) (not_put access reads)
-
--- ---- the configuration data ports
-
-low_halves : (address : ℕ) → IsTakenAddress address → is_enabled address ≡ true → address / 0x100 % 0x1_0000 ≡ 0
-low_halves address (inl low) on = absurd (grind (arith, nat_tests))
-low_halves address (inr zero') on = zero'
-
-named_by : (setup : Setup) (address port bus dev fun : ℕ) → is_enabled address ≡ true → bus_of address ≡ 0 → device_of address ≡ 0 → function_of address ≡ 0 →
-    config_register setup address port ≡ Some (bridge (register_of address + port % 4))
-named_by setup address port bus dev fun on no_bus no_dev no_fun = rw (on, no_bus, no_dev, no_fun) refl
-
-pub named : (setup : Setup) (address port : ℕ) → IsTakenAddress address → is_enabled address ≡ true →
-    config_register setup address port ≡ Some (bridge (register_of address + port % 4))
-named setup address port taken on =
-    let low : address / 0x100 % 0x1_0000 ≡ 0 = low_halves address taken on in
-    named_by setup address port 0 0 0 on (omega arith) (omega arith) (omega arith)
-
-pub register_answer :
-    (setup : Setup) (history : List Entry) (access : PortAccess) (reg : Reg) → IsDataAccess access →
-    config_register setup (config_address history) access.port ≡ Some reg →
-    port_answer setup history access
-    ≡ answered access.write (wide (λ off. byte_of setup history (record reg { off = off })) reg.off access.width) (Config reg)
-unfolding port_answer port_target_of
-register_answer setup history access reg is named' =
-    let other : (access.port == 0xCF8) ≡ false = not_address access.port is in rw (other, is, named') refl
-
-pub disabled_answer :
-    (setup : Setup) (history : List Entry) (access : PortAccess) → IsDataAccess access → is_enabled (config_address history) ≡ false →
-    port_answer setup history access ≡ aborted access.write access.width Confadd
-unfolding port_answer port_target_of
-disabled_answer setup history access is off =
-    let other : (access.port == 0xCF8) ≡ false = not_address access.port is in rw (other, is, off, off) refl
-
-data_put : (access : PortAccess) → IsDataAccess access → address_written (Port access) ≡ None
-data_put access is =
-    let other : (access.port == 0xCF8) ≡ false = not_address access.port is in
-    elim (cases_Bool access.write) [ inl writes ↦ rw (writes, other) refl | inr reads ↦ rw reads refl ]
-
-write_change :
-    (setup : Setup) (history : List Entry) (access : PortAccess) (reg : Reg) → IsDataAccess access → access.write ≡ true →
-    config_register setup (config_address history) access.port ≡ Some reg →
-    register_change setup history (Port access) ≡ Some (Store reg access.width access.value)
-write_change setup history access reg is writes named' = rw (data_control access is, writes, is, named') refl
-
-read_change : (setup : Setup) (history : List Entry) (access : PortAccess) → IsDataAccess access → access.write ≡ false →
-    register_change setup history (Port access) ≡ None
-read_change setup history access is reads = rw (data_control access is, reads) refl
-
-disabled_change :
-    (setup : Setup) (history : List Entry) (access : PortAccess) → IsDataAccess access → is_enabled (config_address history) ≡ false →
-    register_change setup history (Port access) ≡ None
-disabled_change setup history access is off =
-    elim (cases_Bool access.write) [
-      | inl writes ↦ rw (data_control access is, writes, is, off) refl
-      | inr reads ↦ read_change setup history access is reads
-    ]
-
-pub data_reads :
-    (setup : Setup) (history : List Entry) (entry : Entry) (access : PortAccess) (old : Registers) →
-    IsDataAccess access → access.write ≡ false → entry.event ≡ Port access → HasRegisters setup history old →
-    HasRegisters setup (entry ∷ history) old
-data_reads setup history entry access old is reads =
-    quiet setup history entry access old (data_control access is) (read_change setup history access is reads) (data_put access is)
-
-pub data_disabled :
-    (setup : Setup) (history : List Entry) (entry : Entry) (access : PortAccess) (old : Registers) →
-    IsDataAccess access → is_enabled old.address ≡ false → entry.event ≡ Port access → HasRegisters setup history old →
-    HasRegisters setup (entry ∷ history) old
-data_disabled setup history entry access old is off event kept =
-    quiet setup history entry access old (data_control access is)
-    (disabled_change setup history access is (rw (← kept.address) off)) (data_put access is) event kept
-
-pub data_writes :
-    (setup : Setup) (history : List Entry) (entry : Entry) (access : PortAccess) (old new : Registers) (off : ℕ) →
-    IsDataAccess access → access.write ≡ true → is_enabled old.address ≡ true → off ≡ register_of old.address + access.port % 4 →
-    entry.event ≡ Port access → HasRegisters setup history old → new.address ≡ old.address → new.control ≡ old.control →
-    IsRegisters setup (λ reg. changed_byte setup (Store (bridge off) access.width access.value) reg (byte_of setup history reg)) new.host →
-    HasRegisters setup (entry ∷ history) new
-data_writes setup history entry access old new off is writes on there event kept address control host =
-    let name : config_register setup (config_address history) access.port ≡ Some (bridge off) =
-    rw (← kept.address, there) (named setup old.address access.port kept.taken on) in
-    follows setup history entry access old new (Some (Store (bridge off) access.width access.value)) event (data_control access is)
-    (write_change setup history access (bridge off) is writes name) kept
-    (address ∙ sym (rw (data_put access is) refl)) control host (rw address kept.taken)
-
--- ---- reset control
-
-pub control_answer :
-    (setup : Setup) (history : List Entry) (access : PortAccess) → IsResetAccess access →
-    port_answer setup history access ≡ answered access.write (reset_control history) (Device ResetPort)
-unfolding port_answer port_target_of
-control_answer setup history access is = rw (is.0, is.1) refl
-
--- what is written to reset control is written to no other port
-is_control : (access : PortAccess) (byte : ℕ) → control_written (Port access) ≡ Some byte → access.port ≡ 0xCF9
-is_control access byte put =
-    elim (cases_eq access.port 0xCF9) [
-      | inl here ↦ here
-      | inr elsewhere ↦ let other : (access.port == 0xCF9) ≡ false = grind (arith, nat_tests) in let none = no_control access other in cc
-    ]
-
-no_address : (event : Event) (byte : ℕ) → control_written event ≡ Some byte → address_written event ≡ None
-no_address (Port access) byte put =
-    let here : (access.port == 0xCF8) ≡ false = rw (is_control access byte put) refl in
-    elim (cases_Bool access.write) [ inl writes ↦ rw (writes, here) refl | inr reads ↦ rw reads refl ]
-no_address _ byte put = refl
-
-no_data : (setup : Setup) (address : ℕ) (event : Event) (byte : ℕ) → control_written event ≡ Some byte → config_store setup address event ≡ None
-no_data setup address (Port access) byte put =
-    let here : is_config_port access.port ≡ false = rw (is_control access byte put) refl in
-    elim (cases_Bool access.write) [ inl writes ↦ rw (writes, here) refl | inr reads ↦ rw reads refl ]
-no_data setup address _ byte put = refl
-
-pub control_put : (access : PortAccess) → IsResetAccess access → access.write ≡ true → control_written (Port access) ≡ Some access.value
-control_put access is writes = rw (writes, is.0, is.1) refl
-
-pub registers_at_reset : (setup : Setup) (registers : Registers) → registers.address ≡ 0 → registers.control ≡ 0 →
-    IsRegisters setup (reset_byte setup) registers.host → HasRegisters setup [] registers
-unfolding byte_of config_address reset_control
-registers_at_reset setup registers address control host = record {
-  address = address;
-  control = control;
-  bytes = host;
-  taken = rw address (inl (omega arith));
+named_by : (setup : Setup) (address port : ℕ) (reg : Reg) → is_enabled address ≡ true →
+    function_exists setup (bus_of address) (device_of address) (function_of address) ≡ true →
+    record { dev = device_of address; fun = function_of address; off = register_of address + port % 4 } ≡ reg → IsNamed setup address port reg
+named_by setup address port reg on exists' is = record {
+  enabled = on;
+  bus = eqb-true _ _ (both_left (bus_of address == 0) _ exists');
+  exists' = rw (← is) (both_right (bus_of address == 0) _ exists');
+  dev = rw (← is) refl;
+  fun = rw (← is) refl;
+  off = rw (← is) refl;
 }
 
-pub control_reads :
-    (setup : Setup) (history : List Entry) (entry : Entry) (access : PortAccess) (old : Registers) →
-    IsResetAccess access → access.write ≡ false → entry.event ≡ Port access → HasRegisters setup history old →
-    HasRegisters setup (entry ∷ history) old
-control_reads setup history entry access old is reads =
-    quiet setup history entry access old (rw reads refl) (rw reads refl) (not_put access reads)
+named : (setup : Setup) (address port : ℕ) (reg : Reg) → config_register setup address port ≡ Some reg → IsNamed setup address port reg
+named setup address port reg is =
+    elim (cases_Bool (is_enabled address && function_exists setup (bus_of address) (device_of address) (function_of address))) [
+      | inl both ↦
+          let same = rw both at is in
+          named_by setup address port reg (both_left (is_enabled address) _ both) (both_right (is_enabled address) _ both) (cc)
+      | inr none ↦ let no = rw none at is in absurd (cc)
+    ]
 
--- a soft reset, or none
-pub control_writes :
-    (setup : Setup) (history : List Entry) (entry : Entry) (old new : Registers) (byte : ℕ) →
-    control_written entry.event ≡ Some byte → is_hard_value old.control byte ≡ false → HasRegisters setup history old →
-    new.address ≡ old.address → new.control ≡ control_after old.control (Some byte) → new.host ≡ old.host →
-    HasRegisters setup (entry ∷ history) new
-unfolding config_address reset_control
-control_writes setup history entry old new byte put soft kept address control host =
-    let soft' : is_hard_value (reset_control history) byte ≡ false = rw (← kept.control) soft in
-    let elsewhere : address_written entry.event ≡ None = no_address entry.event byte put in
+-- an access to a register that an address names stays within its function
+within_function :
+    (setup : Setup) (history : List Entry) (port : ℕ) (width : Width) (reg : Reg) → port % bytes_of width ≡ 0 →
+    config_register setup (config_address history) port ≡ Some reg → reg.off + bytes_of width ≤ 0x100
+within_function setup history port width reg aligned is =
+    let it : IsNamed setup (config_address history) port reg = named setup (config_address history) port reg is in
+    rw (it.off)
+    (within_space (config_address history) port (register_of (config_address history)) (port % 4) width
+    (kept_address-low_bits (config_address history) (address_kept history)) refl refl aligned)
+
+last_lane : (port k : ℕ) (width : Width) → port % bytes_of width ≡ 0 → k < bytes_of width → port % 4 + k < 4
+last_lane port k One aligned below = omega arith
+last_lane port k Two aligned below = omega arith
+last_lane port k Four aligned below = omega arith
+
+-- the address of the interrupt routing, by its parts
+routing_named :
+    (address : ℕ) → address ≤ 0x80FF_FFFC → is_enabled address ≡ true → bus_of address ≡ 0 → device_of address ≡ 1 → function_of address ≡ 0 →
+    register_of address ≡ 0x60 → address ≡ routing_address
+routing_named address most on bus dev fun off =
+    let high : address / 2 ^ 31 % 2 ≡ 1 = eqb-true _ _ on in
+    omega arith
+
+low_register : (low place k : ℕ) → low % 4 ≡ 0 → place + k < 4 → 0x60 ≤ low + place + k → low + place + k ≤ 0x63 → low ≡ 0x60
+low_register low place k fourth lanes from to = omega arith
+
+routing_offset : (reg : Reg) → is_routing reg ≡ true → (reg.dev ≡ 1) × (reg.fun ≡ 0) × (0x60 ≤ reg.off) × (reg.off ≤ 0x63)
+routing_offset reg is = (grind (arith, nat_tests), grind (arith, nat_tests), grind (arith, nat_tests), grind (arith, nat_tests))
+
+-- an access to a register that an address names is off the interrupt routing, since the address does not name it
+off_routing :
+    (setup : Setup) (history : List Entry) (port : ℕ) (width : Width) (reg : Reg) → port % bytes_of width ≡ 0 →
+    config_register setup (config_address history) port ≡ Some reg → config_address history ≢ routing_address → IsOffRouting reg width
+off_routing setup history port width reg aligned is taken k below =
+    let address : ℕ = config_address history in
+    let it : IsNamed setup address port reg = named setup address port reg is in
+    let most : address ≤ 0x80FF_FFFC = rw (← address_kept history) (and_le_r (config_address history) 0x80FF_FFFC) in
+    let fourth : address % 4 ≡ 0 = kept_address-low_bits address (address_kept history) in
+    elim (cases_Bool (is_routing (reg_after reg k))) [
+      | inl routes ↦
+          let at = routing_offset (reg_after reg k) routes in
+          let low : register_of address ≡ 0x60 =
+          low_register (register_of address) (port % 4) k (omega arith) (last_lane port k width aligned below) (rw (← it.off) at.2) (rw (← it.off) at.3) in
+          absurd (taken (routing_named address most it.enabled it.bus (sym it.dev ∙ at.0) (sym it.fun ∙ at.1) low))
+      | inr off ↦ off
+    ]
+
+-- ---- what an access that reaches a target needs
+
+held_target :
+    (setup : Setup) (history : List Entry) (chipset : Chipset) (port : ℕ) (width : Width) (target : Target) → IsChipsetOf setup history chipset →
+    port % bytes_of width ≡ 0 → IsReached setup (byte_of setup history) (config_address history) port width target →
+    IsPortTarget chipset.stores.contents target width
+held_target setup history chipset port width (Device Confadd) kept aligned is = tt
+held_target setup history chipset port width (Device Reset) kept aligned is = tt
+held_target setup history chipset port width (Device Keyboard) kept aligned is = tt
+held_target setup history chipset port width (Device _) kept aligned is = absurd is
+held_target setup history chipset port width (Config reg) kept aligned is = within_function setup history port width reg aligned is.1
+held_target setup history chipset port width (Card dev base off) kept aligned is =
+    let window : Window = is.1.0 in
+    let sized : IsSized setup window =
+    io_claim_sized setup (byte_of setup history) chipset.registers.map.cards.items port window kept.registers.fitted.each kept.registers.map.cards is.1.1 in
+    rw (← is.1.2, ← is.1.3, ← is.1.4) (lies_in_window setup history chipset.stores.contents window port width sized kept.stores.contents aligned)
+held_target setup history chipset port width Abort kept aligned is = tt
+held_target setup history chipset port width _ kept aligned is = absurd is
+
+there_target :
+    (setup : Setup) (history : List Entry) (port : ℕ) (width : Width) (target : Target) → config_address history ≢ routing_address →
+    port % bytes_of width ≡ 0 → IsReached setup (byte_of setup history) (config_address history) port width target → IsThere setup target width
+there_target setup history port width (Config reg) taken aligned is =
+    let it : IsNamed setup (config_address history) port reg = named setup (config_address history) port reg is.1 in
+    (it.exists', off_routing setup history port width reg aligned is.1 taken)
+there_target setup history port width _ taken aligned is = tt
+
+-- ---- what an access writes
+
+-- where no register is written
+beside_control : (access : PortAccess) → (access.port == 0xCF9 && bytes_of access.width == 1) ≡ false → control_written (Port access) ≡ None
+beside_control access other =
+    elim (cases_Bool access.write) [ inl writes ↦ rw (writes, other) refl | inr reads ↦ rw reads refl ]
+
+beside_address : (access : PortAccess) → (access.port == 0xCF8 && bytes_of access.width == 4) ≡ false → address_written (Port access) ≡ None
+beside_address access other =
+    elim (cases_Bool access.write) [ inl writes ↦ rw (writes, other) refl | inr reads ↦ rw reads refl ]
+
+beside_config : (setup : Setup) (address : ℕ) (access : PortAccess) →
+    (is_config_port access.port ≡ true → config_register setup address access.port ≡ None) → config_store setup address (Port access) ≡ None
+beside_config setup address access none =
+    elim (cases_Bool access.write) [
+      | inl writes ↦ elim (cases_Bool (is_config_port access.port)) [
+        | inl config ↦ rw (writes, config, none config) refl
+        | inr other ↦ rw (writes, other) refl
+      ]
+      | inr reads ↦ rw reads refl
+    ]
+
+by_store : (setup : Setup) (history : List Entry) (access : PortAccess) (change : Option MapChange) → control_written (Port access) ≡ None →
+    config_store setup (config_address history) (Port access) ≡ change → register_change setup history (Port access) ≡ change
+by_store setup history access change none is = rw none is
+
+writes_beside :
+    (setup : Setup) (history : List Entry) (access : PortAccess) → IsBeside setup (config_address history) access.port access.width →
+    WritesNone setup history (Port access)
+writes_beside setup history access beside =
+    let control : control_written (Port access) ≡ None = beside_control access beside.control in
     record {
-      address = rw (put, soft', elsewhere) (address ∙ kept.address);
-      control = rw put (control ∙ ap (λ (c : ℕ). control_after c (Some byte)) kept.control);
-      bytes = bytes_after setup history entry new.host None (rw (put, soft') (no_data setup (config_address history) entry.event byte put)) (rw host kept.bytes);
-      taken = rw address kept.taken;
+      control = control;
+      address = beside_address access beside.address_port;
+      change = by_store setup history access None control (beside_config setup (config_address history) access beside.config);
     }
 
--- a hard reset
-pub control_resets :
-    (setup : Setup) (history : List Entry) (entry : Entry) (old new : Registers) (byte : ℕ) →
-    control_written entry.event ≡ Some byte → is_hard_value old.control byte ≡ true → HasRegisters setup history old →
-    new.address ≡ 0 → new.control ≡ control_after old.control (Some byte) → IsRegisters setup (reset_byte setup) new.host →
-    HasRegisters setup (entry ∷ history) new
-unfolding config_address reset_control
-control_resets setup history entry old new byte put hard kept address control host =
-    let hard' : is_hard_value (reset_control history) byte ≡ true = rw (← kept.control) hard in
+writes_address :
+    (setup : Setup) (history : List Entry) (access : PortAccess) → access.write ≡ true → access.port ≡ 0xCF8 → bytes_of access.width ≡ 4 →
+    WritesAddress setup history (Port access) access.value
+writes_address setup history access writes port width =
+    let elsewhere : (access.port == 0xCF9) ≡ false = rw port refl in
+    let not_config : is_config_port access.port ≡ false = rw port refl in
+    let control : control_written (Port access) ≡ None = no_control access elsewhere in
     record {
-      address = rw (put, hard') address;
-      control = rw put (control ∙ ap (λ (c : ℕ). control_after c (Some byte)) kept.control);
-      bytes = bytes_after setup history entry new.host (Some Reset) (rw (put, hard') refl) host;
-      taken = rw address (inl (omega arith));
+      control = control;
+      address = rw (writes, port, width) refl;
+      change = by_store setup history access None control (rw (writes, not_config) refl);
     }
 
--- ---- the forms of the accesses
+writes_register :
+    (setup : Setup) (history : List Entry) (access : PortAccess) (reg : Reg) → access.write ≡ true → is_config_port access.port ≡ true →
+    config_register setup (config_address history) access.port ≡ Some reg →
+    register_change setup history (Port access) ≡ Some (Store reg access.width access.value)
+writes_register setup history access reg writes config is =
+    by_store setup history access (Some (Store reg access.width access.value)) (no_control access (data_is_not_control access.port config))
+    (rw (writes, config, is) refl)
 
-low_part : (n : ℕ) → n % 2 ^ 24 < 0x100 → n / 0x100 % 0x1_0000 ≡ 0
-low_part n below = omega arith
+writes_target :
+    (setup : Setup) (history : List Entry) (access : PortAccess) (target : Target) → access.write ≡ true →
+    IsReached setup (byte_of setup history) (config_address history) access.port access.width target →
+    Writes setup history (Port access) target access.width access.value
+writes_target setup history access (Device Confadd) writes is = writes_address setup history access writes is.0 is.1
+writes_target setup history access (Device Reset) writes is = rw (writes, is.0, is.1) refl
+writes_target setup history access (Device Keyboard) writes is = writes_beside setup history access is
+writes_target setup history access (Device _) writes is = absurd is
+writes_target setup history access (Config reg) writes is = writes_register setup history access reg writes is.0 is.1
+writes_target setup history access (Card dev base off) writes is = writes_beside setup history access is.0
+writes_target setup history access Abort writes is = writes_beside setup history access is
+writes_target setup history access _ writes is = absurd is
 
-pub taken_kept : (value : ℕ) → IsTakenAddress value → IsTakenAddress (kept_address value)
-taken_kept value (inl low) = let below : kept_address value ≤ value = and_le_l value 0x80FF_FFFC in inl (omega arith)
-taken_kept value (inr zero') =
-    let same : kept_address value % 2 ^ 24 ≡ bit_and (value % 2 ^ 24) (0x80FF_FFFC % 2 ^ 24) = and_mod value 0x80FF_FFFC 24 in
-    let below : bit_and (value % 2 ^ 24) (0x80FF_FFFC % 2 ^ 24) ≤ value % 2 ^ 24 = and_le_l (value % 2 ^ 24) (0x80FF_FFFC % 2 ^ 24) in
-    inr (low_part (kept_address value) (omega arith))
+-- a value that does not name the interrupt routing
+off_address : (access : PortAccess) → access.write ≡ true → access.port ≡ 0xCF8 → bytes_of access.width ≡ 4 → names_routing access ≡ false →
+    kept_address access.value ≢ routing_address
+off_address access writes port width off same =
+    let not : (kept_address access.value == routing_address) ≡ false = rw (writes, port, width) at off in
+    false≢true (sym not ∙ eq-eqb _ _ same)
+
+fits_byte : (width : Width) (value : ℕ) → bytes_of width ≡ 1 → value ≤ largest_of width → value ≤ 0xFF
+fits_byte One value byte fits = fits
+fits_byte Two value byte fits = absurd (omega arith)
+fits_byte Four value byte fits = absurd (omega arith)
+
+pub written_fits : (writes : Bool) (width : Width) (value : ℕ) → writes ≡ true → FitsAccess writes width value → value ≤ largest_of width
+written_fits true width value is fits = fits
+written_fits false width value is fits = absurd (cc)
+
+fits_target :
+    (setup : Setup) (bytes : Bytes) (address : ℕ) (access : PortAccess) (target : Target) → access.write ≡ true → names_routing access ≡ false →
+    access.value ≤ largest_of access.width → IsReached setup bytes address access.port access.width target → FitsTarget target access.value
+fits_target setup bytes address access (Device Confadd) writes off fits is = off_address access writes is.0 is.1 off
+fits_target setup bytes address access (Device Reset) writes off fits is = fits_byte access.width access.value is.1 fits
+fits_target setup bytes address access (Device Keyboard) writes off fits is = tt
+fits_target setup bytes address access (Device _) writes off fits is = absurd is
+fits_target setup bytes address access _ writes off fits is = tt
 
 -- ---- whole accesses
 
-written_reply : (writes : Bool) (value : ℕ) (target : Target) → writes ≡ true → Bus None target None ≡ answered writes value target
-written_reply writes value target is = rw is refl
+-- an access reaches this target, and is denied so
+abbrev pub IsPortDecoded : Setup → List Entry → PortAccess → Target → Option Denial → Type 0
+IsPortDecoded setup history access target denial = record { target = target; denial = denial } ≡ reached setup history access
 
-read_reply : (writes : Bool) (value : ℕ) (target : Target) → writes ≡ false → Bus (Some value) target None ≡ answered writes value target
-read_reply writes value target is = rw is refl
+target_reached :
+    (setup : Setup) (history : List Entry) (access : PortAccess) (target : Target) (denial : Option Denial) → IsTakenPort access →
+    IsPortDecoded setup history access target denial →
+    IsReached setup (byte_of setup history) (config_address history) access.port access.width target
+target_reached setup history access target denial taken is =
+    subst (λ (decoded : Decoded). IsReached setup (byte_of setup history) (config_address history) access.port access.width decoded.target) (sym is)
+    (reaches setup (byte_of setup history) (config_address history) access.port access.width taken.port)
 
--- a target that gives after each history what `held` says, and is none of DRAM's: an access that writes it, and one that reads it
-abbrev Gives : PortAccess → Registers → Target → (Setup → List Entry → ℕ) → Type 0
-Gives access old target held =
-    (setup : Setup) (history : List Entry) → HasRegisters setup history old → port_answer setup history access ≡ answered access.write (held setup history) target
+pub held :
+    (setup : Setup) (history : List Entry) (chipset : Chipset) (access : PortAccess) (target : Target) (denial : Option Denial) → IsTakenPort access →
+    access.port % bytes_of access.width ≡ 0 → IsChipsetOf setup history chipset → IsPortDecoded setup history access target denial →
+    IsPortTarget chipset.stores.contents target access.width
+held setup history chipset access target denial taken aligned kept is =
+    held_target setup history chipset access.port access.width target kept aligned (target_reached setup history access target denial taken is)
 
-abbrev Follows : PortAccess → (old new : Registers) → Type 0
-Follows access old new =
-    (setup : Setup) (history : List Entry) (entry : Entry) → HasRegisters setup history old → entry.event ≡ Port access → HasRegisters setup (entry ∷ history) new
+pub there :
+    (setup : Setup) (history : List Entry) (chipset : Chipset) (access : PortAccess) (target : Target) (denial : Option Denial) → IsTakenPort access →
+    access.port % bytes_of access.width ≡ 0 → IsChipsetOf setup history chipset → IsPortDecoded setup history access target denial →
+    IsThere setup target access.width
+there setup history chipset access target denial taken aligned kept is =
+    there_target setup history access.port access.width target (rw (← kept.registers.address) kept.registers.taken) aligned
+    (target_reached setup history access target denial taken is)
 
-written_done :
-    (access : PortAccess) (old new : Registers) (reply : Reply) (target : Target) (held : Setup → List Entry → ℕ) → lands target ≡ false →
-    access.write ≡ true → Gives access old target held → Follows access old new → reply ≡ Bus None target None → DoesPort access old new reply
-written_done access old new reply target held off writes gives follow replied = record {
-  answer = λ setup history kept. replied ∙ written_reply access.write (held setup history) target writes ∙ sym (gives setup history kept);
-  registers = follow;
-  off_dram = rw replied off;
+pub fits :
+    (setup : Setup) (history : List Entry) (access : PortAccess) (target : Target) (denial : Option Denial) → IsTakenPort access →
+    access.write ≡ true → access.value ≤ largest_of access.width → IsPortDecoded setup history access target denial → FitsTarget target access.value
+fits setup history access target denial taken writes small is =
+    fits_target setup (byte_of setup history) (config_address history) access target writes taken.address small
+    (target_reached setup history access target denial taken is)
+
+-- the reply to an access of which this is decoded
+abbrev reply_by : Setup → List Entry → PortAccess → Decoded → Reply
+reply_by setup history access decoded =
+    bus_reply setup history access.write decoded.target decoded.denial access.port access.width
+
+without_disk : (setup : Setup) (history : List Entry) (access : PortAccess) → setup.disk ≡ None →
+    reply_by setup history access (reached setup history access) ≡ port_answer setup history access
+unfolding port_answer
+without_disk setup history access no_disk =
+    ap
+    (λ (disk : Option (List ℕ)).
+      reply_by setup history access (port_target_of setup (byte_of setup history) (config_address history) (is_some disk) access.port access.width))
+    (sym no_disk)
+
+pub write_answer :
+    (setup : Setup) (history : List Entry) (access : PortAccess) (target : Target) (denial : Option Denial) → setup.disk ≡ None → access.write ≡ true →
+    IsPortDecoded setup history access target denial → Bus None target denial ≡ port_answer setup history access
+write_answer setup history access target denial no_disk writes is =
+    written setup history access target denial writes
+    ∙ ap (λ (decoded : Decoded). reply_by setup history access decoded) is
+    ∙ without_disk setup history access no_disk
+  where
+    written : (setup : Setup) (history : List Entry) (access : PortAccess) (target : Target) (denial : Option Denial) → access.write ≡ true →
+        Bus None target denial ≡ reply_by setup history access (record { target = target; denial = denial })
+    written setup history access target denial writes = rw writes refl
+
+pub read_answer :
+    (setup : Setup) (history : List Entry) (access : PortAccess) (target : Target) (denial : Option Denial) (value : ℕ) → setup.disk ≡ None →
+    access.write ≡ false → IsPortDecoded setup history access target denial → value ≡ value_at setup history target access.port access.width →
+    Bus (Some value) target denial ≡ port_answer setup history access
+read_answer setup history access target denial value no_disk reads is value_is =
+    given setup history access target denial value reads value_is
+    ∙ ap (λ (decoded : Decoded). reply_by setup history access decoded) is
+    ∙ without_disk setup history access no_disk
+  where
+    given : (setup : Setup) (history : List Entry) (access : PortAccess) (target : Target) (denial : Option Denial) (value : ℕ) → access.write ≡ false →
+        value ≡ value_at setup history target access.port access.width →
+        Bus (Some value) target denial ≡ reply_by setup history access (record { target = target; denial = denial })
+    given setup history access target denial value reads value_is = rw (reads, value_is) refl
+
+pub chipset_written :
+    (setup : Setup) (history : List Entry) (entry : Entry) (access : PortAccess) (target : Target) (denial : Option Denial) (old new : Chipset) →
+    IsTakenPort access → access.write ≡ true → entry.event ≡ Port access → entry.reply ≡ Bus None target denial →
+    IsPortDecoded setup history access target denial → IsChipsetOf setup history old →
+    (Writes setup history entry.event target access.width access.value → HasRegisters setup (entry ∷ history) new.registers) →
+    (((cell : Cell) → entry_put entry.event entry.reply cell ≡ byte_put target access.port access.width access.value cell) →
+    HasStores setup (entry ∷ history) new.stores) →
+    IsChipsetOf setup (entry ∷ history) new
+chipset_written setup history entry access target denial old new taken writes event replied is kept registers stores = record {
+  setup_fits = kept.setup_fits;
+  no_disk = kept.no_disk;
+  registers = registers (rw event (writes_target setup history access target writes (target_reached setup history access target denial taken is)));
+  stores = stores (λ cell. rw (event, replied, writes) refl);
 }
 
-read_done :
-    (access : PortAccess) (old : Registers) (reply : Reply) (target : Target) (held : Setup → List Entry → ℕ) (value : ℕ) → lands target ≡ false →
-    access.write ≡ false → Gives access old target held → Follows access old old →
-    ((setup : Setup) (history : List Entry) → HasRegisters setup history old → value ≡ held setup history) →
-    reply ≡ Bus (Some value) target None → DoesPort access old old reply
-read_done access old reply target held value off reads gives follow value_is replied = record {
-  answer = λ setup history kept.
-      replied
-      ∙ ap (λ (v : ℕ). Bus (Some v) target None) (value_is setup history kept)
-      ∙ read_reply access.write (held setup history) target reads
-      ∙ sym (gives setup history kept);
-  registers = follow;
-  off_dram = rw replied off;
+-- a read leaves all as it is
+pub chipset_read :
+    (setup : Setup) (history : List Entry) (entry : Entry) (access : PortAccess) (value : Option ℕ) (target : Target) (denial : Option Denial)
+    (chipset : Chipset) → access.write ≡ false → entry.event ≡ Port access → entry.reply ≡ Bus value target denial → IsChipsetOf setup history chipset →
+    IsChipsetOf setup (entry ∷ history) chipset
+chipset_read setup history entry access value target denial chipset reads event replied kept = record {
+  setup_fits = kept.setup_fits;
+  no_disk = kept.no_disk;
+  registers = quiet_write setup history entry chipset.registers (reads_none setup history entry access reads event) kept.registers;
+  stores = stores_unwritten setup history entry chipset.stores kept.stores (λ cell. rw (event, replied, reads) refl);
 }
-
-pub address_written_done :
-    (access : PortAccess) (old new : Registers) (reply : Reply) → IsAddressAccess access → access.write ≡ true →
-    new.address ≡ kept_address access.value → new.control ≡ old.control → new.host ≡ old.host →
-    reply ≡ Bus None (Device AddressPort) None → DoesPort access old new reply
-address_written_done access old new reply is writes address control host =
-    written_done access old new reply (Device AddressPort) (λ setup history. config_address history) refl writes
-    (λ setup history kept. address_answer setup history access is)
-    (λ setup history entry kept event.
-    address_writes setup history entry access old new is writes event kept address control host (taken_kept access.value (is.2 writes)))
-
-pub address_read_done :
-    (access : PortAccess) (old : Registers) (reply : Reply) (value : ℕ) → IsAddressAccess access → access.write ≡ false →
-    value ≡ old.address → reply ≡ Bus (Some value) (Device AddressPort) None → DoesPort access old old reply
-address_read_done access old reply value is reads value_is =
-    read_done access old reply (Device AddressPort) (λ setup history. config_address history) value refl reads
-    (λ setup history kept. address_answer setup history access is)
-    (λ setup history entry kept event. address_reads setup history entry access old is reads event kept)
-    (λ setup history kept. value_is ∙ kept.address)
-
-pub control_written_done :
-    (access : PortAccess) (old new : Registers) (reply : Reply) → IsResetAccess access → access.write ≡ true →
-    ((setup : Setup) (history : List Entry) (entry : Entry) → control_written entry.event ≡ Some access.value → HasRegisters setup history old → HasRegisters setup (entry ∷ history) new) →
-    reply ≡ Bus None (Device ResetPort) None → DoesPort access old new reply
-control_written_done access old new reply is writes after =
-    written_done access old new reply (Device ResetPort) (λ setup history. reset_control history) refl writes
-    (λ setup history kept. control_answer setup history access is)
-    (λ setup history entry kept event. after setup history entry (rw event (control_put access is writes)) kept)
-
-pub control_read_done :
-    (access : PortAccess) (old : Registers) (reply : Reply) (value : ℕ) → IsResetAccess access → access.write ≡ false →
-    value ≡ old.control → reply ≡ Bus (Some value) (Device ResetPort) None → DoesPort access old old reply
-control_read_done access old reply value is reads value_is =
-    read_done access old reply (Device ResetPort) (λ setup history. reset_control history) value refl reads
-    (λ setup history kept. control_answer setup history access is)
-    (λ setup history entry kept event. control_reads setup history entry access old is reads event kept)
-    (λ setup history kept. value_is ∙ kept.control)
-
-off_aborted : (writes : Bool) (width : Width) → reply_lands (aborted writes width Confadd) ≡ false
-off_aborted writes width = refl
-
-pub data_disabled_done :
-    (access : PortAccess) (old : Registers) (reply : Reply) → IsDataAccess access → is_enabled old.address ≡ false →
-    reply ≡ aborted access.write access.width Confadd → DoesPort access old old reply
-data_disabled_done access old reply is off replied = record {
-  answer = λ setup history kept. replied ∙ sym (disabled_answer setup history access is (rw (← kept.address) off));
-  registers = λ setup history entry kept event. data_disabled setup history entry access old is off event kept;
-  off_dram = rw replied (off_aborted access.write access.width);
-}
-
--- the register that is selected is one of the host bridge
-of_bridge : (address port : ℕ) → device_of address ≡ 0 → function_of address ≡ 0 →
-    (selected_at address port).reg ≡ bridge (register_of address + port % 4)
-of_bridge address port no_dev no_fun = rw (no_dev, no_fun) refl
-
-pub selected_bridge :
-    (address port : ℕ) (selected : Selected) → selected ≡ selected_at address port → IsTakenAddress address → is_enabled address ≡ true →
-    selected.reg ≡ bridge (register_of address + port % 4)
-selected_bridge address port selected is taken on =
-    let low : address / 0x100 % 0x1_0000 ≡ 0 = low_halves address taken on in
-    ap (λ (s : Selected). s.reg) is ∙ of_bridge address port (omega arith) (omega arith)
-
--- the register bytes that an access at a data port reaches
-abbrev reached : Reg → Width → Setup → List Entry → ℕ
-reached reg width setup history = wide (λ off. byte_of setup history (record reg { off = off })) reg.off width
-
-data_gives :
-    (access : PortAccess) (old : Registers) (selected : Selected) → IsDataAccess access → IsTakenAddress old.address → is_enabled old.address ≡ true →
-    selected ≡ selected_at old.address access.port → Gives access old (Config selected.reg) (reached selected.reg access.width)
-data_gives access old selected is taken on selected_is setup history kept =
-    let reg : selected.reg ≡ bridge (register_of old.address + access.port % 4) = selected_bridge old.address access.port selected selected_is taken on in
-    let name : config_register setup (config_address history) access.port ≡ Some selected.reg =
-    rw (← kept.address) (named setup old.address access.port taken on ∙ ap Some (sym reg)) in
-    register_answer setup history access selected.reg is name
-
-pub data_written_done :
-    (access : PortAccess) (old new : Registers) (reply : Reply) (selected : Selected) → IsDataAccess access → access.write ≡ true →
-    IsTakenAddress old.address → is_enabled old.address ≡ true → selected ≡ selected_at old.address access.port →
-    new.address ≡ old.address → new.control ≡ old.control →
-    ((setup : Setup) (bytes : Bytes) → IsRegisters setup bytes old.host →
-    IsRegisters setup (λ reg. changed_byte setup (Store (bridge selected.reg.off) access.width access.value) reg (bytes reg)) new.host) →
-    reply ≡ Bus None (Config selected.reg) None → DoesPort access old new reply
-data_written_done access old new reply selected is writes taken on selected_is address control host =
-    let reg : selected.reg ≡ bridge (register_of old.address + access.port % 4) = selected_bridge old.address access.port selected selected_is taken on in
-    written_done access old new reply (Config selected.reg) (reached selected.reg access.width) refl writes
-    (data_gives access old selected is taken on selected_is)
-    (λ setup history entry kept event.
-    data_writes setup history entry access old new selected.reg.off is writes on (ap (λ (r : Reg). r.off) reg) event kept address control
-    (host setup (byte_of setup history) kept.bytes))
-
-pub data_read_done :
-    (access : PortAccess) (old : Registers) (reply : Reply) (selected : Selected) (value : ℕ) → IsDataAccess access → access.write ≡ false →
-    IsTakenAddress old.address → is_enabled old.address ≡ true → selected ≡ selected_at old.address access.port →
-    ((bytes : Bytes) → IsBridgeOf bytes old.host → value ≡ wide (λ at. bytes (bridge at)) selected.reg.off access.width) →
-    reply ≡ Bus (Some value) (Config selected.reg) None → DoesPort access old old reply
-data_read_done access old reply selected value is reads taken on selected_is value_is =
-    let reg : selected.reg ≡ bridge (register_of old.address + access.port % 4) = selected_bridge old.address access.port selected selected_is taken on in
-    let here : selected.reg ≡ bridge selected.reg.off = reg ∙ ap (λ (r : Reg). bridge r.off) (sym reg) in
-    read_done access old reply (Config selected.reg) (reached selected.reg access.width) value refl reads
-    (data_gives access old selected is taken on selected_is)
-    (λ setup history entry kept event. data_reads setup history entry access old is reads event kept)
-    (λ setup history kept.
-    value_is (byte_of setup history) kept.bytes.here
-    ∙ ap (λ (r : Reg). wide (λ at. byte_of setup history (record r { off = at })) selected.reg.off access.width) (sym here))
-
--- what is not disabled is enabled
-pub enabled_by : (address : ℕ) → (is_enabled address ≡ false → true ≡ false) → is_enabled address ≡ true
-enabled_by address not_off = elim (cases_Bool (is_enabled address)) [ inl on ↦ on | inr off ↦ let never = not_off off in cc ]
+  where
+    reads_none : (setup : Setup) (history : List Entry) (entry : Entry) (access : PortAccess) → access.write ≡ false → entry.event ≡ Port access →
+        WritesNone setup history entry.event
+    reads_none setup history entry access reads event = record {
+      control = rw (event, reads) refl;
+      address = rw (event, reads) refl;
+      change = rw (event, reads) refl;
+    }

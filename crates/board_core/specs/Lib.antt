@@ -1,6 +1,6 @@
-pub mod Areas
-pub mod Bridge
+pub mod Space
+pub mod Stores
+pub mod Decoded
 pub mod Forms
+pub mod Ports
 pub mod Kept
-pub mod PortSteps
-pub mod Replies

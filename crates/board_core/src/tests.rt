@@ -1,15 +1,17 @@
-//! Scripts with the replies that they must get, each a table over a board of 8 MiB.
+//! Scripts with the replies that they must get, each a table over a board of 8 MiB with a ROM of 64 KiB.
 
-ghost use Rattle.std.specs.Prelude.{◌≡◌, false};
-ghost use Rattle.board_spec.specs.Setup.{Setup};
+ghost use Rattle.std.specs.Prelude.{◌≡◌, ◌≤◌, true, false, [], ◌∷◌, None, IfOk};
+ghost use Rattle.board_spec.specs.Setup.{MemoryBase, IsCardList, Setup as Fitting, memory_of_cards};
 ghost use Rattle.board_spec.specs.InRange.{IsInRange};
 ghost use Rattle.board_spec.specs.Stored.{is_write};
 ghost use Rattle.board_core.specs.Forms.{IsTaken};
 
-use crate::Board;
+use crate::{Board, BoardOpen, Setup};
+use arrayvec::ArrayVec;
 use board_base::{Access, Denial, Dev, Kind, PortAccess, Reg, Target, Width};
 use board_spec::{Event, Reply};
-use std::alloc::Global;
+use pci_bars::{BaseSpec, CardSpec};
+use std::alloc::{AllocError, Global};
 use std::process::Abort;
 use std::test::Fail;
 
@@ -18,98 +20,150 @@ use std::test::Fail;
 enum Statement {
     Read(Width, u32),
     ReadInSmm(u32),
+    Fetch(Width, u32),
+    FetchInSmm(u32),
     Write(Width, u32, u32),
-    Select(u8),
+    WriteInSmm(u32, u32),
+    Select(u32),
     Out(Width, u16, u32),
     In(Width, u16),
     Reset(u8),
 }
 
-/// What answers: memory, a port, a configuration register of the host bridge, or nobody, by the register at an
-/// offset of the host bridge or by the configuration address.
+/// What answers: memory, the ROM at an offset, a card by its device, base and offset, a port, a register by its
+/// device, function and offset, or nobody, by such a register, by the configuration address or by no register.
+/// A write to the ROM is denied by XBCS, or by no register.
 #[derive(Clone, Copy)]
 enum Place {
     Dram,
     Shadow,
     Smram,
+    Rom(u32),
+    WriteProtected(u32),
+    ReadOnly(u32),
+    Card(u8, u8, u32),
     Confadd,
     Control,
-    Config(u8),
-    Denied(u8),
+    Config(u8, u8, u8),
+    Denied(u8, u8, u8),
     Disabled,
+    Nobody,
 }
 
 /// A statement, the value that it must read, and what must answer.
 type Line = (Statement, Option<u32>, Place);
 
-use Place::{Confadd, Config, Control, Denied, Disabled, Dram, Shadow, Smram};
-use Statement::{In, Out, Read, ReadInSmm, Reset, Select, Write};
+use Place::{
+    Card, Confadd, Config, Control, Denied, Disabled, Dram, Nobody, ReadOnly, Rom, Shadow, Smram,
+    WriteProtected,
+};
+use Statement::{Fetch, FetchInSmm, In, Out, Read, ReadInSmm, Reset, Select, Write, WriteInSmm};
 use Width::{Four, One, Two};
 
 /// PAM2's high nibble opens CC000h to CFFFFh for writes alone.
 const WRITES_TO_A_WINDOW: [Line; 7] = [
-    (Select(0x58), None, Confadd),
-    (Out(One, 3, 0x20), None, Config(0x5B)),
-    (Write(One, 0xC_BFFF, 0x01), None, Denied(0x5B)),
+    (Select(0x8000_0058), None, Confadd),
+    (Out(One, 3, 0x20), None, Config(0, 0, 0x5B)),
+    (Write(One, 0xC_BFFF, 0x01), None, Denied(0, 0, 0x5B)),
     (Write(One, 0xC_C000, 0x02), None, Shadow),
-    (Read(One, 0xC_C000), Some(0xFF), Denied(0x5B)),
+    (Read(One, 0xC_C000), Some(0xFF), Denied(0, 0, 0x5B)),
     (Write(One, 0xC_FFFF, 0x03), None, Shadow),
-    (Write(One, 0xD_0000, 0x04), None, Denied(0x5C)),
+    (Write(One, 0xD_0000, 0x04), None, Denied(0, 0, 0x5C)),
 ];
 
 /// The memory map after a reset, at the ends of its ranges.
-const MEMORY_AFTER_RESET: [Line; 5] = [
+const MEMORY_AFTER_RESET: [Line; 7] = [
     (Read(One, 0x9_FFFF), Some(0x00), Dram),
-    (Read(One, 0xA_0000), Some(0xFF), Denied(0x72)),
-    (Read(One, 0xB_FFFF), Some(0xFF), Denied(0x72)),
-    (Read(One, 0xC_0000), Some(0xFF), Denied(0x5A)),
-    (Write(One, 0x80_0000, 0x01), None, Denied(0x67)),
+    (Read(One, 0xA_0000), Some(0xFF), Denied(0, 0, 0x72)),
+    (Read(One, 0xB_FFFF), Some(0xFF), Denied(0, 0, 0x72)),
+    (Read(One, 0xC_0000), Some(0xFF), Denied(0, 0, 0x5A)),
+    (Write(One, 0x80_0000, 0x01), None, Denied(0, 0, 0x67)),
+    (Read(Four, 0xE000_0000), Some(0xFFFF_FFFF), Nobody),
+    (Read(One, 0xFFFE_0000), Some(0xFF), Denied(1, 0, 0x4E)),
 ];
 
 /// SMRAM is opened with the lock in one write, which closes it; a hard reset ends the lock and keeps the memory.
 const SMRAM_UNDER_THE_LOCK: [Line; 10] = [
-    (Select(0x70), None, Confadd),
-    (Out(One, 2, 0x48), None, Config(0x72)),
+    (Select(0x8000_0070), None, Confadd),
+    (Out(One, 2, 0x48), None, Config(0, 0, 0x72)),
     (Write(One, 0xA_0000, 0x77), None, Smram),
-    (Out(One, 2, 0x58), None, Config(0x72)),
-    (Read(One, 0xA_0000), Some(0xFF), Denied(0x72)),
+    (Out(One, 2, 0x58), None, Config(0, 0, 0x72)),
+    (Read(One, 0xA_0000), Some(0xFF), Denied(0, 0, 0x72)),
     (ReadInSmm(0xA_0000), Some(0x77), Smram),
     (Reset(0x06), None, Control),
     (In(One, 2), Some(0xFF), Disabled),
-    (Select(0x70), None, Confadd),
-    (In(One, 2), Some(0x02), Config(0x72)),
+    (Select(0x8000_0070), None, Confadd),
+    (In(One, 2), Some(0x02), Config(0, 0, 0x72)),
 ];
 
 /// Wide values move their bytes in rising offset and address, the low byte first.
 const WIDE: [Line; 8] = [
-    (Select(0x58), None, Confadd),
-    (Out(Four, 0, 0x3333_30FF), None, Config(0x58)),
-    (In(Four, 0), Some(0x3333_3000), Config(0x58)),
-    (In(Two, 2), Some(0x3333), Config(0x5A)),
+    (Select(0x8000_0058), None, Confadd),
+    (Out(Four, 0, 0x3333_30FF), None, Config(0, 0, 0x58)),
+    (In(Four, 0), Some(0x3333_3000), Config(0, 0, 0x58)),
+    (In(Two, 2), Some(0x3333), Config(0, 0, 0x5A)),
     (Write(Four, 0xC_0000, 0x0403_0201), None, Shadow),
     (Read(One, 0xC_0003), Some(0x04), Shadow),
     (Read(Two, 0xC_0000), Some(0x0201), Shadow),
-    (Read(Two, 0x80_0000), Some(0xFFFF), Denied(0x67)),
+    (Read(Two, 0x80_0000), Some(0xFFFF), Denied(0, 0, 0x67)),
 ];
 
 /// The hole at 512 KiB, over a soft reset, which leaves it.
 const HOLE: [Line; 6] = [
-    (Select(0x68), None, Confadd),
-    (Out(One, 0, 0x40), None, Config(0x68)),
+    (Select(0x8000_0068), None, Confadd),
+    (Out(One, 0, 0x40), None, Config(0, 0, 0x68)),
     (Reset(0x04), None, Control),
     (Read(One, 0x7_FFFF), Some(0x00), Dram),
-    (Read(One, 0x8_0000), Some(0xFF), Denied(0x68)),
-    (In(One, 0), Some(0x40), Config(0x68)),
+    (Read(One, 0x8_0000), Some(0xFF), Denied(0, 0, 0x68)),
+    (In(One, 0), Some(0x40), Config(0, 0, 0x68)),
+];
+
+/// The ROM, to which XBCS lets no write through. Where it does, the chip itself takes none.
+const READS_OF_THE_ROM: [Line; 9] = [
+    (Write(One, 0xF_0012, 0xAA), None, WriteProtected(0x12)),
+    (Read(One, 0xF_0012), Some(0x12), Rom(0x12)),
+    (Fetch(Four, 0xF_0010), Some(0x1312_1110), Rom(0x10)),
+    (Select(0x8000_084C), None, Confadd),
+    (Out(One, 2, 0x47), None, Config(1, 0, 0x4E)),
+    (Write(One, 0xF_0000, 0x01), None, ReadOnly(0x00)),
+    (Read(One, 0xE_0005), Some(0x05), Rom(0x05)),
+    (Reset(0x04), None, Control),
+    (In(One, 2), Some(0x47), Config(1, 0, 0x4E)),
+];
+
+/// A VGA card below SMRAM, which in SMM takes fetches alone while DCLS is set.
+const DATA_TO_THE_SCREEN: [Line; 8] = [
+    (Select(0x8000_1004), None, Confadd),
+    (Out(One, 0, 0x02), None, Config(2, 0, 0x04)),
+    (Select(0x8000_0070), None, Confadd),
+    (Out(One, 2, 0x28), None, Config(0, 0, 0x72)),
+    (WriteInSmm(0xA_0010, 0x33), None, Card(2, 7, 0x10)),
+    (FetchInSmm(0xA_0010), Some(0x00), Smram),
+    (ReadInSmm(0xA_0010), Some(0x33), Card(2, 7, 0x10)),
+    (Fetch(One, 0xA_0010), Some(0x33), Card(2, 7, 0x10)),
+];
+
+/// Two cards with 4 KiB at the same address, of which the lower device wins where both are enabled.
+const TWO_CARDS_AT_ONE_ADDRESS: [Line; 11] = [
+    (Select(0x8000_1010), None, Confadd),
+    (Out(Four, 0, 0xC000_0000), None, Config(2, 0, 0x10)),
+    (Select(0x8000_1810), None, Confadd),
+    (Out(Four, 0, 0xC000_0000), None, Config(3, 0, 0x10)),
+    (Read(One, 0xC000_0000), Some(0xFF), Denied(2, 0, 0x04)),
+    (Select(0x8000_1804), None, Confadd),
+    (Out(One, 0, 0x02), None, Config(3, 0, 0x04)),
+    (Write(One, 0xC000_0000, 0x11), None, Card(3, 0, 0x00)),
+    (Select(0x8000_1004), None, Confadd),
+    (Out(One, 0, 0x02), None, Config(2, 0, 0x04)),
+    (Read(One, 0xC000_0000), Some(0x00), Card(2, 0, 0x00)),
 ];
 
 /// An access to memory.
 fn memory(rt: &impl Abort, kind: Kind, width: Width, addr: u32, smm: bool, value: u32) -> Event
     requires value { is_write kind ≡ false → value ≡ 0 }
     ensures taken { IsTaken result }
-    ensures in_range { (setup : Setup) → IsInRange setup result }
+    ensures in_range { (setup : Fitting) → IsInRange setup result }
 {
-    assert!(rt; addr < 0xF_0000 || 0x10_0000 <= addr);
-    assert!(rt; addr < 0xFFF8_0000);
     assert!(rt; width.is_aligned(addr));
     assert!(rt; width.fits(value));
     Event::Memory(Access {
@@ -125,7 +179,7 @@ fn memory(rt: &impl Abort, kind: Kind, width: Width, addr: u32, smm: bool, value
 fn data(rt: &impl Abort, write: bool, width: Width, place: u16, value: u32) -> Event
     requires value { write ≡ false → value ≡ 0 }
     ensures taken { IsTaken result }
-    ensures in_range { (setup : Setup) → IsInRange setup result }
+    ensures in_range { (setup : Fitting) → IsInRange setup result }
 {
     assert!(rt; place < 4);
     assert!(rt; width.is_aligned(u32::from(0xCFC + place)));
@@ -138,21 +192,33 @@ fn data(rt: &impl Abort, write: bool, width: Width, place: u16, value: u32) -> E
     })
 }
 
+/// A write of the configuration address.
+fn select(rt: &impl Abort, address: u32) -> Event
+    ensures taken { IsTaken result }
+    ensures in_range { (setup : Fitting) → IsInRange setup result }
+{
+    assert!(rt; address & 0x80FF_FFFC != 0x8000_0860);
+    Event::Port(PortAccess {
+        write: true,
+        port: 0xCF8,
+        width: Four,
+        value: address,
+    })
+}
+
 /// What a statement asks of the board.
 fn event(rt: &impl Abort, statement: Statement) -> Event
     ensures taken { IsTaken result }
-    ensures in_range { (setup : Setup) → IsInRange setup result }
+    ensures in_range { (setup : Fitting) → IsInRange setup result }
 {
     match statement {
         Read(width, addr) => memory(rt, Kind::Read, width, addr, false, 0),
         ReadInSmm(addr) => memory(rt, Kind::Read, One, addr, true, 0),
+        Fetch(width, addr) => memory(rt, Kind::Fetch, width, addr, false, 0),
+        FetchInSmm(addr) => memory(rt, Kind::Fetch, One, addr, true, 0),
         Write(width, addr, value) => memory(rt, Kind::Write, width, addr, false, value),
-        Select(off) => Event::Port(PortAccess {
-            write: true,
-            port: 0xCF8,
-            width: Four,
-            value: 0x8000_0000 + u32::from(off),
-        }),
+        WriteInSmm(addr, value) => memory(rt, Kind::Write, One, addr, true, value),
+        Select(address) => select(rt, address),
         Out(width, place, value) => data(rt, true, width, place, value),
         In(width, place) => data(rt, false, width, place, 0),
         Reset(value) => Event::Port(PortAccess {
@@ -164,13 +230,9 @@ fn event(rt: &impl Abort, statement: Statement) -> Event
     }
 }
 
-/// The register at an offset of the host bridge.
-fn bridge(off: u8) -> Reg {
-    Reg {
-        dev: 0,
-        fun: 0,
-        off,
-    }
+/// A register that denies.
+fn denied_by(dev: u8, fun: u8, off: u8) -> Option<Denial> {
+    Some(Denial::Register(Reg { dev, fun, off }))
 }
 
 /// The target and the denial of a reply.
@@ -179,18 +241,73 @@ fn answered(place: Place) -> (Target, Option<Denial>) {
         Dram => (Target::Dram(0), None),
         Shadow => (Target::Shadow(0), None),
         Smram => (Target::Smram, None),
+        Rom(off) => (Target::Rom(off), None),
+        WriteProtected(off) => (Target::Rom(off), denied_by(1, 0, 0x4E)),
+        ReadOnly(off) => (Target::Rom(off), Some(Denial::NoRegister)),
+        Card(dev, base, off) => (Target::Card(dev, base, off), None),
         Confadd => (Target::Device(Dev::Confadd), None),
         Control => (Target::Device(Dev::Reset), None),
-        Config(off) => (Target::Config(bridge(off)), None),
-        Denied(off) => (Target::Abort, Some(Denial::Register(bridge(off)))),
+        Config(dev, fun, off) => (Target::Config(Reg { dev, fun, off }), None),
+        Denied(dev, fun, off) => (Target::Abort, denied_by(dev, fun, off)),
         Disabled => (Target::Abort, Some(Denial::Confadd)),
+        Nobody => (Target::Abort, Some(Denial::NoRegister)),
     }
 }
 
+/// A VGA card without memory of its own.
+fn vga_card(dev: u8) -> CardSpec
+    ensures card { result ≡ record { dev = dev; vga = true; bases = [] } }
+{
+    CardSpec {
+        dev,
+        vga: true,
+        bases: ArrayVec::new(),
+    }
+}
+
+/// A card with 4 KiB of memory.
+fn memory_card(dev: u8) -> CardSpec
+    ensures card { result ≡ record { dev = dev; vga = false; bases = MemoryBase 12 ∷ [] } }
+{
+    let mut bases = ArrayVec::new();
+    bases.push(BaseSpec::Memory(12));
+    CardSpec {
+        dev,
+        vga: false,
+        bases,
+    }
+}
+
+/// Bytes of a ROM, each its offset modulo 256.
+fn rom(alloc: Global, size: u32) -> Result<Vec<u8>, AllocError> {
+    let mut bytes = Vec::new(alloc);
+    for off in 0..size {
+        bytes.push((off % 256) as u8)?;
+    }
+    Ok(bytes)
+}
+
+/// A board of 8 MiB with these cards and a ROM of so many bytes.
+fn setup(alloc: Global, cards: Vec<CardSpec>, rom_size: u32) -> Result<Setup, AllocError>
+    ensures mib { IfOk result (λ setup. setup.mib ≡ 8) }
+    ensures cards { IfOk result (λ setup. setup.cards ≡ cards.items) }
+    ensures disk { IfOk result (λ setup. setup.disk ≡ None) }
+{
+    Ok(Setup {
+        mib: 8,
+        cards,
+        rom: rom(alloc, rom_size)?,
+        disk: None,
+    })
+}
+
 /// Steps a new board through a table and compares each reply, and the numbers of the entries.
-fn replies(rt: &impl Abort, alloc: Global, lines: &[Line]) -> Result<(), Fail> {
-    let mut board = Board::open(alloc, 8)?;
-    board.reserve(10)?;
+fn replies(rt: &impl Abort, alloc: Global, cards: Vec<CardSpec>, lines: &[Line]) -> Result<(), Fail>
+    requires cards { IsCardList cards.items }
+    requires windows { memory_of_cards cards.items ≤ 0x400_0000 }
+{
+    let mut board = Board::open(alloc, setup(alloc, cards, 0x1_0000)?)?;
+    board.reserve(12)?;
     for line in lines {
         let (statement, value, place) = *line;
         let event = event(rt, statement);
@@ -212,10 +329,34 @@ fn replies(rt: &impl Abort, alloc: Global, lines: &[Line]) -> Result<(), Fail> {
 }
 
 #[test]
-fn replies_by_tables(rt: HostRuntime) -> Result<(), Fail> {
-    replies(&rt, rt.alloc(), &WRITES_TO_A_WINDOW)?;
-    replies(&rt, rt.alloc(), &MEMORY_AFTER_RESET)?;
-    replies(&rt, rt.alloc(), &SMRAM_UNDER_THE_LOCK)?;
-    replies(&rt, rt.alloc(), &WIDE)?;
-    replies(&rt, rt.alloc(), &HOLE)
+fn a_board_without_cards(rt: HostRuntime) -> Result<(), Fail> {
+    let alloc = rt.alloc();
+    replies(&rt, alloc, Vec::new(alloc), &WRITES_TO_A_WINDOW)?;
+    replies(&rt, alloc, Vec::new(alloc), &MEMORY_AFTER_RESET)?;
+    replies(&rt, alloc, Vec::new(alloc), &SMRAM_UNDER_THE_LOCK)?;
+    replies(&rt, alloc, Vec::new(alloc), &WIDE)?;
+    replies(&rt, alloc, Vec::new(alloc), &HOLE)?;
+    replies(&rt, alloc, Vec::new(alloc), &READS_OF_THE_ROM)
+}
+
+#[test]
+fn a_vga_card(rt: HostRuntime) -> Result<(), Fail> {
+    let alloc = rt.alloc();
+    let cards = vec![in alloc; vga_card(2)]?;
+    replies(&rt, alloc, cards, &DATA_TO_THE_SCREEN)
+}
+
+#[test]
+fn two_cards_at_one_address(rt: HostRuntime) -> Result<(), Fail> {
+    let alloc = rt.alloc();
+    let cards = vec![in alloc; memory_card(2), memory_card(3)]?;
+    replies(&rt, alloc, cards, &TWO_CARDS_AT_ONE_ADDRESS)
+}
+
+#[test]
+fn a_rom_of_a_byte_too_few(rt: HostRuntime) -> Result<(), Fail> {
+    let alloc = rt.alloc();
+    let setup = setup(alloc, Vec::new(alloc), 0xFFFF)?;
+    assert!(rt; matches!(Board::open(alloc, setup), Err(BoardOpen::BadRom)));
+    Ok(())
 }

@@ -1,26 +1,46 @@
-use Rattle.std.proofs.Common.{sym, ◌∙◌, ◌≡◌, true}
+use Rattle.std.proofs.Common.{◌≡◌, true, false, ◌∙◌}
 use Rattle.board_spec.specs.Stored.{is_write}
-use Rattle.board_core.specs.Kept.{reply_lands}
-use Rattle.dram_store.proofs.DramLemmas.{unwritten}
-use Rattle.board_core.proofs.MemoryLemmas.{write_lands, no_write, no_landing, write_flag}
+use Rattle.board_core.proofs.MemoryLemmas.{held, writes_when, write_answer, read_answer, write_puts, chipset_written, chipset_read}
 use Rattle.board_core.proofs.memory.perform.Goals as goal
-use Rattle.board_core.proofs.memory.perform.Goals.{else-is_write-via-then-is_write+else-reply_lands, else-is_write-via-else-is_write}
 
-pub returns-then-reply_lands-clause-stored : goal.returns-then-reply_lands-clause-stored
-returns-then-reply_lands-clause-stored c = λ setup history entry kept event replied.
-    let writes : is_write c.args.access.now.kind ≡ true =
-    sym (write_flag c.args.access.now.kind c.is_write.result c.is_write.ensures.write) ∙ c.if-is_write.true in
-    let on : reply_lands c.reply-reply.result ≡ true = sym c.reply_lands.ensures.lands ∙ c.if-reply_lands.true in
-    c.write.ensures.stored setup history entry kept
-    (λ at. rw (event, replied) (write_lands c.args.access.now c.reply-reply.result at writes on))
+pub write-requires-clause-held : goal.write-requires-clause-held
+write-requires-clause-held c =
+    let kept = c.requires.kept in (
+      c.args.rom.now,
+      held kept.setup kept.history c.args.chipset.now c.args.rom.now c.args.access.now c.decoded-target.result.0 c.decoded-target.result.1 kept.of kept.image
+          c.requires.bus.aligned (c.decoded-target.ensures.decoded kept.setup kept.history kept.of.registers.map kept.image),
+    )
 
-pub returns-else-is_write-clause-stored : goal.returns-else-is_write-clause-stored
-returns-else-is_write-clause-stored c = λ setup history entry kept event replied.
-    unwritten setup history entry c.args.dram.now kept
-    (λ at. rw (event, replied) (elim c.else-is_write.branch [
-      | else-is_write-via-then-is_write+else-reply_lands w ↦
-          no_landing c.args.access.now c.reply-reply.result at (sym w.reply_lands.ensures.lands ∙ w.if-reply_lands.false)
-      | else-is_write-via-else-is_write w ↦
-          no_write c.args.access.now c.reply-reply.result at
-          (sym (write_flag c.args.access.now.kind c.is_write.result c.is_write.ensures.write) ∙ w.if-is_write.false)
-    ]))
+pub read-requires-clause-held : goal.read-requires-clause-held
+read-requires-clause-held c =
+    let kept = c.requires.kept in
+    held kept.setup kept.history c.args.chipset.now c.args.rom.now c.args.access.now c.decoded-target.result.0 c.decoded-target.result.1 kept.of kept.image
+    c.requires.bus.aligned (c.decoded-target.ensures.decoded kept.setup kept.history kept.of.registers.map kept.image)
+
+pub returns-then-is_write-clause-answer : goal.returns-then-is_write-clause-answer
+returns-then-is_write-clause-answer c = λ setup history kept image.
+    let access = c.args.access.now in
+    let writes : is_write access.kind ≡ true = writes_when access.kind c.is_write.result c.is_write.ensures.write ∙ c.if-is_write.true in
+    write_answer setup history access c.decoded-target.result.0 c.decoded-target.result.1 writes
+    (c.decoded-target.ensures.decoded setup history kept.registers.map image)
+
+pub returns-then-is_write-clause-board : goal.returns-then-is_write-clause-board
+returns-then-is_write-clause-board c = λ setup history entry kept image event replied.
+    let access = c.args.access.now in
+    let writes : is_write access.kind ≡ true = writes_when access.kind c.is_write.result c.is_write.ensures.write ∙ c.if-is_write.true in
+    chipset_written setup history entry access c.args.chipset.now c.write.new.chipset event kept c.write.ensures.registers
+    (c.write.ensures.stored setup history entry kept.stores
+    (λ cell. write_puts entry access _ c.decoded-target.result.0 c.decoded-target.result.1 cell event replied writes))
+
+pub returns-clause-answer : goal.returns-clause-answer
+returns-clause-answer c = λ setup history kept image.
+    let access = c.args.access.now in
+    let reads : is_write access.kind ≡ false = writes_when access.kind c.is_write.result c.is_write.ensures.write ∙ c.if-is_write.false in
+    read_answer setup history access c.decoded-target.result.0 c.decoded-target.result.1 c.read.result reads
+    (c.decoded-target.ensures.decoded setup history kept.registers.map image) (c.read.ensures.value setup history kept.stores image)
+
+pub returns-clause-board : goal.returns-clause-board
+returns-clause-board c = λ setup history entry kept image event replied.
+    let access = c.args.access.now in
+    let reads : is_write access.kind ≡ false = writes_when access.kind c.is_write.result c.is_write.ensures.write ∙ c.if-is_write.false in
+    chipset_read setup history entry access _ c.decoded-target.result.0 c.decoded-target.result.1 c.args.chipset.now event replied reads kept

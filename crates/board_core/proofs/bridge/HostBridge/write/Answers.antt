@@ -12,5 +12,5 @@ returns-in_default c = record {
         | in_default-via-else-off-lt89+else-off-lt96 w ↦ (inr (omega arith), λ same. omega arith)
       ] in
       pmc_written setup bytes c.args.self.now (record c.args.self.now { pmc = c.write-in_default.new.self }) c.args.off c.args.byte place is
-      (c.write-in_default.ensures.written setup bytes is.here.pmc) refl refl;
+      (c.write-in_default.ensures.written setup bytes is.pmc) refl refl;
 }
