@@ -1,5 +1,4 @@
 mod FrontLemmas
 mod SentLemmas
-mod StatusLemmas
 mod TakenLemmas
 mod ReplayLemmas
