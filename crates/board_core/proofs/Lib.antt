@@ -1,5 +1,1 @@
 mod BridgeLemmas
-mod PortLemmas
-mod DecodeLemmas
-mod MemoryLemmas
-mod KeptLemmas

@@ -1,33 +1,37 @@
 -- The events that the board takes for now.
-use Rattle.std.specs.Prelude.{ℕ, ◌≡◌, ◌⊎◌, ◌<◌, ◌≤◌, ◌/◌, ◌%◌, true}
-use Rattle.board_base.specs.declared.access.Width.TheVariants.{One, Four}
+use Rattle.std.specs.Prelude.{ℕ, ◌≡◌, ◌==◌, Bool, false, ◌&&◌, ◌||◌}
+use Rattle.board_base.specs.Access.{bytes_of}
 use Rattle.board_base.specs.declared.access.PortAccess.{PortAccess}
 use Rattle.board_spec.specs.declared.event.Event.{Event}
 use Rattle.board_spec.specs.declared.event.Event.TheVariants.{Memory, Port}
-use Rattle.board_spec.specs.Registers.{is_config_port}
+use Rattle.board_spec.specs.Bits.{is_within}
+use Rattle.board_spec.specs.Registers.{kept_address}
 
--- the addresses of memory that an access reaches for now: neither the ROM's below 1 MiB nor those at the top
-abbrev pub IsReached : ℕ → Type 0
-IsReached addr = (addr < 0xF_0000) ⊎ ((0x10_0000 ≤ addr) × (addr < 0xFFF8_0000))
+-- the ports of the devices that are still to come: the 8259A pair, the 8254 and port 61h, the clock, the disk, and the
+-- edge and level control
+abbrev pub is_device_port : ℕ → Bool
+is_device_port port =
+    is_within 0x20 0x21 port || is_within 0xA0 0xA1 port
+    || is_within 0x40 0x43 port || port == 0x61
+    || is_within 0x70 0x71 port
+    || is_within 0x1F0 0x1F7 port || port == 0x3F6
+    || is_within 0x4D0 0x4D1 port
 
--- a configuration address that is not enabled, or names the host bridge: bus, device and function are 0
-abbrev pub IsTakenAddress : ℕ → Type 0
-IsTakenAddress value = (value < 0x8000_0000) ⊎ (value / 0x100 % 0x1_0000 ≡ 0)
+-- the configuration address that names the interrupt routing, 60h of 01.0
+abbrev pub routing_address : ℕ
+routing_address = 0x8000_0860
 
-abbrev pub IsAddressAccess : PortAccess → Type 0
-IsAddressAccess access =
-    (access.port ≡ 0xCF8) × (access.width ≡ Four) × (access.write ≡ true → IsTakenAddress access.value)
+abbrev pub names_routing : PortAccess → Bool
+names_routing access =
+    access.write && access.port == 0xCF8 && bytes_of access.width == 4 && kept_address access.value == routing_address
 
-abbrev pub IsDataAccess : PortAccess → Type 0
-IsDataAccess access = is_config_port access.port ≡ true
+-- a port access reaches no device that is still to come
+pub record IsTakenPort (access : PortAccess) : Type 0 where
+  pub port : is_device_port access.port ≡ false
+  pub address : names_routing access ≡ false
 
-abbrev pub IsResetAccess : PortAccess → Type 0
-IsResetAccess access = (access.port ≡ 0xCF9) × (access.width ≡ One)
-
-abbrev pub IsTakenPort : PortAccess → Type 0
-IsTakenPort access = IsAddressAccess access ⊎ IsDataAccess access ⊎ IsResetAccess access
-
+-- all accesses to memory, and these to ports
 abbrev pub IsTaken : Event → Type 0
-IsTaken (Memory access) = IsReached access.addr
+IsTaken (Memory access) = Unit {0}
 IsTaken (Port access) = IsTakenPort access
 IsTaken _ = ⊥

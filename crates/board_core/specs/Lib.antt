@@ -1,6 +1,4 @@
-pub mod Areas
-pub mod Bridge
+pub mod Space
+pub mod Stores
 pub mod Forms
 pub mod Kept
-pub mod PortSteps
-pub mod Replies

@@ -1,77 +1,97 @@
 //! The board: each event is one step, which adds one entry to a history that is legal at every moment.
 
-ghost use Rattle.std.specs.Prelude.{◌≡◌, ◌-◌, ◌+◌, ◌<◌, ◌≤◌, List, [], ◌∷◌, length, max, IfOk, OnOk, OnErr};
+ghost use Rattle.std.specs.Prelude.{◌≡◌, ◌-◌, ◌+◌, ◌<◌, ◌≤◌, ◌↔◌, List, [], ◌∷◌, length, max, None, Err, IsTrue, IfOk, OnOk, OnErr};
 ghost use Rattle.board_spec.specs.declared.event.Entry.{Entry};
-ghost use Rattle.board_spec.specs.Setup.{Setup};
+ghost use Rattle.board_spec.specs.Setup.{Setup, IsCardList, IsRomSize, memory_of_cards};
 ghost use Rattle.board_spec.specs.InRange.{IsInRange};
 ghost use Rattle.board_spec.specs.Answer.{IsAnswer};
 ghost use Rattle.board_spec.specs.Legal.{IsLegal};
 ghost use Rattle.access_history.specs.Past.{most};
-ghost use Rattle.board_core.specs.Forms.{IsTaken, IsTakenAddress};
-ghost use Rattle.board_core.specs.Kept.{IsBoardOf, next_entry, plain_setup};
+ghost use Rattle.board_core.specs.Forms.{IsTaken};
+ghost use Rattle.board_core.specs.Kept.{IsChipset, IsChipsetOf, next_entry};
 
+use crate::chipset::Chipset;
 use crate::registers::Registers;
+use crate::setup::{BoardOpen, Setup};
+use crate::stores::Stores;
 use crate::{memory, ports};
 use access_history::History;
 use board_base::NoMemory;
 use board_spec::{Entry, Event, Reply};
-use dram_store::Dram;
 use std::alloc::Global;
 use std::marker::Model;
 
 /// The most processors that a board has.
 const PROCESSORS: usize = 8;
 
-/// A board without cards and disk. Contracts see its setup, its history and the room for more entries.
+/// The sizes in bytes that a BIOS ROM can have.
+const ROM_SIZES: [usize; 4] = [0x1_0000, 0x2_0000, 0x4_0000, 0x8_0000];
+
+/// A board. Contracts see its setup, its history and the room for more entries.
 #[derive(Drop)]
 pub struct Board {
-    mib: u8,
-    registers: Registers,
-    dram: Dram,
+    setup: Setup,
+    chipset: Chipset,
     history: History,
     counts: [u32; PROCESSORS],
 }
 
 impl Model for Board {
-    ghost use Rattle.board_core.specs.Kept.{IsKept, Standing, plain_setup};
+    ghost use Rattle.board_core.specs.Kept.{IsKept, Standing};
 
     ghost Value = { Standing };
 
-    ghost view = { λ board. record { setup = plain_setup board.mib; entries = board.history.entries; spare = board.history.spare } };
+    ghost view = { λ board. record { setup = board.setup; entries = board.history.entries; spare = board.history.spare } };
 
     ghost invariant = { λ board.
-        IsKept (plain_setup board.mib) board.history.entries board.history.spare board.registers board.dram board.counts };
+        IsKept board.setup board.history.entries board.history.spare board.chipset board.counts };
+}
+
+/// Whether a ROM can have this many bytes.
+fn is_rom_size(size: usize) -> bool
+    ensures size { IsTrue result ↔ IsRomSize size }
+{
+    ROM_SIZES.contains(&size)
 }
 
 /// Does an event, and tells the reply.
-fn perform(registers: &mut Registers, dram: &mut Dram, event: &Event) -> Reply
+fn perform(chipset: &mut Chipset, rom: &[u8], event: &Event) -> Reply
     requires taken { IsTaken event.now }
     requires in_range { (setup : Setup) → IsInRange setup event.now }
-    requires address { IsTakenAddress registers.old.address }
-    ensures answer { (setup : Setup) (history : List Entry) → IsBoardOf setup history registers.old dram.old
+    requires kept { IsChipset chipset.old rom.now }
+    ensures answer { (setup : Setup) (history : List Entry) → IsChipsetOf setup history chipset.old → setup.rom ≡ rom.now
         → IsAnswer setup history event.now result }
-    ensures board { (setup : Setup) (history : List Entry) (entry : Entry) → IsBoardOf setup history registers.old dram.old
-        → entry.event ≡ event.now → entry.reply ≡ result → IsBoardOf setup (entry ∷ history) registers.new dram.new }
+    ensures board { (setup : Setup) (history : List Entry) (entry : Entry) → IsChipsetOf setup history chipset.old → setup.rom ≡ rom.now
+        → entry.event ≡ event.now → entry.reply ≡ result → IsChipsetOf setup (entry ∷ history) chipset.new }
 {
     match event {
-        Event::Memory(access) => memory::perform(&registers.host, dram, access),
-        Event::Port(access) => ports::perform(registers, access),
+        Event::Memory(access) => memory::perform(chipset, rom, access),
+        Event::Port(access) => ports::perform(chipset, access),
         _ => unreachable!(),
     }
 }
 
 impl Board {
-    /// A board with `mib` MiB of DRAM, 1 to 64, as after power-on.
-    pub fn open(alloc: Global, mib: u8) -> Result<Board, NoMemory>
-        requires low { 1 ≤ mib }
-        requires high { mib ≤ 64 }
-        ensures fresh { IfOk result (λ board. board ≡ record { setup = plain_setup mib; entries = []; spare = 0 }) }
+    /// The board of a setup, as after power-on. The memory is 1 to 64 MiB; the cards are at most eight in rising order
+    /// of device, with at most 64 MiB of memory together; a disk cannot be fitted yet. BadRom exactly where the ROM is
+    /// not of 64, 128, 256 or 512 KiB.
+    pub fn open(alloc: Global, setup: Setup) -> Result<Board, BoardOpen>
+        requires low { 1 ≤ setup.mib }
+        requires high { setup.mib ≤ 64 }
+        requires cards { IsCardList setup.cards }
+        requires windows { memory_of_cards setup.cards ≤ 0x400_0000 }
+        requires disk { setup.disk ≡ None }
+        ensures fresh { IfOk result (λ board. board ≡ record { setup = setup; entries = []; spare = 0 }) }
+        ensures bad_rom { (result ≡ Err BoardOpen.BadRom) ↔ ¬ IsRomSize (length setup.rom) }
     {
-        let dram = Dram::open(alloc, u32::from(mib))?;
+        if !is_rom_size(setup.rom.len()) {
+            return Err(BoardOpen::BadRom);
+        }
+        let stores = Stores::open(alloc, setup.mib, &setup.cards)?;
+        let registers = Registers::new(&setup.cards);
         Ok(Board {
-            mib,
-            registers: Registers::new(),
-            dram,
+            setup,
+            chipset: Chipset { registers, stores },
             history: History::new(alloc),
             counts: [0; PROCESSORS],
         })
@@ -86,9 +106,8 @@ impl Board {
         self.history.reserve(n)
     }
 
-    /// Does an event of a processor, 0 to 7, and tells the reply. It takes no memory. For now it takes
-    /// accesses to memory outside the ROM, the configuration address as far as it names the host bridge or
-    /// is not enabled, the configuration data ports and reset control.
+    /// Does an event of a processor, 0 to 7, and tells the reply. It takes no memory. For now it takes accesses to
+    /// memory, and those to ports that are not a device's which is still to come.
     pub fn step(&mut self, actor: u8, event: &Event) -> Reply
         requires actor { actor < 8 }
         requires in_range { IsInRange self.old.setup event.now }
@@ -100,7 +119,7 @@ impl Board {
           spare = self.old.spare - 1;
         } }
     {
-        let reply = perform(&mut self.registers, &mut self.dram, event);
+        let reply = perform(&mut self.chipset, &self.setup.rom, event);
         let seq = self.counts[usize::from(actor)] + 1;
         self.counts[usize::from(actor)] = seq;
         self.history.push(Entry {

@@ -1,18 +1,19 @@
 //! The board: a history that is legal at every moment, and the registers and bytes that it left.
-//! For now it has the host bridge, the configuration ports and reset control; the registers of all other
-//! functions stand as after a reset.
+//! For now it has memory, cards, configuration space but for the interrupt routing, and reset control; of the other
+//! devices none is there, so no access to their ports is taken.
 #![tactic(auto)]
 
 mod board;
 mod bridge;
-mod decode;
+mod chipset;
+mod config_space;
 mod memory;
 mod ports;
 mod registers;
-mod replies;
 mod reset_control;
+mod rom;
+mod setup;
+mod stores;
 
 pub use board::Board;
-
-#[cfg(test)]
-mod tests;
+pub use setup::{BoardOpen, Setup};

@@ -1,76 +1,95 @@
-//! The ports of configuration mechanism one, 0CF8h and 0CFCh to 0CFFh, and reset control at 0CF9h.
+//! Accesses to ports: configuration mechanism one at 0CF8h and 0CFCh to 0CFFh, reset control at 0CF9h, the empty
+//! socket of the keyboard controller, and the ports of the cards.
 
+ghost use Rattle.std.specs.Prelude.{◌≡◌, ℕ, List, [], ◌∷◌};
+ghost use Rattle.board_spec.specs.declared.event.Entry.{Entry};
+ghost use Rattle.board_spec.specs.declared.event.Event.TheVariants.{Port};
+ghost use Rattle.board_spec.specs.Setup.{Setup};
 ghost use Rattle.board_spec.specs.InRange.{IsBusAccess};
-ghost use Rattle.board_core.specs.Forms.{IsAddressAccess, IsDataAccess, IsResetAccess, IsTakenAddress, IsTakenPort};
-ghost use Rattle.board_core.specs.PortSteps.{DoesPort};
+ghost use Rattle.board_spec.specs.Answer.{port_answer};
+ghost use Rattle.board_core.specs.Forms.{IsTakenPort};
+ghost use Rattle.board_core.specs.Kept.{IsChipset, IsChipsetOf};
 
+use crate::chipset::Chipset;
 use crate::registers::Registers;
-use crate::replies;
-use board_base::{Denial, Dev, PortAccess, Target};
+use addr_decode::decode_port;
+use board_base::{Dev, PortAccess, Target};
 use board_spec::Reply;
 
-/// The port of the configuration address.
-const CONFIG_ADDRESS: u16 = 0xCF8;
-/// The port of reset control.
-const RESET_CONTROL: u16 = 0xCF9;
+/// What every bit of a byte reads at an empty socket.
+const EMPTY_SOCKET: u32 = 0xFF;
 
-/// Reads or writes the configuration address, and tells the reply.
-fn address(registers: &mut Registers, access: &PortAccess) -> Reply
-    requires taken { IsAddressAccess access.now }
-    ensures done { DoesPort access.now registers.old registers.new result }
-{
-    let target = Target::Device(Dev::Confadd);
-    if access.write {
-        registers.address.write(access.value);
-        return replies::written(target);
+/// What a device's port reads. The socket of the keyboard controller is empty.
+fn read_device(registers: &Registers, dev: Dev) -> u32 {
+    match dev {
+        Dev::Confadd => registers.address.read(),
+        Dev::Reset => u32::from(registers.control.read()),
+        Dev::Keyboard => EMPTY_SOCKET,
+        _ => unreachable!(),
     }
-    replies::read(target, registers.address.read())
 }
 
-/// Reads or writes reset control, and tells the reply.
-fn control(registers: &mut Registers, access: &PortAccess) -> Reply
-    requires taken { IsResetAccess access.now }
-    requires bus { IsBusAccess access.now.write access.now.port access.now.width access.now.value }
-    ensures done { DoesPort access.now registers.old registers.new result }
-{
-    let target = Target::Device(Dev::Reset);
-    if access.write {
-        registers.write_control(access.value as u8);
-        return replies::written(target);
+/// What a read gives.
+fn read(chipset: &Chipset, target: Target, access: &PortAccess) -> u32 {
+    match target {
+        Target::Device(dev) => read_device(&chipset.registers, dev),
+        Target::Config(reg) => chipset.registers.space.read_wide(reg, access.width),
+        _ => chipset
+            .stores
+            .read(target, u32::from(access.port), access.width),
     }
-    replies::read(target, u32::from(registers.control.read()))
 }
 
-/// Reads or writes the registers at a configuration data port, and tells the reply. Nobody answers while
-/// the configuration address is not enabled.
-fn data(registers: &mut Registers, access: &PortAccess) -> Reply
-    requires taken { IsDataAccess access.now }
-    requires bus { IsBusAccess access.now.write access.now.port access.now.width access.now.value }
-    requires address { IsTakenAddress registers.old.address }
-    ensures done { DoesPort access.now registers.old registers.new result }
-{
-    let Some(selected) = registers.address.select(access.port) else {
-        return replies::aborted(access.write, access.width, Denial::Confadd);
-    };
-    let target = Target::Config(selected.reg);
-    let off = selected.reg.off;
-    if access.write {
-        registers.host.write_wide(off, access.width, access.value);
-        return replies::written(target);
+/// Writes the register of a device. A write to the empty socket is lost.
+fn write_device(registers: &mut Registers, dev: Dev, value: u32) {
+    match dev {
+        Dev::Confadd => registers.address.write(value),
+        Dev::Reset => registers.write_control(value as u8),
+        Dev::Keyboard => {}
+        _ => unreachable!(),
     }
-    replies::read(target, registers.host.read_wide(off, access.width))
 }
 
-/// Does an access at these ports, and tells the reply.
-pub fn perform(registers: &mut Registers, access: &PortAccess) -> Reply
+/// Writes.
+fn write(chipset: &mut Chipset, target: Target, access: &PortAccess) {
+    match target {
+        Target::Device(dev) => write_device(&mut chipset.registers, dev, access.value),
+        Target::Config(reg) => chipset.registers.store(reg, access.width, access.value),
+        _ => chipset
+            .stores
+            .write(target, u32::from(access.port), access.width, access.value),
+    }
+}
+
+/// Does an access at a port, and tells the reply.
+pub fn perform(chipset: &mut Chipset, access: &PortAccess) -> Reply
     requires taken { IsTakenPort access.now }
     requires bus { IsBusAccess access.now.write access.now.port access.now.width access.now.value }
-    requires address { IsTakenAddress registers.old.address }
-    ensures done { DoesPort access.now registers.old registers.new result }
+    requires kept { (rom : List ℕ) × IsChipset chipset.old rom }
+    ensures answer { (setup : Setup) (history : List Entry) → IsChipsetOf setup history chipset.old
+        → result ≡ port_answer setup history access.now }
+    ensures board { (setup : Setup) (history : List Entry) (entry : Entry) → IsChipsetOf setup history chipset.old
+        → entry.event ≡ Port access.now → entry.reply ≡ result → IsChipsetOf setup (entry ∷ history) chipset.new }
 {
-    match access.port {
-        CONFIG_ADDRESS => address(registers, access),
-        RESET_CONTROL => control(registers, access),
-        _ => data(registers, access),
+    let registers = &chipset.registers;
+    let (target, denial) = decode_port(
+        &registers.map,
+        &registers.port_regs(),
+        access.port,
+        access.width,
+    );
+    if access.write {
+        write(chipset, target, access);
+        return Reply::Bus {
+            value: None,
+            target,
+            denial,
+        };
+    }
+    let value = Some(read(chipset, target, access));
+    Reply::Bus {
+        value,
+        target,
+        denial,
     }
 }
