@@ -1,4 +1,6 @@
 mod FrontLemmas
 mod SentLemmas
+mod CauseLemmas
+mod ExactLemmas
 mod TakenLemmas
 mod ReplayLemmas

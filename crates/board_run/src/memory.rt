@@ -1,6 +1,6 @@
 //! The commands over files in memory, where nothing outside can fail.
 
-ghost use Rattle.std.specs.Prelude.{◌≡◌, ◌≢◌, ◌↔◌, ℕ, Some, None};
+ghost use Rattle.std.specs.Prelude.{◌≡◌, ◌≢◌, ◌↔◌, [], Some, None};
 ghost use Rattle.board_base.specs.Files.{file_named};
 ghost use Rattle.board_run.specs.declared.status.Which.{Which};
 ghost use Rattle.board_run.specs.Words.{asked};
