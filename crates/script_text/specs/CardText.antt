@@ -1,8 +1,8 @@
 -- What a card line says, by its fields, and whether the card can stand beside those of the lines before it.
-use Rattle.std.specs.Prelude.{ℕ, ◌==◌, Bool, true, false, ◌&&◌, not, nat_le, nat_lt, List, [], ◌∷◌, length, if◌then◌else◌, Option, Some, None, codes, bytes_eq}
+use Rattle.std.specs.Prelude.{ℕ, ◌==◌, Bool, true, false, ◌&&◌, not, nat_le, nat_lt, List, [], ◌∷◌, length, sum_by, if◌then◌else◌, Option, Some, None, codes, bytes_eq}
 use Rattle.std.specs.List.{list_any}
 use Rattle.std.specs.Option.{option_and_then}
-use Rattle.board_spec.specs.Setup.{Base, MemoryBase, IoBase, FittedCard, memory_of_cards}
+use Rattle.board_spec.specs.Setup.{Base, MemoryBase, IoBase, FittedCard, memory_size, memory_of_cards}
 use Rattle.board_spec.specs.Bits.{is_within}
 use Rattle.script_text.specs.Numbers.{decimal_of}
 use Rattle.script_text.specs.StatementText.{◌>>=◌}
@@ -64,6 +64,10 @@ card_of (key ∷ words) = if bytes_eq key (codes "card") then fitted_of words el
 -- the memory bases of all cards have at most this many bytes together
 abbrev pub most_card_memory : ℕ
 most_card_memory = 0x400_0000
+
+-- how many bytes of memory the bases of a card decode
+abbrev pub memory_of_card : FittedCard → ℕ
+memory_of_card card = sum_by memory_size card.bases
 
 -- a card came before at its device
 abbrev pub is_there : List FittedCard → FittedCard → Bool

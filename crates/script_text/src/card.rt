@@ -12,6 +12,7 @@ use pci_bars::{BaseSpec, CardSpec};
 
 /// The device numbers of cards.
 const FIRST_DEVICE: u32 = 2;
+
 const LAST_DEVICE: u32 = 9;
 
 /// The most bases of a card.
@@ -19,10 +20,12 @@ const MOST_BASES: usize = 6;
 
 /// The powers of two of memory bases: 16 bytes to 16 MiB.
 const LEAST_MEMORY: u32 = 4;
+
 const MOST_MEMORY: u32 = 24;
 
 /// The powers of two of I/O bases: 4 to 256 ports.
 const LEAST_PORTS: u32 = 2;
+
 const MOST_PORTS: u32 = 8;
 
 /// A memory base of a power of two.

@@ -1,10 +1,11 @@
 //! The cards of a script, one after the other.
 
-ghost use Rattle.std.specs.Prelude.{◌≡◌, ◌≤◌, ◌*◌, [], length, map, sum_by, vec_len, IfOk, OnOk};
+ghost use Rattle.std.specs.Prelude.{◌≡◌, ◌≤◌, [], length, map, nat_lt, codes, bytes_eq, IfOk, OnOk};
+ghost use Rattle.std.specs.List.{position_or_len};
 ghost use Rattle.board_spec.specs.Setup.{IsBase, IsCard, memory_size, memory_of_cards};
 ghost use Rattle.pci_bars.specs.Bases.{base_of};
 ghost use Rattle.script_text.specs.Lines.{lines_of};
-ghost use Rattle.script_text.specs.CardText.{is_there, fits_beside, next_card, insert_card};
+ghost use Rattle.script_text.specs.CardText.{memory_of_card, is_there, fits_beside, next_card, insert_card};
 ghost use Rattle.script_text.specs.ScriptText.{card_line, cards_from};
 ghost use Rattle.script_text.specs.Taken.{AreFitted};
 ghost use Rattle.script_text.specs.Reading.{Gives};
@@ -25,7 +26,6 @@ const MOST_CARD_MEMORY: u32 = 0x400_0000;
 fn memory_size(base: BaseSpec) -> u32
     requires base { IsBase (base_of base) }
     ensures size { result ≡ memory_size (base_of base) }
-    ensures most { result ≤ 0x100_0000 }
 {
     match base {
         BaseSpec::Memory(bits) => 1 << bits,
@@ -36,7 +36,7 @@ fn memory_size(base: BaseSpec) -> u32
 /// How many bytes of memory the bases of a card decode.
 fn memory_of_card(card: &CardSpec) -> u32
     requires card { IsCard card.now }
-    ensures memory { result ≡ sum_by memory_size card.now.bases }
+    ensures memory { result ≡ memory_of_card card.now }
     ensures most { result ≤ 0x600_0000 }
 {
     let mut memory = 0;
@@ -103,15 +103,30 @@ fn card_line(alloc: Global, cards: &[CardSpec], line: &[u8]) -> Result<CardSpec,
     }
 }
 
+/// The place of the first card of a device above this one, or the end.
+fn place_of(cards: &[CardSpec], dev: u8) -> usize
+    ensures place { result ≡ position_or_len (λ other. nat_lt dev other.dev) cards.now }
+    ensures within { result ≤ length cards.now }
+{
+    cards
+        .iter()
+        .position(|other| dev < other.dev)
+        .unwrap_or(cards.len())
+}
+
 /// Puts a card before the first one of a higher device.
 fn insert_card(cards: &mut Vec<CardSpec>, card: CardSpec) -> Result<(), AllocFailed<CardSpec>>
     ensures cards { OnOk result (cards.new.items ≡ insert_card card cards.old.items) }
 {
-    let place = cards
-        .iter()
-        .position(|other| card.dev < other.dev)
-        .unwrap_or(cards.len());
+    let place = place_of(cards, card.dev);
     cards.insert(place, card)
+}
+
+/// Whether the cards end before this line.
+fn is_phase(line: &[u8]) -> bool
+    ensures phase { result ≡ bytes_eq line.now (codes "phase") }
+{
+    line == b"phase".as_slice()
 }
 
 /// The cards in rising order of device, up to the end or a line `phase`, and the bytes behind that line.
@@ -122,7 +137,7 @@ pub fn cards_from(alloc: Global, bytes: &[u8]) -> Result<(Vec<CardSpec>, &[u8]),
     let mut cards = Vec::new(alloc);
     let mut rest = bytes;
     while let Some((line, after)) = split_line(rest) {
-        if line == b"phase".as_slice() {
+        if is_phase(line) {
             return Ok((cards, after));
         }
         let card = card_line(alloc, &cards, line)?;

@@ -40,7 +40,12 @@ fn statement_of(fields: &[&[u8]]) -> Option<Statement>
 
 /// The statement on a line, where so many stand before it, the first of them on line `first`.
 #[tactic(auto, unfolding(crate::specs::ScriptText::next_statement))]
-fn next_statement(alloc: Global, first: u32, before: usize, line: &[u8]) -> Result<Statement, ScriptFault>
+fn next_statement(
+    alloc: Global,
+    first: u32,
+    before: usize,
+    line: &[u8],
+) -> Result<Statement, ScriptFault>
     requires first { first ≤ 14 }
     requires before { before ≤ most_statements }
     ensures said { Gives (λ statement. statement) result (next_statement first before line.now) }
