@@ -102,7 +102,6 @@ of_file told files name P is holds = subst (λ (told' : Option (List ℕ → Lis
 
 -- ---- the ways out
 
-
 rose_before : (before between now : ℕ) → before ≤ between → Rose between now → Rose before now
 rose_before before between now later rose =
     elim rose [
@@ -135,14 +134,13 @@ rom_cause Done told name bytes said before between now kept sink read later noth
 rom_cause Usage told name bytes said before between now kept sink read later nothing cause = absurd cause
 rom_cause (ReadFault Script) told name bytes said before between now kept sink read later nothing cause =
     let other = cause.0 in absurd cc
-rom_cause (ReadFault Rom) told name bytes said before between now kept sink read later nothing cause =
-    (
-      record {
-        rose = rose_before before between now later cause.1.rose;
-        names = names_rom told name bytes said kept read cause.1.names;
-      },
-      nothing,
-    )
+rom_cause (ReadFault Rom) told name bytes said before between now kept sink read later nothing cause = (
+  record {
+    rose = rose_before before between now later cause.1.rose;
+    names = names_rom told name bytes said kept read cause.1.names;
+  },
+  nothing,
+)
 rom_cause WriteFault told name bytes said before between now kept sink read later nothing cause = absurd cause
 rom_cause (TooLong Script) told name bytes said before between now kept sink read later nothing cause =
     let other = cause.0 in absurd cc
