@@ -1,19 +1,19 @@
 -- Which status is left where the causes of the others do not hold.
-use Rattle.std.proofs.Common.{◌≡◌, ◌≢◌, ℕ, ◌<◌, ◌≤◌, ◌⊎◌, inl, inr, ◌↔◌, Bool, true, false, List, length, Option, Some, None, Result, Ok, Err, refl, sym, ◌∙◌, ap, arith}
+use Rattle.std.proofs.Common.{◌≡◌, ◌≢◌, ℕ, ◌<◌, ◌≤◌, inl, inr, ◌↔◌, Bool, true, false, List, length, Option, Some, None, Result, Ok, Err, refl, sym, ◌∙◌, arith}
 use Rattle.std.specs.Prelude.{◌==◌, ◌||◌, nat_lt, if◌then◌else◌}
 use Rattle.std.proofs.lemmas.Bool.{cases_Bool}
 use Rattle.std.proofs.lemmas.Bool.Decides.{nat_tests}
-use Rattle.board_base.specs.Counts.{last_count}
 use Rattle.board_base.specs.Outside.{Rose}
 use Rattle.board_spec.specs.Setup.{IsRomSize}
 use Rattle.script_text.specs.Lines.{lines_of}
-use Rattle.script_text.specs.ScriptText.{Said, Refusal, script_from, IsScript, IsBadScript}
+use Rattle.script_text.specs.ScriptText.{Said, Refusal, script_from}
 use Rattle.board_run.specs.declared.status.Which.TheVariants.{Script, Rom}
 use Rattle.board_run.specs.declared.status.Status.{Status}
 use Rattle.board_run.specs.declared.status.Status.TheVariants.{Done, Usage, ReadFault, WriteFault, TooLong, BadScript, BadImage, NoMemory}
 use Rattle.board_run.specs.Words.{Command, Replay}
 use Rattle.board_run.specs.Replays.{IsReplayText}
-use Rattle.board_run.specs.Outcomes.{script_limit, rom_limit, ShelfCall, SinkCall, OfScript, HasScript, IsTooLong, IsRefusedAt, HasRom, IsLongRom, IsBadRom, IsGood, FailsAtScript, PutsReplay, PutsReplayFront, IsCaused, Answers, IsExact}
+use Rattle.board_run.proofs.CauseLemmas.{map_script}
+use Rattle.board_run.specs.Outcomes.{script_limit, rom_limit, ShelfCall, SinkCall, OfScript, HasScript, IsTooLong, IsRefusedAt, HasRom, IsLongRom, IsBadRom, IsGoodRom, IsGood, FailsAtScript, PutsReplay, PutsReplayFront, IsCaused, Answers, IsExact}
 
 -- ---- the answer that the files ask for, where the outside is quiet
 
@@ -55,14 +55,14 @@ refused_script line why files file refused =
     short_script files file (Err (record { line = line; why = why })) refused.fits refused.bad
 
 good_script :
-    (P : List ℕ → Type 0) (wanted : Status) → ((rom : List ℕ) → P rom → rom_answer (length rom) ≡ wanted) → (files : List ℕ → List ℕ) (file : List ℕ) →
-    HasRom P files file → Asks wanted files file
+    (P : (name rom : List ℕ) → Type 0) (wanted : Status) → ((name rom : List ℕ) → P name rom → rom_answer (length rom) ≡ wanted) →
+    (files : List ℕ → List ℕ) (file : List ℕ) → HasRom P files file → Asks wanted files file
 good_script P wanted each files file has =
-    short_script files file (Ok has.said) has.fits has.script ∙ each (files has.said.rom) has.rom
+    short_script files file (Ok has.said) has.fits has.script ∙ each has.said.rom (files has.said.rom) has.image
 
-long_rom : (rom : List ℕ) → IsLongRom rom → rom_answer (length rom) ≡ TooLong Rom
+long_rom : (name rom : List ℕ) → IsLongRom name rom → rom_answer (length rom) ≡ TooLong Rom
 unfolding rom_answer
-long_rom rom more = rw (long rom_limit (length rom) more) refl
+long_rom name rom more = rw (long rom_limit (length rom) more) refl
 
 size_true : (size : ℕ) → IsRomSize size → (nat_lt rom_limit size ≡ false) × (is_rom_size size ≡ true)
 unfolding is_rom_size
@@ -76,26 +76,19 @@ size_false size other =
       | inr bad ↦ bad
     ]
 
-good_rom : (rom : List ℕ) → IsRomSize (length rom) → rom_answer (length rom) ≡ Done
+good_rom : (name rom : List ℕ) → IsGoodRom name rom → rom_answer (length rom) ≡ Done
 unfolding rom_answer
-good_rom rom is = let tests = size_true (length rom) is in rw (tests.0, tests.1) refl
+good_rom name rom is = let tests = size_true (length rom) is in rw (tests.0, tests.1) refl
 
-other_rom : (rom : List ℕ) → IsBadRom rom → rom_answer (length rom) ≡ BadImage Rom
+other_rom : (name rom : List ℕ) → IsBadRom name rom → rom_answer (length rom) ≡ BadImage Rom
 unfolding rom_answer
-other_rom rom is = rw (not_long rom_limit (length rom) is.0, size_false (length rom) is.1) refl
+other_rom name rom is = rw (not_long rom_limit (length rom) is.0, size_false (length rom) is.1) refl
 
 replayed : (files : List ℕ → List ℕ) (file text : List ℕ) → length file ≤ script_limit → IsReplayText files file text → Asks Done files file
 replayed files file text fits replay =
-    short_script files file (Ok replay.said) fits replay.script ∙ good_rom (files replay.said.rom) replay.rom
+    short_script files file (Ok replay.said) fits replay.script ∙ good_rom replay.said.rom (files replay.said.rom) replay.rom
 
 -- ---- of the script of a command
-
-map_of :
-    (command : Option Command) (told : Option (List ℕ → List ℕ)) (P Q : (List ℕ → List ℕ) → List ℕ → Type 0) →
-    ((files : List ℕ → List ℕ) (file : List ℕ) → P files file → Q files file) → OfScript command told P → OfScript command told Q
-map_of None told P Q each of = of
-map_of (Some (Replay script)) None P Q each of = tt
-map_of (Some (Replay script)) (Some files) P Q each of = each files (files script) of
 
 map_has :
     (command : Option Command) (told : Option (List ℕ → List ℕ)) (P Q : (List ℕ → List ℕ) → List ℕ → Type 0) →
@@ -121,66 +114,75 @@ rose_at_script (Some (Replay script)) shelf fails = fails.rose
 
 -- ---- the status that is left
 
--- what the causes of a status say of the answer that the files ask for
-left :
-    (status : Status) (command : Option Command) (shelf : ShelfCall) (sink : SinkCall) (wanted : Status) →
-    ((status ≡ Usage) ↔ (command ≡ None)) → IsCaused status command shelf sink → HasScript command shelf.files (Asks wanted) →
-    ¬ Rose shelf.faults_before shelf.faults_now → (wanted ≡ Done → ¬ Rose sink.faults_before sink.faults_now) → Answers status wanted
-left Done command shelf sink wanted usage is has quiet calm =
-    inl
-    (same_answer command shelf.files Done wanted has
-    (map_of command shelf.files (PutsReplay sink.taken_before sink.taken_now) (Asks Done)
-    (λ files file puts. replayed files file puts.text puts.fits puts.replay) (is.done refl)))
-left Usage command shelf sink wanted usage is has quiet calm =
-    absurd (is_asked command shelf.files (Asks wanted) has (usage.0 refl))
-left (ReadFault Script) command shelf sink wanted usage is has quiet calm =
-    absurd (quiet (rose_at_script command shelf (is.script_failed refl)))
-left (ReadFault Rom) command shelf sink wanted usage is has quiet calm = absurd (quiet (is.rom_failed refl).rose)
-left WriteFault command shelf sink wanted usage is has quiet calm =
-    absurd
-    (calm
-    (sym (same_answer command shelf.files Done wanted has
-    (map_of command shelf.files (PutsReplayFront sink.taken_before sink.taken_now) (Asks Done)
-    (λ files file puts. replayed files file puts.text puts.fits puts.replay) is.stopped)))
-    (is.sink_failed refl))
-left (TooLong Script) command shelf sink wanted usage is has quiet calm =
-    inl (same_answer command shelf.files (TooLong Script) wanted has (map_of command shelf.files IsTooLong (Asks (TooLong Script)) long_script (is.script_long refl)))
-left (TooLong Rom) command shelf sink wanted usage is has quiet calm =
-    inl
-    (same_answer command shelf.files (TooLong Rom) wanted has
-    (map_of command shelf.files (HasRom IsLongRom) (Asks (TooLong Rom)) (good_script IsLongRom (TooLong Rom) long_rom) (is.rom_long refl)))
-left (BadScript line why) command shelf sink wanted usage is has quiet calm =
-    inl
-    (same_answer command shelf.files (BadScript line why) wanted has
-    (map_of command shelf.files (IsRefusedAt line why) (Asks (BadScript line why)) (refused_script line why) (is.script_bad line why refl)))
-left (BadImage Script) command shelf sink wanted usage is has quiet calm = absurd (is.no_image refl)
-left (BadImage Rom) command shelf sink wanted usage is has quiet calm =
-    inl
-    (same_answer command shelf.files (BadImage Rom) wanted has
-    (map_of command shelf.files (HasRom IsBadRom) (Asks (BadImage Rom)) (good_script IsBadRom (BadImage Rom) other_rom) (is.rom_bad refl)))
-left NoMemory command shelf sink wanted usage is has quiet calm = inr refl
+module _ (command : Option Command) (shelf : ShelfCall) (sink : SinkCall) where
+  of_script :
+      (P : (List ℕ → List ℕ) → List ℕ → Type 0) (status : Status) →
+      ((files : List ℕ → List ℕ) (file : List ℕ) → P files file → Asks status files file) → OfScript command shelf.files P →
+      OfScript command shelf.files (Asks status)
+  of_script P status each = map_script command shelf.files P (Asks status) each
 
-pub exact :
-    (status : Status) (command : Option Command) (shelf : ShelfCall) (sink : SinkCall) →
-    ((status ≡ Usage) ↔ (command ≡ None)) → IsCaused status command shelf sink →
-    IsExact status command shelf.files (¬ Rose shelf.faults_before shelf.faults_now) (¬ Rose sink.faults_before sink.faults_now)
-exact status command shelf sink usage is = record {
-  complete = λ has quiet calm.
-      left status command shelf sink Done usage is
-      (map_has command shelf.files IsGood (Asks Done) (good_script (λ rom. IsRomSize (length rom)) Done good_rom) has) quiet (λ _. calm);
-  names_line = λ line why has quiet.
-      left status command shelf sink (BadScript line why) usage is
-      (map_has command shelf.files (IsRefusedAt line why) (Asks (BadScript line why)) (refused_script line why) has) quiet (λ e. cc);
-  names_length = λ has quiet.
-      left status command shelf sink (TooLong Script) usage is
-      (map_has command shelf.files IsTooLong (Asks (TooLong Script)) long_script has) quiet (λ e. cc);
-  names_rom_length = λ has quiet.
-      left status command shelf sink (TooLong Rom) usage is
-      (map_has command shelf.files (HasRom IsLongRom) (Asks (TooLong Rom)) (good_script IsLongRom (TooLong Rom) long_rom) has) quiet (λ e. cc);
-  names_image = λ has quiet.
-      left status command shelf sink (BadImage Rom) usage is
-      (map_has command shelf.files (HasRom IsBadRom) (Asks (BadImage Rom)) (good_script IsBadRom (BadImage Rom) other_rom) has) quiet (λ e. cc);
-}
+  -- the status is the answer that the files ask for, where its causes hold
+  left :
+      (status wanted : Status) → ((status ≡ Usage) ↔ (command ≡ None)) → IsCaused status command shelf sink →
+      HasScript command shelf.files (Asks wanted) → ¬ Rose shelf.faults_before shelf.faults_now →
+      (wanted ≡ Done → ¬ Rose sink.faults_before sink.faults_now) → Answers status wanted
+  left Done wanted usage is has quiet calm =
+      inl
+      (same_answer command shelf.files Done wanted has
+      (of_script (PutsReplay sink.taken_before sink.taken_now) Done
+      (λ files file puts. replayed files file puts.text puts.fits puts.replay) (is.done refl)))
+  left Usage wanted usage is has quiet calm = absurd (is_asked command shelf.files (Asks wanted) has (usage.0 refl))
+  left (ReadFault Script) wanted usage is has quiet calm = absurd (quiet (rose_at_script command shelf (is.read_fault_script refl)))
+  left (ReadFault Rom) wanted usage is has quiet calm = absurd (quiet (is.read_fault_rom refl).rose)
+  left WriteFault wanted usage is has quiet calm =
+      let same =
+      same_answer command shelf.files Done wanted has
+      (of_script (PutsReplayFront sink.taken_before sink.taken_now) Done
+      (λ files file puts. replayed files file puts.text puts.fits puts.replay) is.stopped) in
+      absurd (calm (sym same) (is.write_fault refl))
+  left (TooLong Script) wanted usage is has quiet calm =
+      inl
+      (same_answer command shelf.files (TooLong Script) wanted has
+      (of_script IsTooLong (TooLong Script) long_script (is.too_long_script refl)))
+  left (TooLong Rom) wanted usage is has quiet calm =
+      inl
+      (same_answer command shelf.files (TooLong Rom) wanted has
+      (of_script (HasRom IsLongRom) (TooLong Rom) (good_script IsLongRom (TooLong Rom) long_rom) (is.too_long_rom refl)))
+  left (BadScript line why) wanted usage is has quiet calm =
+      inl
+      (same_answer command shelf.files (BadScript line why) wanted has
+      (of_script (IsRefusedAt line why) (BadScript line why) (refused_script line why) (is.bad_script line why refl)))
+  left (BadImage Script) wanted usage is has quiet calm = absurd (is.no_bad_image_script refl)
+  left (BadImage Rom) wanted usage is has quiet calm =
+      inl
+      (same_answer command shelf.files (BadImage Rom) wanted has
+      (of_script (HasRom IsBadRom) (BadImage Rom) (good_script IsBadRom (BadImage Rom) other_rom) (is.bad_image_rom refl)))
+  left NoMemory wanted usage is has quiet calm = inr refl
+
+  has_script :
+      (P : (List ℕ → List ℕ) → List ℕ → Type 0) (wanted : Status) →
+      ((files : List ℕ → List ℕ) (file : List ℕ) → P files file → Asks wanted files file) → HasScript command shelf.files P →
+      HasScript command shelf.files (Asks wanted)
+  has_script P wanted each = map_has command shelf.files P (Asks wanted) each
+
+  pub exact :
+      (status : Status) → ((status ≡ Usage) ↔ (command ≡ None)) → IsCaused status command shelf sink →
+      IsExact status command shelf.files (¬ Rose shelf.faults_before shelf.faults_now) (¬ Rose sink.faults_before sink.faults_now)
+  exact status usage is = record {
+    complete = λ has quiet calm.
+        left status Done usage is (has_script IsGood Done (good_script IsGoodRom Done good_rom) has) quiet (λ _. calm);
+    names_line = λ line why has quiet.
+        left status (BadScript line why) usage is
+        (has_script (IsRefusedAt line why) (BadScript line why) (refused_script line why) has) quiet (λ e. cc);
+    names_length = λ has quiet.
+        left status (TooLong Script) usage is (has_script IsTooLong (TooLong Script) long_script has) quiet (λ e. cc);
+    names_rom_length = λ has quiet.
+        left status (TooLong Rom) usage is
+        (has_script (HasRom IsLongRom) (TooLong Rom) (good_script IsLongRom (TooLong Rom) long_rom) has) quiet (λ e. cc);
+    names_image = λ has quiet.
+        left status (BadImage Rom) usage is
+        (has_script (HasRom IsBadRom) (BadImage Rom) (good_script IsBadRom (BadImage Rom) other_rom) has) quiet (λ e. cc);
+  }
 
 none_rose : ¬ Rose 0 0
 none_rose rose = elim rose [ inl more ↦ omega arith | inr last ↦ omega arith ]

@@ -12,7 +12,7 @@ use Rattle.board_spec.specs.Bits.{is_within}
 use Rattle.board_spec.specs.InRange.{IsInRange}
 use Rattle.script_text.specs.Forms.{is_aligned, is_absent_port, names_routing as reads_routing, is_taken_port, is_taken}
 use Rattle.script_text.specs.Taken.{IsTaken as IsTakenStatement}
-use Rattle.board_core.specs.Forms.{is_device_port, names_routing, IsTakenPort, IsTaken}
+use Rattle.board_core.specs.Forms.{is_device_port, IsTakenPort, IsTaken}
 
 and_first : (a b : Bool) → (a && b) ≡ true → a ≡ true
 and_first true b h = refl

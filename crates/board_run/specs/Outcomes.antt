@@ -62,24 +62,28 @@ pub record IsRefusedAt (line why : ℕ) (files : List ℕ → List ℕ) (file : 
   pub fits : length file ≤ script_limit
   pub bad : IsBadScript file line why
 
--- the script is within its limit and good, and the ROM that it names is such
-pub record HasRom (P : List ℕ → Type 0) (files : List ℕ → List ℕ) (file : List ℕ) : Type 0 where
+-- the script is within its limit and good, and the ROM that it names is such, by its name and its bytes
+pub record HasRom (P : (name rom : List ℕ) → Type 0) (files : List ℕ → List ℕ) (file : List ℕ) : Type 0 where
   pub said : Said
   pub fits : length file ≤ script_limit
   pub script : IsScript file said
-  pub rom : P (files said.rom)
+  pub image : P said.rom (files said.rom)
 
--- a ROM is longer than its limit
-abbrev pub IsLongRom : List ℕ → Type 0
-IsLongRom rom = rom_limit < length rom
+-- the ROM is longer than its limit
+abbrev pub IsLongRom : (name rom : List ℕ) → Type 0
+IsLongRom name rom = rom_limit < length rom
 
--- a ROM is within its limit, and not of 64, 128, 256 or 512 KiB
-abbrev pub IsBadRom : List ℕ → Type 0
-IsBadRom rom = (length rom ≤ rom_limit) × ¬ IsRomSize (length rom)
+-- the ROM is within its limit, and not of 64, 128, 256 or 512 KiB
+abbrev pub IsBadRom : (name rom : List ℕ) → Type 0
+IsBadRom name rom = (length rom ≤ rom_limit) × ¬ IsRomSize (length rom)
+
+-- the ROM is of one of these sizes
+abbrev pub IsGoodRom : (name rom : List ℕ) → Type 0
+IsGoodRom name rom = IsRomSize (length rom)
 
 -- the script and its ROM are good
 abbrev pub IsGood : (List ℕ → List ℕ) → List ℕ → Type 0
-IsGood = HasRom (λ rom. IsRomSize (length rom))
+IsGood = HasRom IsGoodRom
 
 -- ---- faults of the shelf
 
@@ -93,17 +97,10 @@ abbrev pub FailsAtScript : Option Command → ShelfCall → Type 0
 FailsAtScript None shelf = ⊥
 FailsAtScript (Some (Replay script)) shelf = FailsAt script shelf
 
--- the script is within its limit and good, and the name of its ROM is this, cut to 255 bytes
-pub record NamesRom (kept : List ℕ) (files : List ℕ → List ℕ) (file : List ℕ) : Type 0 where
-  pub said : Said
-  pub fits : length file ≤ script_limit
-  pub script : IsScript file said
-  pub names : kept ≡ take 255 said.rom
-
--- the words are a command, and a fault rose at its ROM, whose name the shelf keeps
+-- the words are a command, and a fault rose at its ROM, whose name the shelf keeps, cut to 255 bytes
 pub record FailsAtRom (command : Option Command) (shelf : ShelfCall) : Type 0 where
   pub rose : Rose shelf.faults_before shelf.faults_now
-  pub names : OfScript command shelf.files (NamesRom shelf.failed_name)
+  pub names : OfScript command shelf.files (HasRom (λ name rom. shelf.failed_name ≡ take 255 name))
 
 -- why a file of this name was not fetched
 abbrev pub IsNotFetched : Which → (name : List ℕ) → (limit : ℕ) → ShelfCall → Status → Type 0
@@ -143,21 +140,21 @@ pub record IsCaused (status : Status) (command : Option Command) (shelf : ShelfC
   -- done: the sink took the log of the replay, in which the lock law holds
   pub done : status ≡ Done → OfScript command shelf.files (PutsReplay sink.taken_before sink.taken_now)
   -- a fault rose at the script
-  pub script_failed : status ≡ ReadFault Script → FailsAtScript command shelf
+  pub read_fault_script : status ≡ ReadFault Script → FailsAtScript command shelf
   -- a fault rose at the ROM that the script names
-  pub rom_failed : status ≡ ReadFault Rom → FailsAtRom command shelf
+  pub read_fault_rom : status ≡ ReadFault Rom → FailsAtRom command shelf
   -- a fault rose at the sink
-  pub sink_failed : status ≡ WriteFault → Rose sink.faults_before sink.faults_now
+  pub write_fault : status ≡ WriteFault → Rose sink.faults_before sink.faults_now
   -- the script is longer than its limit
-  pub script_long : status ≡ TooLong Script → OfScript command shelf.files IsTooLong
+  pub too_long_script : status ≡ TooLong Script → OfScript command shelf.files IsTooLong
   -- the ROM is longer than its limit
-  pub rom_long : status ≡ TooLong Rom → OfScript command shelf.files (HasRom IsLongRom)
+  pub too_long_rom : status ≡ TooLong Rom → OfScript command shelf.files (HasRom IsLongRom)
   -- the script is refused at this line for this reason
-  pub script_bad : (line why : ℕ) → status ≡ BadScript line why → OfScript command shelf.files (IsRefusedAt line why)
+  pub bad_script : (line why : ℕ) → status ≡ BadScript line why → OfScript command shelf.files (IsRefusedAt line why)
   -- the ROM has another length than one of a ROM
-  pub rom_bad : status ≡ BadImage Rom → OfScript command shelf.files (HasRom IsBadRom)
+  pub bad_image_rom : status ≡ BadImage Rom → OfScript command shelf.files (HasRom IsBadRom)
   -- a script is no image
-  pub no_image : status ≢ BadImage Script
+  pub no_bad_image_script : status ≢ BadImage Script
   -- what was put before it came, where it is not done
   pub stopped : Stopped status sink.taken_before sink.taken_now
       (OfScript command shelf.files (PutsReplayFront sink.taken_before sink.taken_now))

@@ -76,12 +76,8 @@ fn fetch<S: Shelf>(
     requires { limit < 2 ^ 32 }
     ensures whole { IfOk result (λ v. OfFile (S.files shelf.old) name.now (λ file. v.items ≡ file)) }
     ensures fits { IfOk result (λ v. vec_len v ≤ limit) }
-    ensures refused { IfErr result (IsNotFetched which name.now limit (record {
-      files = S.files shelf.old;
-      faults_before = S.faults shelf.old;
-      faults_now = S.faults shelf.new;
-      failed_name = S.failed_name shelf.new;
-    })) }
+    ensures refused { IfErr result (IsNotFetched which name.now limit
+        (record { files = S.files shelf.old; faults_before = S.faults shelf.old; faults_now = S.faults shelf.new; failed_name = S.failed_name shelf.new })) }
     ensures later { S.faults shelf.old ≤ S.faults shelf.new }
     ensures same_files { S.files shelf.new ≡ S.files shelf.old }
 {
@@ -101,18 +97,8 @@ fn replay<S: Shelf, K: Sink>(
     out: &mut K,
 ) -> Result<(), Status>
     ensures caused { IsCaused (status_of result) (Some (Replay name.now))
-        (record {
-          files = S.files shelf.old;
-          faults_before = S.faults shelf.old;
-          faults_now = S.faults shelf.new;
-          failed_name = S.failed_name shelf.new;
-        })
-        (record {
-          faults_before = K.faults out.old;
-          faults_now = K.faults out.new;
-          taken_before = K.taken out.old;
-          taken_now = K.taken out.new;
-        }) }
+        (record { files = S.files shelf.old; faults_before = S.faults shelf.old; faults_now = S.faults shelf.new; failed_name = S.failed_name shelf.new })
+        (record { faults_before = K.faults out.old; faults_now = K.faults out.new; taken_before = K.taken out.old; taken_now = K.taken out.new }) }
     ensures only { IfErr result IsRefusal }
 {
     let bytes = fetch(alloc, shelf, Which::Script, name, SCRIPT_LIMIT)?;
@@ -127,18 +113,8 @@ fn replay<S: Shelf, K: Sink>(
 fn obey<S: Shelf, K: Sink>(alloc: Global, words: &[String], shelf: &mut S, out: &mut K) -> Status
     ensures usage { (result ≡ Status.Usage) ↔ (asked words.now ≡ None) }
     ensures caused { IsCaused result (asked words.now)
-        (record {
-          files = S.files shelf.old;
-          faults_before = S.faults shelf.old;
-          faults_now = S.faults shelf.new;
-          failed_name = S.failed_name shelf.new;
-        })
-        (record {
-          faults_before = K.faults out.old;
-          faults_now = K.faults out.new;
-          taken_before = K.taken out.old;
-          taken_now = K.taken out.new;
-        }) }
+        (record { files = S.files shelf.old; faults_before = S.faults shelf.old; faults_now = S.faults shelf.new; failed_name = S.failed_name shelf.new })
+        (record { faults_before = K.faults out.old; faults_now = K.faults out.new; taken_before = K.taken out.old; taken_now = K.taken out.new }) }
 {
     let Some(script) = replayed_file(words) else {
         return Status::Usage;
@@ -164,18 +140,8 @@ pub fn board<R: Threads + Wait + Sync, S: Shelf, K: Sink, G: Gate>(
     ensures done { result ≡ Status.Done →
         OfScript (asked words.now) (S.files shelf.old) (PutsReplay (K.taken out.old) (K.taken out.new)) }
     ensures caused { IsCaused result (asked words.now)
-        (record {
-          files = S.files shelf.old;
-          faults_before = S.faults shelf.old;
-          faults_now = S.faults shelf.new;
-          failed_name = S.failed_name shelf.new;
-        })
-        (record {
-          faults_before = K.faults out.old;
-          faults_now = K.faults out.new;
-          taken_before = K.taken out.old;
-          taken_now = K.taken out.new;
-        }) }
+        (record { files = S.files shelf.old; faults_before = S.faults shelf.old; faults_now = S.faults shelf.new; failed_name = S.failed_name shelf.new })
+        (record { faults_before = K.faults out.old; faults_now = K.faults out.new; taken_before = K.taken out.old; taken_now = K.taken out.new }) }
     ensures exact { IsExact result (asked words.now) (S.files shelf.old)
         (¬ Rose (S.faults shelf.old) (S.faults shelf.new)) (¬ Rose (K.faults out.old) (K.faults out.new)) }
 {

@@ -4,7 +4,7 @@ use Rattle.board_run.proofs.command.board.Goals as goal
 
 pub returns-clause-exact : goal.returns-clause-exact
 returns-clause-exact g c =
-    exact c.obey.result (asked c.args.words.now)
+    exact (asked c.args.words.now)
     (record {
       files = g.S.Shelf.files c.args.shelf.now;
       faults_before = g.S.Shelf.faults c.args.shelf.now;
@@ -17,4 +17,4 @@ returns-clause-exact g c =
       taken_before = g.K.Sink.taken c.args.out.now;
       taken_now = g.K.Sink.taken c.obey.new.out;
     })
-    c.obey.ensures.usage c.obey.ensures.caused
+    c.obey.result c.obey.ensures.usage c.obey.ensures.caused
