@@ -1,9 +1,9 @@
 //! The reset control register, port 0CF9h of the 82371SB.
 
-ghost use Rattle.std.specs.Prelude.{◌≡◌, ◌<◌, Some};
-ghost use Rattle.board_spec.specs.Bits.{is_bit};
+ghost use Rattle.std.specs.Prelude.{◌≡◌, Some};
 ghost use Rattle.board_spec.specs.Registers.{is_hard_value, control_after};
 
+use board_spec::bits::is_set;
 use std::marker::Model;
 
 /// The number of the bit whose rise resets.
@@ -58,13 +58,6 @@ impl ResetControl {
 fn is_hard(old: u8, written: u8) -> bool
     ensures hard { result ≡ is_hard_value old written }
 {
+    let (old, written) = (u32::from(old), u32::from(written));
     is_set(written, RESET_CPU) && is_set(written, SYSTEM_RESET) && !is_set(old, RESET_CPU)
-}
-
-/// Whether a bit of a byte is set.
-fn is_set(byte: u8, bit: u32) -> bool
-    requires bit { bit < 8 }
-    ensures set { result ≡ is_bit byte bit }
-{
-    (byte >> bit) % 2 == 1
 }
