@@ -1,12 +1,12 @@
 -- A store to a register of the host bridge: the part that has the register takes it, and the others stay.
-use Rattle.std.proofs.Common.{◌≡◌, ◌≢◌, ℕ, ◌+◌, ◌≤◌, ◌<◌, ◌⊎◌, inl, inr, List, sym, ◌∙◌, ap, arith}
+use Rattle.std.proofs.Common.{◌≡◌, ◌≢◌, ℕ, ◌<◌, ◌⊎◌, inl, inr, List, sym, ◌∙◌, arith}
 use Rattle.board_base.specs.declared.access.Width.TheVariants.{One}
 use Rattle.board_spec.specs.declared.map_change.MapChange.TheVariants.{Store}
 use Rattle.board_spec.specs.Setup.{Setup}
 use Rattle.board_spec.specs.Registers.{changed_byte}
 use Rattle.board_spec.specs.Decode.{Bytes, bridge}
 use Rattle.board_spec.proofs.StoreLemmas.{changed_byte-one_other}
-use Rattle.pmc_regs.specs.Pmc.{PmcBytes, IsPmcOf}
+use Rattle.pmc_regs.specs.Pmc.{IsPmcOf}
 use Rattle.pam_windows.specs.Pam.{IsPamOf}
 use Rattle.board_core.specs.declared.bridge.HostBridge.{HostBridge}
 use Rattle.board_core.specs.Space.{IsBridgeOf}

@@ -2,6 +2,7 @@ mod BridgeLemmas
 mod CardLemmas
 mod SpaceLemmas
 mod RegisterLemmas
+mod AddressLemmas
 mod ReachLemmas
 mod PortLemmas
 mod StoresLemmas

@@ -1,5 +1,5 @@
 -- What an access to memory reaches, what is replied, and what it leaves.
-use Rattle.std.proofs.Common.{◌≡◌, ℕ, ◌+◌, ◌%◌, ◌^◌, ◌≤◌, Bool, true, false, ◌&&◌, not, List, [], ◌∷◌, length, Option, Some, None, inl, inr, ◌∙◌, refl, sym, ap, arith}
+use Rattle.std.proofs.Common.{◌≡◌, ℕ, ◌+◌, ◌%◌, ◌^◌, ◌≤◌, Bool, true, false, ◌&&◌, not, List, [], ◌∷◌, length, Option, Some, None, inl, inr, refl, arith}
 use Rattle.std.specs.Prelude.{IsTrue, ◌↔◌, is_some, unwrap_or, option_map}
 use Rattle.board_base.specs.declared.access.Kind.{Kind}
 use Rattle.board_base.specs.declared.access.Kind.TheVariants.{Fetch, Read, Write}
@@ -13,11 +13,10 @@ use Rattle.board_base.specs.declared.target.Denial.{Denial}
 use Rattle.board_base.specs.Access.{bytes_of, largest_of}
 use Rattle.board_spec.specs.declared.event.Event.TheVariants.{Memory}
 use Rattle.board_spec.specs.declared.event.Entry.{Entry}
-use Rattle.board_spec.specs.declared.event.Reply.{Reply}
 use Rattle.board_spec.specs.declared.event.Reply.TheVariants.{Bus}
 use Rattle.board_spec.specs.Setup.{Setup, IsRomSize}
 use Rattle.board_spec.specs.Registers.{reset_control, config_address, byte_of}
-use Rattle.board_spec.specs.Decode.{Bytes, Window, bridge, isa, first_of, line_where, card_area, row_of, hole_of, is_in, is_smram_range, is_shadowed, smram_answers, is_rom_selected, memory_claim, area_of, denial_of}
+use Rattle.board_spec.specs.Decode.{Bytes, Window, bridge, isa, first_of, line_where, card_area, row_of, hole_of, is_in, is_smram_range, is_shadowed, smram_answers, is_rom_selected, memory_claim, area_of}
 use Rattle.board_spec.specs.Bits.{is_within}
 use Rattle.board_spec.specs.InRange.{FitsAccess}
 use Rattle.board_spec.specs.Stored.{Cell, is_write, byte_put, entry_put}

@@ -1,6 +1,6 @@
 -- What an access at a port reaches: no device that is still to come, and what is needed of it.
 use Rattle.std.proofs.Common.{◌≡◌, ℕ, ◌*◌, ◌/◌, ◌%◌, ◌^◌, Bool, true, false, ◌&&◌, ◌||◌, inl, inr, Option, Some, None, refl, sym, ◌∙◌, subst, arith}
-use Rattle.std.specs.Prelude.{◌==◌, if◌then◌else◌, unwrap_or, option_map}
+use Rattle.std.specs.Prelude.{◌==◌, unwrap_or, option_map}
 use Rattle.std.proofs.lemmas.Bool.{cases_Bool, eqb-true, false≢true}
 use Rattle.std.proofs.lemmas.Bool.Decides.{nat_tests}
 use Rattle.board_base.specs.declared.access.Width.{Width}
@@ -18,7 +18,6 @@ use Rattle.board_spec.specs.Registers.{is_config_port, config_register}
 use Rattle.board_spec.specs.Decode.{Bytes, isa, ide, Window, io_claim}
 use Rattle.board_spec.specs.Ports.{Decoded, nobody, card_port, config_port, port_target_of}
 use Rattle.addr_decode.specs.declared.onboard.Onboard.{Onboard}
-use Rattle.addr_decode.specs.declared.onboard.Onboard.TheVariants.{Absent}
 use Rattle.addr_decode.specs.Onboard.{if_selected, byte_port, wide_port, onboard_at}
 use Rattle.addr_decode.specs.Ports.{after_onboard, ports_in_order}
 use Rattle.addr_decode.proofs.PortLemmas.{in_order}

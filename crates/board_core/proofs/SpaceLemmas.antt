@@ -1,6 +1,6 @@
 -- The registers in configuration space: which part has a register, and what a byte that is stored leaves.
-use Rattle.std.proofs.Common.{◌≡◌, ◌≢◌, ℕ, ◌+◌, ◌*◌, ◌%◌, ◌≤◌, ◌<◌, ◌⊎◌, inl, inr, Bool, true, false, ◌&&◌, List, Option, Some, None, refl, sym, ◌∙◌, ap, subst, arith, add-one}
-use Rattle.std.specs.Prelude.{◌==◌, is_some, option_map}
+use Rattle.std.proofs.Common.{◌≡◌, ◌≢◌, ℕ, ◌+◌, ◌*◌, ◌%◌, ◌≤◌, ◌<◌, ◌⊎◌, inl, inr, true, false, List, Option, Some, None, refl, sym, ◌∙◌, ap, subst, arith, add-one}
+use Rattle.std.specs.Prelude.{is_some, option_map}
 use Rattle.std.proofs.lemmas.Bool.{cases_eq, ne_eqb}
 use Rattle.arrayvec.specs.ArrayVec.{ArrayVec}
 use Rattle.board_base.specs.declared.access.Width.{Width}
@@ -9,15 +9,15 @@ use Rattle.board_base.specs.declared.target.Reg.{Reg}
 use Rattle.board_base.specs.Access.{bytes_of}
 use Rattle.board_spec.specs.declared.map_change.MapChange.TheVariants.{Store}
 use Rattle.board_spec.specs.Setup.{FittedCard, Setup, card_at}
-use Rattle.board_spec.specs.RegisterTable.{Line, card_function, function_at}
+use Rattle.board_spec.specs.RegisterTable.{card_function, function_at}
 use Rattle.board_spec.specs.Bits.{byte, is_within}
 use Rattle.board_spec.specs.Registers.{changed_byte}
 use Rattle.board_spec.specs.WideStores.{after_stores}
 use Rattle.board_spec.proofs.StoreLemmas.{byte_by_byte}
 use Rattle.board_spec.specs.MapWrites.{reg_after}
-use Rattle.board_spec.specs.Decode.{Bytes, bridge, isa, ide, card_register}
+use Rattle.board_spec.specs.Decode.{Bytes, bridge, card_register}
 use Rattle.xbus_select.specs.Piix.{PiixBytes, piix_register, IsPiixRegister, IsPiixOf}
-use Rattle.pci_bars.specs.Cards.{CardBytes, IsCardOf, AreCards, AreCardsOf}
+use Rattle.pci_bars.specs.Cards.{CardBytes, AreCards, AreCardsOf}
 use Rattle.addr_decode.specs.MapRegs.{AreFitted, stored}
 use Rattle.addr_decode.proofs.StoreLemmas.{stored-elsewhere}
 use Rattle.addr_decode.proofs.StandsLemmas.{stored_so_far}

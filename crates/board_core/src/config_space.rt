@@ -96,6 +96,7 @@ impl ConfigSpace {
         if reg.dev == SOUTH_BRIDGE {
             return write_south(&mut self.south, reg.fun, reg.off, byte);
         }
+        // Of every other device function 0 alone exists.
         if reg.fun != 0 {
             return;
         }

@@ -1,5 +1,5 @@
-use Rattle.std.proofs.Common.{◌≡◌, ◌∙◌, subst, sym, ap, List, refl, arith}
-use Rattle.std.specs.Prelude.{slice_index_or, slice_set}
+use Rattle.std.proofs.Common.{◌∙◌, subst, sym, ap, List, refl, arith}
+use Rattle.std.specs.Prelude.{slice_index_or}
 use Rattle.board_spec.specs.RegisterTable.{reset_byte}
 use Rattle.pci_bars.specs.Cards.{CardBytes, AreCardsOf}
 use Rattle.addr_decode.specs.MapRegs.{AreFitted}

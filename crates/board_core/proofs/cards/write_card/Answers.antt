@@ -1,8 +1,7 @@
-use Rattle.std.proofs.Common.{◌≡◌, ◌≢◌, ◌∙◌, ℕ, subst, sym, ap, List, inl, refl, arith}
-use Rattle.std.specs.Prelude.{slice_index_or, slice_set}
-use Rattle.board_spec.specs.Setup.{Setup}
-use Rattle.board_spec.specs.Decode.{Bytes, card_register}
-use Rattle.pci_bars.specs.Cards.{CardBytes, IsCardOf, AreCardsOf, cards_of}
+use Rattle.std.proofs.Common.{◌≡◌, ◌∙◌, subst, sym, ap, List, refl, arith}
+use Rattle.std.specs.Prelude.{slice_index_or}
+use Rattle.board_spec.specs.Decode.{card_register}
+use Rattle.pci_bars.specs.Cards.{CardBytes, IsCardOf, AreCardsOf}
 use Rattle.addr_decode.specs.MapRegs.{AreFitted, stored}
 use Rattle.addr_decode.proofs.CardLemmas.{fitted_same}
 use Rattle.board_core.proofs.CardLemmas.{lent_back, same_length, same_cards, below_set, from_set}

@@ -1,5 +1,3 @@
-use Rattle.std.proofs.Common.{◌≡◌, ◌≤◌, refl}
-use Rattle.board_base.specs.Access.{largest_of}
 use Rattle.board_core.proofs.PortLemmas.{held, there, fits, written_fits, write_answer, read_answer, chipset_written, chipset_read}
 use Rattle.board_core.proofs.ports.perform.Goals as goal
 

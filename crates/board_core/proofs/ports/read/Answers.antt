@@ -1,6 +1,4 @@
-use Rattle.std.proofs.Common.{◌≡◌, ◌∙◌}
 use Rattle.board_spec.specs.Registers.{byte_of}
-use Rattle.board_core.specs.Ports.{IsThere}
 use Rattle.board_core.proofs.ports.read.Goals as goal
 
 pub returns-in-Config : goal.returns-in-Config

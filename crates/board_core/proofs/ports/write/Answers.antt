@@ -1,4 +1,4 @@
-use Rattle.std.proofs.Common.{◌≡◌, ◌∙◌, ℕ, ap, sym, refl}
+use Rattle.std.proofs.Common.{◌∙◌, ℕ, ap, sym, refl}
 use Rattle.board_spec.specs.Stored.{byte_put}
 use Rattle.board_core.proofs.StoresLemmas.{stores_unwritten}
 use Rattle.board_core.proofs.PortLemmas.{quiet_write, writes_none}

@@ -1,4 +1,4 @@
-use Rattle.std.proofs.Common.{◌≡◌, ◌≢◌, refl}
+use Rattle.std.proofs.Common.{refl}
 use Rattle.board_core.proofs.RegisterLemmas.{addresses}
 use Rattle.board_core.proofs.PortLemmas.{quiet_write}
 use Rattle.board_core.proofs.ports.write_device.Goals as goal

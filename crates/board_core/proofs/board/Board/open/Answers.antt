@@ -1,4 +1,4 @@
-use Rattle.std.proofs.Common.{List, sym, ◌∙◌, ap}
+use Rattle.std.proofs.Common.{sym, ◌∙◌, ap}
 use Rattle.board_spec.specs.Setup.{Setup}
 use Rattle.board_core.proofs.KeptLemmas.{fresh}
 use Rattle.board_core.proofs.board.Board.open.Goals as goal

@@ -1,4 +1,4 @@
-use Rattle.std.proofs.Common.{◌≡◌, ◌≢◌, ◌∙◌, ℕ, ap, subst, sym, refl, List, arith}
+use Rattle.std.proofs.Common.{◌∙◌, ap, subst, sym, refl, List, arith}
 use Rattle.board_base.specs.declared.target.Reg.{Reg}
 use Rattle.pci_bars.specs.Cards.{CardBytes, AreCardsOf}
 use Rattle.board_core.proofs.SpaceLemmas.{of_device, of_function_0, bridge_exists, south_exists, card_exists}

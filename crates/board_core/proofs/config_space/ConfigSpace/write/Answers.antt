@@ -1,4 +1,4 @@
-use Rattle.std.proofs.Common.{◌≡◌, ◌≢◌, subst, refl, arith}
+use Rattle.std.proofs.Common.{subst, refl, arith}
 use Rattle.board_base.specs.declared.target.Reg.{Reg}
 use Rattle.xbus_select.specs.Piix.{IsPiixOf}
 use Rattle.pci_bars.specs.Cards.{AreCardsOf}

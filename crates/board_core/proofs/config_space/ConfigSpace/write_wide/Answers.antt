@@ -1,9 +1,8 @@
-use Rattle.std.proofs.Common.{◌≡◌, ◌≤◌, ◌<◌, ◌∙◌, ℕ, subst, sym, arith}
+use Rattle.std.proofs.Common.{◌≡◌, ◌≤◌, ℕ, subst, arith}
 use Rattle.std.specs.Prelude.{slice_index}
 use Rattle.board_base.specs.declared.target.Reg.{Reg}
 use Rattle.board_base.specs.Access.{bytes_of}
 use Rattle.board_spec.specs.Bits.{byte}
-use Rattle.board_spec.specs.MapWrites.{reg_after}
 use Rattle.addr_decode.specs.MapRegs.{stored}
 use Rattle.addr_decode.proofs.StoreLemmas.{byte_in_list, few_bytes}
 use Rattle.addr_decode.proofs.StandsLemmas.{stored_so_far}

@@ -1,4 +1,3 @@
-use Rattle.std.proofs.Common.{◌∙◌}
 use Rattle.board_core.proofs.stores.Stores.open.Goals as goal
 
 pub returns : goal.returns
