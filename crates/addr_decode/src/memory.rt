@@ -7,9 +7,9 @@ ghost use Rattle.addr_decode.specs.MapRegs.{AreFitted, StandsFor, map_bytes};
 ghost use Rattle.addr_decode.specs.Memory.{dram_area, row_area};
 
 use crate::denial::denial_in;
-use crate::offsets::PAM0;
 use crate::regs::MapRegs;
 use board_base::{Area, Denial, Kind};
+use board_spec::offset::PAM0;
 use pam_windows::window_of;
 use pci_bars::claim_mem;
 use pmc_regs::{hole_of, row_of};
@@ -30,7 +30,7 @@ pub fn decode(regs: &MapRegs, addr: u32, kind: Kind, smm: bool) -> (Area, Option
 }
 
 /// The area that an access reaches.
-fn area_of(regs: &MapRegs, addr: u32, kind: Kind, smm: bool) -> Area
+pub(crate) fn area_of(regs: &MapRegs, addr: u32, kind: Kind, smm: bool) -> Area
     requires cards { AreFitted regs.now.cards.items }
     ensures area { (setup : Setup) (bytes : Bytes) → StandsFor setup bytes (map_bytes regs.now)
         → result ≡ area_of setup bytes addr kind smm }

@@ -8,12 +8,13 @@ board: the PC chipset behind many virtual machines, with a log of every access
 
 usage: board replay FILE
 
-  replay FILE   runs the script FILE and writes its access log to standard output
+  replay FILE   runs the script FILE, with the BIOS ROM that it names, and writes its access log
+                to standard output
   --help        writes this text
   --version     writes the version
 
 Exit status: 0 done, 1 usage, 2 read fault, 3 write fault, 4 too long, 5 bad script,
-8 no memory. The reason is one line on standard error.
+6 bad image, 8 no memory. The reason is one line on standard error.
 ";
 
 const VERSION: &str = "board 0.1\n";

@@ -1,5 +1,6 @@
 mod FrontLemmas
 mod SentLemmas
-mod StatusLemmas
+mod CauseLemmas
+mod ExactLemmas
 mod TakenLemmas
 mod ReplayLemmas

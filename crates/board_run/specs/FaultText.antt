@@ -1,12 +1,13 @@
 -- The text of each status, as it is told on standard error.
 use Rattle.std.specs.Prelude.{ℕ, List, [], ◌++◌, codes, decimal}
 use Rattle.board_run.specs.declared.status.Which.{Which}
-use Rattle.board_run.specs.declared.status.Which.TheVariants.{Script}
+use Rattle.board_run.specs.declared.status.Which.TheVariants.{Script, Rom}
 use Rattle.board_run.specs.declared.status.Status.{Status}
-use Rattle.board_run.specs.declared.status.Status.TheVariants.{Done, Usage, ReadFault, WriteFault, TooLong, BadScript, NoMemory}
+use Rattle.board_run.specs.declared.status.Status.TheVariants.{Done, Usage, ReadFault, WriteFault, TooLong, BadScript, BadImage, NoMemory}
 
 abbrev pub name_of : Which → List ℕ
 name_of Script = codes "script"
+name_of Rom = codes "rom"
 
 abbrev pub text_of : Status → List ℕ
 text_of Done = []
@@ -15,4 +16,5 @@ text_of (ReadFault which) = codes "read fault: " ++ name_of which
 text_of WriteFault = codes "write fault"
 text_of (TooLong which) = codes "too long: " ++ name_of which
 text_of (BadScript line why) = codes "bad script: line " ++ (decimal line ++ (codes ": reason " ++ decimal why))
+text_of (BadImage which) = codes "bad image: " ++ name_of which
 text_of NoMemory = codes "no memory"

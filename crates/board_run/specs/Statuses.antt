@@ -1,20 +1,33 @@
 -- How a fault of a part becomes the status of a command.
+use Rattle.std.specs.Prelude.{Result, Ok, Err}
 use Rattle.board_base.specs.declared.fault.PutFault.{PutFault}
 use Rattle.board_base.specs.declared.fault.PutFault.TheVariants.{Failed as SinkFailed, NoMemory as NoMemoryForPut}
-use Rattle.board_run.specs.declared.replay.TextFault.{TextFault}
-use Rattle.board_run.specs.declared.replay.TextFault.TheVariants.{Bad, NoMemory as NoMemoryForText}
+use Rattle.script_text.specs.declared.fault.ScriptFault.{ScriptFault}
+use Rattle.script_text.specs.declared.fault.ScriptFault.TheVariants.{Bad as BadLine, NoMemory as NoMemoryForScript}
+use Rattle.board_core.specs.declared.setup.BoardOpen.{BoardOpen}
+use Rattle.board_core.specs.declared.setup.BoardOpen.TheVariants.{BadRom, NoMemory as NoMemoryForBoard}
+use Rattle.board_run.specs.declared.status.Which.TheVariants.{Rom}
 use Rattle.board_run.specs.declared.status.Status.{Status}
-use Rattle.board_run.specs.declared.status.Status.TheVariants.{Done, Usage, WriteFault, BadScript, NoMemory}
+use Rattle.board_run.specs.declared.status.Status.TheVariants.{Done, Usage, WriteFault, BadScript, BadImage, NoMemory}
 
-abbrev pub status_of_text_fault : TextFault → Status
-status_of_text_fault (Bad line why) = BadScript line why
-status_of_text_fault NoMemoryForText = NoMemory
+abbrev pub status_of_script_fault : ScriptFault → Status
+status_of_script_fault (BadLine line why) = BadScript line why
+status_of_script_fault NoMemoryForScript = NoMemory
+
+abbrev pub status_of_board_open : BoardOpen → Status
+status_of_board_open BadRom = BadImage Rom
+status_of_board_open NoMemoryForBoard = NoMemory
 
 abbrev pub status_of_put_fault : PutFault → Status
 status_of_put_fault SinkFailed = WriteFault
 status_of_put_fault NoMemoryForPut = NoMemory
 
--- a command whose words are good ended early
+-- how a command whose words are good ended
+abbrev pub status_of : {T : Type 0} → Result T Status → Status
+status_of (Ok value) = Done
+status_of (Err status) = status
+
+-- such a command ended early
 abbrev pub IsRefusal : Status → Type 0
 IsRefusal Done = ⊥
 IsRefusal Usage = ⊥

@@ -1,34 +1,52 @@
 //! The commands, from their words to what is put.
 
-ghost use Rattle.std.specs.Prelude.{◌≡◌, ◌≢◌, ℕ, ◌≤◌, ◌↔◌, ◌⊎◌, None, IfOk, IfErr, OnOk, OnErr, vec_len};
+ghost use Rattle.std.specs.Prelude.{◌≡◌, ℕ, ◌<◌, ◌≤◌, ◌^◌, ◌↔◌, Some, None, IfOk, IfErr, vec_len};
 ghost use Rattle.board_base.specs.Outside.{Rose, OfFile};
-ghost use Rattle.board_run.specs.Words.{asked};
-ghost use Rattle.board_run.specs.Statuses.{IsRefusal};
-ghost use Rattle.board_run.specs.Outcomes.{OfScript, HasScript, FailsAt, FailsAtScript, IsTooLong, IsGood, IsRefusedAt, PutsReplay, PutsReplayFront, Stopped, script_limit};
+ghost use Rattle.board_run.specs.Words.{Replay, asked};
+ghost use Rattle.board_run.specs.Statuses.{status_of, IsRefusal};
+ghost use Rattle.board_run.specs.Outcomes.{OfScript, IsNotFetched, PutsReplay, IsCaused, IsExact};
 
 use crate::files::{FileFault, read_file};
 use crate::output::put_all;
-use crate::replay::{TextFault, replay_text};
+use crate::replay::replay_text;
 use crate::status::{Status, Which};
 use crate::words::replayed_file;
 use board_base::{Gate, PutFault, Shelf, Sink};
+use board_core::BoardOpen;
+use script_text::{ScriptFault, read_script};
 use std::alloc::Global;
 use std::sync::Wait;
 use std::thread::Threads;
 
 /// The most bytes of a script: 16 MiB.
 const SCRIPT_LIMIT: usize = 0x100_0000;
+/// The most bytes of a BIOS ROM: 512 KiB.
+const ROM_LIMIT: usize = 0x8_0000;
 
-impl From<TextFault> for Status {
+impl From<ScriptFault> for Status {
     ghost use Rattle.std.specs.Prelude.{◌≡◌};
-    ghost use Rattle.board_run.specs.Statuses.{status_of_text_fault};
+    ghost use Rattle.board_run.specs.Statuses.{status_of_script_fault};
 
-    ghost from_gives = { λ fault status. status ≡ status_of_text_fault fault };
+    ghost from_gives = { λ fault status. status ≡ status_of_script_fault fault };
 
-    fn from(fault: TextFault) -> Status {
+    fn from(fault: ScriptFault) -> Status {
         match fault {
-            TextFault::Bad { line, why } => Status::BadScript { line, why },
-            TextFault::NoMemory => Status::NoMemory,
+            ScriptFault::Bad { line, why } => Status::BadScript { line, why },
+            ScriptFault::NoMemory => Status::NoMemory,
+        }
+    }
+}
+
+impl From<BoardOpen> for Status {
+    ghost use Rattle.std.specs.Prelude.{◌≡◌};
+    ghost use Rattle.board_run.specs.Statuses.{status_of_board_open};
+
+    ghost from_gives = { λ fault status. status ≡ status_of_board_open fault };
+
+    fn from(fault: BoardOpen) -> Status {
+        match fault {
+            BoardOpen::BadRom => Status::BadImage(Which::Rom),
+            BoardOpen::NoMemory => Status::NoMemory,
         }
     }
 }
@@ -47,49 +65,46 @@ impl From<PutFault> for Status {
     }
 }
 
-/// Reads a script whole.
-fn fetch_script<S: Shelf>(alloc: Global, shelf: &mut S, name: &str) -> Result<Vec<u8>, Status>
+/// Reads a file of a command whole, of at most `limit` bytes.
+fn fetch<S: Shelf>(
+    alloc: Global,
+    shelf: &mut S,
+    which: Which,
+    name: &str,
+    limit: usize,
+) -> Result<Vec<u8>, Status>
+    requires { limit < 2 ^ 32 }
     ensures whole { IfOk result (λ v. OfFile (S.files shelf.old) name.now (λ file. v.items ≡ file)) }
-    ensures fits { IfOk result (λ v. vec_len v ≤ script_limit) }
-    ensures read_fault { IfErr result (λ status. status ≡ Status.ReadFault Which.Script →
-        FailsAt name.now (S.faults shelf.old) (S.faults shelf.new) (S.failed_name shelf.new)) }
-    ensures too_long { IfErr result (λ status. status ≡ Status.TooLong Which.Script →
-        OfFile (S.files shelf.old) name.now IsTooLong) }
-    ensures not_done { IfErr result (λ status. status ≢ Status.Done) }
-    ensures not_usage { IfErr result (λ status. status ≢ Status.Usage) }
-    ensures not_write_fault { IfErr result (λ status. status ≢ Status.WriteFault) }
-    ensures not_bad_script { IfErr result (λ status. (line why : ℕ) → status ≢ Status.BadScript line why) }
+    ensures fits { IfOk result (λ v. vec_len v ≤ limit) }
+    ensures refused { IfErr result (IsNotFetched which name.now limit
+        (record { files = S.files shelf.old; faults_before = S.faults shelf.old; faults_now = S.faults shelf.new; failed_name = S.failed_name shelf.new })) }
+    ensures later { S.faults shelf.old ≤ S.faults shelf.new }
+    ensures same_files { S.files shelf.new ≡ S.files shelf.old }
 {
-    match read_file(alloc, shelf, name, SCRIPT_LIMIT) {
+    match read_file(alloc, shelf, name, limit) {
         Ok(bytes) => Ok(bytes),
-        Err(FileFault::Failed) => Err(Status::ReadFault(Which::Script)),
-        Err(FileFault::TooLong) => Err(Status::TooLong(Which::Script)),
+        Err(FileFault::Failed) => Err(Status::ReadFault(which)),
+        Err(FileFault::TooLong) => Err(Status::TooLong(which)),
         Err(FileFault::NoMemory) => Err(Status::NoMemory),
     }
 }
 
-/// Replays a script from the shelf, and puts the log.
+/// Replays a script from the shelf on a board with its ROM, and puts the log.
 fn replay<S: Shelf, K: Sink>(
     alloc: Global,
     name: &str,
     shelf: &mut S,
     out: &mut K,
 ) -> Result<(), Status>
-    ensures done { OnOk result (OfFile (S.files shelf.old) name.now (PutsReplay (K.taken out.old) (K.taken out.new))) }
-    ensures read_fault { IfErr result (λ status. status ≡ Status.ReadFault Which.Script →
-        FailsAt name.now (S.faults shelf.old) (S.faults shelf.new) (S.failed_name shelf.new)) }
-    ensures write_fault { IfErr result (λ status. status ≡ Status.WriteFault →
-        Rose (K.faults out.old) (K.faults out.new)) }
-    ensures too_long { IfErr result (λ status. status ≡ Status.TooLong Which.Script →
-        OfFile (S.files shelf.old) name.now IsTooLong) }
-    ensures bad_script { IfErr result (λ status. (line why : ℕ) → status ≡ Status.BadScript line why →
-        OfFile (S.files shelf.old) name.now (IsRefusedAt line why)) }
-    ensures stopped { IfErr result (λ status. Stopped status (K.taken out.old) (K.taken out.new)
-        (OfFile (S.files shelf.old) name.now (PutsReplayFront (K.taken out.old) (K.taken out.new)))) }
+    ensures caused { IsCaused (status_of result) (Some (Replay name.now))
+        (record { files = S.files shelf.old; faults_before = S.faults shelf.old; faults_now = S.faults shelf.new; failed_name = S.failed_name shelf.new })
+        (record { faults_before = K.faults out.old; faults_now = K.faults out.new; taken_before = K.taken out.old; taken_now = K.taken out.new }) }
     ensures only { IfErr result IsRefusal }
 {
-    let script = fetch_script(alloc, shelf, name)?;
-    let text = replay_text(alloc, &script)?;
+    let bytes = fetch(alloc, shelf, Which::Script, name, SCRIPT_LIMIT)?;
+    let script = read_script(alloc, &bytes)?;
+    let rom = fetch(alloc, shelf, Which::Rom, script.rom.as_str(), ROM_LIMIT)?;
+    let text = replay_text(alloc, script, rom)?;
     put_all(out, text.as_bytes())?;
     Ok(())
 }
@@ -97,17 +112,9 @@ fn replay<S: Shelf, K: Sink>(
 /// Does what the words ask for. Each status comes only where its cause holds.
 fn obey<S: Shelf, K: Sink>(alloc: Global, words: &[String], shelf: &mut S, out: &mut K) -> Status
     ensures usage { (result ≡ Status.Usage) ↔ (asked words.now ≡ None) }
-    ensures done { result ≡ Status.Done →
-        OfScript (asked words.now) (S.files shelf.old) (PutsReplay (K.taken out.old) (K.taken out.new)) }
-    ensures read_fault { result ≡ Status.ReadFault Which.Script →
-        FailsAtScript (asked words.now) (S.faults shelf.old) (S.faults shelf.new) (S.failed_name shelf.new) }
-    ensures write_fault { result ≡ Status.WriteFault → Rose (K.faults out.old) (K.faults out.new) }
-    ensures too_long { result ≡ Status.TooLong Which.Script →
-        OfScript (asked words.now) (S.files shelf.old) IsTooLong }
-    ensures bad_script { (line why : ℕ) → result ≡ Status.BadScript line why →
-        OfScript (asked words.now) (S.files shelf.old) (IsRefusedAt line why) }
-    ensures stopped { Stopped result (K.taken out.old) (K.taken out.new)
-        (OfScript (asked words.now) (S.files shelf.old) (PutsReplayFront (K.taken out.old) (K.taken out.new))) }
+    ensures caused { IsCaused result (asked words.now)
+        (record { files = S.files shelf.old; faults_before = S.faults shelf.old; faults_now = S.faults shelf.new; failed_name = S.failed_name shelf.new })
+        (record { faults_before = K.faults out.old; faults_now = K.faults out.new; taken_before = K.taken out.old; taken_now = K.taken out.new }) }
 {
     let Some(script) = replayed_file(words) else {
         return Status::Usage;
@@ -119,8 +126,8 @@ fn obey<S: Shelf, K: Sink>(alloc: Global, words: &[String], shelf: &mut S, out: 
 }
 
 /// Runs one command over a shelf of files and a sink: `replay FILE` puts the log of the replay of a
-/// script. Where several causes hold, the words come first, then the script, then what is put.
-/// Nothing is put before all else is done.
+/// script. Where several causes hold, the words come first, then the script, then its ROM, then what
+/// is put. Nothing is put before all else is done.
 pub fn board<R: Threads + Wait + Sync, S: Shelf, K: Sink, G: Gate>(
     _rt: &R,
     alloc: Global,
@@ -132,24 +139,11 @@ pub fn board<R: Threads + Wait + Sync, S: Shelf, K: Sink, G: Gate>(
     ensures usage { (result ≡ Status.Usage) ↔ (asked words.now ≡ None) }
     ensures done { result ≡ Status.Done →
         OfScript (asked words.now) (S.files shelf.old) (PutsReplay (K.taken out.old) (K.taken out.new)) }
-    ensures read_fault { result ≡ Status.ReadFault Which.Script →
-        FailsAtScript (asked words.now) (S.faults shelf.old) (S.faults shelf.new) (S.failed_name shelf.new) }
-    ensures write_fault { result ≡ Status.WriteFault → Rose (K.faults out.old) (K.faults out.new) }
-    ensures too_long { result ≡ Status.TooLong Which.Script →
-        OfScript (asked words.now) (S.files shelf.old) IsTooLong }
-    ensures bad_script { (line why : ℕ) → result ≡ Status.BadScript line why →
-        OfScript (asked words.now) (S.files shelf.old) (IsRefusedAt line why) }
-    ensures stopped { Stopped result (K.taken out.old) (K.taken out.new)
-        (OfScript (asked words.now) (S.files shelf.old) (PutsReplayFront (K.taken out.old) (K.taken out.new))) }
-    ensures complete { HasScript (asked words.now) (S.files shelf.old) IsGood →
-        ¬ Rose (S.faults shelf.old) (S.faults shelf.new) → ¬ Rose (K.faults out.old) (K.faults out.new) →
-        (result ≡ Status.Done) ⊎ (result ≡ Status.NoMemory) }
-    ensures names_line { (line why : ℕ) → HasScript (asked words.now) (S.files shelf.old) (IsRefusedAt line why) →
-        ¬ Rose (S.faults shelf.old) (S.faults shelf.new) →
-        (result ≡ Status.BadScript line why) ⊎ (result ≡ Status.NoMemory) }
-    ensures names_length { HasScript (asked words.now) (S.files shelf.old) IsTooLong →
-        ¬ Rose (S.faults shelf.old) (S.faults shelf.new) →
-        (result ≡ Status.TooLong Which.Script) ⊎ (result ≡ Status.NoMemory) }
+    ensures caused { IsCaused result (asked words.now)
+        (record { files = S.files shelf.old; faults_before = S.faults shelf.old; faults_now = S.faults shelf.new; failed_name = S.failed_name shelf.new })
+        (record { faults_before = K.faults out.old; faults_now = K.faults out.new; taken_before = K.taken out.old; taken_now = K.taken out.new }) }
+    ensures exact { IsExact result (asked words.now) (S.files shelf.old)
+        (¬ Rose (S.faults shelf.old) (S.faults shelf.new)) (¬ Rose (K.faults out.old) (K.faults out.new)) }
 {
     obey(alloc, words, shelf, out)
 }

@@ -1,12 +1,13 @@
 //! The commands over files in memory, where nothing outside can fail.
 
-ghost use Rattle.std.specs.Prelude.{◌≡◌, ◌≢◌, ◌⊎◌, ◌↔◌, ℕ, Some, None};
+ghost use Rattle.std.specs.Prelude.{◌≡◌, ◌≢◌, ◌↔◌, [], Some, None};
 ghost use Rattle.board_base.specs.Files.{file_named};
+ghost use Rattle.board_run.specs.declared.status.Which.{Which};
 ghost use Rattle.board_run.specs.Words.{asked};
-ghost use Rattle.board_run.specs.Outcomes.{OfScript, HasScript, IsGood, IsTooLong, IsRefusedAt, PutsReplay, PutsReplayFront, Stopped};
+ghost use Rattle.board_run.specs.Outcomes.{OfScript, PutsReplay, IsCaused, IsExact};
 
 use crate::command::board;
-use crate::status::{Status, Which};
+use crate::status::Status;
 use board_base::{Gate, SafeShelf, SafeSink};
 use std::alloc::Global;
 use std::sync::Wait;
@@ -24,21 +25,12 @@ pub fn board_in_memory<R: Threads + Wait + Sync, G: Gate>(
     ensures usage { (result ≡ Status.Usage) ↔ (asked words.now ≡ None) }
     ensures done { result ≡ Status.Done → OfScript (asked words.now) (Some (file_named shelf.old.files.items))
         (PutsReplay (Some out.old.bytes.items) (Some out.new.bytes.items)) }
-    ensures too_long { result ≡ Status.TooLong Which.Script →
-        OfScript (asked words.now) (Some (file_named shelf.old.files.items)) IsTooLong }
-    ensures bad_script { (line why : ℕ) → result ≡ Status.BadScript line why →
-        OfScript (asked words.now) (Some (file_named shelf.old.files.items)) (IsRefusedAt line why) }
-    ensures stopped { Stopped result (Some out.old.bytes.items) (Some out.new.bytes.items)
-        (OfScript (asked words.now) (Some (file_named shelf.old.files.items))
-        (PutsReplayFront (Some out.old.bytes.items) (Some out.new.bytes.items))) }
-    ensures no_read_fault { result ≢ Status.ReadFault Which.Script }
+    ensures caused { IsCaused result (asked words.now)
+        (record { files = Some (file_named shelf.old.files.items); faults_before = 0; faults_now = 0; failed_name = [] })
+        (record { faults_before = 0; faults_now = 0; taken_before = Some out.old.bytes.items; taken_now = Some out.new.bytes.items }) }
+    ensures no_read_fault { (which : Which) → result ≢ Status.ReadFault which }
     ensures no_write_fault { result ≢ Status.WriteFault }
-    ensures complete { HasScript (asked words.now) (Some (file_named shelf.old.files.items)) IsGood →
-        (result ≡ Status.Done) ⊎ (result ≡ Status.NoMemory) }
-    ensures names_line { (line why : ℕ) → HasScript (asked words.now) (Some (file_named shelf.old.files.items)) (IsRefusedAt line why) →
-        (result ≡ Status.BadScript line why) ⊎ (result ≡ Status.NoMemory) }
-    ensures names_length { HasScript (asked words.now) (Some (file_named shelf.old.files.items)) IsTooLong →
-        (result ≡ Status.TooLong Which.Script) ⊎ (result ≡ Status.NoMemory) }
+    ensures exact { IsExact result (asked words.now) (Some (file_named shelf.old.files.items)) (Unit {0}) (Unit {0}) }
 {
     board(rt, alloc, words, shelf, out, gate)
 }

@@ -13,6 +13,7 @@ fn name_of(which: Which) -> &'static str
 {
     match which {
         Which::Script => "script",
+        Which::Rom => "rom",
     }
 }
 
@@ -28,6 +29,7 @@ fn text_of(alloc: Global, status: &Status) -> Result<String, AllocError>
         Status::BadScript { line, why } => format!(in alloc;
             "bad script: line {line}: reason {why}"
         ),
+        Status::BadImage(which) => format!(in alloc; "bad image: {}", name_of(*which)),
         Status::NoMemory => String::from_str(alloc, "no memory"),
     }
 }

@@ -7,6 +7,8 @@ ghost use Rattle.board_run.specs.Status.{code_of};
 #[derive(Clone, Copy, PartialEq, Eq, Debug)]
 pub enum Which {
     Script,
+    /// The BIOS ROM, whose name the script says.
+    Rom,
 }
 
 /// How a command ended.
@@ -24,6 +26,8 @@ pub enum Status {
     TooLong(Which),
     /// The script is refused at a line, counted from 1, for a reason.
     BadScript { line: u32, why: u8 },
+    /// An image has another length than one of its kind.
+    BadImage(Which),
     /// There was no memory.
     NoMemory,
 }
@@ -39,6 +43,7 @@ pub fn exit_code(status: &Status) -> u8
         Status::WriteFault => 3,
         Status::TooLong(_) => 4,
         Status::BadScript { .. } => 5,
+        Status::BadImage(_) => 6,
         Status::NoMemory => 8,
     }
 }

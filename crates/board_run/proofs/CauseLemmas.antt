@@ -1,0 +1,248 @@
+-- What each way out of a replay says of its cause.
+use Rattle.std.proofs.Common.{◌≡◌, ℕ, ◌<◌, ◌≤◌, ◌⊎◌, inl, inr, List, length, take, Option, Some, None, refl, subst, arith}
+use Rattle.std.specs.Prelude.{◌==◌, ◌||◌}
+use Rattle.std.specs.Io.KnownBytes.{Appends, Keeps}
+use Rattle.std.proofs.lemmas.Bool.{cases_Bool}
+use Rattle.std.proofs.lemmas.Bool.Decides.{nat_tests}
+use Rattle.board_base.specs.declared.fault.PutFault.{PutFault}
+use Rattle.board_base.specs.declared.fault.PutFault.TheVariants.{Failed, NoMemory as NoMemoryForPut}
+use Rattle.board_base.specs.Outside.{Rose, OfFile}
+use Rattle.board_spec.specs.Setup.{IsRomSize}
+use Rattle.script_text.specs.ScriptText.{Said, IsScript}
+use Rattle.board_core.specs.declared.setup.BoardOpen.{BoardOpen}
+use Rattle.board_core.specs.declared.setup.BoardOpen.TheVariants.{BadRom, NoMemory as NoMemoryForBoard}
+use Rattle.board_run.specs.declared.status.Which.TheVariants.{Script, Rom}
+use Rattle.board_run.specs.declared.status.Status.{Status}
+use Rattle.board_run.specs.declared.status.Status.TheVariants.{Done, Usage, ReadFault, WriteFault, TooLong, BadScript, BadImage, NoMemory}
+use Rattle.board_run.specs.Words.{Command, Replay}
+use Rattle.board_run.specs.Output.{AppendsFront}
+use Rattle.board_run.specs.Replays.{IsLogOf, IsReplayText}
+use Rattle.board_run.specs.Statuses.{status_of_board_open, status_of_put_fault}
+use Rattle.board_run.specs.Outcomes.{script_limit, rom_limit, ShelfCall, SinkCall, OfScript, IsTooLong, IsRefusedAt, HasRom, IsLongRom, IsBadRom, FailsAtScript, FailsAtRom, IsNotFetched, PutsReplay, PutsReplayFront, Stopped, IsCaused}
+
+-- ---- the causes, one for each status
+
+abbrev Nothing : SinkCall → Type 0
+Nothing sink = Keeps sink.taken_before sink.taken_now
+
+module _ (command : Option Command) (shelf : ShelfCall) (sink : SinkCall) where
+  abbrev Front : Type 0
+  Front = OfScript command shelf.files (PutsReplayFront sink.taken_before sink.taken_now)
+
+  -- what a status says
+  abbrev Cause : Status → Type 0
+  Cause Done = OfScript command shelf.files (PutsReplay sink.taken_before sink.taken_now)
+  Cause Usage = Nothing sink
+  Cause (ReadFault Script) = FailsAtScript command shelf × Nothing sink
+  Cause (ReadFault Rom) = FailsAtRom command shelf × Nothing sink
+  Cause WriteFault = Rose sink.faults_before sink.faults_now × Front
+  Cause (TooLong Script) = OfScript command shelf.files IsTooLong × Nothing sink
+  Cause (TooLong Rom) = OfScript command shelf.files (HasRom IsLongRom) × Nothing sink
+  Cause (BadScript line why) = OfScript command shelf.files (IsRefusedAt line why) × Nothing sink
+  Cause (BadImage Script) = ⊥
+  Cause (BadImage Rom) = OfScript command shelf.files (HasRom IsBadRom) × Nothing sink
+  Cause NoMemory = Nothing sink ⊎ Front
+
+  stopped : (status : Status) → Cause status → Stopped status sink.taken_before sink.taken_now Front
+  stopped Done cause = tt
+  stopped Usage cause = cause
+  stopped (ReadFault Script) cause = cause.1
+  stopped (ReadFault Rom) cause = cause.1
+  stopped WriteFault cause = cause.1
+  stopped (TooLong Script) cause = cause.1
+  stopped (TooLong Rom) cause = cause.1
+  stopped (BadScript line why) cause = cause.1
+  stopped (BadImage Script) cause = absurd cause
+  stopped (BadImage Rom) cause = cause.1
+  stopped NoMemory cause = cause
+
+  caused : (status : Status) → Cause status → IsCaused status command shelf sink
+  caused status cause =
+      let at : (other : Status) → status ≡ other → Cause other = λ other e. subst Cause e cause in
+      record {
+        done = at Done;
+        read_fault_script = λ e. (at (ReadFault Script) e).0;
+        read_fault_rom = λ e. (at (ReadFault Rom) e).0;
+        write_fault = λ e. (at WriteFault e).0;
+        too_long_script = λ e. (at (TooLong Script) e).0;
+        too_long_rom = λ e. (at (TooLong Rom) e).0;
+        bad_script = λ line why e. (at (BadScript line why) e).0;
+        bad_image_rom = λ e. (at (BadImage Rom) e).0;
+        no_bad_image_script = at (BadImage Script);
+        stopped = stopped status cause;
+      }
+
+-- ---- what was read
+
+-- a script was read from the file of this name, and says this
+pub record WasRead (told : Option (List ℕ → List ℕ)) (name bytes : List ℕ) (said : Said) : Type 0 where
+  pub whole : OfFile told name (λ file. bytes ≡ file)
+  pub fits : length bytes ≤ script_limit
+  pub script : IsScript bytes said
+
+pub was_read :
+    (told : Option (List ℕ → List ℕ)) (name bytes given : List ℕ) (said : Said) → OfFile told name (λ file. bytes ≡ file) →
+    length bytes ≤ script_limit → given ≡ bytes → IsScript given said → WasRead told name bytes said
+was_read told name bytes given said whole fits same script =
+    record { whole = whole; fits = fits; script = subst (λ (bytes' : List ℕ). IsScript bytes' said) same script }
+
+of_file :
+    (told : Option (List ℕ → List ℕ)) (files : List ℕ → List ℕ) (name : List ℕ) (P : List ℕ → Type 0) →
+    told ≡ Some files → OfFile told name P → P (files name)
+of_file told files name P is holds = subst (λ (told' : Option (List ℕ → List ℕ)). OfFile told' name P) is holds
+
+of_script :
+    (told : Option (List ℕ → List ℕ)) (name bytes : List ℕ) (P : (List ℕ → List ℕ) → List ℕ → Type 0) →
+    OfFile told name (λ file. bytes ≡ file) → ((files : List ℕ → List ℕ) → told ≡ Some files → P files bytes) →
+    OfScript (Some (Replay name)) told P
+of_script None name bytes P whole holds = tt
+of_script (Some files) name bytes P whole holds = subst (P files) whole (holds files refl)
+
+has_rom :
+    (told : Option (List ℕ → List ℕ)) (name bytes : List ℕ) (said : Said) (P : (name rom : List ℕ) → Type 0) →
+    WasRead told name bytes said → ((files : List ℕ → List ℕ) → told ≡ Some files → P said.rom (files said.rom)) →
+    OfScript (Some (Replay name)) told (HasRom P)
+has_rom told name bytes said P read holds =
+    of_script told name bytes (HasRom P) read.whole
+    (λ files is. record { said = said; fits = read.fits; script = read.script; image = holds files is })
+
+-- ---- the ROM was not fetched
+
+rose_before : (before between now : ℕ) → before ≤ between → Rose between now → Rose before now
+rose_before before between now later rose =
+    elim rose [
+      | inl more ↦ inl (omega arith)
+      | inr last ↦ inr last
+    ]
+
+module _ (told : Option (List ℕ → List ℕ)) (name bytes : List ℕ) (said : Said) (before between now : ℕ) (kept : List ℕ) (sink : SinkCall) where
+  abbrev Whole : ShelfCall
+  Whole = record { files = told; faults_before = before; faults_now = now; failed_name = kept }
+
+  abbrev Second : ShelfCall
+  Second = record { files = told; faults_before = between; faults_now = now; failed_name = kept }
+
+  rom_cause :
+      (status : Status) → WasRead told name bytes said → before ≤ between → Nothing sink →
+      IsNotFetched Rom said.rom rom_limit Second status → Cause (Some (Replay name)) Whole sink status
+  rom_cause Done read later nothing cause = absurd cause
+  rom_cause Usage read later nothing cause = absurd cause
+  rom_cause (ReadFault Script) read later nothing cause = let other = cause.0 in absurd cc
+  rom_cause (ReadFault Rom) read later nothing cause =
+      let names = cause.1.names in (
+        record {
+          rose = rose_before before between now later cause.1.rose;
+          names = has_rom told name bytes said (λ name' rom. kept ≡ take 255 name') read (λ files is. names);
+        },
+        nothing,
+      )
+  rom_cause WriteFault read later nothing cause = absurd cause
+  rom_cause (TooLong Script) read later nothing cause = let other = cause.0 in absurd cc
+  rom_cause (TooLong Rom) read later nothing cause =
+      let long = cause.1 in (
+        has_rom told name bytes said IsLongRom read (λ files is. of_file told files said.rom (λ rom. rom_limit < length rom) is long),
+        nothing,
+      )
+  rom_cause (BadScript line why) read later nothing cause = absurd cause
+  rom_cause (BadImage which) read later nothing cause = absurd cause
+  rom_cause NoMemory read later nothing cause = inl nothing
+
+  pub rom_not_fetched :
+      (status : Status) → WasRead told name bytes said → before ≤ between → Nothing sink →
+      IsNotFetched Rom said.rom rom_limit Second status → IsCaused status (Some (Replay name)) Whole sink
+  rom_not_fetched status read later nothing cause =
+      caused (Some (Replay name)) Whole sink status (rom_cause status read later nothing cause)
+
+-- ---- there was no board
+
+-- a ROM that is not of another size is of one of its sizes
+pub rom_size : (size : ℕ) → ¬ ¬ IsRomSize size → IsRomSize size
+rom_size size other =
+    elim (cases_Bool (size == 0x1_0000 || size == 0x2_0000 || size == 0x4_0000 || size == 0x8_0000)) [
+      | inl good ↦ grind (arith, nat_tests)
+      | inr bad ↦ absurd (other (λ is. grind (arith, nat_tests)))
+    ]
+
+module _ (name bytes rom : List ℕ) (said : Said) (shelf : ShelfCall) (sink : SinkCall) where
+  board_cause :
+      (fault : BoardOpen) → WasRead shelf.files name bytes said → OfFile shelf.files said.rom (λ file. rom ≡ file) →
+      length rom ≤ rom_limit → (fault ≡ BadRom → ¬ IsRomSize (length rom)) → Nothing sink →
+      Cause (Some (Replay name)) shelf sink (status_of_board_open fault)
+  board_cause BadRom read whole fits size nothing = (
+    has_rom shelf.files name bytes said IsBadRom read
+        (λ files is. subst (IsBadRom said.rom) (of_file shelf.files files said.rom (λ file. rom ≡ file) is whole) (fits, size refl)),
+    nothing,
+  )
+  board_cause NoMemoryForBoard read whole fits size nothing = inl nothing
+
+  pub no_board :
+      (fault : BoardOpen) → WasRead shelf.files name bytes said → OfFile shelf.files said.rom (λ file. rom ≡ file) →
+      length rom ≤ rom_limit → (fault ≡ BadRom → ¬ IsRomSize (length rom)) → Nothing sink →
+      IsCaused (status_of_board_open fault) (Some (Replay name)) shelf sink
+  no_board fault read whole fits size nothing =
+      caused (Some (Replay name)) shelf sink (status_of_board_open fault) (board_cause fault read whole fits size nothing)
+
+-- ---- the text was put, or a front of it
+
+-- a script within its limit has this text
+pub record HasText (text : List ℕ) (files : List ℕ → List ℕ) (file : List ℕ) : Type 0 where
+  pub fits : length file ≤ script_limit
+  pub replay : IsReplayText files file text
+
+replay_text :
+    (files : List ℕ → List ℕ) (bytes rom text : List ℕ) (said : Said) → IsScript bytes said → rom ≡ files said.rom →
+    IsRomSize (length rom) → IsLogOf said rom text → IsReplayText files bytes text
+replay_text files bytes rom text said script whole size log =
+    let log' : IsLogOf said (files said.rom) text = subst (λ (rom' : List ℕ). IsLogOf said rom' text) whole log in
+    record {
+      said = said;
+      history = log'.history;
+      script = script;
+      rom = subst (λ (rom' : List ℕ). IsRomSize (length rom')) whole size;
+      replay = log'.replay;
+      locked = log'.locked;
+      log = log'.log;
+    }
+
+pub has_text :
+    (told : Option (List ℕ → List ℕ)) (name bytes rom text : List ℕ) (said : Said) → WasRead told name bytes said →
+    OfFile told said.rom (λ file. rom ≡ file) → IsRomSize (length rom) → IsLogOf said rom text →
+    OfScript (Some (Replay name)) told (HasText text)
+has_text told name bytes rom text said read whole size log =
+    of_script told name bytes (HasText text) read.whole
+    (λ files is. record {
+      fits = read.fits;
+      replay =
+          replay_text files bytes rom text said read.script (of_file told files said.rom (λ file. rom ≡ file) is whole) size log;
+    })
+
+pub map_script :
+    (command : Option Command) (told : Option (List ℕ → List ℕ)) (P Q : (List ℕ → List ℕ) → List ℕ → Type 0) →
+    ((files : List ℕ → List ℕ) (file : List ℕ) → P files file → Q files file) → OfScript command told P → OfScript command told Q
+map_script None told P Q each of = of
+map_script (Some (Replay script)) None P Q each of = tt
+map_script (Some (Replay script)) (Some files) P Q each of = each files (files script) of
+
+module _ (command : Option Command) (shelf : ShelfCall) (sink : SinkCall) (text : List ℕ) where
+  front_put : OfScript command shelf.files (HasText text) → AppendsFront sink.taken_before sink.taken_now text → Front command shelf sink
+  front_put has taken =
+      map_script command shelf.files (HasText text) (PutsReplayFront sink.taken_before sink.taken_now)
+      (λ files file is. record { text = text; fits = is.fits; replay = is.replay; taken = taken }) has
+
+  put_cause :
+      (fault : PutFault) → OfScript command shelf.files (HasText text) → AppendsFront sink.taken_before sink.taken_now text →
+      (fault ≡ Failed → Rose sink.faults_before sink.faults_now) → Cause command shelf sink (status_of_put_fault fault)
+  put_cause Failed has taken rose = (rose refl, front_put has taken)
+  put_cause NoMemoryForPut has taken rose = inr (front_put has taken)
+
+  pub not_put :
+      (fault : PutFault) → OfScript command shelf.files (HasText text) → AppendsFront sink.taken_before sink.taken_now text →
+      (fault ≡ Failed → Rose sink.faults_before sink.faults_now) → IsCaused (status_of_put_fault fault) command shelf sink
+  not_put fault has taken rose = caused command shelf sink (status_of_put_fault fault) (put_cause fault has taken rose)
+
+  pub all_put :
+      OfScript command shelf.files (HasText text) → Appends sink.taken_before sink.taken_now text → IsCaused Done command shelf sink
+  all_put has taken =
+      caused command shelf sink Done
+      (map_script command shelf.files (HasText text) (PutsReplay sink.taken_before sink.taken_now)
+      (λ files file is. record { text = text; fits = is.fits; replay = is.replay; taken = taken }) has)
