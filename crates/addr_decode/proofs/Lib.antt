@@ -5,3 +5,4 @@ pub mod TouchLemmas
 pub mod DenialLemmas
 pub mod CardLemmas
 pub mod StandsLemmas
+pub mod EdgeSearchLemmas

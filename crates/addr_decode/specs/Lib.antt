@@ -1,3 +1,5 @@
+pub mod Edges
+pub mod EdgeSearch
 pub mod MapRegs
 pub mod Memory
 pub mod Onboard

@@ -2,18 +2,23 @@
 //! PCI cards, over the registers on which it depends.
 #![tactic(auto)]
 
+mod areas;
 mod bits;
 mod cards;
 mod change;
 mod denial;
+mod edges;
+pub mod laws;
 mod memory;
 mod offsets;
 mod onboard;
 mod ports;
 mod regs;
 
+pub use areas::{SixAreas, areas_at, row};
 pub use board_spec::MapChange;
 pub use change::touches;
+pub use edges::next_edge;
 pub use memory::decode;
 pub use ports::{PortRegs, decode_port};
 pub use regs::MapRegs;

@@ -1,0 +1,215 @@
+-- The edges that the code looks through are those of the board, and what it finds is the next one.
+use Rattle.std.proofs.Common.{◌≡◌, ℕ, zero, suc, ◌+◌, ◌*◌, ◌<◌, ◌≤◌, ◌⊎◌, inl, inr, Bool, true, false, ◌&&◌, List, [], ◌∷◌, ◌++◌, length, map, Option, Some, None, refl, sym, ◌∙◌, ap, subst, arith}
+use Rattle.std.specs.Prelude.{nat_lt, min, All, flat_map, unwrap_or, slice_index, IfSome, IsNone, ◌↔◌}
+use Rattle.std.specs.List.{Contains, enumerate_from, fold}
+use Rattle.std.proofs.lemmas.Bool.{cases_Bool, cases_lt}
+use Rattle.std.proofs.lemmas.Bool.Decides.{nat_tests}
+use Rattle.std.proofs.lemmas.List.Elements.{All-head, All-tail}
+use Rattle.std.proofs.lemmas.List.Sums.{fold-append}
+use Rattle.std.proofs.lemmas.Option.{same_Some}
+use Rattle.board_spec.specs.Setup.{Base, MemoryBase, IoBase, Setup, IsCard}
+use Rattle.board_spec.specs.Decode.{Bytes, bridge, boundary, base_value, memory_window}
+use Rattle.board_spec.specs.FlatMap.{address_count}
+use Rattle.pmc_regs.specs.Pmc.{IsRowsOf}
+use Rattle.pci_bars.specs.Cards.{CardBytes, DecodesAs, AreCards, AreDecoded, cards_of}
+use Rattle.addr_decode.specs.Edges.{fixed_edges, row_edges, window_edges, card_edges, edges_of, IsEdge, IsNextEdge, NoEdgeAbove}
+use Rattle.addr_decode.specs.EdgeSearch.{nearer, nearest, ends_of, ends_from, ends_of_card}
+
+-- ---- the edges, as the code keeps them
+
+ends_same :
+    (bytes : Bytes) (dev : ℕ) (values : List ℕ) → ((k : ℕ) → k < 6 → base_value bytes dev k ≡ slice_index values k) →
+    (k : ℕ) (bases : List Base) → k + length bases ≤ 6 →
+    ends_from values k bases
+    ≡ flat_map (λ numbered. flat_map window_edges (memory_window bytes dev numbered.0 numbered.1)) (enumerate_from k bases)
+ends_same bytes dev values same k [] few = refl
+ends_same bytes dev values same k (MemoryBase bits ∷ later) few =
+    rw (same k (omega arith), ends_same bytes dev values same (k + 1) later (omega arith)) refl
+ends_same bytes dev values same k (IoBase bits ∷ later) few = ends_same bytes dev values same (k + 1) later (omega arith)
+
+cards_same :
+    (setup : Setup) (bytes : Bytes) (cards : List CardBytes) → AreCards cards → All (DecodesAs setup bytes) cards →
+    flat_map ends_of_card cards ≡ flat_map (card_edges bytes) (cards_of cards)
+cards_same setup bytes [] fit are = refl
+cards_same setup bytes (card ∷ later) fit are =
+    let is : DecodesAs setup bytes card = All-head (DecodesAs setup bytes) card later are in
+    let one : IsCard card.card = All-head (λ card. IsCard card.card) card later fit in
+    let few : length card.card.bases ≤ 6 = one.count in
+    let here : ends_of_card card ≡ card_edges bytes card.card = ends_same bytes card.card.dev card.bases is.bases 0 card.card.bases (omega arith) in
+    let rest : flat_map ends_of_card later ≡ flat_map (card_edges bytes) (cards_of later) =
+    cards_same setup bytes later (All-tail (λ card. IsCard card.card) card later fit) (All-tail (DecodesAs setup bytes) card later are) in
+    rw (here, rest) refl
+
+abbrev rows_from : ℕ → ℕ → List ℕ
+rows_from first zero = []
+rows_from first (suc count) = first ∷ rows_from (first + 1) count
+
+rows_same_from :
+    (bytes : Bytes) (drb : List ℕ) (first : ℕ) → ((k : ℕ) → k < length drb → slice_index drb k ≡ bytes (bridge (0x60 + first + k))) →
+    map (λ b. b * 0x80_0000) drb ≡ map (boundary bytes) (rows_from first (length drb))
+rows_same_from bytes [] first is = refl
+rows_same_from bytes (b ∷ later) first is =
+    let here : b ≡ bytes (bridge (0x60 + first)) = is 0 (omega arith) ∙ ap (λ off. bytes (bridge off)) (omega arith) in
+    let rest : map (λ b. b * 0x80_0000) later ≡ map (boundary bytes) (rows_from (first + 1) (length later)) =
+    rows_same_from bytes later (first + 1) (λ k below. is (suc k) (omega arith) ∙ ap (λ off. bytes (bridge off)) (omega arith)) in
+    rw (here, rest) refl
+
+rows_same : (bytes : Bytes) (drb : List ℕ) → length drb ≡ 8 → IsRowsOf bytes drb → map (λ b. b * 0x80_0000) drb ≡ row_edges bytes
+rows_same bytes drb eight is =
+    rows_same_from bytes drb 0 (λ k within. is k (omega arith)) ∙ ap (λ count. map (boundary bytes) (rows_from 0 count)) eight
+
+none_is_not_some : (edge : ℕ) → ◌≡◌ {A = Option ℕ} None (Some edge) → ⊥
+none_is_not_some edge same = cc
+
+-- ---- the least of a list of edges
+
+-- the edge found so far lies at or below an edge
+abbrev pub Reaches : Option ℕ → ℕ → Type 0
+Reaches (Some edge) other = edge ≤ other
+Reaches None other = ⊥
+
+nearer_keeps : (addr edge other : ℕ) (found : Option ℕ) → Reaches found other → Reaches (nearer addr found edge) other
+nearer_keeps addr edge other None reaches = absurd reaches
+nearer_keeps addr edge other (Some least) reaches =
+    elim (cases_Bool (nat_lt addr edge && nat_lt edge address_count)) [
+      | inl here ↦ rw here (grind (arith, nat_tests))
+      | inr not_here ↦ rw not_here reaches
+    ]
+
+nearer_reaches : (addr edge : ℕ) (found : Option ℕ) → addr < edge → edge < address_count → Reaches (nearer addr found edge) edge
+nearer_reaches addr edge None above below = grind (arith, nat_tests)
+nearer_reaches addr edge (Some least) above below = grind (arith, nat_tests)
+
+nearest_keeps : (addr other : ℕ) (edges : List ℕ) (found : Option ℕ) → Reaches found other → Reaches (nearest addr found edges) other
+unfolding nearest
+nearest_keeps addr other [] found reaches = reaches
+nearest_keeps addr other (edge ∷ later) found reaches =
+    nearest_keeps addr other later (nearer addr found edge) (nearer_keeps addr edge other found reaches)
+
+contains_cases : (edge x : ℕ) (later : List ℕ) → Contains (edge ∷ later) x → (edge ≡ x) ⊎ Contains later x
+contains_cases edge x later (zero, within, is) = inl is
+contains_cases edge x later (suc k, within, is) = inr (k, omega arith, is)
+
+contains_later : (edge x : ℕ) (later : List ℕ) → Contains later x → Contains (edge ∷ later) x
+contains_later edge x later (k, within, is) = (suc k, omega arith, is)
+
+nearest_reaches :
+    (addr other : ℕ) (edges : List ℕ) (found : Option ℕ) → Contains edges other → addr < other → other < address_count →
+    Reaches (nearest addr found edges) other
+unfolding nearest
+nearest_reaches addr other [] found (k, within, is) above below = absurd (omega arith)
+nearest_reaches addr other (edge ∷ later) found has above below =
+    elim (contains_cases edge other later has) [
+      | inl here ↦
+          nearest_keeps addr other later (nearer addr found edge)
+          (subst (λ x. Reaches (nearer addr found edge) x) here (nearer_reaches addr edge found (omega arith) (omega arith)))
+      | inr there ↦ nearest_reaches addr other later (nearer addr found edge) there above below
+    ]
+
+nearer_from :
+    (addr edge least : ℕ) (found : Option ℕ) → nearer addr found edge ≡ Some least →
+    (found ≡ Some least) ⊎ ((edge ≡ least) × (addr < edge) × (edge < address_count))
+nearer_from addr edge least None is =
+    elim (cases_Bool (nat_lt addr edge && nat_lt edge address_count)) [
+      | inr not_here ↦ inl (rw not_here at is)
+      | inl here ↦
+          let same : min edge edge ≡ least = same_Some _ _ (rw here at is) in
+          inr (grind (arith, nat_tests), grind (arith, nat_tests), grind (arith, nat_tests))
+    ]
+nearer_from addr edge least (Some found) is =
+    elim (cases_Bool (nat_lt addr edge && nat_lt edge address_count)) [
+      | inr not_here ↦ inl (rw not_here at is)
+      | inl here ↦
+          let same : min found edge ≡ least = same_Some _ _ (rw here at is) in
+          elim (cases_lt found edge) [
+            | inl before ↦ inl (ap Some (grind (arith, nat_tests)))
+            | inr not_before ↦ inr (grind (arith, nat_tests), grind (arith, nat_tests), grind (arith, nat_tests))
+          ]
+    ]
+
+record IsAbove (addr : ℕ) (edges : List ℕ) (edge : ℕ) : Type 0 where
+  pub listed : Contains edges edge
+  pub above : addr < edge
+  pub below : edge < address_count
+
+nearest_from :
+    (addr least : ℕ) (edges : List ℕ) (found : Option ℕ) → nearest addr found edges ≡ Some least →
+    (found ≡ Some least) ⊎ IsAbove addr edges least
+unfolding nearest
+nearest_from addr least [] found is = inl is
+nearest_from addr least (edge ∷ later) found is =
+    elim (nearest_from addr least later (nearer addr found edge) is) [
+      | inr there ↦ inr (record { listed = contains_later edge least later there.listed; above = there.above; below = there.below })
+      | inl here ↦
+          elim (nearer_from addr edge least found here) [
+            | inl before ↦ inl before
+            | inr now ↦ inr (record { listed = (0, omega arith, now.0); above = omega (arith, now.0, now.1); below = omega (arith, now.0, now.2) })
+          ]
+    ]
+
+-- ---- the next edge of a board
+
+found_above : (addr : ℕ) (edges : List ℕ) (found : Option ℕ) → found ≡ nearest addr None edges → IfSome found (IsAbove addr edges)
+found_above addr edges None is = tt
+found_above addr edges (Some edge) is =
+    elim (nearest_from addr edge edges None (sym is)) [ inl none ↦ absurd (none_is_not_some edge none) | inr above ↦ above ]
+
+found_reaches :
+    (addr other : ℕ) (edges : List ℕ) (found : Option ℕ) → found ≡ nearest addr None edges → Contains edges other → addr < other →
+    other < address_count → Reaches found other
+found_reaches addr other edges found is has above below =
+    subst (λ (o : Option ℕ). Reaches o other) (sym is) (nearest_reaches addr other edges None has above below)
+
+pub is_next :
+    (setup : Setup) (bytes : Bytes) (addr : ℕ) (found : Option ℕ) → found ≡ nearest addr None (edges_of setup bytes) →
+    IfSome found (IsNextEdge setup bytes addr)
+is_next setup bytes addr None is = tt
+is_next setup bytes addr (Some edge) is =
+    let here : IsAbove addr (edges_of setup bytes) edge = found_above addr (edges_of setup bytes) (Some edge) is in
+    record {
+      is_edge = record { listed = here.listed; address = here.below };
+      above = here.above;
+      least = λ other there above. found_reaches addr other (edges_of setup bytes) (Some edge) is there.listed above there.address;
+    }
+
+pub is_last :
+    (setup : Setup) (bytes : Bytes) (addr : ℕ) (found : Option ℕ) → found ≡ nearest addr None (edges_of setup bytes) →
+    IsNone found ↔ NoEdgeAbove setup bytes addr
+is_last setup bytes addr None is = (
+  (λ _ edge there.
+      elim (cases_lt addr edge) [
+        | inl above ↦ absurd (found_reaches addr edge (edges_of setup bytes) None is there.listed above there.address)
+        | inr not_above ↦ not_above
+      ]),
+  (λ _. refl)
+)
+is_last setup bytes addr (Some edge) is =
+    let here : IsAbove addr (edges_of setup bytes) edge = found_above addr (edges_of setup bytes) (Some edge) is in
+    let there : IsEdge setup bytes edge = record { listed = here.listed; address = here.below } in
+    ((λ none. cc), (λ none_above. absurd (omega (arith, here.above, none_above edge there))))
+
+-- ---- the parts of the list
+
+abbrev pub kept_edges : (drb : List ℕ) → List CardBytes → List ℕ
+kept_edges drb cards = fixed_edges ++ (map (λ b. b * 0x80_0000) drb ++ flat_map ends_of_card cards)
+
+pub kept_above : (addr : ℕ) (drb : List ℕ) (cards : List CardBytes) (found : Option ℕ) → found ≡ nearest addr None (kept_edges drb cards) → IfSome found (λ edge. addr < edge)
+kept_above addr drb cards None is = tt
+kept_above addr drb cards (Some edge) is =
+    let here : IsAbove addr (kept_edges drb cards) edge = found_above addr (kept_edges drb cards) (Some edge) is in here.above
+
+pub in_parts :
+    (addr : ℕ) (fixed rows all : Option ℕ) (drb : List ℕ) (cards : List CardBytes) →
+    fixed ≡ nearest addr None fixed_edges → rows ≡ nearest addr fixed (map (λ b. b * 0x80_0000) drb) →
+    all ≡ nearest addr rows (flat_map ends_of_card cards) → all ≡ nearest addr None (kept_edges drb cards)
+unfolding nearest
+in_parts addr fixed rows all drb cards is_fixed is_rows is_all =
+    rw (is_all, is_rows, is_fixed, fold-append (nearer addr) None fixed_edges (map (λ b. b * 0x80_0000) drb ++ flat_map ends_of_card cards),
+        fold-append (nearer addr) (fold (nearer addr) None fixed_edges) (map (λ b. b * 0x80_0000) drb) (flat_map ends_of_card cards)) refl
+
+pub kept_are_edges :
+    (setup : Setup) (bytes : Bytes) (drb : List ℕ) (cards : List CardBytes) → length drb ≡ 8 → IsRowsOf bytes drb →
+    AreCards cards → AreDecoded setup bytes cards → kept_edges drb cards ≡ edges_of setup bytes
+unfolding edges_of
+kept_are_edges setup bytes drb cards eight is_rows fit are =
+    rw (rows_same bytes drb eight is_rows, cards_same setup bytes cards fit are.1, are.0) refl

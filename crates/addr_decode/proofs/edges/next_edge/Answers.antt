@@ -1,0 +1,30 @@
+use Rattle.std.proofs.Common.{rules, ◌≡◌, ◌∙◌, ℕ, None, Option, ap, arith}
+use Rattle.std.specs.Prelude.{All, length}
+use Rattle.addr_decode.specs.Edges.{edges_of, fixed_edges}
+use Rattle.addr_decode.specs.EdgeSearch.{nearest}
+use Rattle.addr_decode.specs.MapRegs.{StandsFor, map_bytes}
+use Rattle.addr_decode.proofs.EdgeSearchLemmas.{kept_edges, kept_above, kept_are_edges, in_parts, is_next, is_last}
+use Rattle.addr_decode.proofs.edges.next_edge.Goals as goal
+
+found_by_parts : (c : goal.After-nearest_end_of_cards) →
+    c.nearest_end_of_cards.result ≡ nearest c.args.addr None (kept_edges c.args.regs.now.drb c.args.regs.now.cards.items)
+unfolding fixed_edges
+found_by_parts c =
+    in_parts c.args.addr c.nearest-fixed.result c.nearest_row_end-with_rows.result c.nearest_end_of_cards.result c.args.regs.now.drb c.args.regs.now.cards.items
+    c.nearest-fixed.ensures.nearest c.nearest_row_end-with_rows.ensures.nearest (rw c.deref.ensures.0 at c.nearest_end_of_cards.ensures.nearest)
+
+found : (c : goal.After-nearest_end_of_cards) (setup : _) (bytes : _) → StandsFor setup bytes (map_bytes c.args.regs.now) →
+    c.nearest_end_of_cards.result ≡ nearest c.args.addr None (edges_of setup bytes)
+found c setup bytes stands =
+    let eight : length c.args.regs.now.drb ≡ 8 = search rules in
+    found_by_parts c ∙ ap (nearest c.args.addr None) (kept_are_edges setup bytes c.args.regs.now.drb c.args.regs.now.cards.items eight stands.rows c.requires.cards.each stands.cards)
+
+-- src/edges.rt:46:1
+pub returns-clause-above : goal.returns-clause-above
+returns-clause-above c = kept_above c.args.addr c.args.regs.now.drb c.args.regs.now.cards.items c.nearest_end_of_cards.result (found_by_parts c)
+
+pub returns-clause-next : goal.returns-clause-next
+returns-clause-next c = λ setup bytes stands. is_next setup bytes c.args.addr c.nearest_end_of_cards.result (found c setup bytes stands)
+
+pub returns-clause-last : goal.returns-clause-last
+returns-clause-last c = λ setup bytes stands. is_last setup bytes c.args.addr c.nearest_end_of_cards.result (found c setup bytes stands)

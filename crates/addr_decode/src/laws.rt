@@ -1,0 +1,13 @@
+//! Laws of the edges of the memory map. Each function does nothing: its clause is the law.
+
+ghost use Rattle.addr_decode.specs.Edges.{AreasChangeAtEdges, FewEdges};
+
+/// The areas of an address can change at edges alone.
+pub fn law_areas_change_at_edges()
+    ensures equal { AreasChangeAtEdges }
+{}
+
+/// A board has at most 125 edges, so that its memory map has at most 126 ranges.
+pub fn law_few_edges()
+    ensures few { FewEdges }
+{}
