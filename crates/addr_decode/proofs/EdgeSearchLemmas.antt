@@ -86,7 +86,7 @@ nearest_keeps addr other [] found reaches = reaches
 nearest_keeps addr other (edge ∷ later) found reaches =
     nearest_keeps addr other later (nearer addr found edge) (nearer_keeps addr edge other found reaches)
 
-contains_cases : (edge x : ℕ) (later : List ℕ) → Contains (edge ∷ later) x → (edge ≡ x) ⊎ Contains later x
+pub contains_cases : (edge x : ℕ) (later : List ℕ) → Contains (edge ∷ later) x → (edge ≡ x) ⊎ Contains later x
 contains_cases edge x later (zero, within, is) = inl is
 contains_cases edge x later (suc k, within, is) = inr (k, omega arith, is)
 

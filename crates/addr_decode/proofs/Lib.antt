@@ -5,4 +5,6 @@ pub mod TouchLemmas
 pub mod DenialLemmas
 pub mod CardLemmas
 pub mod StandsLemmas
+pub mod EdgeCounts
+pub mod EdgeLaws
 pub mod EdgeSearchLemmas

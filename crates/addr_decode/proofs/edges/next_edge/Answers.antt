@@ -4,6 +4,8 @@ use Rattle.addr_decode.specs.Edges.{edges_of, fixed_edges}
 use Rattle.addr_decode.specs.EdgeSearch.{nearest}
 use Rattle.addr_decode.specs.MapRegs.{StandsFor, map_bytes}
 use Rattle.addr_decode.proofs.EdgeSearchLemmas.{kept_edges, kept_above, kept_are_edges, in_parts, is_next, is_last}
+use Rattle.addr_decode.proofs.EdgeLaws.{same_to_next}
+use Rattle.addr_decode.proofs.EdgeCounts.{fewer_after}
 use Rattle.addr_decode.proofs.edges.next_edge.Goals as goal
 
 found_by_parts : (c : goal.After-nearest_end_of_cards) →
@@ -28,3 +30,10 @@ returns-clause-next c = λ setup bytes stands. is_next setup bytes c.args.addr c
 
 pub returns-clause-last : goal.returns-clause-last
 returns-clause-last c = λ setup bytes stands. is_last setup bytes c.args.addr c.nearest_end_of_cards.result (found c setup bytes stands)
+
+pub returns-clause-equal : goal.returns-clause-equal
+returns-clause-equal c = λ setup bytes stands.
+    same_to_next setup bytes c.args.addr c.nearest_end_of_cards.result (returns-clause-next c setup bytes stands) (returns-clause-last c setup bytes stands).0
+
+pub returns-clause-fewer : goal.returns-clause-fewer
+returns-clause-fewer c = λ setup bytes stands. fewer_after setup bytes c.args.addr c.nearest_end_of_cards.result (returns-clause-next c setup bytes stands)
