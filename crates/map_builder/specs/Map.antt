@@ -1,0 +1,34 @@
+-- The memory map as the crate keeps it: the registers, the ranges and the version.
+use Rattle.std.specs.Prelude.{ℕ, ◌^◌, ◌<◌, List, All, slice_index}
+use Rattle.board_spec.specs.Setup.{Setup}
+use Rattle.board_spec.specs.Decode.{Bytes}
+use Rattle.board_spec.specs.FlatMap.{MapRange, Tiles, IsFlatMapOf}
+use Rattle.pci_bars.specs.Cards.{CardBytes}
+use Rattle.addr_decode.specs.MapRegs.{MapBytes, AreFitted, StandsFor}
+use Rattle.map_builder.specs.declared.range.Range.{Range}
+
+-- the registers that the map depends on, its ranges, and how many changes it has had
+pub record Mapped : Type 0 where
+  pub regs : MapBytes
+  pub ranges : List MapRange
+  pub version : ℕ
+
+abbrev pub range_of : Range → MapRange
+range_of range = record { lo = range.lo; hi = range.hi; areas = range.row.areas }
+
+-- some board has these registers
+pub record HasBoard (regs : MapBytes) : Type 0 where
+  pub setup : Setup
+  pub bytes : Bytes
+  pub stands : StandsFor setup bytes regs
+
+-- the ranges are the flat map of every board that has these registers, and cover all addresses
+pub record IsMapOf (regs : MapBytes) (ranges : List MapRange) : Type 0 where
+  pub fitted : AreFitted regs.cards
+  pub board : HasBoard regs
+  pub tiles : Tiles 0 ranges
+  pub map : (setup : Setup) (bytes : Bytes) → StandsFor setup bytes regs → IsFlatMapOf setup bytes ranges
+
+-- the base registers of cards hold doublewords
+abbrev pub AreDoublewords : List CardBytes → Type 0
+AreDoublewords cards = All (λ card. (k : ℕ) → slice_index card.bases k < 2 ^ 32) cards

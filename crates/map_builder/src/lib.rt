@@ -1,0 +1,13 @@
+//! The memory map as one list of ranges, built from the registers on which it depends.
+#![tactic(auto)]
+
+mod changed;
+mod find;
+mod flat_map;
+mod range;
+
+pub use flat_map::FlatMap;
+pub use range::{Changed, Range, Span};
+
+#[cfg(test)]
+mod tests;
