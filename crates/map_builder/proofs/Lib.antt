@@ -1,0 +1,3 @@
+pub mod BoardLemmas
+pub mod AreaLemmas
+pub mod BuildLemmas

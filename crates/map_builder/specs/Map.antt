@@ -1,6 +1,7 @@
 -- The memory map as the crate keeps it: the registers, the ranges and the version.
-use Rattle.std.specs.Prelude.{ℕ, ◌^◌, ◌<◌, List, All, slice_index}
-use Rattle.board_spec.specs.Setup.{Setup}
+use Rattle.std.specs.Prelude.{ℕ, ◌≡◌, ◌≢◌, ◌-◌, ◌^◌, ◌<◌, ◌⊎◌, List, [], ◌∷◌, ◌++◌, All, slice_index}
+use Rattle.board_base.specs.declared.target.Area.{Area}
+use Rattle.board_spec.specs.Setup.{Setup, IsCardList}
 use Rattle.board_spec.specs.Decode.{Bytes}
 use Rattle.board_spec.specs.FlatMap.{MapRange, Tiles, IsFlatMapOf}
 use Rattle.pci_bars.specs.Cards.{CardBytes}
@@ -20,6 +21,7 @@ range_of range = record { lo = range.lo; hi = range.hi; areas = range.row.areas 
 pub record HasBoard (regs : MapBytes) : Type 0 where
   pub setup : Setup
   pub bytes : Bytes
+  pub cards : IsCardList setup.cards
   pub stands : StandsFor setup bytes regs
 
 -- the ranges are the flat map of every board that has these registers, and cover all addresses
@@ -32,3 +34,11 @@ pub record IsMapOf (regs : MapBytes) (ranges : List MapRange) : Type 0 where
 -- the base registers of cards hold doublewords
 abbrev pub AreDoublewords : List CardBytes → Type 0
 AreDoublewords cards = All (λ card. (k : ℕ) → slice_index card.bases k < 2 ^ 32) cards
+
+-- how the ranges go on at an address with these areas: the last range has them too, or it ends below, and another begins
+abbrev pub GoesOn : (ranges ranges' : List MapRange) → (last last' : MapRange) → (addr : ℕ) → List Area → Type 0
+GoesOn ranges ranges' last last' addr areas =
+    ((areas ≡ last.areas) × (ranges' ≡ ranges) × (last' ≡ last))
+    ⊎ ((areas ≢ last.areas)
+    × (ranges' ≡ ranges ++ record last { hi = addr - 1 } ∷ [])
+    × (last' ≡ record { lo = addr; hi = 0xFFFF_FFFF; areas = areas }))

@@ -1,5 +1,5 @@
 //! The memory map as one list of ranges.
-ghost use Rattle.std.specs.Prelude.{◌≡◌, ◌≤◌, ◌<◌, ◌+◌, ℕ, length, map, All};
+ghost use Rattle.std.specs.Prelude.{◌≡◌, ◌≤◌, ◌<◌, ◌+◌, ℕ, length, map};
 ghost use Rattle.board_base.specs.declared.access.Kind.{Kind};
 ghost use Rattle.board_spec.specs.Setup.{Setup};
 ghost use Rattle.board_spec.specs.Registers.{changed_byte};
@@ -7,22 +7,21 @@ ghost use Rattle.board_spec.specs.Decode.{Bytes};
 ghost use Rattle.board_spec.specs.FlatMap.{Tiles, IsFlatMapOf, IsSpan, six_areas};
 ghost use Rattle.pci_bars.specs.Cards.{cards_of};
 ghost use Rattle.addr_decode.specs.MapRegs.{AreFitted, StandsFor, map_bytes};
-ghost use Rattle.map_builder.specs.Map.{range_of, HasBoard, AreDoublewords};
+ghost use Rattle.map_builder.specs.Map.{range_of};
 ghost use Rattle.map_builder.specs.Changed.{after, changed_windows, bounds_or_zero, IsOutside};
 
+use crate::build::{CAPACITY, ranges_of};
 use crate::changed::{bounds_covered, joined};
+use crate::doublewords::hold_doublewords;
 use crate::find::span_of;
 use crate::range::{Changed, Range, Span};
-use addr_decode::{MapChange, MapRegs, SixAreas, areas_at, next_edge};
+use addr_decode::{MapChange, MapRegs};
 use arrayvec::ArrayVec;
 use board_base::Kind;
-use pci_bars::CardRegs;
 use std::marker::Model;
 
-/// The most ranges that a map can keep. A board's map has at most 126.
-const CAPACITY: usize = 160;
-/// The last address.
-const LAST_ADDRESS: u32 = 0xFFFF_FFFF;
+/// The answer where no window changes.
+const NOTHING: Changed = Changed { lo: 0, hi: 0 };
 
 /// The memory map of some registers, and how many changes it has had: the least list of ranges from the first address
 /// to the last in each of which every address has the same areas.
@@ -54,6 +53,7 @@ impl FlatMap {
         ensures map { (setup : Setup) (bytes : Bytes) → StandsFor setup bytes result.regs → IsFlatMapOf setup bytes result.ranges }
         ensures few { length result.ranges ≤ 126 }
     {
+        hold_doublewords(regs.cards.as_slice());
         let ranges = ranges_of(&regs);
         FlatMap {
             regs,
@@ -131,63 +131,5 @@ impl FlatMap {
         self.version += 1;
         let changed = joined(before, bounds_covered(&self.regs, change));
         changed.unwrap_or(NOTHING)
-    }
-}
-
-/// The answer where no window changes.
-const NOTHING: Changed = Changed { lo: 0, hi: 0 };
-
-/// The flat map of registers.
-fn ranges_of(regs: &MapRegs) -> ArrayVec<Range, CAPACITY>
-    requires cards { AreFitted regs.now.cards.items }
-    requires board { HasBoard (map_bytes regs.now) }
-    ensures tiles { Tiles 0 (map range_of result.items) }
-    ensures map { (setup : Setup) (bytes : Bytes) → StandsFor setup bytes (map_bytes regs.now)
-        → IsFlatMapOf setup bytes (map range_of result.items) }
-    ensures few { length result.items ≤ 126 }
-{
-    let mut ranges = ArrayVec::new();
-    let mut addr = 0;
-    let mut last = Range {
-        lo: 0,
-        hi: LAST_ADDRESS,
-        row: areas_at(regs, 0),
-    };
-    while let Some(edge) = next_edge(regs, addr) {
-        last = range_at(&mut ranges, last, edge, areas_at(regs, edge));
-        addr = edge;
-    }
-    ranges.push(last);
-    ranges
-}
-
-/// The range in which an address lies that has these areas: the last one where it has the same. Else that one ends
-/// below the address and is pushed, and a new one begins.
-fn range_at(
-    ranges: &mut ArrayVec<Range, CAPACITY>,
-    last: Range,
-    addr: u32,
-    row: SixAreas,
-) -> Range {
-    if row == last.row {
-        return last;
-    }
-    ranges.push(Range {
-        hi: addr - 1,
-        ..last
-    });
-    Range {
-        lo: addr,
-        hi: LAST_ADDRESS,
-        row,
-    }
-}
-
-/// Does nothing. Its clause says of base registers what their type does.
-fn hold_doublewords(cards: &[CardRegs])
-    ensures fits { AreDoublewords cards.now }
-{
-    for card in cards {
-        let _bases = card.bases;
     }
 }

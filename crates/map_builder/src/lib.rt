@@ -1,7 +1,9 @@
 //! The memory map as one list of ranges, built from the registers on which it depends.
 #![tactic(auto)]
 
+mod build;
 mod changed;
+mod doublewords;
 mod find;
 mod flat_map;
 mod range;
