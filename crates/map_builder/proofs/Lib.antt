@@ -1,3 +1,4 @@
 pub mod BoardLemmas
 pub mod AreaLemmas
 pub mod BuildLemmas
+pub mod FindLemmas

@@ -1,10 +1,10 @@
 //! The search for an address in the ranges of a map.
-ghost use Rattle.std.specs.Prelude.{◌≡◌, ◌≤◌, ◌<◌, ℕ, length, map, slice_index_or};
-ghost use Rattle.board_base.specs.declared.target.Area.TheVariants.{Abort};
+ghost use Rattle.std.specs.Prelude.{◌≡◌, ◌<◌, ℕ, length, map};
 ghost use Rattle.board_spec.specs.Setup.{Setup};
 ghost use Rattle.board_spec.specs.Decode.{Bytes, area_of};
 ghost use Rattle.board_spec.specs.FlatMap.{Tiles, IsFlatMapOf, IsSpan, six_areas};
 ghost use Rattle.map_builder.specs.Map.{range_of};
+ghost use Rattle.map_builder.specs.Find.{Holds, IsFirstAlike, IsLastAlike, area_at as area_at_index, in_column};
 
 use crate::range::{Range, Span};
 use board_base::{Area, Kind};
@@ -29,8 +29,7 @@ pub fn span_of(ranges: &[Range], addr: u32, kind: Kind, smm: bool) -> Span
 /// The index of the range that holds an address.
 fn index_of(ranges: &[Range], addr: u32) -> usize
     requires tiles { Tiles 0 (map range_of ranges.now) }
-    ensures within { result < length ranges.now }
-    ensures holds { (d : Range) → ((slice_index_or ranges.now result d).lo ≤ addr) × (addr ≤ (slice_index_or ranges.now result d).hi) }
+    ensures holds { Holds ranges.now result addr }
 {
     ranges.partition_point(|range| range.hi < addr)
 }
@@ -39,7 +38,7 @@ fn index_of(ranges: &[Range], addr: u32) -> usize
 fn column_of(kind: Kind, smm: bool) -> usize
     ensures below { result < 6 }
     ensures column { (setup : Setup) (bytes : Bytes) (addr : ℕ)
-        → slice_index_or (six_areas setup bytes addr) result Abort ≡ area_of setup bytes addr kind smm }
+        → in_column result (six_areas setup bytes addr) ≡ area_of setup bytes addr kind smm }
 {
     match (kind, smm) {
         (Kind::Fetch, false) => 0,
@@ -55,6 +54,7 @@ fn column_of(kind: Kind, smm: bool) -> usize
 fn area_at(ranges: &[Range], index: usize, column: usize) -> Area
     requires index { index < length ranges.now }
     requires column { column < 6 }
+    ensures area { result ≡ area_at_index ranges.now column index }
 {
     ranges[index].row.areas[column]
 }
@@ -63,24 +63,28 @@ fn area_at(ranges: &[Range], index: usize, column: usize) -> Area
 fn first_alike(ranges: &[Range], index: usize, column: usize) -> usize
     requires index { index < length ranges.now }
     requires column { column < 6 }
+    ensures first { IsFirstAlike ranges.now column index result }
 {
     let area = area_at(ranges, index, column);
-    let mut first = index;
-    while first > 0 && area_at(ranges, first - 1, column) == area {
-        first -= 1;
+    for below in (0..index).rev() {
+        if area_at(ranges, below, column) != area {
+            return below + 1;
+        }
     }
-    first
+    0
 }
 
 /// The index of the last of the ranges from this one on that have its area in a column.
 fn last_alike(ranges: &[Range], index: usize, column: usize) -> usize
     requires index { index < length ranges.now }
     requires column { column < 6 }
+    ensures last { IsLastAlike ranges.now column index result }
 {
     let area = area_at(ranges, index, column);
-    let mut last = index;
-    while last + 1 < ranges.len() && area_at(ranges, last + 1, column) == area {
-        last += 1;
+    for above in index + 1..ranges.len() {
+        if area_at(ranges, above, column) != area {
+            return above - 1;
+        }
     }
-    last
+    ranges.len() - 1
 }
