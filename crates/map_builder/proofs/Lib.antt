@@ -2,3 +2,4 @@ pub mod BoardLemmas
 pub mod AreaLemmas
 pub mod BuildLemmas
 pub mod FindLemmas
+pub mod WindowLemmas

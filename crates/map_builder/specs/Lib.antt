@@ -1,3 +1,4 @@
 pub mod Map
 pub mod Find
 pub mod Changed
+pub mod Held

@@ -1,14 +1,14 @@
 //! The windows of the address map that a change of the registers may change, and their bounds.
-ghost use Rattle.std.specs.Prelude.{◌≡◌, ◌≤◌, ◌<◌, ◌+◌, ◌-◌, ◌*◌, ◌/◌, ◌^◌, ◌==◌, ℕ, [], ◌∷◌, All, Some, length, map, filter, unwrap_or, find as first_where};
-ghost use Rattle.std.specs.Option.{option_map_or};
-ghost use Rattle.std.specs.List.{enumerate_from};
+ghost use Rattle.std.specs.Prelude.{◌≡◌, ◌≤◌, ◌<◌, ◌+◌, ◌-◌, ◌*◌, ◌++◌, All, length, map};
+ghost use Rattle.board_spec.specs.declared.map_change.MapChange.TheVariants.{Store};
 ghost use Rattle.board_spec.specs.Setup.{Setup, IsBase, IsCard};
 ghost use Rattle.board_spec.specs.Decode.{Bytes};
 ghost use Rattle.board_spec.specs.MapWrites.{reg_after};
 ghost use Rattle.pci_bars.specs.Bases.{base_of};
-ghost use Rattle.pci_bars.specs.Cards.{AreCards, AreDecoded};
+ghost use Rattle.pci_bars.specs.Cards.{AreCards};
 ghost use Rattle.addr_decode.specs.MapRegs.{AreFitted, StandsFor, map_bytes};
-ghost use Rattle.map_builder.specs.Changed.{bridge_windows, isa_windows, windows_of, windows_covered, bounds, bounds_or_zero, joined as joined_by, from_to};
+ghost use Rattle.map_builder.specs.Changed.{bridge_windows, isa_windows, windows_of, windows_covered, bounds, joined as joined_by, from_to};
+ghost use Rattle.map_builder.specs.Held.{block, held_by, held_from, held_at, vga_held, card_held, device_held};
 
 use crate::range::Changed;
 use addr_decode::{MapChange, MapRegs};
@@ -85,6 +85,8 @@ pub fn joined(here: Option<Changed>, there: Option<Changed>) -> Option<Changed>
 /// The bounds of the windows of the registers that a store covers.
 fn bounds_of_store(regs: &MapRegs, reg: Reg, width: Width) -> Option<Changed>
     requires cards { AreFitted regs.now.cards.items }
+    ensures bounds { (setup : Setup) (bytes : Bytes) → StandsFor setup bytes (map_bytes regs.now)
+        → result ≡ bounds (windows_covered setup bytes (Store reg width 0)) }
 {
     let mut bounds = None;
     for k in 0..width.bytes() as u8 {
@@ -122,6 +124,7 @@ fn bounds_of(regs: &MapRegs, reg: Reg) -> Option<Changed>
 }
 
 /// The bounds of the windows of a register of the host bridge.
+#[tactic(auto, unfolding(crate::specs::Changed::bounds))]
 fn bridge_bounds(off: u8) -> Option<Changed>
     ensures bounds { result ≡ bounds (bridge_windows off) }
 {
@@ -136,7 +139,11 @@ fn bridge_bounds(off: u8) -> Option<Changed>
 }
 
 /// The two shadow windows of a PAM register after PAM0.
-fn pam_windows(off: u8) -> Changed {
+fn pam_windows(off: u8) -> Changed
+    requires first { 0x5A ≤ off }
+    requires last { off ≤ 0x5F }
+    ensures windows { result ≡ from_to (0xC_0000 + 0x8000 * (off - 0x5A)) (0xC_7FFF + 0x8000 * (off - 0x5A)) }
+{
     let lo = PAM1_WINDOWS + PAM_SIZE * u32::from(off - PAM1);
     Changed {
         lo,
@@ -145,6 +152,7 @@ fn pam_windows(off: u8) -> Changed {
 }
 
 /// The bounds of the windows of a register of the ISA bridge.
+#[tactic(auto, unfolding(crate::specs::Changed::bounds))]
 fn isa_bounds(off: u8) -> Option<Changed>
     ensures bounds { result ≡ bounds (isa_windows off) }
 {
@@ -152,8 +160,10 @@ fn isa_bounds(off: u8) -> Option<Changed>
 }
 
 /// The bounds of the windows of a register of the card at a device number. None where there is no such card.
+#[tactic(auto, unfolding(crate::specs::Changed::bounds))]
 fn card_at_bounds(cards: &[CardRegs], dev: u8, off: u8) -> Option<Changed>
     requires cards { AreCards cards.now }
+    ensures bounds { result ≡ bounds (device_held dev off cards.now) }
 {
     for card in cards {
         if card.spec.dev == dev {
@@ -164,8 +174,10 @@ fn card_at_bounds(cards: &[CardRegs], dev: u8, off: u8) -> Option<Changed>
 }
 
 /// The bounds of the windows of a register of a card.
+#[tactic(auto, unfolding(crate::specs::Changed::bounds))]
 fn card_bounds(card: &CardRegs, off: u8) -> Option<Changed>
     requires card { IsCard card.now.card }
+    ensures bounds { result ≡ bounds (card_held off card.now) }
 {
     match off {
         COMMAND => command_bounds(card),
@@ -177,15 +189,25 @@ fn card_bounds(card: &CardRegs, off: u8) -> Option<Changed>
 /// The bounds of the memory bases of a card and of its VGA window.
 fn command_bounds(card: &CardRegs) -> Option<Changed>
     requires card { IsCard card.now.card }
+    ensures bounds { result ≡ bounds (held_from card.now.bases 0 card.now.card.bases ++ vga_held card.now.card.vga) }
 {
-    let vga = card.spec.vga.then_some(SMRAM_WINDOW);
-    joined(bounds_of_bases(&card.spec.bases, &card.bases), vga)
+    let bases = bounds_of_bases(&card.spec.bases, &card.bases);
+    joined(bases, vga_bounds(card.spec.vga))
+}
+
+/// The VGA window of a card that has one.
+#[tactic(auto, unfolding(crate::specs::Changed::bounds))]
+fn vga_bounds(vga: bool) -> Option<Changed>
+    ensures bounds { result ≡ bounds (vga_held vga) }
+{
+    vga.then_some(SMRAM_WINDOW)
 }
 
 /// The bounds of the memory bases among these that hold these values.
 fn bounds_of_bases(bases: &[BaseSpec], values: &[u32; 6]) -> Option<Changed>
     requires bases { All IsBase (map base_of bases.now) }
     requires count { length bases.now ≤ 6 }
+    ensures bounds { result ≡ bounds (held_from values.now 0 (map base_of bases.now)) }
 {
     let mut bounds = None;
     for (index, base) in bases.iter().enumerate() {
@@ -194,19 +216,33 @@ fn bounds_of_bases(bases: &[BaseSpec], values: &[u32; 6]) -> Option<Changed>
     bounds
 }
 
-/// The bounds of a base of a card. None where it does not exist, or is for I/O ports.
+/// The bounds of a base of a card, 0 to 5. None where it does not exist, or is for I/O ports.
 fn base_bounds(card: &CardRegs, index: usize) -> Option<Changed>
     requires card { IsCard card.now.card }
+    requires index { index < 6 }
+    ensures bounds { result ≡ bounds (held_at card.now.bases card.now.card.bases index) }
 {
-    match card.spec.bases.get(index) {
-        Some(base) => window_of(*base, card.bases[index]),
+    bounds_of_base(&card.spec.bases, &card.bases, index)
+}
+
+/// The bounds of one of these bases that hold these values. None where it does not exist, or is for I/O ports.
+#[tactic(auto, unfolding(crate::specs::Changed::bounds))]
+fn bounds_of_base(bases: &[BaseSpec], values: &[u32; 6], index: usize) -> Option<Changed>
+    requires bases { All IsBase (map base_of bases.now) }
+    requires index { index < 6 }
+    ensures bounds { result ≡ bounds (held_at values.now (map base_of bases.now) index) }
+{
+    match bases.get(index) {
+        Some(base) => window_of(*base, values[index]),
         None => None,
     }
 }
 
 /// The addresses that a base decodes where it holds this value. None where it is for I/O ports.
+#[tactic(auto, unfolding(crate::specs::Changed::bounds))]
 fn window_of(base: BaseSpec, value: u32) -> Option<Changed>
     requires base { IsBase (base_of base) }
+    ensures bounds { result ≡ bounds (held_by (base_of base) value) }
 {
     match base {
         BaseSpec::Memory(bits) => Some(window_inside(value, bits)),
@@ -217,6 +253,7 @@ fn window_of(base: BaseSpec, value: u32) -> Option<Changed>
 /// The addresses that agree with this one but in the low bits.
 fn window_inside(inside: u32, bits: u8) -> Changed
     requires bits { bits ≤ 24 }
+    ensures block { result ≡ block inside bits }
 {
     let lo = inside >> bits << bits;
     Changed {
