@@ -3,3 +3,4 @@ pub mod AreaLemmas
 pub mod BuildLemmas
 pub mod FindLemmas
 pub mod WindowLemmas
+pub mod DeviceLemmas

@@ -1,10 +1,14 @@
 -- The windows that registers govern, as the code finds them.
 use Rattle.std.proofs.Common.{◌≡◌, ℕ, zero, suc, ◌+◌, ◌-◌, ◌*◌, ◌/◌, ◌^◌, ◌<◌, ◌≤◌, List, [], ◌∷◌, ◌++◌, length, map, drop, get_or, refl, sym, ◌∙◌, ap, subst, arith, mul_comm}
-use Rattle.std.specs.Prelude.{◌↔◌, min, max, Option, Some, None, slice_index}
-use Rattle.std.proofs.lemmas.List.{drop_all, drop_more}
+use Rattle.std.specs.Prelude.{◌↔◌, min, max, Option, Some, None, slice_index, flat_map, take}
+use Rattle.std.proofs.lemmas.List.{drop_all, drop_more, take_more, append-nil}
+use Rattle.std.proofs.lemmas.Grind.{flat_map-append}
 use Rattle.std.proofs.lemmas.Option.{slice_get-map, slice_get_past}
 use Rattle.std.proofs.lemmas.Nat.{mul-add-lt, pow-add, pow_pos}
 use Rattle.std.proofs.Math.Nat.{div-lt_iff_lt-mul}
+use Rattle.board_base.specs.declared.access.Width.{Width}
+use Rattle.board_base.specs.declared.access.Width.TheVariants.{One, Two, Four}
+use Rattle.board_base.specs.Access.{bytes_of}
 use Rattle.board_spec.specs.Setup.{Base, MemoryBase, IoBase}
 use Rattle.pci_bars.specs.declared.spec.BaseSpec.{BaseSpec}
 use Rattle.pci_bars.specs.Bases.{base_of}
@@ -76,3 +80,28 @@ held_all bases values k found past = rw (drop_all k bases past) (joined_nil foun
 pub held_past : (values : List ℕ) (bases : List BaseSpec) (k : ℕ) → length bases ≤ k → None ≡ bounds (held_at values (map base_of bases) k)
 unfolding bounds
 held_past values bases k past = rw (slice_get-map base_of bases k, slice_get_past bases k past) refl
+
+-- ---- the registers that a store covers
+
+abbrev pub offsets : List ℕ
+offsets = 0 ∷ 1 ∷ 2 ∷ 3 ∷ []
+
+offset_is : (k : ℕ) → k < 4 → get_or offsets k 0 ≡ k
+offset_is zero below = refl
+offset_is (suc zero) below = refl
+offset_is (suc (suc zero)) below = refl
+offset_is (suc (suc (suc zero))) below = refl
+offset_is (suc (suc (suc (suc k)))) below = absurd (omega arith)
+
+pub bytes_few : (width : Width) → bytes_of width ≤ 4
+bytes_few One = omega arith
+bytes_few Two = omega arith
+bytes_few Four = omega arith
+
+-- one more register
+pub covered_on : (windows : ℕ → List Changed) (k : ℕ) (found one next : Option Changed) → k < 4 →
+    found ≡ bounds (flat_map windows (take k offsets)) → one ≡ bounds (windows k) → next ≡ joined found one →
+    next ≡ bounds (flat_map windows (take (k + 1) offsets))
+covered_on windows k found one next below found_is one_is next_is =
+    rw (next_is, found_is, one_is, take_more offsets k 0 below, offset_is k below,
+        flat_map-append windows (take k offsets) (k ∷ []), append-nil (windows k), bounds-append (flat_map windows (take k offsets)) (windows k)) refl

@@ -57,6 +57,7 @@ const ROM: Changed = Changed {
 
 /// The bounds of the windows that the registers govern which a change covers, by what they hold now. None where there
 /// is no window.
+#[tactic(auto, unfolding(crate::specs::Changed::windows_covered, crate::specs::Changed::bounds))]
 pub fn bounds_covered(regs: &MapRegs, change: &MapChange) -> Option<Changed>
     requires cards { AreFitted regs.now.cards.items }
     ensures bounds { (setup : Setup) (bytes : Bytes) → StandsFor setup bytes (map_bytes regs.now)
