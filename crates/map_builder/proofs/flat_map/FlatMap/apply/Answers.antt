@@ -1,0 +1,58 @@
+use Rattle.std.proofs.Common.{◌≡◌, ◌∙◌, ap, subst, sym, Option}
+use Rattle.std.specs.Prelude.{unwrap_or}
+use Rattle.board_spec.specs.Setup.{Setup}
+use Rattle.board_spec.specs.Decode.{Bytes}
+use Rattle.addr_decode.specs.MapRegs.{StandsFor, map_bytes}
+use Rattle.map_builder.specs.declared.range.Changed.{Changed}
+use Rattle.map_builder.specs.Map.{Mapped}
+use Rattle.map_builder.specs.Changed.{after, bounds, bounds_or_zero, changed_windows, windows_covered, joined, from_to, IsOutside}
+use Rattle.map_builder.proofs.WindowLemmas.{bounds-append}
+use Rattle.map_builder.proofs.flat_map.FlatMap.apply.Goals as goal
+use Rattle.map_builder.proofs.flat_map.FlatMap.apply.Goals.{After-apply}
+
+stood : (c : After-apply) (setup : Setup) (bytes : Bytes) → StandsFor setup bytes c.args.self.now.regs → StandsFor setup bytes (map_bytes c.self.inside.regs)
+stood c setup bytes stands = subst (λ (flat : Mapped). StandsFor setup bytes flat.regs) (sym c.self.view_is) stands
+
+pub ranges_of-self-inside-requires-clause-board : goal.ranges_of-self-inside-requires-clause-board
+ranges_of-self-inside-requires-clause-board c =
+    let board = c.self.invariant.board in
+    record {
+      setup = board.setup;
+      bytes = after board.setup c.args.change.now board.bytes;
+      cards = board.cards;
+      stands = c.apply.ensures.stands board.setup board.bytes board.stands;
+    }
+
+pub invariant_of-self : goal.invariant_of-self
+invariant_of-self c =
+    let board = c.self.invariant.board in
+    record {
+      fitted = c.apply.ensures.fitted;
+      board = record {
+        setup = board.setup;
+        bytes = after board.setup c.args.change.now board.bytes;
+        cards = board.cards;
+        stands = c.apply.ensures.stands board.setup board.bytes board.stands;
+      };
+      tiles = c.ranges_of-self-inside.ensures.tiles;
+      map = c.ranges_of-self-inside.ensures.map;
+    }
+
+pub returns-clause-stands : goal.returns-clause-stands
+returns-clause-stands c = λ setup bytes stands. c.apply.ensures.stands setup bytes (stood (goal.at.returns-clause-stands c).After-apply setup bytes stands)
+
+pub returns-clause-changed : goal.returns-clause-changed
+returns-clause-changed c = λ setup bytes stands.
+    let old = stood (goal.at.returns-clause-changed c).After-apply setup bytes stands in
+    let change = c.args.change.now in
+    let new : Bytes = after setup change bytes in
+    let joined_is : c.joined-changed.result ≡ bounds (changed_windows setup bytes change) =
+    c.joined-changed.ensures.joined
+    ∙ ap (λ (before : Option Changed). joined before c.bounds_covered.result) (c.bounds_covered-before.ensures.bounds setup bytes old)
+    ∙ ap (λ (later : Option Changed). joined (bounds (windows_covered setup bytes change)) later)
+      (c.bounds_covered.ensures.bounds setup new (c.apply.ensures.stands setup bytes old))
+    ∙ sym (bounds-append (windows_covered setup bytes change) (windows_covered setup new change)) in
+    c.unwrap_or.ensures ∙ ap (λ (found : Option Changed). unwrap_or found (from_to 0 0)) joined_is
+
+pub returns-clause-kept : goal.returns-clause-kept
+returns-clause-kept c = ?
