@@ -17,11 +17,11 @@ use Rattle.map_builder.specs.Changed.{from_to, decoded, bridge_windows, isa_wind
 use Rattle.map_builder.specs.Held.{block, held_by, held_from, held_at, vga_held, card_held, device_held}
 
 -- the windows of bases, the first of them base number `first`
-abbrev from_base : Bytes → (dev first : ℕ) → List Base → List Window
+abbrev pub from_base : Bytes → (dev first : ℕ) → List Base → List Window
 from_base bytes dev first bases = flat_map (λ numbered. memory_window bytes dev numbered.0 numbered.1) (enumerate_from first bases)
 
 -- the base registers hold these values
-abbrev Hold : Bytes → (dev : ℕ) → (values : List ℕ) → Type 0
+abbrev pub Hold : Bytes → (dev : ℕ) → (values : List ℕ) → Type 0
 Hold bytes dev values = (k : ℕ) → k < 6 → base_value bytes dev k ≡ slice_index values k
 
 -- ---- the command governs them all
@@ -67,14 +67,13 @@ no_vga card k below =
 
 -- ---- a card
 
-card_is : (setup : Setup) (bytes : Bytes) (card : CardBytes) (off : ℕ) → IsCard card.card → DecodesAs setup bytes card →
+pub card_is : (bytes : Bytes) (card : CardBytes) (off : ℕ) → length card.card.bases ≤ 6 → Hold bytes card.card.dev card.bases →
     card_windows bytes off card.card ≡ card_held off card
-card_is setup bytes card off fit is =
-    let hold : Hold bytes card.card.dev card.bases = is.bases in
+card_is bytes card off few hold =
     elim (cases_Bool (off == 0x04)) [
       | inl command ↦
           rw (command, map-append decoded (from_base bytes card.card.dev 0 card.card.bases) (vga_window card.card),
-              all_held bytes card.card.dev card.bases 0 card.card.bases hold (omega (arith, fit.count)), vga_is card.card) refl
+              all_held bytes card.card.dev card.bases 0 card.card.bases hold (omega arith), vga_is card.card) refl
       | inr other ↦
           elim (cases_Bool (is_within 0x10 0x27 off)) [
             | inr beside ↦ rw (other, beside) refl
@@ -95,7 +94,7 @@ cards_are setup bytes (card ∷ later) dev off fit are =
     elim (cases_Bool (card.card.dev == dev)) [
       | inl here ↦
           rw here
-          (card_is setup bytes card off (All-head (λ card. IsCard card.card) card later fit) (All-head (DecodesAs setup bytes) card later are))
+          (card_is bytes card off (All-head (λ card. IsCard card.card) card later fit).count (All-head (DecodesAs setup bytes) card later are).bases)
       | inr not_here ↦
           rw not_here
           (cards_are setup bytes later dev off (All-tail (λ card. IsCard card.card) card later fit) (All-tail (DecodesAs setup bytes) card later are))

@@ -4,3 +4,7 @@ pub mod BuildLemmas
 pub mod FindLemmas
 pub mod WindowLemmas
 pub mod DeviceLemmas
+pub mod OutsideLemmas
+pub mod KeptCards
+pub mod KeptLemmas
+pub mod KeptStores

@@ -6,6 +6,7 @@ mod changed;
 mod doublewords;
 mod find;
 mod flat_map;
+pub mod laws;
 mod range;
 
 pub use flat_map::FlatMap;

@@ -55,4 +55,4 @@ returns-clause-changed c = λ setup bytes stands.
     c.unwrap_or.ensures ∙ ap (λ (found : Option Changed). unwrap_or found (from_to 0 0)) joined_is
 
 pub returns-clause-kept : goal.returns-clause-kept
-returns-clause-kept c = ?
+returns-clause-kept c = let h = c.self.ranges in ?
