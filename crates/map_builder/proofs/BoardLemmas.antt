@@ -12,7 +12,7 @@ use Rattle.board_spec.specs.Bits.{byte, wide}
 use Rattle.board_spec.specs.Decode.{Bytes, card_register, base_value, bridge, isa}
 use Rattle.pci_bars.specs.Cards.{CardBytes, DecodesAs, AreDecoded, cards_of}
 use Rattle.addr_decode.specs.MapRegs.{MapBytes, AreFitted, StandsFor}
-use Rattle.map_builder.specs.Map.{HasBoard, AreDoublewords}
+use Rattle.map_builder.specs.Map.{HasBoard, HaveWidths}
 
 -- ---- a board with these registers
 
@@ -144,11 +144,12 @@ fitted_cards regs few fitted = record {
 }
 
 -- the registers of cards that can be fitted to a board are those of a board
-pub has_board : (regs : MapBytes) → length regs.cards ≤ 8 → AreFitted regs.cards → AreDoublewords regs.cards → HasBoard regs
-has_board regs few fitted doublewords = record {
+pub has_board : (regs : MapBytes) → AreFitted regs.cards → HaveWidths regs → HasBoard regs
+has_board regs fitted widths = record {
   setup = board_setup regs;
   bytes = board_byte regs;
-  cards = subst IsCardList (sym (cards_fitted regs)) (fitted_cards regs few fitted);
+  cards = subst IsCardList (sym (cards_fitted regs)) (fitted_cards regs widths.count fitted);
+  top = omega (arith, rows_stand regs 7 (omega arith), widths.rows 7);
   stands = record {
     rows = rows_stand regs;
     hole = hole_stands regs;
@@ -158,7 +159,7 @@ has_board regs few fitted doublewords = record {
     cards = (
       cards_fitted regs,
       (λ k d within.
-          decodes regs (get_or regs.cards k d) (fitted.each k d within) (doublewords k d within) (found regs.cards fitted.rises k d within)),
+          decodes regs (get_or regs.cards k d) (fitted.each k d within) (widths.bases k d within) (found regs.cards fitted.rises k d within)),
     );
   };
 }

@@ -72,8 +72,12 @@ pub card_is : (bytes : Bytes) (card : CardBytes) (off : ℕ) → length card.car
 card_is bytes card off few hold =
     elim (cases_Bool (off == 0x04)) [
       | inl command ↦
-          rw (command, map-append decoded (from_base bytes card.card.dev 0 card.card.bases) (vga_window card.card),
-              all_held bytes card.card.dev card.bases 0 card.card.bases hold (omega arith), vga_is card.card) refl
+          rw (
+            command,
+            map-append decoded (from_base bytes card.card.dev 0 card.card.bases) (vga_window card.card),
+            all_held bytes card.card.dev card.bases 0 card.card.bases hold (omega arith),
+            vga_is card.card,
+          ) refl
       | inr other ↦
           elim (cases_Bool (is_within 0x10 0x27 off)) [
             | inr beside ↦ rw (other, beside) refl
@@ -81,8 +85,13 @@ card_is bytes card off few hold =
                 let below : off ≤ 0x27 = grind (arith, nat_tests) in
                 let k : ℕ = (off - 0x10) / 4 in
                 let number : k < 6 = omega arith in
-                rw (other, base, filter-append (numbered k) (from_base bytes card.card.dev 0 card.card.bases) (vga_window card.card),
-                    no_vga card.card k number, append-nil (filter (numbered k) (from_base bytes card.card.dev 0 card.card.bases)))
+                rw (
+                  other,
+                  base,
+                  filter-append (numbered k) (from_base bytes card.card.dev 0 card.card.bases) (vga_window card.card),
+                  no_vga card.card k number,
+                  append-nil (filter (numbered k) (from_base bytes card.card.dev 0 card.card.bases)),
+                )
                 (one_held bytes card.card.dev card.bases k k 0 card.card.bases hold number (omega arith))
           ]
     ]
@@ -158,5 +167,9 @@ same_lines false false false none = refl
 
 pub windows_past : (setup : Setup) (bytes : Bytes) (reg : Reg) → 256 ≤ reg.off → None ≡ bounds (windows_of setup bytes reg)
 windows_past setup bytes reg past =
-    rw (no_bridge_window reg.off past, no_isa_window reg.off past, no_device_window bytes reg.off (card_at setup reg.dev) past,
-        same_lines (reg.dev == 0 && reg.fun == 0) (reg.dev == 1 && reg.fun == 0) (reg.fun == 0) []) none_is
+    rw (
+      no_bridge_window reg.off past,
+      no_isa_window reg.off past,
+      no_device_window bytes reg.off (card_at setup reg.dev) past,
+      same_lines (reg.dev == 0 && reg.fun == 0) (reg.dev == 1 && reg.fun == 0) (reg.fun == 0) [],
+    ) none_is

@@ -92,14 +92,14 @@ held ranges addr k address is within before from =
     ]
 
 pub last_addresses_rise : (ranges : List Range) → Placed 0 ranges → IsNonDecreasingBy (λ (range : Range). range.hi) ranges
-last_addresses_rise ranges is = 
+last_addresses_rise ranges is =
     IsNonDecreasingBy-from_all_adjacent (λ (range : Range). range.hi) ranges
     (λ k d within.
-        let here : get_or ranges k d ≡ range_at ranges k = get_or_default ranges k d no_range (omega arith) in
-        let there : get_or ranges (k + 1) d ≡ range_at ranges (k + 1) = get_or_default ranges (k + 1) d no_range within in
-        let rises : (range_at ranges k).hi ≤ (range_at ranges (k + 1)).hi =
-        omega (arith, is.next k within, is.whole (k + 1) within) in
-        rw (here, there) rises)
+    let here : get_or ranges k d ≡ range_at ranges k = get_or_default ranges k d no_range (omega arith) in
+    let there : get_or ranges (k + 1) d ≡ range_at ranges (k + 1) = get_or_default ranges (k + 1) d no_range within in
+    let rises : (range_at ranges k).hi ≤ (range_at ranges (k + 1)).hi =
+    omega (arith, is.next k within, is.whole (k + 1) within) in
+    rw (here, there) rises)
 
 -- ---- the span round an address
 

@@ -200,19 +200,27 @@ module _ (setup : Setup) (bytes new : Bytes) (addr : ℕ) (kept : (reg : Reg) �
             let bases : find (claims new) (from_base new card.dev 0 card.bases) ≡ find (claims bytes) (from_base bytes card.dev 0 card.bases) =
             bases_same card.dev 0 card.bases enabled
             (λ j base at.
-                let place : j ≡ 0 + j = omega arith in
-                subst (λ (k : ℕ). BaseKept card.dev k base) place
-                (base_kept card j base is (omega (arith, slice_get_within card.bases j base at, is.few)) at)) in
-            rw (find-append (claims new) (from_base new card.dev 0 card.bases) (vga_window card),
-                find-append (claims bytes) (from_base bytes card.dev 0 card.bases) (vga_window card), bases, vga_same card enabled) refl
+            let place : j ≡ 0 + j = omega arith in
+            subst (λ (k : ℕ). BaseKept card.dev k base) place
+            (base_kept card j base is (omega (arith, slice_get_within card.bases j base at, is.few)) at)) in
+            rw (
+              find-append (claims new) (from_base new card.dev 0 card.bases) (vga_window card),
+              find-append (claims bytes) (from_base bytes card.dev 0 card.bases) (vga_window card),
+              bases,
+              vga_same card enabled,
+            ) refl
       ]
 
   cards_same : (cards : List FittedCard) → AllByRecursion (IsFitted setup) cards →
       find (claims new) (flat_map (memory_windows new) cards) ≡ find (claims bytes) (flat_map (memory_windows bytes) cards)
   cards_same [] each = refl
   cards_same (card ∷ later) each =
-      rw (find-append (claims new) (memory_windows new card) (flat_map (memory_windows new) later),
-          find-append (claims bytes) (memory_windows bytes card) (flat_map (memory_windows bytes) later), card_same card each.0, cards_same later each.1) refl
+      rw (
+        find-append (claims new) (memory_windows new card) (flat_map (memory_windows new) later),
+        find-append (claims bytes) (memory_windows bytes card) (flat_map (memory_windows bytes) later),
+        card_same card each.0,
+        cards_same later each.1,
+      ) refl
 
   pub claim_same : IsCardList setup.cards → memory_claim setup new addr ≡ memory_claim setup bytes addr
   unfolding memory_claim

@@ -46,9 +46,15 @@ unfolding always_rom
 rom_outside xbcs addr low high =
     let last : is_within 0xFFFE_0000 0xFFFE_FFFF addr ≡ false = outside_range addr 0xFFFE_0000 0xFFFE_FFFF (elim high [ inl below ↦ inl (omega arith) | inr above ↦ inr above ]) in
     let rest : is_within 0xFFF8_0000 0xFFFD_FFFF addr ≡ false = outside_range addr 0xFFF8_0000 0xFFFD_FFFF (elim high [ inl below ↦ inl below | inr above ↦ inr (omega arith) ]) in
-    rw (outside_range addr 0xE_0000 0xE_FFFF low, last, rest, and_no (is_bit xbcs 6), and_no (is_bit xbcs 7),
-        or_no (is_within 0xF_0000 0xF_FFFF addr || is_within 0xFFFF_0000 0xFFFF_FFFF addr),
-        or_no (is_within 0xF_0000 0xF_FFFF addr || is_within 0xFFFF_0000 0xFFFF_FFFF addr)) refl
+    rw (
+      outside_range addr 0xE_0000 0xE_FFFF low,
+      last,
+      rest,
+      and_no (is_bit xbcs 6),
+      and_no (is_bit xbcs 7),
+      or_no (is_within 0xF_0000 0xF_FFFF addr || is_within 0xFFFF_0000 0xFFFF_FFFF addr),
+      or_no (is_within 0xF_0000 0xF_FFFF addr || is_within 0xFFFF_0000 0xFFFF_FFFF addr),
+    ) refl
 
 -- ---- the windows of PAM
 

@@ -13,15 +13,17 @@ use Rattle.board_spec.specs.declared.map_change.MapChange.{MapChange}
 use Rattle.board_spec.specs.declared.map_change.MapChange.TheVariants.{Store, Reset}
 use Rattle.board_spec.specs.Setup.{Setup, IsCardList}
 use Rattle.board_spec.specs.Bits.{byte, merged}
-use Rattle.board_spec.specs.RegisterTable.{host_bridge, writable_bits}
+use Rattle.board_spec.specs.RegisterTable.{host_bridge, reset_byte, writable_bits}
 use Rattle.board_spec.specs.Registers.{covers, byte_after, changed_byte}
 use Rattle.board_spec.specs.Decode.{Bytes, bridge, boundary, top_of}
 use Rattle.board_spec.specs.MapWrites.{reg_after}
 use Rattle.board_spec.specs.FlatMap.{address_count, six_areas}
+use Rattle.addr_decode.specs.MapRegs.{MapBytes, StandsFor}
 use Rattle.map_builder.specs.declared.range.Changed.{Changed}
-use Rattle.map_builder.specs.Changed.{from_to, windows_of, windows_covered, after, changed_windows, IsOutside}
+use Rattle.map_builder.specs.Changed.{from_to, windows_of, windows_covered, after, changed_windows, bounds_or_zero, IsOutside}
+use Rattle.map_builder.specs.Map.{HasBoard}
 use Rattle.map_builder.specs.Laws.{WindowsHoldChanges}
-use Rattle.map_builder.proofs.OutsideLemmas.{Outside, outside_left, outside_right}
+use Rattle.map_builder.proofs.OutsideLemmas.{Outside, outside_bounds, outside_left, outside_right}
 use Rattle.map_builder.proofs.WindowLemmas.{offsets}
 use Rattle.map_builder.proofs.KeptCards.{Kept}
 use Rattle.map_builder.proofs.KeptLemmas.{areas_same}
@@ -117,22 +119,38 @@ last_row_writable setup = refl
 last_row_after : (setup : Setup) (old written : ℕ) → written < 256 → byte_after setup (bridge 0x67) old written ≡ written
 last_row_after setup old written below = rw (last_row_writable setup) (merged-all old written below)
 
-pub top_after : (setup : Setup) (bytes : Bytes) (at : Reg) (width : Width) (value : ℕ) → top_of bytes ≤ 0x7F80_0000 →
-    top_of (after setup (Store at width value) bytes) ≤ 0x7F80_0000
-top_after setup bytes at width value top =
+last_row_at_reset : (setup : Setup) → reset_byte setup (bridge 0x67) ≡ 1
+unfolding reset_byte host_bridge
+last_row_at_reset setup = refl
+
+pub top_after : (setup : Setup) (bytes : Bytes) (change : MapChange) → top_of bytes ≤ 0x7F80_0000 → top_of (after setup change bytes) ≤ 0x7F80_0000
+top_after setup bytes Reset top = rw (last_row_at_reset setup) (omega arith)
+top_after setup bytes (Store at width value) top =
     elim (cases_Bool (covers at width (bridge 0x67))) [
       | inr beside ↦ rw beside top
-      | inl over ↦
-          let written : ℕ = byte value (0x67 - at.off) in
-          rw (over, last_row_after setup (bytes (bridge 0x67)) (byte value (0x67 - at.off)) (omega arith)) (omega arith)
+      | inl over ↦ rw (over, last_row_after setup (bytes (bridge 0x67)) (byte value (0x67 - at.off)) (omega arith)) (omega arith)
     ]
 
-pub windows_hold_changes : WindowsHoldChanges
+-- outside all changed windows nothing changes
+changes_keep : (setup : Setup) (bytes : Bytes) (change : MapChange) (addr : ℕ) → IsCardList setup.cards → top_of bytes ≤ 0x7F80_0000 → addr < address_count →
+    Outside addr (changed_windows setup bytes change) → six_areas setup (after setup change bytes) addr ≡ six_areas setup bytes addr
 unfolding windows_covered
-windows_hold_changes setup bytes Reset addr list top address out =
-    elim (out 0 (from_to 0 0) (omega arith)) [ inl below ↦ absurd (omega arith) | inr above ↦ absurd (omega arith) ]
-windows_hold_changes setup bytes (Store at width value) addr list top address out =
-    let each : Outside addr (changed_windows setup bytes (Store at width value)) =
-    recursion_from_All (IsOutside addr) (changed_windows setup bytes (Store at width value)) out in
-    areas_same setup bytes (after setup (Store at width value) bytes) addr (store_keeps setup bytes at width value addr each) list top
-    (top_after setup bytes at width value top)
+changes_keep setup bytes Reset addr list top address out =
+    elim out.0 [ inl below ↦ absurd (omega arith) | inr above ↦ absurd (omega arith) ]
+changes_keep setup bytes (Store at width value) addr list top address out =
+    areas_same setup bytes (after setup (Store at width value) bytes) addr (store_keeps setup bytes at width value addr out) list top
+    (top_after setup bytes (Store at width value) top)
+
+pub windows_hold_changes : WindowsHoldChanges
+windows_hold_changes setup bytes change addr list top address out =
+    changes_keep setup bytes change addr list top address (recursion_from_All (IsOutside addr) (changed_windows setup bytes change) out)
+
+-- outside their bounds nothing changes, on each board that has the registers of some board
+pub outside_keeps : (regs : MapBytes) (setup : Setup) (bytes : Bytes) → HasBoard regs → (change : MapChange) (addr : ℕ) → StandsFor setup bytes regs →
+    addr < address_count → IsOutside addr (bounds_or_zero (changed_windows setup bytes change)) →
+    six_areas setup (after setup change bytes) addr ≡ six_areas setup bytes addr
+outside_keeps regs setup bytes board change addr stands address out =
+    let list : IsCardList setup.cards = subst IsCardList (board.stands.cards.0 ∙ sym stands.cards.0) board.cards in
+    let last : boundary bytes 7 ≡ boundary board.bytes 7 =
+    ap (λ (byte : ℕ). byte * 0x80_0000) (sym (stands.rows 7 (omega arith)) ∙ board.stands.rows 7 (omega arith)) in
+    changes_keep setup bytes change addr list (rw last board.top) address (outside_bounds addr (changed_windows setup bytes change) out)

@@ -54,10 +54,10 @@ pub not_covered : (addr : ℕ) (window : Window) → IsOutside addr (decoded win
 not_covered addr window out =
     ne_eqb (window.inside / 2 ^ window.bits) (addr / 2 ^ window.bits)
     (λ same.
-        let parts : addr / 2 ^ window.bits * 2 ^ window.bits + addr % 2 ^ window.bits ≡ addr = split addr window.bits in
-        let positive : 0 < 2 ^ window.bits = pow_pos window.bits in
-        let first : window.inside / 2 ^ window.bits * 2 ^ window.bits ≡ addr / 2 ^ window.bits * 2 ^ window.bits = ap (λ q. q * 2 ^ window.bits) same in
-        elim out [ inl below ↦ omega arith | inr above ↦ omega arith ])
+    let parts : addr / 2 ^ window.bits * 2 ^ window.bits + addr % 2 ^ window.bits ≡ addr = split addr window.bits in
+    let positive : 0 < 2 ^ window.bits = pow_pos window.bits in
+    let first : window.inside / 2 ^ window.bits * 2 ^ window.bits ≡ addr / 2 ^ window.bits * 2 ^ window.bits = ap (λ q. q * 2 ^ window.bits) same in
+    elim out [ inl below ↦ omega arith | inr above ↦ omega arith ])
 
 pub and_no : (a : Bool) → (a && false) ≡ false
 and_no true = refl

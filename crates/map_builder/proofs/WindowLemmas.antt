@@ -103,5 +103,13 @@ pub covered_on : (windows : ℕ → List Changed) (k : ℕ) (found one next : Op
     found ≡ bounds (flat_map windows (take k offsets)) → one ≡ bounds (windows k) → next ≡ joined found one →
     next ≡ bounds (flat_map windows (take (k + 1) offsets))
 covered_on windows k found one next below found_is one_is next_is =
-    rw (next_is, found_is, one_is, take_more offsets k 0 below, offset_is k below,
-        flat_map-append windows (take k offsets) (k ∷ []), append-nil (windows k), bounds-append (flat_map windows (take k offsets)) (windows k)) refl
+    rw (
+      next_is,
+      found_is,
+      one_is,
+      take_more offsets k 0 below,
+      offset_is k below,
+      flat_map-append windows (take k offsets) (k ∷ []),
+      append-nil (windows k),
+      bounds-append (flat_map windows (take k offsets)) (windows k),
+    ) refl

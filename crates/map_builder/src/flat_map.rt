@@ -4,7 +4,7 @@ ghost use Rattle.board_base.specs.declared.access.Kind.{Kind};
 ghost use Rattle.board_spec.specs.Setup.{Setup};
 ghost use Rattle.board_spec.specs.Registers.{changed_byte};
 ghost use Rattle.board_spec.specs.Decode.{Bytes};
-ghost use Rattle.board_spec.specs.FlatMap.{Tiles, IsFlatMapOf, IsSpan, six_areas};
+ghost use Rattle.board_spec.specs.FlatMap.{address_count, six_areas, Tiles, IsFlatMapOf, IsSpan};
 ghost use Rattle.pci_bars.specs.Cards.{cards_of};
 ghost use Rattle.addr_decode.specs.MapRegs.{AreFitted, StandsFor, map_bytes};
 ghost use Rattle.map_builder.specs.Map.{range_of};
@@ -12,9 +12,9 @@ ghost use Rattle.map_builder.specs.Changed.{after, changed_windows, bounds_or_ze
 
 use crate::build::{CAPACITY, ranges_of};
 use crate::changed::{bounds_covered, joined};
-use crate::doublewords::hold_doublewords;
 use crate::find::span_of;
 use crate::range::{Changed, Range, Span};
+use crate::widths::hold_widths;
 use addr_decode::{MapChange, MapRegs};
 use arrayvec::ArrayVec;
 use board_base::Kind;
@@ -53,7 +53,7 @@ impl FlatMap {
         ensures map { (setup : Setup) (bytes : Bytes) → StandsFor setup bytes result.regs → IsFlatMapOf setup bytes result.ranges }
         ensures few { length result.ranges ≤ 126 }
     {
-        hold_doublewords(regs.cards.as_slice());
+        hold_widths(&regs);
         let ranges = ranges_of(&regs);
         FlatMap {
             regs,
@@ -122,7 +122,7 @@ impl FlatMap {
         ensures changed { (setup : Setup) (bytes : Bytes) → StandsFor setup bytes self.old.regs
             → result ≡ bounds_or_zero (changed_windows setup bytes change.now) }
         ensures kept { (setup : Setup) (bytes : Bytes) → StandsFor setup bytes self.old.regs
-            → (addr : ℕ) → IsOutside addr result
+            → (addr : ℕ) → addr < address_count → IsOutside addr result
             → six_areas setup (after setup change.now bytes) addr ≡ six_areas setup bytes addr }
     {
         let before = bounds_covered(&self.regs, change);

@@ -3,11 +3,11 @@
 
 mod build;
 mod changed;
-mod doublewords;
 mod find;
 mod flat_map;
 pub mod laws;
 mod range;
+mod widths;
 
 pub use flat_map::FlatMap;
 pub use range::{Changed, Range, Span};
