@@ -1,5 +1,5 @@
 -- What `==` says of areas and of rows of areas.
-use Rattle.std.proofs.Common.{◌≡◌, ℕ, Bool, true, false, List, Decides, refl, ap, subst, arith}
+use Rattle.std.proofs.Common.{◌≡◌, ℕ, Bool, true, List, Decides, refl, ap, subst, arith}
 use Rattle.std.specs.Prelude.{◌==◌, ◌&&◌}
 use Rattle.std.specs.Cmp.Lexicographic.{pointwise}
 use Rattle.std.proofs.lemmas.Bool.{false≢true, eqb-true, eq-eqb}

@@ -1,5 +1,5 @@
 -- Registers of the address map are those of some board: each of them stands for a byte of its own.
-use Rattle.std.proofs.Common.{◌≡◌, ℕ, zero, suc, ◌+◌, ◌-◌, ◌*◌, ◌/◌, ◌%◌, ◌^◌, ◌<◌, ◌≤◌, inl, inr, Bool, true, false, List, [], ◌∷◌, length, get_or, Option, Some, None, refl, sym, ◌∙◌, ap, subst, arith, add-zero, lit<}
+use Rattle.std.proofs.Common.{◌≡◌, ℕ, zero, suc, ◌+◌, ◌-◌, ◌*◌, ◌/◌, ◌%◌, ◌^◌, ◌<◌, ◌≤◌, inl, inr, List, [], ◌∷◌, length, get_or, Option, Some, None, refl, sym, ◌∙◌, ap, subst, arith, add-zero, lit<}
 use Rattle.std.specs.Prelude.{◌==◌, nat_lt, if◌then◌else◌, find, slice_index, option_map}
 use Rattle.std.specs.Option.{option_map_or}
 use Rattle.std.proofs.lemmas.Bool.{cases_Bool, cond-true, cond-false, eq-eqb, ne_eqb}
@@ -7,11 +7,11 @@ use Rattle.std.proofs.lemmas.List.{get_or-map, length-map}
 use Rattle.std.proofs.lemmas.Bool.Decides.{nat_tests}
 use Rattle.board_base.specs.declared.target.Reg.{Reg}
 use Rattle.board_base.specs.declared.access.Width.TheVariants.{Four}
-use Rattle.board_spec.specs.Setup.{Setup, FittedCard, Rises, IsCard, IsCardList, card_at}
+use Rattle.board_spec.specs.Setup.{Setup, FittedCard, Rises, IsCard, IsCardList}
 use Rattle.board_spec.specs.Bits.{byte, wide}
-use Rattle.board_spec.specs.Decode.{Bytes, card_register, base_value, bridge, isa}
-use Rattle.pci_bars.specs.Cards.{CardBytes, DecodesAs, AreDecoded, cards_of}
-use Rattle.addr_decode.specs.MapRegs.{MapBytes, AreFitted, StandsFor}
+use Rattle.board_spec.specs.Decode.{card_register, bridge, isa}
+use Rattle.pci_bars.specs.Cards.{CardBytes, DecodesAs, cards_of}
+use Rattle.addr_decode.specs.MapRegs.{MapBytes, AreFitted}
 use Rattle.map_builder.specs.Map.{HasBoard, HaveWidths}
 
 -- ---- a board with these registers

@@ -1,15 +1,14 @@
 -- The ranges as they are built, from the first address on: the last of them may still go on.
-use Rattle.std.proofs.Common.{◌≡◌, ◌≢◌, ℕ, ◌+◌, ◌-◌, ◌<◌, ◌≤◌, ◌⊎◌, inl, inr, List, [], ◌∷◌, ◌++◌, length, refl, sym, ◌∙◌, ap, subst, arith, append_assoc}
+use Rattle.std.proofs.Common.{◌≡◌, ◌≢◌, ℕ, ◌+◌, ◌-◌, ◌<◌, ◌≤◌, inl, inr, List, [], ◌∷◌, ◌++◌, length, refl, sym, ◌∙◌, ap, subst, arith, append_assoc}
 use Rattle.std.specs.Prelude.{All}
 use Rattle.std.proofs.lemmas.Bool.{cases_lt}
 use Rattle.std.proofs.lemmas.List.{length-append}
 use Rattle.std.proofs.lemmas.List.Elements.{All-nil, All-cons, All-append}
 use Rattle.board_base.specs.declared.target.Area.{Area}
-use Rattle.board_spec.specs.Setup.{Setup, IsCardList}
+use Rattle.board_spec.specs.Setup.{Setup}
 use Rattle.board_spec.specs.Decode.{Bytes}
-use Rattle.board_spec.specs.FlatMap.{address_count, six_areas, MapRange, Tiles, Differs, NeighboursDiffer, IsRight, IsFlatMapOf}
-use Rattle.addr_decode.specs.Edges.{SameAreas, edges_after}
-use Rattle.addr_decode.proofs.EdgeCounts.{few_edges_after}
+use Rattle.board_spec.specs.FlatMap.{address_count, six_areas, MapRange, Tiles, NeighboursDiffer, IsRight, IsFlatMapOf}
+use Rattle.addr_decode.specs.Edges.{SameAreas}
 use Rattle.map_builder.specs.Map.{GoesOn}
 
 abbrev pub range : ℕ → ℕ → List Area → MapRange

@@ -1,8 +1,8 @@
 -- The card that answers at an address is the same before and after a change that moves no window round it.
-use Rattle.std.proofs.Common.{◌≡◌, ◌≢◌, ℕ, zero, suc, ◌+◌, ◌-◌, ◌*◌, ◌/◌, ◌<◌, ◌≤◌, ◌⊎◌, inl, inr, Bool, true, false, cond, List, [], ◌∷◌, ◌++◌, length, get_or, map, Option, Some, None, refl, sym, ◌∙◌, ap, subst, arith}
-use Rattle.std.specs.Prelude.{◌==◌, ◌&&◌, All, find, flat_map, slice_get, slice_index}
-use Rattle.std.specs.Option.{option_or, option_map_or}
-use Rattle.std.specs.List.{AllByRecursion, enumerate_from}
+use Rattle.std.proofs.Common.{◌≡◌, ℕ, zero, suc, ◌+◌, ◌-◌, ◌*◌, ◌/◌, ◌<◌, ◌≤◌, ◌⊎◌, inl, inr, Bool, true, false, cond, List, [], ◌∷◌, length, get_or, Option, Some, None, refl, sym, ◌∙◌, ap, subst, arith}
+use Rattle.std.specs.Prelude.{◌==◌, ◌&&◌, All, find, flat_map, slice_get}
+use Rattle.std.specs.Option.{option_map_or}
+use Rattle.std.specs.List.{AllByRecursion}
 use Rattle.std.proofs.lemmas.Bool.{cases_Bool, cond-true, cond-false, eq-eqb, ne_eqb}
 use Rattle.std.proofs.lemmas.Bool.Decides.{nat_tests}
 use Rattle.std.proofs.lemmas.Option.{slice_get_within}
@@ -11,10 +11,9 @@ use Rattle.std.proofs.lemmas.List.Folds.{find-append}
 use Rattle.board_base.specs.declared.target.Reg.{Reg}
 use Rattle.board_spec.specs.Setup.{Base, MemoryBase, IoBase, FittedCard, Setup, IsCard, IsCardList, Rises, card_at}
 use Rattle.board_spec.specs.Bits.{is_bit, is_within}
-use Rattle.board_spec.specs.Decode.{Bytes, Window, card_register, base_value, is_covered, memory_window, vga_window, memory_windows, is_enabled_for, memory_claim}
+use Rattle.board_spec.specs.Decode.{Bytes, Window, card_register, base_value, is_covered, vga_window, memory_windows, is_enabled_for, memory_claim}
 use Rattle.pci_bars.specs.Cards.{CardBytes}
-use Rattle.map_builder.specs.declared.range.Changed.{Changed}
-use Rattle.map_builder.specs.Changed.{decoded, card_windows, windows_of}
+use Rattle.map_builder.specs.Changed.{card_windows, windows_of}
 use Rattle.map_builder.specs.Held.{held_by, card_held}
 use Rattle.map_builder.proofs.OutsideLemmas.{Outside, not_covered, none_covered, and_no}
 use Rattle.map_builder.proofs.DeviceLemmas.{from_base, Hold, card_is, windows_of_card}

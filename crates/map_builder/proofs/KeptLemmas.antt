@@ -1,17 +1,16 @@
 -- The areas of an address are the same before and after a change that moves nothing round it.
-use Rattle.std.proofs.Common.{◌≡◌, ◌≢◌, ℕ, zero, suc, ◌+◌, ◌-◌, ◌*◌, ◌/◌, ◌<◌, ◌≤◌, ◌⊎◌, inl, inr, Bool, true, false, cond, List, [], ◌∷◌, ◌++◌, Option, Some, None, refl, sym, ◌∙◌, ap, subst, arith, lit<}
-use Rattle.std.specs.Prelude.{◌==◌, ◌&&◌, ◌||◌, nat_le, nat_lt, find, if◌then◌else◌}
-use Rattle.std.proofs.lemmas.Bool.{cases_Bool, cases_lt, eq-eqb, ne_eqb}
+use Rattle.std.proofs.Common.{◌≡◌, ℕ, zero, suc, ◌+◌, ◌-◌, ◌*◌, ◌/◌, ◌<◌, ◌≤◌, ◌⊎◌, inl, inr, Bool, true, false, [], ◌∷◌, None, refl, sym, ◌∙◌, ap, subst, arith, lit<}
+use Rattle.std.specs.Prelude.{◌==◌, ◌||◌, nat_le, nat_lt, if◌then◌else◌}
+use Rattle.std.proofs.lemmas.Bool.{cases_Bool, cases_lt, ne_eqb}
 use Rattle.std.proofs.lemmas.Bool.Decides.{nat_tests}
 use Rattle.board_base.specs.declared.access.Kind.{Kind}
 use Rattle.board_base.specs.declared.access.Kind.TheVariants.{Fetch, Read, Write}
-use Rattle.board_base.specs.declared.target.Area.{Area}
 use Rattle.board_base.specs.declared.target.Reg.{Reg}
 use Rattle.board_spec.specs.Setup.{Setup, IsCardList}
 use Rattle.board_spec.specs.Bits.{is_bit, is_within}
-use Rattle.board_spec.specs.Decode.{Bytes, Window, bridge, isa, boundary, top_of, row_of, is_in, hole_of, pam_register, is_high_window, nibble, is_open, is_shadow_range, is_shadowed, smram_answers, is_smram_range, is_rom_selected, memory_claim, area_under, area_of}
-use Rattle.board_spec.specs.FlatMap.{address_count, six_areas}
-use Rattle.map_builder.specs.Changed.{from_to, bridge_windows, windows_of, IsOutside}
+use Rattle.board_spec.specs.Decode.{Bytes, bridge, isa, boundary, top_of, row_of, is_in, hole_of, is_high_window, nibble, is_open, is_shadow_range, is_shadowed, is_smram_range, is_rom_selected, area_of}
+use Rattle.board_spec.specs.FlatMap.{six_areas}
+use Rattle.map_builder.specs.Changed.{from_to, bridge_windows, IsOutside}
 use Rattle.map_builder.proofs.OutsideLemmas.{Outside, and_no}
 use Rattle.map_builder.proofs.KeptCards.{Kept, claim_same}
 

@@ -1,6 +1,6 @@
 -- A change keeps each register whose windows lie elsewhere.
-use Rattle.std.proofs.Common.{◌≡◌, ◌≢◌, ℕ, zero, suc, ◌+◌, ◌-◌, ◌*◌, ◌/◌, ◌%◌, ◌^◌, ◌<◌, ◌≤◌, inl, inr, Bool, true, false, List, [], ◌∷◌, ◌++◌, length, get_or, take, refl, sym, ◌∙◌, ap, subst, arith}
-use Rattle.std.specs.Prelude.{◌==◌, ◌&&◌, nat_le, nat_lt, All, flat_map, bit_and, bit_or}
+use Rattle.std.proofs.Common.{◌≡◌, ℕ, zero, suc, ◌+◌, ◌-◌, ◌*◌, ◌%◌, ◌^◌, ◌<◌, ◌≤◌, inl, inr, true, List, [], ◌∷◌, length, get_or, take, refl, sym, ◌∙◌, ap, subst, arith}
+use Rattle.std.specs.Prelude.{flat_map, bit_and, bit_or}
 use Rattle.std.specs.Int.Bits.{and_mask, and_zero_r, or_zero_r}
 use Rattle.std.proofs.lemmas.Bool.{cases_Bool}
 use Rattle.std.proofs.lemmas.Bool.Decides.{nat_tests}
@@ -14,13 +14,13 @@ use Rattle.board_spec.specs.declared.map_change.MapChange.TheVariants.{Store, Re
 use Rattle.board_spec.specs.Setup.{Setup, IsCardList}
 use Rattle.board_spec.specs.Bits.{byte, merged}
 use Rattle.board_spec.specs.RegisterTable.{host_bridge, reset_byte, writable_bits}
-use Rattle.board_spec.specs.Registers.{covers, byte_after, changed_byte}
+use Rattle.board_spec.specs.Registers.{covers, byte_after}
 use Rattle.board_spec.specs.Decode.{Bytes, bridge, boundary, top_of}
 use Rattle.board_spec.specs.MapWrites.{reg_after}
 use Rattle.board_spec.specs.FlatMap.{address_count, six_areas}
 use Rattle.addr_decode.specs.MapRegs.{MapBytes, StandsFor}
 use Rattle.map_builder.specs.declared.range.Changed.{Changed}
-use Rattle.map_builder.specs.Changed.{from_to, windows_of, windows_covered, after, changed_windows, bounds_or_zero, IsOutside}
+use Rattle.map_builder.specs.Changed.{windows_of, windows_covered, after, changed_windows, bounds_or_zero, IsOutside}
 use Rattle.map_builder.specs.Map.{HasBoard}
 use Rattle.map_builder.specs.Laws.{WindowsHoldChanges}
 use Rattle.map_builder.proofs.OutsideLemmas.{Outside, outside_bounds, outside_left, outside_right}

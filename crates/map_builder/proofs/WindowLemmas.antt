@@ -1,6 +1,6 @@
 -- The windows that registers govern, as the code finds them.
-use Rattle.std.proofs.Common.{◌≡◌, ℕ, zero, suc, ◌+◌, ◌-◌, ◌*◌, ◌/◌, ◌^◌, ◌<◌, ◌≤◌, List, [], ◌∷◌, ◌++◌, length, map, drop, get_or, refl, sym, ◌∙◌, ap, subst, arith, mul_comm}
-use Rattle.std.specs.Prelude.{◌↔◌, min, max, Option, Some, None, slice_index, flat_map, take}
+use Rattle.std.proofs.Common.{◌≡◌, ℕ, zero, suc, ◌+◌, ◌-◌, ◌*◌, ◌/◌, ◌^◌, ◌<◌, ◌≤◌, List, [], ◌∷◌, ◌++◌, length, map, drop, get_or, refl, sym, ◌∙◌, ap, arith, mul_comm}
+use Rattle.std.specs.Prelude.{min, max, Option, Some, None, slice_index, flat_map, take}
 use Rattle.std.proofs.lemmas.List.{drop_all, drop_more, take_more, append-nil}
 use Rattle.std.proofs.lemmas.Grind.{flat_map-append}
 use Rattle.std.proofs.lemmas.Option.{slice_get-map, slice_get_past}
@@ -9,11 +9,11 @@ use Rattle.std.proofs.Math.Nat.{div-lt_iff_lt-mul}
 use Rattle.board_base.specs.declared.access.Width.{Width}
 use Rattle.board_base.specs.declared.access.Width.TheVariants.{One, Two, Four}
 use Rattle.board_base.specs.Access.{bytes_of}
-use Rattle.board_spec.specs.Setup.{Base, MemoryBase, IoBase}
+use Rattle.board_spec.specs.Setup.{Base}
 use Rattle.pci_bars.specs.declared.spec.BaseSpec.{BaseSpec}
 use Rattle.pci_bars.specs.Bases.{base_of}
 use Rattle.map_builder.specs.declared.range.Changed.{Changed}
-use Rattle.map_builder.specs.Changed.{bounds, joined, from_to}
+use Rattle.map_builder.specs.Changed.{bounds, joined}
 use Rattle.map_builder.specs.Held.{held_by, held_from, held_at}
 
 -- the last address of a block is an address

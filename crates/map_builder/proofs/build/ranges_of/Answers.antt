@@ -1,15 +1,11 @@
-use Rattle.std.proofs.Common.{◌≡◌, ◌≤◌, ◌<◌, ◌+◌, ℕ, List, [], ◌∷◌, ◌++◌, length, map, refl, sym, ◌∙◌, ap, subst, arith, lit<, rules}
-use Rattle.std.specs.Prelude.{unwrap_or, IfSome, Option, Some, None}
-use Rattle.std.proofs.lemmas.List.{map-append, length-map, length-append}
-use Rattle.board_spec.specs.Setup.{Setup}
-use Rattle.board_spec.specs.Decode.{Bytes}
-use Rattle.board_spec.specs.FlatMap.{address_count, MapRange, Tiles, IsFlatMapOf}
-use Rattle.addr_decode.specs.MapRegs.{StandsFor, map_bytes}
-use Rattle.addr_decode.specs.Edges.{SameAreas, edges_after}
+use Rattle.std.proofs.Common.{◌≡◌, List, [], ◌∷◌, ◌++◌, map, sym, ◌∙◌, ap, subst, arith, lit<}
+use Rattle.std.proofs.lemmas.List.{map-append, length-map}
+use Rattle.board_spec.specs.FlatMap.{MapRange, Tiles, IsFlatMapOf}
+use Rattle.addr_decode.specs.Edges.{edges_after}
 use Rattle.addr_decode.proofs.EdgeCounts.{few_edges_after}
 use Rattle.map_builder.specs.declared.range.Range.{Range}
-use Rattle.map_builder.specs.Map.{HasBoard, range_of}
-use Rattle.map_builder.proofs.BuildLemmas.{Built, BuiltOf, built_first, built_of_first, built_on, built_of_on, few_on, built_all}
+use Rattle.map_builder.specs.Map.{range_of}
+use Rattle.map_builder.proofs.BuildLemmas.{built_first, built_of_first, built_on, built_of_on, few_on, built_all}
 use Rattle.map_builder.proofs.build.ranges_of.Goals as goal
 
 -- no range is pushed before the first edge

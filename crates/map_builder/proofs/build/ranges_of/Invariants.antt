@@ -1,4 +1,4 @@
-use Rattle.std.proofs.Common.{◌≤◌, ◌+◌, ◌-◌, ℕ, length, map}
+use Rattle.std.proofs.Common.{◌≤◌, ◌+◌, ◌-◌, length, map}
 use Rattle.board_spec.specs.Setup.{Setup}
 use Rattle.board_spec.specs.Decode.{Bytes}
 use Rattle.addr_decode.specs.MapRegs.{StandsFor, map_bytes}

@@ -1,7 +1,6 @@
-use Rattle.std.proofs.Common.{subst, sym, ap, map}
-use Rattle.board_spec.specs.FlatMap.{IsFlatMapOf}
-use Rattle.addr_decode.specs.MapRegs.{StandsFor, MapBytes}
-use Rattle.map_builder.specs.Map.{Mapped, range_of}
+use Rattle.std.proofs.Common.{subst, sym}
+use Rattle.addr_decode.specs.MapRegs.{StandsFor}
+use Rattle.map_builder.specs.Map.{Mapped}
 use Rattle.map_builder.proofs.flat_map.FlatMap.find.Goals as goal
 
 pub returns : goal.returns
