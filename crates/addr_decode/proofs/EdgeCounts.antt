@@ -1,14 +1,16 @@
 -- How many edges a board has, and how many of them lie above an address.
-use Rattle.std.proofs.Common.{◌≡◌, ℕ, ◌+◌, ◌*◌, ◌<◌, ◌≤◌, inl, inr, Bool, true, false, List, [], ◌∷◌, ◌++◌, length, Option, Some, None, refl, arith}
+use Rattle.std.proofs.Common.{◌≡◌, ℕ, ◌+◌, ◌*◌, ◌<◌, ◌≤◌, inl, inr, true, false, List, [], ◌∷◌, ◌++◌, length, Option, Some, None, sym, subst, arith}
 use Rattle.std.specs.Prelude.{nat_lt, All, filter, flat_map, IfSome}
 use Rattle.std.specs.List.{Contains, enumerate_from}
 use Rattle.std.proofs.lemmas.Bool.{cases_Bool}
 use Rattle.std.proofs.lemmas.Bool.Decides.{nat_tests}
-use Rattle.std.proofs.lemmas.List.{length-append}
-use Rattle.std.proofs.lemmas.List.Elements.{All-head, All-tail}
+use Rattle.std.proofs.lemmas.List.{length-append, length-map}
+use Rattle.std.proofs.lemmas.List.Elements.{All-head, All-tail, All-map}
 use Rattle.board_spec.specs.Setup.{Base, MemoryBase, IoBase, FittedCard, Setup, IsCard, IsCardList}
 use Rattle.board_spec.specs.Decode.{Bytes, memory_window}
-use Rattle.addr_decode.specs.Edges.{fixed_edges, row_edges, window_edges, card_edges, edges_of, edges_after, IsNextEdge, FewEdges}
+use Rattle.pci_bars.specs.Cards.{CardBytes, AreDecoded, cards_of}
+use Rattle.addr_decode.specs.MapRegs.{AreFitted}
+use Rattle.addr_decode.specs.Edges.{fixed_edges, window_edges, card_edges, edges_of, edges_after, IsNextEdge, FewEdges}
 use Rattle.addr_decode.proofs.EdgeSearchLemmas.{contains_cases}
 
 few_of_bases :
@@ -49,6 +51,20 @@ few_kept addr (edge ∷ later) =
 -- a board has at most 125 edges above an address
 pub few_edges_after : (setup : Setup) (bytes : Bytes) (addr : ℕ) → IsCardList setup.cards → edges_after setup bytes addr ≤ 125
 few_edges_after setup bytes addr cards = omega (arith, few_kept addr (edges_of setup bytes), few_edges setup bytes cards)
+
+-- the cards that a board's registers have are a list that a board can be fitted with
+pub fitted_setup : (setup : Setup) (cards : List CardBytes) → AreFitted cards → length cards ≤ 8 → setup.cards ≡ cards_of cards → IsCardList setup.cards
+fitted_setup setup cards fitted count same =
+    subst IsCardList (sym same) (record {
+      count = omega (arith, length-map cards (λ (card : CardBytes). card.card));
+      each = All-map IsCard (λ (card : CardBytes). card.card) cards fitted.each;
+      rises = fitted.rises;
+    })
+
+pub few_edges_of_fitted :
+    (setup : Setup) (bytes : Bytes) (addr : ℕ) (cards : List CardBytes) → AreFitted cards → length cards ≤ 8 → AreDecoded setup bytes cards →
+    edges_after setup bytes addr ≤ 125
+few_edges_of_fitted setup bytes addr cards fitted count are = few_edges_after setup bytes addr (fitted_setup setup cards fitted count are.0)
 
 no_more : (low high : ℕ) (edges : List ℕ) → low ≤ high → length (filter (nat_lt high) edges) ≤ length (filter (nat_lt low) edges)
 no_more low high [] order = omega arith

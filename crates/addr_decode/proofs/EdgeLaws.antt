@@ -1,8 +1,7 @@
 -- Between two edges all addresses have the same areas.
-use Rattle.std.proofs.Common.{◌≡◌, ℕ, zero, suc, ◌+◌, ◌-◌, ◌*◌, ◌/◌, ◌%◌, ◌^◌, ◌<◌, ◌≤◌, inl, inr, Bool, true, false, not, ◌&&◌, ◌||◌, List, [], ◌∷◌, ◌++◌, Option, Some, None, refl, sym, ◌∙◌, ap, arith}
-use Rattle.std.specs.Prelude.{◌==◌, nat_lt, nat_le, All, find, flat_map, is_some, unwrap_or, option_map, slice_index_or, IfSome, IsNone}
+use Rattle.std.proofs.Common.{◌≡◌, ℕ, zero, suc, ◌+◌, ◌-◌, ◌*◌, ◌/◌, ◌^◌, ◌<◌, ◌≤◌, inl, inr, Bool, true, false, not, ◌&&◌, List, [], ◌∷◌, ◌++◌, Option, Some, None, refl, arith}
+use Rattle.std.specs.Prelude.{◌==◌, nat_lt, nat_le, All, flat_map, is_some, unwrap_or, option_map, slice_index_or, IfSome, IsNone}
 use Rattle.std.specs.List.{Contains, AllByRecursion, enumerate_from}
-use Rattle.std.proofs.Math.Nat.{div-eq_of_lt-le}
 use Rattle.std.proofs.lemmas.Bool.{cases_Bool, cases_lt}
 use Rattle.std.proofs.lemmas.Bool.Decides.{nat_tests}
 use Rattle.std.proofs.lemmas.Nat.{div_below, le-div, pow_pos}
@@ -14,9 +13,9 @@ use Rattle.board_base.specs.declared.target.Area.TheVariants.{Dram, Shadow, Smra
 use Rattle.board_base.specs.declared.target.Reg.{Reg}
 use Rattle.board_spec.specs.Setup.{Base, MemoryBase, IoBase, FittedCard, Setup}
 use Rattle.board_spec.specs.Bits.{is_within}
-use Rattle.board_spec.specs.Decode.{Bytes, Window, bridge, isa, boundary, top_of, row_of, is_in, hole_of, pam_register, is_high_window, nibble, is_open, is_shadow_range, is_shadowed, smram_answers, is_smram_range, is_rom_selected, is_covered, base_value, memory_window, vga_window, memory_windows, is_enabled_for, first_window, memory_claim, line_where, first_of, card_area, area_under, area_of}
+use Rattle.board_spec.specs.Decode.{Bytes, Window, bridge, isa, boundary, row_of, is_in, hole_of, pam_register, is_high_window, nibble, is_open, is_shadow_range, is_shadowed, smram_answers, is_smram_range, is_rom_selected, is_covered, base_value, memory_window, vga_window, memory_windows, is_enabled_for, first_window, memory_claim, line_where, first_of, card_area, area_of}
 use Rattle.board_spec.specs.FlatMap.{address_count, six_areas}
-use Rattle.addr_decode.specs.Edges.{fixed_edges, row_edges, first_address, window_edges, card_edges, edges_of, IsEdge, IsNextEdge, NoEdgeAbove, SameAreas, AreasChangeAtEdges}
+use Rattle.addr_decode.specs.Edges.{fixed_edges, row_edges, first_address, window_edges, card_edges, edges_of, IsNextEdge, NoEdgeAbove, SameAreas, AreasChangeAtEdges}
 
 -- an edge above the first address lies above the other too
 abbrev pub Clear : ℕ → ℕ → ℕ → Type 0
@@ -93,11 +92,13 @@ hole_same setup bytes addr x fdhc between =
 rom_same : (setup : Setup) (bytes : Bytes) (addr x xbcs : ℕ) → Between setup bytes addr x → is_rom_selected xbcs x ≡ is_rom_selected xbcs addr
 unfolding fixed_edges
 rom_same setup bytes addr x xbcs between =
-    rw (within_same 0xF_0000 0xF_FFFF addr x between.order (fixed_clear setup bytes addr x 14 0xF_0000 between (omega arith) refl) (fixed_clear setup bytes addr x 15 0x10_0000 between (omega arith) refl),
-        within_same 0xFFFF_0000 0xFFFF_FFFF addr x between.order (fixed_clear setup bytes addr x 20 0xFFFF_0000 between (omega arith) refl) (λ _. between.last),
-        within_same 0xE_0000 0xE_FFFF addr x between.order (fixed_clear setup bytes addr x 10 0xE_0000 between (omega arith) refl) (fixed_clear setup bytes addr x 14 0xF_0000 between (omega arith) refl),
-        within_same 0xFFFE_0000 0xFFFE_FFFF addr x between.order (fixed_clear setup bytes addr x 19 0xFFFE_0000 between (omega arith) refl) (fixed_clear setup bytes addr x 20 0xFFFF_0000 between (omega arith) refl),
-        within_same 0xFFF8_0000 0xFFFD_FFFF addr x between.order (fixed_clear setup bytes addr x 18 0xFFF8_0000 between (omega arith) refl) (fixed_clear setup bytes addr x 19 0xFFFE_0000 between (omega arith) refl)) refl
+    rw (
+      within_same 0xF_0000 0xF_FFFF addr x between.order (fixed_clear setup bytes addr x 14 0xF_0000 between (omega arith) refl) (fixed_clear setup bytes addr x 15 0x10_0000 between (omega arith) refl),
+      within_same 0xFFFF_0000 0xFFFF_FFFF addr x between.order (fixed_clear setup bytes addr x 20 0xFFFF_0000 between (omega arith) refl) (λ _. between.last),
+      within_same 0xE_0000 0xE_FFFF addr x between.order (fixed_clear setup bytes addr x 10 0xE_0000 between (omega arith) refl) (fixed_clear setup bytes addr x 14 0xF_0000 between (omega arith) refl),
+      within_same 0xFFFE_0000 0xFFFE_FFFF addr x between.order (fixed_clear setup bytes addr x 19 0xFFFE_0000 between (omega arith) refl) (fixed_clear setup bytes addr x 20 0xFFFF_0000 between (omega arith) refl),
+      within_same 0xFFF8_0000 0xFFFD_FFFF addr x between.order (fixed_clear setup bytes addr x 18 0xFFF8_0000 between (omega arith) refl) (fixed_clear setup bytes addr x 19 0xFFFE_0000 between (omega arith) refl),
+    ) refl
 
 -- ---- shadow windows
 
@@ -175,10 +176,16 @@ below_same setup bytes addr x row between within is =
 row_same : (setup : Setup) (bytes : Bytes) (addr x : ℕ) → Between setup bytes addr x → row_of bytes x ≡ row_of bytes addr
 unfolding row_of
 row_same setup bytes addr x between =
-    rw (below_same setup bytes addr x 0 between (omega arith) refl, below_same setup bytes addr x 1 between (omega arith) refl,
-        below_same setup bytes addr x 2 between (omega arith) refl, below_same setup bytes addr x 3 between (omega arith) refl,
-        below_same setup bytes addr x 4 between (omega arith) refl, below_same setup bytes addr x 5 between (omega arith) refl,
-        below_same setup bytes addr x 6 between (omega arith) refl, below_same setup bytes addr x 7 between (omega arith) refl) refl
+    rw (
+      below_same setup bytes addr x 0 between (omega arith) refl,
+      below_same setup bytes addr x 1 between (omega arith) refl,
+      below_same setup bytes addr x 2 between (omega arith) refl,
+      below_same setup bytes addr x 3 between (omega arith) refl,
+      below_same setup bytes addr x 4 between (omega arith) refl,
+      below_same setup bytes addr x 5 between (omega arith) refl,
+      below_same setup bytes addr x 6 between (omega arith) refl,
+      below_same setup bytes addr x 7 between (omega arith) refl,
+    ) refl
 
 -- ---- memory bases of cards
 
@@ -311,8 +318,14 @@ area_same setup bytes addr x kind smm between =
 
 six_same : (setup : Setup) (bytes : Bytes) (addr x : ℕ) → Between setup bytes addr x → six_areas setup bytes x ≡ six_areas setup bytes addr
 six_same setup bytes addr x between =
-    rw (area_same setup bytes addr x Fetch false between, area_same setup bytes addr x Read false between, area_same setup bytes addr x Write false between,
-        area_same setup bytes addr x Fetch true between, area_same setup bytes addr x Read true between, area_same setup bytes addr x Write true between) refl
+    rw (
+      area_same setup bytes addr x Fetch false between,
+      area_same setup bytes addr x Read false between,
+      area_same setup bytes addr x Write false between,
+      area_same setup bytes addr x Fetch true between,
+      area_same setup bytes addr x Read true between,
+      area_same setup bytes addr x Write true between,
+    ) refl
 
 pub areas_change_at_edges : AreasChangeAtEdges
 areas_change_at_edges setup bytes addr x order last clear =

@@ -1,6 +1,6 @@
 -- The edges that the code looks through are those of the board, and what it finds is the next one.
-use Rattle.std.proofs.Common.{◌≡◌, ℕ, zero, suc, ◌+◌, ◌*◌, ◌<◌, ◌≤◌, ◌⊎◌, inl, inr, Bool, true, false, ◌&&◌, List, [], ◌∷◌, ◌++◌, length, map, Option, Some, None, refl, sym, ◌∙◌, ap, subst, arith}
-use Rattle.std.specs.Prelude.{nat_lt, min, All, flat_map, unwrap_or, slice_index, IfSome, IsNone, ◌↔◌}
+use Rattle.std.proofs.Common.{◌≡◌, ℕ, zero, suc, ◌+◌, ◌*◌, ◌<◌, ◌≤◌, ◌⊎◌, inl, inr, ◌&&◌, List, [], ◌∷◌, ◌++◌, length, map, Option, Some, None, refl, sym, ◌∙◌, ap, subst, arith}
+use Rattle.std.specs.Prelude.{nat_lt, min, All, flat_map, slice_index, IfSome, IsNone, ◌↔◌}
 use Rattle.std.specs.List.{Contains, enumerate_from, fold}
 use Rattle.std.proofs.lemmas.Bool.{cases_Bool, cases_lt}
 use Rattle.std.proofs.lemmas.Bool.Decides.{nat_tests}
@@ -13,7 +13,7 @@ use Rattle.board_spec.specs.FlatMap.{address_count}
 use Rattle.pmc_regs.specs.Pmc.{IsRowsOf}
 use Rattle.pci_bars.specs.Cards.{CardBytes, DecodesAs, AreCards, AreDecoded, cards_of}
 use Rattle.addr_decode.specs.Edges.{fixed_edges, row_edges, window_edges, card_edges, edges_of, IsEdge, IsNextEdge, NoEdgeAbove}
-use Rattle.addr_decode.specs.EdgeSearch.{nearer, nearest, ends_of, ends_from, ends_of_card}
+use Rattle.addr_decode.specs.EdgeSearch.{nearer, nearest, ends_from, ends_of_card}
 
 -- ---- the edges, as the code keeps them
 
@@ -181,7 +181,7 @@ is_last setup bytes addr None is = (
         | inl above ↦ absurd (found_reaches addr edge (edges_of setup bytes) None is there.listed above there.address)
         | inr not_above ↦ not_above
       ]),
-  (λ _. refl)
+  (λ _. refl),
 )
 is_last setup bytes addr (Some edge) is =
     let here : IsAbove addr (edges_of setup bytes) edge = found_above addr (edges_of setup bytes) (Some edge) is in
@@ -204,8 +204,13 @@ pub in_parts :
     all ≡ nearest addr rows (flat_map ends_of_card cards) → all ≡ nearest addr None (kept_edges drb cards)
 unfolding nearest
 in_parts addr fixed rows all drb cards is_fixed is_rows is_all =
-    rw (is_all, is_rows, is_fixed, fold-append (nearer addr) None fixed_edges (map (λ b. b * 0x80_0000) drb ++ flat_map ends_of_card cards),
-        fold-append (nearer addr) (fold (nearer addr) None fixed_edges) (map (λ b. b * 0x80_0000) drb) (flat_map ends_of_card cards)) refl
+    rw (
+      is_all,
+      is_rows,
+      is_fixed,
+      fold-append (nearer addr) None fixed_edges (map (λ b. b * 0x80_0000) drb ++ flat_map ends_of_card cards),
+      fold-append (nearer addr) (fold (nearer addr) None fixed_edges) (map (λ b. b * 0x80_0000) drb) (flat_map ends_of_card cards),
+    ) refl
 
 pub kept_are_edges :
     (setup : Setup) (bytes : Bytes) (drb : List ℕ) (cards : List CardBytes) → length drb ≡ 8 → IsRowsOf bytes drb →

@@ -10,12 +10,12 @@ ghost use Rattle.pmc_regs.specs.Pmc.{IsRowsOf};
 ghost use Rattle.addr_decode.specs.MapRegs.{AreFitted, IsRowOffset, StandsFor, map_bytes, stored, overlaps};
 
 use crate::cards::{is_fitted, write_card};
-use crate::offsets::{
-    BASES, BASES_END, COMMAND, DRB0, DRB7, FDHC, HOST_BRIDGE, ISA_BRIDGE, PAM0, PAM6, SMRAM, XBCS,
-};
 use crate::regs::MapRegs;
 use board_base::{Reg, Width};
 use board_spec::MapChange;
+use board_spec::offset::{
+    BASES, BASES_END, COMMAND, DRB0, DRB7, FDHC, HOST_BRIDGE, PAM0, PAM6, SMRAM, SOUTH_BRIDGE, XBCS,
+};
 use pam_windows::store_pam;
 use pmc_regs::fdhc_after;
 use smram_ctl::smram_after;
@@ -33,7 +33,7 @@ pub fn touches(regs: &MapRegs, reg: Reg, width: Width) -> bool
     }
     match reg.dev {
         HOST_BRIDGE => touches_bridge(reg.off, width),
-        ISA_BRIDGE => overlaps(reg.off, width, XBCS, XBCS),
+        SOUTH_BRIDGE => overlaps(reg.off, width, XBCS, XBCS),
         dev => touches_card(reg.off, width) && is_fitted(&regs.cards, dev),
     }
 }
@@ -112,7 +112,7 @@ impl MapRegs {
         }
         match reg.dev {
             HOST_BRIDGE => self.store_bridge(reg.off, byte),
-            ISA_BRIDGE => self.store_isa(reg.off, byte),
+            SOUTH_BRIDGE => self.store_isa(reg.off, byte),
             dev => write_card(&mut self.cards, dev, reg.off, byte),
         }
     }

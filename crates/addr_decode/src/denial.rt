@@ -6,10 +6,11 @@ ghost use Rattle.board_spec.specs.Decode.{Bytes, isa, pam_register, top_of as to
 ghost use Rattle.addr_decode.specs.MapRegs.{AreFitted, StandsFor, map_bytes};
 ghost use Rattle.addr_decode.specs.Memory.{board_denial, card_denial};
 
-use crate::bits::is_set;
-use crate::offsets::{DRB7, FDHC, SMRAM, XBCS, card_command, host_bridge, isa_bridge};
+use crate::denied_by::{card_command, host_bridge, isa_bridge};
 use crate::regs::MapRegs;
 use board_base::{Area, Denial, Kind};
+use board_spec::bits::is_set;
+use board_spec::offset::{DRB7, FDHC, SMRAM, XBCS};
 use pam_windows::window_of;
 use pci_bars::shut_mem;
 use pmc_regs::top_of;
@@ -17,7 +18,7 @@ use pmc_regs::top_of;
 /// From here on no boundary register can put DRAM.
 const DRAM_END: u32 = 0x7F80_0000;
 /// The bit of XBCS that lets writes to the BIOS reach its chip.
-const BIOS_WRITE_ENABLE: u8 = 2;
+const BIOS_WRITE_ENABLE: u32 = 2;
 
 /// What denies an access that reaches this area. None where it is not denied.
 pub fn denial_in(regs: &MapRegs, area: Area, addr: u32, kind: Kind) -> Option<Denial>

@@ -40,6 +40,8 @@ const FIXED_EDGES: [u32; 21] = [
 
 /// The bytes that a boundary register counts: 8 MiB.
 const BOUNDARY_UNIT: u32 = 0x80_0000;
+/// How many base address registers a card has.
+const BASE_REGISTERS: usize = 6;
 
 /// The least address above this one at which a row of the memory map may change. None where the row stays the same
 /// up to the last address.
@@ -56,7 +58,7 @@ pub fn next_edge(regs: &MapRegs, addr: u32) -> Option<u32>
         → IfSome result (λ edge. edges_after setup bytes edge < edges_after setup bytes addr) }
 {
     let fixed = nearest(None, addr, &FIXED_EDGES);
-    let with_rows = nearest_row_end(fixed, addr, &regs.drb);
+    let with_rows = nearest_end_of_rows(fixed, addr, &regs.drb);
     nearest_end_of_cards(with_rows, addr, &regs.cards)
 }
 
@@ -74,7 +76,7 @@ fn nearest(found: Option<u32>, addr: u32, edges: &[u32]) -> Option<u32>
 
 /// The least edge above an address: one found before, or the end of a row of DRAM.
 #[tactic(auto, unfolding(crate::specs::EdgeSearch::nearest))]
-fn nearest_row_end(found: Option<u32>, addr: u32, drb: &[u8; 8]) -> Option<u32>
+fn nearest_end_of_rows(found: Option<u32>, addr: u32, drb: &[u8; 8]) -> Option<u32>
     ensures nearest { result ≡ nearest_by addr found (map (λ boundary. boundary * 0x80_0000) drb.now) }
 {
     let mut least = found;
@@ -111,7 +113,7 @@ fn nearest_end_of_bases(
     found: Option<u32>,
     addr: u32,
     bases: &[BaseSpec],
-    values: &[u32; 6],
+    values: &[u32; BASE_REGISTERS],
 ) -> Option<u32>
     requires bases { All IsBase (map base_of bases.now) }
     requires count { length bases.now ≤ 6 }
@@ -119,7 +121,7 @@ fn nearest_end_of_bases(
 {
     let mut least = found;
     for (index, base) in bases.iter().enumerate() {
-        least = nearest_end(least, addr, *base, values[index]);
+        least = nearest_end_of_base(least, addr, *base, values[index]);
     }
     least
 }
@@ -127,12 +129,17 @@ fn nearest_end_of_bases(
 /// The least edge above an address: one found before, or an end of a base that holds this value. A base for I/O
 /// ports has none.
 #[tactic(auto, unfolding(crate::specs::EdgeSearch::nearest))]
-fn nearest_end(found: Option<u32>, addr: u32, base: BaseSpec, value: u32) -> Option<u32>
+fn nearest_end_of_base(found: Option<u32>, addr: u32, base: BaseSpec, value: u32) -> Option<u32>
     requires base { IsBase (base_of base) }
     ensures nearest { result ≡ nearest_by addr found (ends_of (base_of base) value) }
 {
     match base {
-        BaseSpec::Memory(bits) => nearest_of_two(found, addr, value >> bits << bits, 1 << bits),
+        BaseSpec::Memory(bits) => nearest_end_of_window(
+            found,
+            addr,
+            value >> bits << bits,
+            1 << bits,
+        ),
         BaseSpec::Io(_) => found,
     }
 }
@@ -140,7 +147,7 @@ fn nearest_end(found: Option<u32>, addr: u32, base: BaseSpec, value: u32) -> Opt
 /// The least edge above an address: one found before, the first address of a window, or the one after its last,
 /// where that is an address.
 #[tactic(auto, unfolding(crate::specs::EdgeSearch::nearest))]
-fn nearest_of_two(found: Option<u32>, addr: u32, first: u32, size: u32) -> Option<u32>
+fn nearest_end_of_window(found: Option<u32>, addr: u32, first: u32, size: u32) -> Option<u32>
     ensures nearest { result ≡ nearest_by addr found (first ∷ (first + size) ∷ []) }
 {
     let least = nearer(found, addr, first);

@@ -3,14 +3,13 @@
 #![tactic(auto)]
 
 mod areas;
-mod bits;
 mod cards;
 mod change;
 mod denial;
+mod denied_by;
 mod edges;
 pub mod laws;
 mod memory;
-mod offsets;
 mod onboard;
 mod ports;
 mod regs;

@@ -7,9 +7,9 @@ ghost use Rattle.addr_decode.specs.MapRegs.{AreFitted, StandsFor, map_bytes};
 ghost use Rattle.addr_decode.specs.Memory.{dram_area, row_area};
 
 use crate::denial::denial_in;
-use crate::offsets::PAM0;
 use crate::regs::MapRegs;
 use board_base::{Area, Denial, Kind};
+use board_spec::offset::PAM0;
 use pam_windows::window_of;
 use pci_bars::claim_mem;
 use pmc_regs::{hole_of, row_of};

@@ -6,21 +6,22 @@ ghost use Rattle.board_spec.specs.Bits.{is_bit};
 ghost use Rattle.board_spec.specs.Decode.{isa};
 ghost use Rattle.addr_decode.specs.Onboard.{if_selected, disk_by, byte_port, wide_port, onboard_at};
 
-use crate::bits::is_set;
-use crate::offsets::{IDE_COMMAND, IDETIM, XBCS, ide_function, isa_bridge};
+use crate::denied_by::{ide_function, isa_bridge};
 use board_base::{Denial, Dev, Width};
+use board_spec::bits::is_set;
+use board_spec::offset::{COMMAND, IDETIM, XBCS};
 
 /// The data register of the primary IDE channel.
 const ATA_DATA: u16 = 0x1F0;
 
 /// The bit of XBCS that selects the clock.
-const CLOCK_SELECT: u8 = 0;
+const CLOCK_SELECT: u32 = 0;
 /// The bit of XBCS that selects the keyboard controller.
-const KEYBOARD_SELECT: u8 = 1;
+const KEYBOARD_SELECT: u32 = 1;
 /// The bit of the IDE command that enables its ports.
-const IO_ENABLE: u8 = 0;
+const IO_ENABLE: u32 = 0;
 /// The bit of IDETIM that enables the primary channel.
-const CHANNEL_ENABLE: u8 = 15;
+const CHANNEL_ENABLE: u32 = 15;
 
 /// What the board's own devices say to a port access.
 #[derive(Clone, Copy, PartialEq, Eq, Debug)]
@@ -101,9 +102,9 @@ pub fn disk_by(disk: bool, ide_command: u8, idetim: u16) -> Onboard
         return Onboard::Denied(Denial::NoRegister);
     }
     if !is_set(ide_command.into(), IO_ENABLE) {
-        return Onboard::Denied(ide_function(IDE_COMMAND));
+        return Onboard::Denied(ide_function(COMMAND));
     }
-    if !is_set(idetim, CHANNEL_ENABLE) {
+    if !is_set(idetim.into(), CHANNEL_ENABLE) {
         return Onboard::Denied(ide_function(IDETIM));
     }
     Onboard::Answers(Dev::Ata)

@@ -11,10 +11,11 @@ ghost use Rattle.addr_decode.specs.MapRegs.{AreFitted, IsIdeOf, StandsFor, map_b
 ghost use Rattle.addr_decode.specs.Ports.{as_decoded, IsDenied};
 
 use crate::cards::is_fitted;
-use crate::offsets::{HOST_BRIDGE, ISA_BRIDGE, card_command};
+use crate::denied_by::card_command;
 use crate::onboard::{Onboard, disk_by, onboard_at};
 use crate::regs::MapRegs;
 use board_base::{Denial, Dev, Target, Width};
+use board_spec::offset::{HOST_BRIDGE, IDE, SOUTH_BRIDGE};
 use cfg_ports::{ConfAdd, Selected};
 use pci_bars::{CardRegs, claim_io, offset_in, shut_io};
 
@@ -130,7 +131,7 @@ fn function_exists(cards: &[CardRegs], selected: &Selected) -> bool
     }
     match selected.reg.fun {
         0 => has_function_0(cards, selected.reg.dev),
-        1 => selected.reg.dev == ISA_BRIDGE,
+        IDE => selected.reg.dev == SOUTH_BRIDGE,
         _ => false,
     }
 }
@@ -141,7 +142,7 @@ fn has_function_0(cards: &[CardRegs], dev: u8) -> bool
         → result ≡ is_some (function_at setup dev 0) }
 {
     match dev {
-        HOST_BRIDGE | ISA_BRIDGE => true,
+        HOST_BRIDGE | SOUTH_BRIDGE => true,
         _ => is_fitted(cards, dev),
     }
 }

@@ -3,10 +3,12 @@ ghost use Rattle.board_spec.specs.Setup.{IsBase, IsCard};
 ghost use Rattle.pci_bars.specs.Bases.{base_of};
 ghost use Rattle.addr_decode.specs.MapRegs.{AreFitted};
 
-use crate::{MapChange, MapRegs, PortRegs, decode, decode_port, touches};
+use crate::{MapChange, MapRegs, PortRegs, SixAreas, decode, decode_port, next_edge, row, touches};
 use arrayvec::ArrayVec;
-use board_base::{Area, Denial, Dev, Kind, Reg, Target, Width};
+use board_base::{Area, Denial, Dev, Kind, Reg, Steps, Target, Width};
 use pci_bars::{BaseSpec, CardSpec};
+use std::marker::Brand;
+use std::sync::ledger::{Blank, Ledger};
 
 fn card(dev: u8, base: BaseSpec) -> CardSpec
     requires from { 2 ≤ dev }
@@ -247,5 +249,124 @@ fn stores_cover_map_bytes(rt: HostRuntime) {
         (reg(4, 0, 0x04), Width::One, false),
     ] {
         assert_eq!(rt; touches(&regs, at, width), touched);
+    }
+}
+
+/// A row of the map, counted under a ledger of its own.
+fn row_at<L: Ledger>(regs: &MapRegs, addr: u32, blank: Blank) -> SixAreas
+    requires cards { AreFitted regs.now.cards.items }
+    requires name { blank.name ≡ L.name }
+    requires parts { blank.parts ≡ L.parts }
+    requires some_part { 0 < L.parts }
+{
+    let mut steps = Steps::<L>::new(blank);
+    row(regs, addr, &mut steps)
+}
+
+#[test]
+fn rows_of_six_areas(rt: HostRuntime) {
+    let (abort, rom, dram) = (Area::Abort, Area::Rom, Area::Dram(0));
+    let (shadow, smram) = (Area::Shadow(0), Area::Smram);
+    let idle = nothing();
+    let readable = store(reg(0, 0, 0x59), Width::One, 0x10);
+    let writable = store(reg(0, 0, 0x59), Width::One, 0x20);
+    let enabled = store(reg(0, 0, 0x72), Width::One, 0x08);
+    let closed = store(reg(0, 0, 0x72), Width::One, 0x28);
+    let mut regs = MapRegs::reset_of(&[]);
+    for (change, addr, areas) in [
+        (idle, 0x0009_FFFF, [dram; 6]),
+        (idle, 0x000A_0000, [abort; 6]),
+        (idle, 0x000F_0000, [rom; 6]),
+        (
+            readable,
+            0x000F_0000,
+            [shadow, shadow, rom, shadow, shadow, rom],
+        ),
+        (writable, 0x000F_FFFF, [rom, rom, shadow, rom, rom, shadow]),
+        (
+            enabled,
+            0x000A_0000,
+            [abort, abort, abort, smram, smram, smram],
+        ),
+        (
+            closed,
+            0x000B_FFFF,
+            [abort, abort, abort, smram, abort, abort],
+        ),
+        (idle, 0x0080_0000, [abort; 6]),
+    ] {
+        regs.apply(&change);
+        assert_eq!(rt;
+            row_at::<Brand>(&regs, addr, Blank::new(1)),
+            SixAreas { areas },
+            "at {addr}"
+        );
+    }
+    assert_eq!(rt; SixAreas::default().areas, [abort; 6]);
+}
+
+#[test]
+fn edges_that_no_register_moves(rt: HostRuntime) {
+    let regs = MapRegs::reset_of(&[]);
+    let mut addr = 0;
+    // all eight rows end at 8 MiB
+    for edge in [
+        0x0008_0000,
+        0x000A_0000,
+        0x000C_0000,
+        0x000C_4000,
+        0x000C_8000,
+        0x000C_C000,
+        0x000D_0000,
+        0x000D_4000,
+        0x000D_8000,
+        0x000D_C000,
+        0x000E_0000,
+        0x000E_4000,
+        0x000E_8000,
+        0x000E_C000,
+        0x000F_0000,
+        0x0010_0000,
+        0x0080_0000,
+        0x00F0_0000,
+        0x0100_0000,
+        0xFFF8_0000,
+        0xFFFE_0000,
+        0xFFFF_0000,
+    ] {
+        assert_eq!(rt; next_edge(&regs, addr), Some(edge), "above {addr}");
+        assert_eq!(rt; next_edge(&regs, edge - 1), Some(edge), "below {edge}");
+        addr = edge;
+    }
+    assert_eq!(rt; next_edge(&regs, addr), None);
+    assert_eq!(rt; next_edge(&regs, u32::MAX), None);
+}
+
+#[test]
+fn edges_of_rows_and_of_cards(rt: HostRuntime) {
+    let idle = nothing();
+    let rows = store(reg(0, 0, 0x60), Width::Four, 0x0605_0403);
+    let high = store(reg(2, 0, 0x10), Width::Four, 0xE000_0000);
+    let last = store(reg(2, 0, 0x10), Width::Four, 0xFFF0_0000);
+    let also = store(reg(3, 0, 0x10), Width::Four, 0xFFF0_1000);
+    let mut regs = board(BaseSpec::Memory(20), BaseSpec::Memory(12));
+    // no card is enabled
+    for (change, addr, edge) in [
+        (idle, 0x0000_0000, Some(0x0000_1000)),
+        (idle, 0x0000_1000, Some(0x0008_0000)),
+        (rows, 0x0100_0000, Some(0x0180_0000)),
+        (idle, 0x0180_0000, Some(0x0200_0000)),
+        (idle, 0x02FF_FFFF, Some(0x0300_0000)),
+        (high, 0x0300_0000, Some(0xE000_0000)),
+        (idle, 0xE000_0000, Some(0xE010_0000)),
+        (idle, 0xE010_0000, Some(0xFFF8_0000)),
+        (last, 0x0300_0000, Some(0xFFF0_0000)),
+        (idle, 0xFFF0_0000, Some(0xFFF8_0000)),
+        (idle, 0xFFFF_0000, None),
+        (also, 0xFFF0_0000, Some(0xFFF0_1000)),
+        (idle, 0xFFF0_1000, Some(0xFFF0_2000)),
+    ] {
+        regs.apply(&change);
+        assert_eq!(rt; next_edge(&regs, addr), edge, "above {addr}");
     }
 }

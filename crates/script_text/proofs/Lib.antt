@@ -1,6 +1,10 @@
 pub mod LineLemmas
 pub mod NumberLemmas
 pub mod StatementRuns
+pub mod ChainLemmas
+pub mod CardLemmas
+pub mod CardRuns
+pub mod CardTaken
 pub mod NameLemmas
 pub mod ReadingLaws
 pub mod TakenLemmas

@@ -16,27 +16,27 @@ regroup : (front : List Statement) (statement : Statement) (read : Result (List 
 regroup front statement (Ok others) = ap (λ (all : List Statement). Ok all) (simp append_assoc)
 regroup front statement (Err refusal) = refl
 
-pub goes_on : (front : List Statement) (before : ℕ) (line : List ℕ) (later lines : List (List ℕ)) (statement : Statement) (total : Result (List Statement) Refusal)
-    → lines ≡ line ∷ later → next_statement before line ≡ Ok statement
-    → with_front front (statements_from before lines) ≡ total → with_front (front ++ statement ∷ []) (statements_from (before + 1) later) ≡ total
+pub goes_on : (front : List Statement) (first before : ℕ) (line : List ℕ) (later lines : List (List ℕ)) (statement : Statement) (total : Result (List Statement) Refusal)
+    → lines ≡ line ∷ later → next_statement first before line ≡ Ok statement
+    → with_front front (statements_from first before lines) ≡ total → with_front (front ++ statement ∷ []) (statements_from first (before + 1) later) ≡ total
 unfolding statements_from
-goes_on front before line later lines statement total cut said so_far =
-    let one : with_front front (statements_from before lines) ≡ with_front (front ++ statement ∷ []) (statements_from (before + 1) later) =
-    rw (cut, said) (regroup front statement (statements_from (before + 1) later)) in
+goes_on front first before line later lines statement total cut said so_far =
+    let one : with_front front (statements_from first before lines) ≡ with_front (front ++ statement ∷ []) (statements_from first (before + 1) later) =
+    rw (cut, said) (regroup front statement (statements_from first (before + 1) later)) in
     sym one ∙ so_far
 
-pub stops : (fault : ScriptFault) (front : List Statement) (before : ℕ) (line : List ℕ) (later lines : List (List ℕ)) (total : Result (List Statement) Refusal)
-    → lines ≡ line ∷ later → OnBad fault (λ place why. next_statement before line ≡ Err (record { line = place; why = why }))
-    → with_front front (statements_from before lines) ≡ total → OnBad fault (λ place why. total ≡ Err (record { line = place; why = why }))
+pub stops : (fault : ScriptFault) (front : List Statement) (first before : ℕ) (line : List ℕ) (later lines : List (List ℕ)) (total : Result (List Statement) Refusal)
+    → lines ≡ line ∷ later → OnBad fault (λ place why. next_statement first before line ≡ Err (record { line = place; why = why }))
+    → with_front front (statements_from first before lines) ≡ total → OnBad fault (λ place why. total ≡ Err (record { line = place; why = why }))
 unfolding statements_from
-stops (Bad place why) front before line later lines total cut said so_far =
-    let one : with_front front (statements_from before lines) ≡ Err (record { line = place; why = why }) = rw (cut, said) refl in
+stops (Bad place why) front first before line later lines total cut said so_far =
+    let one : with_front front (statements_from first before lines) ≡ Err (record { line = place; why = why }) = rw (cut, said) refl in
     sym so_far ∙ one
-stops NoMemory front before line later lines total cut said so_far = tt
+stops NoMemory front first before line later lines total cut said so_far = tt
 
-pub ends : (front : List Statement) (before : ℕ) (lines : List (List ℕ)) (total : Result (List Statement) Refusal)
-    → lines ≡ [] → with_front front (statements_from before lines) ≡ total → total ≡ Ok front
+pub ends : (front : List Statement) (first before : ℕ) (lines : List (List ℕ)) (total : Result (List Statement) Refusal)
+    → lines ≡ [] → with_front front (statements_from first before lines) ≡ total → total ≡ Ok front
 unfolding statements_from
-ends front before lines total cut so_far =
-    let one : with_front front (statements_from before lines) ≡ Ok front = rw cut (ap (λ (all : List Statement). Ok all) (append-nil front)) in
+ends front first before lines total cut so_far =
+    let one : with_front front (statements_from first before lines) ≡ Ok front = rw cut (ap (λ (all : List Statement). Ok all) (append-nil front)) in
     sym so_far ∙ one

@@ -1,11 +1,11 @@
 -- What a script says is in range.
-use Rattle.std.proofs.Common.{◌≡◌, ℕ, ◌+◌, ◌*◌, ◌%◌, ◌^◌, ◌<◌, ◌≤◌, inl, inr, Bool, true, false, cond, eqb, ltb, leb, ◌&&◌, List, [], ◌∷◌, length, Option, Some, None, Result, Ok, Err, refl, subst, arith, lit<}
+use Rattle.std.proofs.Common.{◌≡◌, ℕ, ◌+◌, ◌*◌, ◌%◌, ◌^◌, ◌<◌, ◌≤◌, Bool, true, false, cond, eqb, ltb, ◌&&◌, not, List, [], ◌∷◌, length, Option, Some, None, Result, Ok, Err, refl, subst, arith, lit<}
 use Rattle.std.specs.Prelude.{codes, bytes_eq, IfOk}
 use Rattle.std.specs.List.{AllByRecursion}
 use Rattle.std.specs.Option.{option_and_then}
-use Rattle.std.proofs.lemmas.Bool.{eqb-true, cases_Bool}
+use Rattle.std.proofs.lemmas.Bool.{eqb-true}
 use Rattle.std.proofs.lemmas.List.Elements.{All-from_recursion}
-use borrow.Author.Tests.{ltb-true, leb-true}
+use borrow.Author.Tests.{ltb-true}
 use Rattle.board_base.specs.Access.{bytes_of, largest_of}
 use Rattle.board_base.specs.declared.access.Width.{Width}
 use Rattle.board_base.specs.declared.access.Width.TheVariants.{One, Two, Four}
@@ -17,57 +17,23 @@ use Rattle.board_spec.specs.declared.event.Event.{Event}
 use Rattle.board_spec.specs.declared.event.Event.TheVariants.{Memory, Port, Look as LookAt, Ack, Pulses, Time, Wire, Line, BadSector}
 use Rattle.board_spec.specs.declared.event.Statement.{Statement}
 use Rattle.board_spec.specs.Bits.{is_within}
-use Rattle.board_spec.specs.Registers.{is_config_port}
 use Rattle.board_spec.specs.Stored.{is_write}
 use Rattle.board_spec.specs.Setup.{Setup}
 use Rattle.board_spec.specs.InRange.{FitsAccess, IsInRange}
 use Rattle.script_text.specs.Numbers.{digit_value, digit_of, number_after, hex_of, decimal_of}
 use Rattle.script_text.specs.StatementText.{width_of, kind_of, address_of, port_of, value_of, smm_of, read_of, write_of, in_of, out_of, look_of, event_of_fields}
-use Rattle.script_text.specs.Forms.{is_aligned, is_taken_address, is_taken_access, is_address_access, is_data_access, is_reset_access, is_taken_port, is_taken}
+use Rattle.script_text.specs.Forms.{is_aligned, is_taken_access, is_absent_port, names_routing, is_taken_port, is_taken}
 use Rattle.script_text.specs.Lines.{lines_of, fields_of}
-use Rattle.script_text.specs.ScriptText.{Said, Refusal, ◌>>=◌, most_statements, on_line, front_line, fixed_line, mib_of, mib_in_range, memory_line, is_name, rom_of, rom_line, statement_of, next_statement, statements_from, phase_from, script_from}
+use Rattle.script_text.specs.ScriptText.{Said, ◌>>=◌, most_statements, on_line, front_line, fixed_line, mib_of, mib_in_range, memory_line, is_name, rom_of, rom_line, statement_of, next_statement, cards_from, statements_from, script_from}
 use Rattle.script_text.specs.declared.fault.ScriptFault.{ScriptFault}
 use Rattle.script_text.specs.declared.script.Script.{Script}
 use Rattle.script_text.specs.Reading.{Gives, said_of}
 use Rattle.script_text.specs.Taken.{IsTaken, IsTakenScript}
 use Rattle.script_text.specs.Laws.{ScriptsAreTaken}
+use Rattle.script_text.proofs.ChainLemmas.{some_is, guarded, then_said, both, is_within_is, bind_ok, on_line_ok, ok_is}
+use Rattle.script_text.proofs.CardLemmas.{fitted_none}
+use Rattle.script_text.proofs.CardTaken.{cards_fit}
 use Rattle.script_text.proofs.NumberLemmas.{number_below}
-
--- ---- parts of a chain
-
-some_is : {A : Type 0} (x y : A) → ◌≡◌ {A = Option A} (Some x) (Some y) → x ≡ y
-some_is x y e = cc
-
-guarded : {A : Type 0} (b : Bool) (x : Option A) (y : A) → cond b x None ≡ Some y → (b ≡ true) × (x ≡ Some y)
-guarded true x y e = (refl, e)
-guarded false x y e = absurd cc
-
-then_said : {A B : Type 0} (said : Option A) (f : A → Option B) (y : B) → option_and_then f said ≡ Some y → (x : A) × (said ≡ Some x) × (f x ≡ Some y)
-then_said None f y e = absurd cc
-then_said (Some x) f y e = (x, refl, e)
-
-both : (a b : Bool) → (a && b) ≡ true → (a ≡ true) × (b ≡ true)
-both true b e = (refl, e)
-both false b e = absurd cc
-
-is_within_is : (first last n : ℕ) → is_within first last n ≡ true → (first ≤ n) × (n ≤ last)
-is_within_is first last n e =
-    let parts = both (leb first n) (leb n last) e in
-    (leb-true first n parts.0, leb-true n last parts.1)
-
-bind_ok : {A B : Type 0} (read : Result A Refusal) (f : A → Result B Refusal) (y : B) → (read >>= f) ≡ Ok y → (x : A) × (read ≡ Ok x) × (f x ≡ Ok y)
-bind_ok (Ok x) f y e = (x, refl, e)
-bind_ok (Err refusal) f y e = absurd cc
-
-on_line_ok : {A : Type 0} (line : ℕ) (said : Option A) (y : A) → on_line line said ≡ Ok y → said ≡ Some y
-on_line_ok line None y e = absurd cc
-on_line_ok line (Some x) y e = cc
-
-abbrev read_ok : {A : Type 0} → A → Result A Refusal
-read_ok x = Ok x
-
-ok_is : {A : Type 0} (x y : A) → read_ok x ≡ read_ok y → x ≡ y
-ok_is x y e = cc
 
 -- ---- a number is below the power of its digits
 
@@ -206,31 +172,15 @@ event_fits (verb ∷ words) event e =
 aligned_is : (place : ℕ) (width : Width) → is_aligned place width ≡ true → place % bytes_of width ≡ 0
 aligned_is place width e = eqb-true _ 0 e
 
-address_aligned : (access : PortAccess) → is_address_access access ≡ true → access.port % bytes_of access.width ≡ 0
-address_aligned access e =
-    let parts = both (eqb access.port 0xCF8 && eqb (bytes_of access.width) 4) _ e in
-    let place = both (eqb access.port 0xCF8) (eqb (bytes_of access.width) 4) parts.0 in
-    rw (eqb-true _ _ place.0, eqb-true _ _ place.1) refl
-
-reset_aligned : (access : PortAccess) → is_reset_access access ≡ true → access.port % bytes_of access.width ≡ 0
-reset_aligned access e =
-    let place = both (eqb access.port 0xCF9) (eqb (bytes_of access.width) 1) e in
-    rw (eqb-true _ _ place.0, eqb-true _ _ place.1) refl
-
 port_aligned : (access : PortAccess) → is_taken_port access ≡ true → access.port % bytes_of access.width ≡ 0
 unfolding is_taken_port
 port_aligned access e =
-    elim (cases_Bool (is_address_access access)) [
-      | inl address ↦ address_aligned access address
-      | inr no_address ↦ elim (cases_Bool (is_data_access access)) [
-        | inl data_access ↦ aligned_is access.port access.width (both (is_config_port access.port) (is_aligned access.port access.width) data_access).1
-        | inr no_data ↦ reset_aligned access (rw (no_address, no_data) at e)
-      ]
-    ]
+    let allowed = both (is_aligned access.port access.width && not (is_absent_port access.port)) (not (names_routing access)) e in
+    aligned_is access.port access.width (both (is_aligned access.port access.width) (not (is_absent_port access.port)) allowed.0).0
 
 memory_aligned : (access : Access) → is_taken_access access ≡ true → access.addr % bytes_of access.width ≡ 0
 unfolding is_taken_access
-memory_aligned access e = aligned_is access.addr access.width (both (is_taken_address access.addr) (is_aligned access.addr access.width) e).1
+memory_aligned access e = aligned_is access.addr access.width e
 
 in_range : (event : Event) → is_taken event ≡ true → HasFittingValue event → (setup : Setup) → IsInRange setup event
 unfolding is_taken
@@ -258,38 +208,26 @@ statement_taken (actor ∷ words) statement e =
     let t = guarded (is_taken p.0) (Some (record { actor = 0; event = p.0 })) statement p.2 in
     subst IsTaken (some_is (record { actor = 0; event = p.0 }) statement t.1) (record { actor = refl; event = t.0; in_range = in_range p.0 t.0 (event_fits words p.0 p.1) })
 
-next_taken : (before : ℕ) (line : List ℕ) (statement : Statement) → next_statement before line ≡ Ok statement → IsTaken statement × (before < most_statements)
+next_taken : (first before : ℕ) (line : List ℕ) (statement : Statement) → next_statement first before line ≡ Ok statement → IsTaken statement × (before < most_statements)
 unfolding next_statement
-next_taken before line statement e =
-    let s = on_line_ok (before + 6) (cond (ltb before most_statements) (statement_of (fields_of line)) None) statement e in
+next_taken first before line statement e =
+    let s = on_line_ok (first + before) (cond (ltb before most_statements) (statement_of (fields_of line)) None) statement e in
     let g = guarded (ltb before most_statements) (statement_of (fields_of line)) statement s in
     (statement_taken (fields_of line) statement g.1, ltb-true before most_statements g.0)
 
 abbrev AreTaken : (before : ℕ) → List Statement → Type 0
 AreTaken before statements = AllByRecursion IsTaken statements × (before + length statements ≤ most_statements)
 
-statements_taken : (lines : List (List ℕ)) (before : ℕ) (statements : List Statement) → before ≤ most_statements → statements_from before lines ≡ Ok statements → AreTaken before statements
+statements_taken : (lines : List (List ℕ)) (first before : ℕ) (statements : List Statement) → before ≤ most_statements → statements_from first before lines ≡ Ok statements → AreTaken before statements
 unfolding statements_from
-statements_taken [] before statements le e = subst (AreTaken before) (ok_is [] statements e) (tt, omega arith)
-statements_taken (line ∷ later) before statements le e =
-    let n = bind_ok (next_statement before line) (λ statement. statements_from (before + 1) later >>= λ others. Ok (statement ∷ others)) statements e in
-    let o = bind_ok (statements_from (before + 1) later) (λ others. Ok (n.0 ∷ others)) statements n.2 in
-    let first = next_taken before line n.0 n.1 in
-    let le' : before + 1 ≤ most_statements = omega (arith, first.1) in
-    let rest = statements_taken later (before + 1) o.0 le' o.1 in
-    subst (AreTaken before) (ok_is (n.0 ∷ o.0) statements o.2) ((first.0, rest.0), omega (arith, rest.1))
-
-abbrev refusal_at : ℕ → Refusal
-refusal_at line = record { line = line; why = 11 }
-
-phase_in : (phase : Bool) (later : List (List ℕ)) (statements : List Statement) → cond phase (statements_from 0 later) (Err (refusal_at 5)) ≡ Ok statements → AreTaken 0 statements
-phase_in true later statements e = statements_taken later 0 statements (omega arith) e
-phase_in false later statements e = absurd cc
-
-phase_taken : (lines : List (List ℕ)) (statements : List Statement) → phase_from lines ≡ Ok statements → AreTaken 0 statements
-unfolding phase_from
-phase_taken [] statements e = subst (AreTaken 0) (ok_is [] statements e) (tt, omega arith)
-phase_taken (line ∷ later) statements e = phase_in (bytes_eq line (codes "phase")) later statements e
+statements_taken [] first before statements le e = subst (AreTaken before) (ok_is [] statements e) (tt, omega arith)
+statements_taken (line ∷ later) first before statements le e =
+    let n = bind_ok (next_statement first before line) (λ statement. statements_from first (before + 1) later >>= λ others. Ok (statement ∷ others)) statements e in
+    let o = bind_ok (statements_from first (before + 1) later) (λ others. Ok (n.0 ∷ others)) statements n.2 in
+    let one = next_taken first before line n.0 n.1 in
+    let le' : before + 1 ≤ most_statements = omega (arith, one.1) in
+    let rest = statements_taken later first (before + 1) o.0 le' o.1 in
+    subst (AreTaken before) (ok_is (n.0 ∷ o.0) statements o.2) ((one.0, rest.0), omega (arith, rest.1))
 
 -- ---- setup
 
@@ -334,17 +272,21 @@ rom_line_taken lines rom e =
 script_taken : (lines : List (List ℕ)) (said : Said) → script_from lines ≡ Ok said → IsTakenScript said
 unfolding script_from
 script_taken lines said e =
-    let a = bind_ok (fixed_line 1 (codes "board 1") lines) (λ cpus. fixed_line 2 (codes "cpus 1") cpus >>= λ memory. memory_line memory >>= λ mib. rom_line mib.1 >>= λ rom. phase_from rom.1 >>= λ statements. Ok (record { mib = mib.0; rom = rom.0; statements = statements })) said e in
-    let b = bind_ok (fixed_line 2 (codes "cpus 1") a.0) (λ memory. memory_line memory >>= λ mib. rom_line mib.1 >>= λ rom. phase_from rom.1 >>= λ statements. Ok (record { mib = mib.0; rom = rom.0; statements = statements })) said a.2 in
-    let m = bind_ok (memory_line b.0) (λ mib. rom_line mib.1 >>= λ rom. phase_from rom.1 >>= λ statements. Ok (record { mib = mib.0; rom = rom.0; statements = statements })) said b.2 in
-    let r = bind_ok (rom_line m.0.1) (λ rom. phase_from rom.1 >>= λ statements. Ok (record { mib = m.0.0; rom = rom.0; statements = statements })) said m.2 in
-    let s = bind_ok (phase_from r.0.1) (λ statements. Ok (record { mib = m.0.0; rom = r.0.0; statements = statements })) said r.2 in
-    let made : Said = record { mib = m.0.0; rom = r.0.0; statements = s.0 } in
+    let a = bind_ok (fixed_line 1 (codes "board 1") lines) (λ cpus. fixed_line 2 (codes "cpus 1") cpus >>= λ memory. memory_line memory >>= λ mib. rom_line mib.1 >>= λ rom. cards_from [] rom.1 >>= λ cards. statements_from (length cards.0 + 6) 0 cards.1 >>= λ statements. Ok (record { mib = mib.0; cards = cards.0; rom = rom.0; statements = statements })) said e in
+    let b = bind_ok (fixed_line 2 (codes "cpus 1") a.0) (λ memory. memory_line memory >>= λ mib. rom_line mib.1 >>= λ rom. cards_from [] rom.1 >>= λ cards. statements_from (length cards.0 + 6) 0 cards.1 >>= λ statements. Ok (record { mib = mib.0; cards = cards.0; rom = rom.0; statements = statements })) said a.2 in
+    let m = bind_ok (memory_line b.0) (λ mib. rom_line mib.1 >>= λ rom. cards_from [] rom.1 >>= λ cards. statements_from (length cards.0 + 6) 0 cards.1 >>= λ statements. Ok (record { mib = mib.0; cards = cards.0; rom = rom.0; statements = statements })) said b.2 in
+    let r = bind_ok (rom_line m.0.1) (λ rom. cards_from [] rom.1 >>= λ cards. statements_from (length cards.0 + 6) 0 cards.1 >>= λ statements. Ok (record { mib = m.0.0; cards = cards.0; rom = rom.0; statements = statements })) said m.2 in
+    let c = bind_ok (cards_from [] r.0.1) (λ cards. statements_from (length cards.0 + 6) 0 cards.1 >>= λ statements. Ok (record { mib = m.0.0; cards = cards.0; rom = r.0.0; statements = statements })) said r.2 in
+    let s = bind_ok (statements_from (length c.0.0 + 6) 0 c.0.1) (λ statements. Ok (record { mib = m.0.0; cards = c.0.0; rom = r.0.0; statements = statements })) said c.2 in
+    let made : Said = record { mib = m.0.0; cards = c.0.0; rom = r.0.0; statements = s.0 } in
     let memory = memory_taken b.0 m.0 m.1 in
-    let all = phase_taken r.0.1 s.0 s.1 in
+    let fitted = cards_fit r.0.1 [] c.0 fitted_none c.1 in
+    let all = statements_taken c.0.1 (length c.0.0 + 6) 0 s.0 (omega arith) s.1 in
     subst IsTakenScript {x = made} (ok_is made said s.2) (record {
       some_memory = memory.0;
       most_memory = memory.1;
+      cards = fitted.listed;
+      windows = fitted.windows;
       name = rom_line_taken m.0.1 r.0 r.1;
       each = All-from_recursion IsTaken s.0 all.0;
       count = omega (arith, all.1);

@@ -1,6 +1,7 @@
 pub mod Lines
 pub mod Numbers
 pub mod StatementText
+pub mod CardText
 pub mod Forms
 pub mod ScriptText
 pub mod Reading

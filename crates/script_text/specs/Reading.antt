@@ -17,4 +17,4 @@ Gives view (Err fault) read = OnBad fault (λ line why. read ≡ Err (record { l
 
 -- what a script says, without where it lies in memory
 abbrev pub said_of : Script → Said
-said_of script = record { mib = script.mib; rom = script.rom; statements = script.statements.items }
+said_of script = record { mib = script.mib; cards = script.cards.items; rom = script.rom; statements = script.statements.items }

@@ -1,17 +1,21 @@
--- A script: four lines of setup, and behind a line `phase` a statement on each line.
+-- A script: four lines of setup, a line for each card, and behind a line `phase` a statement on each line.
 use Rattle.std.specs.Prelude.{◌≡◌, ℕ, ◌+◌, ◌==◌, Bool, false, ◌&&◌, ◌||◌, nat_lt, List, [], ◌∷◌, length, if◌then◌else◌, Option, Some, None, Result, Ok, Err, codes, bytes_eq}
 use Rattle.std.specs.List.{list_all}
 use Rattle.std.specs.Option.{option_and_then}
 use Rattle.board_spec.specs.declared.event.Statement.{Statement}
 use Rattle.board_spec.specs.Bits.{is_within}
+use Rattle.board_spec.specs.Setup.{FittedCard}
 use Rattle.script_text.specs.Lines.{lines_of, fields_of}
 use Rattle.script_text.specs.Numbers.{decimal_of}
 use Rattle.script_text.specs.StatementText.{event_of_fields}
+use Rattle.script_text.specs.CardText.{next_card, insert_card}
 use Rattle.script_text.specs.Forms.{is_taken}
 
--- what a script says: the installed memory in MiB, the name of the ROM's file, and the statements in order
+-- what a script says: the installed memory in MiB, the cards in rising order of device, the name of the ROM's
+-- file, and the statements in order
 pub record Said : Type 0 where
   pub mib : ℕ
+  pub cards : List FittedCard
   pub rom : List ℕ
   pub statements : List Statement
 
@@ -94,6 +98,20 @@ rom_line lines = do
   name ← on_line 4 (rom_of (fields_of front.0))
   Ok (name, front.1)
 
+-- ---- cards
+
+-- the card on a line, where these came before it. The first card stands on line 5
+unfoldable pub card_line : List FittedCard → List ℕ → Result FittedCard Refusal
+card_line cards line = on_line (length cards + 5) (next_card cards (fields_of line))
+
+-- the cards of the lines up to the end or a line `phase`, where these came before; and the lines behind `phase`
+unfoldable pub cards_from : List FittedCard → List (List ℕ) → Result (List FittedCard × List (List ℕ)) Refusal
+cards_from cards [] = Ok (cards, [])
+cards_from cards (line ∷ later) =
+    if bytes_eq line (codes "phase")
+    then Ok (cards, later)
+    else card_line cards line >>= λ card. cards_from (insert_card card cards) later
+
 -- ---- statements
 
 -- `0 STATEMENT`, where the statement is one of those that this stage takes
@@ -104,23 +122,18 @@ statement_of (actor ∷ words) =
     then option_and_then (λ event. if is_taken event then Some (record { actor = 0; event = event }) else None) (event_of_fields words)
     else None
 
--- the first statement stands on line 6; the 250,001st is refused
-unfoldable pub next_statement : (before : ℕ) → List ℕ → Result Statement Refusal
-next_statement before line =
-    on_line (before + 6) (if nat_lt before most_statements then statement_of (fields_of line) else None)
+-- where the first statement stands on line `first`; the 250,001st is refused
+unfoldable pub next_statement : (first before : ℕ) → List ℕ → Result Statement Refusal
+next_statement first before line =
+    on_line (first + before) (if nat_lt before most_statements then statement_of (fields_of line) else None)
 
 -- the statements on these lines, before which so many stand
-unfoldable pub statements_from : (before : ℕ) → List (List ℕ) → Result (List Statement) Refusal
-statements_from before [] = Ok []
-statements_from before (line ∷ later) = do
-  statement ← next_statement before line
-  others ← statements_from (before + 1) later
+unfoldable pub statements_from : (first before : ℕ) → List (List ℕ) → Result (List Statement) Refusal
+statements_from first before [] = Ok []
+statements_from first before (line ∷ later) = do
+  statement ← next_statement first before line
+  others ← statements_from first (before + 1) later
   Ok (statement ∷ others)
-
--- the end, or a line `phase` and statements
-unfoldable pub phase_from : List (List ℕ) → Result (List Statement) Refusal
-phase_from [] = Ok []
-phase_from (line ∷ later) = if bytes_eq line (codes "phase") then statements_from 0 later else refused 5
 
 -- ---- the whole
 
@@ -130,8 +143,9 @@ script_from lines = do
   memory ← fixed_line 2 (codes "cpus 1") cpus
   mib ← memory_line memory
   rom ← rom_line mib.1
-  statements ← phase_from rom.1
-  Ok (record { mib = mib.0; rom = rom.0; statements = statements })
+  cards ← cards_from [] rom.1
+  statements ← statements_from (length cards.0 + 6) 0 cards.1
+  Ok (record { mib = mib.0; cards = cards.0; rom = rom.0; statements = statements })
 
 -- a file is a script, which says this
 abbrev pub IsScript : List ℕ → Said → Type 0

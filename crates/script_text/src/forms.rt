@@ -1,40 +1,38 @@
-//! The statements that this stage of the board takes: accesses to plain memory, the configuration ports as
-//! far as they reach the host bridge, and the reset control port.
+//! The statements that this stage of the board takes: accesses to memory, and to the ports of all devices but
+//! those that it does not have.
 
 ghost use Rattle.std.specs.Prelude.{◌≡◌};
-ghost use Rattle.script_text.specs.Forms.{is_aligned, is_taken_address, is_taken_access, is_taken_configuration, is_address_access, is_data_access, is_reset_access, is_taken_port, is_taken};
+ghost use Rattle.script_text.specs.Forms.{is_aligned, is_taken_access, is_absent_port, names_routing, is_taken_port, is_taken};
 
 use board_base::{Access, PortAccess, Width};
 use board_spec::Event;
 
-/// Where the system BIOS begins below 1 MiB.
-const SYSTEM_BIOS: u32 = 0xF_0000;
-
-/// The first address above 1 MiB.
-const ONE_MEBIBYTE: u32 = 0x10_0000;
-
-/// The last address below the place of the largest ROM.
-const LAST_BELOW_ROM: u32 = 0xFFF7_FFFF;
+/// The ports of devices that this stage does not have, from the first to the last of each.
+const ABSENT_PORTS: [(u16, u16); 8] = [
+    // The interrupt controllers are at 20h and A0h.
+    (0x20, 0x21),
+    // The timer.
+    (0x40, 0x43),
+    // The system port.
+    (0x61, 0x61),
+    // The clock.
+    (0x70, 0x71),
+    (0xA0, 0xA1),
+    // The disk.
+    (0x1F0, 0x1F7),
+    (0x3F6, 0x3F6),
+    // The edges and levels of the interrupts.
+    (0x4D0, 0x4D1),
+];
 
 /// The port of the configuration address.
 const CONFIGURATION_ADDRESS: u16 = 0xCF8;
 
-/// The port of the reset control register.
-const RESET_CONTROL: u16 = 0xCF9;
+/// The bits that the configuration address keeps: enable, bus, device, function and register.
+const KEPT_BITS: u32 = 0x80FF_FFFC;
 
-/// The ports of the configuration data.
-const FIRST_DATA: u16 = 0xCFC;
-
-const LAST_DATA: u16 = 0xCFF;
-
-/// Bit 31 of the configuration address, which enables it.
-const ENABLED: u32 = 0x8000_0000;
-
-/// Where the number of the function begins in the configuration address, bit 8. Device and bus follow.
-const FUNCTION_SHIFT: u32 = 8;
-
-/// How many functions a configuration address can name, of all devices and buses.
-const FUNCTIONS: u32 = 0x1_0000;
+/// The configuration address of register 60h of 01.0, where the routing of the interrupts begins.
+const ROUTING: u32 = 0x8000_0860;
 
 /// Whether an address or a port is a multiple of the width.
 fn is_aligned(place: u32, width: Width) -> bool
@@ -43,59 +41,42 @@ fn is_aligned(place: u32, width: Width) -> bool
     place % width.bytes() == 0
 }
 
-/// Whether the address is below the system BIOS, or from 1 MiB to where the ROM can begin.
-fn is_taken_address(addr: u32) -> bool
-    ensures taken { result ≡ is_taken_address addr }
-{
-    addr < SYSTEM_BIOS || addr >= ONE_MEBIBYTE && addr <= LAST_BELOW_ROM
-}
-
-/// Whether this is an access to plain memory.
+/// Whether this access to memory is taken.
 #[tactic(auto, unfolding(crate::specs::Forms::is_taken_access))]
 fn is_taken_access(access: &Access) -> bool
     ensures taken { result ≡ is_taken_access access.now }
 {
-    is_taken_address(access.addr) && is_aligned(access.addr, access.width)
+    is_aligned(access.addr, access.width)
 }
 
-/// Whether this configuration address is not enabled, or names function 0 of device 0 of bus 0.
-fn is_taken_configuration(address: u32) -> bool
-    ensures taken { result ≡ is_taken_configuration address }
+/// Whether the port is one of a device that this stage does not have.
+#[tactic(auto, unfolding(crate::specs::Forms::is_absent_port))]
+fn is_absent_port(port: u16) -> bool
+    ensures absent { result ≡ is_absent_port port }
 {
-    address < ENABLED || (address >> FUNCTION_SHIFT) % FUNCTIONS == 0
+    ABSENT_PORTS
+        .iter()
+        .any(|(first, last)| *first <= port && port <= *last)
 }
 
-/// Whether this reads the configuration address, or writes one that is taken.
-fn is_address_access(access: &PortAccess) -> bool
-    ensures address { result ≡ is_address_access access.now }
+/// Whether this makes the configuration address name the routing of the interrupts.
+fn names_routing(access: &PortAccess) -> bool
+    ensures routing { result ≡ names_routing access.now }
 {
-    access.port == CONFIGURATION_ADDRESS
+    access.write
+        && access.port == CONFIGURATION_ADDRESS
         && access.width == Width::Four
-        && (!access.write || is_taken_configuration(access.value))
+        && access.value & KEPT_BITS == ROUTING
 }
 
-/// Whether this is an access to the configuration data.
-fn is_data_access(access: &PortAccess) -> bool
-    ensures data { result ≡ is_data_access access.now }
-{
-    access.port >= FIRST_DATA
-        && access.port <= LAST_DATA
-        && is_aligned(u32::from(access.port), access.width)
-}
-
-/// Whether this reads or writes the reset control register.
-fn is_reset_access(access: &PortAccess) -> bool
-    ensures reset { result ≡ is_reset_access access.now }
-{
-    access.port == RESET_CONTROL && access.width == Width::One
-}
-
-/// Whether this is an access to one of these ports.
+/// Whether this access to a port is taken.
 #[tactic(auto, unfolding(crate::specs::Forms::is_taken_port))]
 fn is_taken_port(access: &PortAccess) -> bool
     ensures taken { result ≡ is_taken_port access.now }
 {
-    is_address_access(access) || is_data_access(access) || is_reset_access(access)
+    is_aligned(u32::from(access.port), access.width)
+        && !is_absent_port(access.port)
+        && !names_routing(access)
 }
 
 /// Whether this stage of the board takes the statement.

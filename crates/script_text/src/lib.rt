@@ -1,6 +1,8 @@
 //! The reader of scripts: from bytes to a setup and its statements, or to the first line that is bad.
 #![tactic(auto)]
 
+mod card;
+mod cards;
 mod event;
 mod fault;
 mod forms;

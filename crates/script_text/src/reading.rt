@@ -2,10 +2,11 @@
 
 ghost use Rattle.std.specs.Prelude.{◌≡◌, ◌≤◌, ◌<◌, ◌^◌, ◌-◌, length, map, IfOk, IfErr, OnOk};
 ghost use Rattle.script_text.specs.Lines.{lines_of};
-ghost use Rattle.script_text.specs.ScriptText.{most_statements, statement_of, next_statement, statements_from, phase_from, script_from, IsScript, IsBadScript};
+ghost use Rattle.script_text.specs.ScriptText.{most_statements, statement_of, next_statement, statements_from, script_from, IsScript, IsBadScript};
 ghost use Rattle.script_text.specs.Taken.{IsTakenScript};
 ghost use Rattle.script_text.specs.Reading.{Gives, OnBad, said_of};
 
+use crate::cards::cards_from;
 use crate::event::event_of;
 use crate::fault::ScriptFault;
 use crate::forms::is_taken;
@@ -18,7 +19,7 @@ use std::alloc::Global;
 /// A script has no more statements than this.
 const MOST_STATEMENTS: usize = 250_000;
 
-/// The line of the first statement.
+/// The line of the first statement, where there are no cards.
 const FIRST_STATEMENT: u32 = 6;
 
 /// A statement of the one processor, where it is one that this stage takes.
@@ -37,14 +38,20 @@ fn statement_of(fields: &[&[u8]]) -> Option<Statement>
     }
 }
 
-/// The statement on a line, where so many stand before it.
+/// The statement on a line, where so many stand before it, the first of them on line `first`.
 #[tactic(auto, unfolding(crate::specs::ScriptText::next_statement))]
-fn next_statement(alloc: Global, before: usize, line: &[u8]) -> Result<Statement, ScriptFault>
-    requires { before ≤ most_statements }
-    ensures said { Gives (λ statement. statement) result (next_statement before line.now) }
+fn next_statement(
+    alloc: Global,
+    first: u32,
+    before: usize,
+    line: &[u8],
+) -> Result<Statement, ScriptFault>
+    requires first { first ≤ 14 }
+    requires before { before ≤ most_statements }
+    ensures said { Gives (λ statement. statement) result (next_statement first before line.now) }
     ensures room { OnOk result (before < most_statements) }
 {
-    let number = before as u32 + FIRST_STATEMENT;
+    let number = first + before as u32;
     if before == MOST_STATEMENTS {
         return Err(ScriptFault::other_form(number));
     }
@@ -55,30 +62,19 @@ fn next_statement(alloc: Global, before: usize, line: &[u8]) -> Result<Statement
     }
 }
 
-/// The statements behind `phase`.
-fn statements_from(alloc: Global, bytes: &[u8]) -> Result<Vec<Statement>, ScriptFault>
-    ensures said { Gives (λ v. v.items) result (statements_from 0 (lines_of bytes.now)) }
+/// The statements of the phase, the first of them on line `first`.
+fn statements_from(alloc: Global, first: u32, bytes: &[u8]) -> Result<Vec<Statement>, ScriptFault>
+    requires first { first ≤ 14 }
+    ensures said { Gives (λ v. v.items) result (statements_from first 0 (lines_of bytes.now)) }
 {
     let mut statements = Vec::new(alloc);
     let mut rest = bytes;
     while let Some((line, after)) = split_line(rest) {
-        let statement = next_statement(alloc, statements.len(), line)?;
+        let statement = next_statement(alloc, first, statements.len(), line)?;
         statements.push(statement)?;
         rest = after;
     }
     Ok(statements)
-}
-
-/// The statements of the phase, or none where the script ends before it.
-#[tactic(auto, unfolding(crate::specs::ScriptText::phase_from))]
-fn phase_from(alloc: Global, bytes: &[u8]) -> Result<Vec<Statement>, ScriptFault>
-    ensures said { Gives (λ v. v.items) result (phase_from (lines_of bytes.now)) }
-{
-    match split_line(bytes) {
-        None => Ok(Vec::new(alloc)),
-        Some((b"phase", rest)) => statements_from(alloc, rest),
-        Some(_) => Err(ScriptFault::other_form(5)),
-    }
 }
 
 /// The script, line by line.
@@ -90,9 +86,11 @@ fn script_from(alloc: Global, bytes: &[u8]) -> Result<Script, ScriptFault>
     let rest = fixed_line(2, b"cpus 1", rest)?;
     let (mib, rest) = memory_line(alloc, rest)?;
     let (rom, rest) = rom_line(alloc, rest)?;
-    let statements = phase_from(alloc, rest)?;
+    let (cards, rest) = cards_from(alloc, rest)?;
+    let statements = statements_from(alloc, cards.len() as u32 + FIRST_STATEMENT, rest)?;
     Ok(Script {
         mib,
+        cards,
         rom,
         statements,
     })

@@ -1,5 +1,5 @@
-use Rattle.std.proofs.Common.{rules, ◌≡◌, ◌∙◌, ℕ, None, Option, ap, arith}
-use Rattle.std.specs.Prelude.{All, length}
+use Rattle.std.proofs.Common.{rules, ◌≡◌, ◌∙◌, None, ap}
+use Rattle.std.specs.Prelude.{length}
 use Rattle.addr_decode.specs.Edges.{edges_of, fixed_edges}
 use Rattle.addr_decode.specs.EdgeSearch.{nearest}
 use Rattle.addr_decode.specs.MapRegs.{StandsFor, map_bytes}
@@ -12,8 +12,8 @@ found_by_parts : (c : goal.After-nearest_end_of_cards) →
     c.nearest_end_of_cards.result ≡ nearest c.args.addr None (kept_edges c.args.regs.now.drb c.args.regs.now.cards.items)
 unfolding fixed_edges
 found_by_parts c =
-    in_parts c.args.addr c.nearest-fixed.result c.nearest_row_end-with_rows.result c.nearest_end_of_cards.result c.args.regs.now.drb c.args.regs.now.cards.items
-    c.nearest-fixed.ensures.nearest c.nearest_row_end-with_rows.ensures.nearest (rw c.deref.ensures.0 at c.nearest_end_of_cards.ensures.nearest)
+    in_parts c.args.addr c.nearest-fixed.result c.nearest_end_of_rows-with_rows.result c.nearest_end_of_cards.result c.args.regs.now.drb c.args.regs.now.cards.items
+    c.nearest-fixed.ensures.nearest c.nearest_end_of_rows-with_rows.ensures.nearest (rw c.deref.ensures.0 at c.nearest_end_of_cards.ensures.nearest)
 
 found : (c : goal.After-nearest_end_of_cards) (setup : _) (bytes : _) → StandsFor setup bytes (map_bytes c.args.regs.now) →
     c.nearest_end_of_cards.result ≡ nearest c.args.addr None (edges_of setup bytes)

@@ -7,7 +7,7 @@ use Rattle.script_text.proofs.reading.statements_from.Given as goal
 abbrev pub invariant-loop-line : goal.invariant-loop-line
 invariant-loop-line l = record {
   count : vec_len l.statements ≤ most_statements;
-  said : with_front l.statements.items (statements_from (vec_len l.statements) (lines_of l.rest)) ≡ statements_from 0 (lines_of l.bytes);
+  said : with_front l.statements.items (statements_from l.first (vec_len l.statements) (lines_of l.rest)) ≡ statements_from l.first 0 (lines_of l.bytes);
 }
 
 abbrev pub decreases-loop-line : goal.decreases-loop-line

@@ -1,7 +1,7 @@
 use Rattle.std.proofs.Common.{◌≡◌, ◌*◌, map}
 use Rattle.std.specs.Prelude.{drop}
 use Rattle.addr_decode.specs.EdgeSearch.{nearest}
-use Rattle.addr_decode.proofs.edges.nearest_row_end.Given as goal
+use Rattle.addr_decode.proofs.edges.nearest_end_of_rows.Given as goal
 
 abbrev pub invariant-loop-boundary : goal.invariant-loop-boundary
 invariant-loop-boundary l =

@@ -1,0 +1,5 @@
+use Rattle.addr_decode.specs.MapRegs.{AreFitted}
+use Rattle.addr_decode.proofs.tests.edges_of_rows_and_of_cards.Given as goal
+
+abbrev pub invariant-loop-change : goal.invariant-loop-change
+invariant-loop-change g l = AreFitted l.regs.cards.items

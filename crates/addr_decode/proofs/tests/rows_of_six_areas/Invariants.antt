@@ -1,0 +1,8 @@
+use Rattle.addr_decode.specs.MapRegs.{AreFitted}
+use Rattle.addr_decode.proofs.tests.rows_of_six_areas.Given as goal
+
+abbrev pub invariant-loop-change : goal.invariant-loop-change
+invariant-loop-change g l = AreFitted l.regs.cards.items
+
+abbrev pub ghosts-row_at : goal.ghosts-row_at
+ghosts-row_at g a = record { name = a.blank.name; parts = a.blank.parts }

@@ -1,0 +1,51 @@
+//! Denials by the registers that the address decode names.
+ghost use Rattle.std.specs.Prelude.{◌≡◌};
+ghost use Rattle.board_base.specs.declared.target.Denial.TheVariants.{Register};
+ghost use Rattle.board_spec.specs.Decode.{bridge, isa, ide, card_register};
+
+use board_base::{Denial, Reg};
+use board_spec::offset::{COMMAND, HOST_BRIDGE, IDE, ISA_BRIDGE, SOUTH_BRIDGE};
+
+/// A denial by a register of the host bridge, 00.0.
+pub fn host_bridge(off: u8) -> Denial
+    ensures register { result ≡ Register (bridge off) }
+{
+    Denial::Register(Reg {
+        dev: HOST_BRIDGE,
+        fun: 0,
+        off,
+    })
+}
+
+/// A denial by a register of the ISA bridge, 01.0.
+pub fn isa_bridge(off: u8) -> Denial
+    ensures register { result ≡ Register (isa off) }
+{
+    Denial::Register(Reg {
+        dev: SOUTH_BRIDGE,
+        fun: ISA_BRIDGE,
+        off,
+    })
+}
+
+/// A denial by a register of the IDE function, 01.1.
+pub fn ide_function(off: u8) -> Denial
+    ensures register { result ≡ Register (ide off) }
+{
+    Denial::Register(Reg {
+        dev: SOUTH_BRIDGE,
+        fun: IDE,
+        off,
+    })
+}
+
+/// A denial by the command of the card at a device number.
+pub fn card_command(dev: u8) -> Denial
+    ensures register { result ≡ Register (card_register dev 0x04) }
+{
+    Denial::Register(Reg {
+        dev,
+        fun: 0,
+        off: COMMAND,
+    })
+}
