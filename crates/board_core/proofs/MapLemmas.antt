@@ -180,3 +180,7 @@ map_stays setup bytes at width value regs beside stands =
       xbcs = stands.xbcs ∙ sym (stays (isa 0x4E) refl);
       cards = (stands.cards.0, λ k d within. card_stays setup bytes at width value (get_or regs.cards k d) beside (stands.cards.1 k d within));
     }
+
+-- the registers that a map is seen to have are those inside it
+pub stands_inside : (setup : Setup) (bytes : Bytes) (inside seen : MapBytes) → inside ≡ seen → StandsFor setup bytes seen → StandsFor setup bytes inside
+stands_inside setup bytes inside seen is stands = subst (λ (regs : MapBytes). StandsFor setup bytes regs) (sym is) stands

@@ -1,7 +1,7 @@
-use Rattle.std.proofs.Common.{◌∙◌, refl, subst, sym}
+use Rattle.std.proofs.Common.{◌∙◌, refl, sym}
 use Rattle.board_spec.specs.Registers.{byte_of}
-use Rattle.addr_decode.specs.MapRegs.{MapBytes, StandsFor}
 use Rattle.addr_decode.proofs.CardLemmas.{fitted_same}
+use Rattle.board_core.proofs.MapLemmas.{stands_inside}
 use Rattle.board_core.proofs.RegisterLemmas.{stores_in_map, stores_beside}
 use Rattle.board_core.proofs.registers.Registers.store.Goals as goal
 
@@ -10,7 +10,7 @@ returns-then-touches c = record {
   registers = λ setup history entry kept change.
       let bytes = byte_of setup history in
       let old = c.args.self.now in
-      let regs = subst (λ (regs : MapBytes). StandsFor setup bytes regs) (sym c.regs.ensures.regs) kept.map in
+      let regs = stands_inside setup bytes _ old.map.regs c.regs.ensures.regs kept.map in
       stores_in_map setup history entry old (record old { space = c.write_wide.new.self; map = c.apply.new.self })
       c.args.reg c.args.width c.args.value change (sym (c.touches.ensures.touched setup bytes regs) ∙ c.if-touches.true) kept refl refl
       (c.write_wide.ensures.written setup bytes kept.space) (c.apply.ensures.stands setup bytes kept.map) c.apply.ensures.version
@@ -22,7 +22,7 @@ returns-else-touches c = record {
   registers = λ setup history entry kept change.
       let bytes = byte_of setup history in
       let old = c.args.self.now in
-      let regs = subst (λ (regs : MapBytes). StandsFor setup bytes regs) (sym c.regs.ensures.regs) kept.map in
+      let regs = stands_inside setup bytes _ old.map.regs c.regs.ensures.regs kept.map in
       stores_beside setup history entry old (record old { space = c.write_wide.new.self })
       c.args.reg c.args.width c.args.value change (sym (c.touches.ensures.touched setup bytes regs) ∙ c.if-touches.false) kept refl refl
       (c.write_wide.ensures.written setup bytes kept.space) refl;
