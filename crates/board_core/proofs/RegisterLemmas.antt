@@ -1,5 +1,5 @@
 -- The registers after one more entry.
-use Rattle.std.proofs.Common.{◌≡◌, ◌≢◌, ℕ, ◌+◌, Bool, true, false, ◌&&◌, inl, inr, List, [], ◌∷◌, Option, Some, None, refl, sym, ◌∙◌, ap, subst, arith}
+use Rattle.std.proofs.Common.{◌≡◌, ◌≢◌, ℕ, ◌+◌, ◌<◌, Bool, true, false, ◌&&◌, inl, inr, List, [], ◌∷◌, Option, Some, None, length, refl, sym, ◌∙◌, ap, subst, arith}
 use Rattle.std.specs.Prelude.{◌==◌, if◌then◌else◌, unwrap_or, option_map}
 use Rattle.std.proofs.lemmas.Bool.{cases_Bool, cases_eq, ne_eqb}
 use Rattle.std.proofs.lemmas.Bool.Decides.{nat_tests}
@@ -18,11 +18,12 @@ use Rattle.board_spec.specs.MapWrites.{touches_map, map_change_of, map_writes_of
 use Rattle.board_spec.specs.Decode.{Bytes}
 use Rattle.addr_decode.specs.MapRegs.{AreFitted, StandsFor}
 use Rattle.map_builder.specs.Map.{Mapped}
+use Rattle.access_history.specs.Past.{most}
 use Rattle.board_core.specs.declared.registers.Registers.{Registers}
 use Rattle.board_core.specs.Space.{IsSpaceOf}
 use Rattle.board_core.specs.Forms.{routing_address}
 use Rattle.board_core.specs.Kept.{HasRegisters, IsFlat}
-use Rattle.board_core.proofs.MapLemmas.{no_change, beside_map, in_map, version_raised, version_stays, map_stays}
+use Rattle.board_core.proofs.MapLemmas.{no_change, beside_map, in_map, version_raised, version_stays, few_writes, map_stays}
 
 -- ---- what an access writes
 
@@ -243,3 +244,10 @@ control_resets setup history entry old new byte put hard kept address control sp
       flat = flat;
       taken = rw address (λ same. omega arith);
     }
+
+-- ---- how many changes the map has had
+
+-- fewer than a history has room for entries
+pub few_changes : (setup : Setup) (history : List Entry) (registers : Registers) → HasRegisters setup history registers → length history < most →
+    registers.map.version < most
+few_changes setup history registers kept few = rw (kept.version) (omega (arith, few_writes setup history))

@@ -11,7 +11,7 @@ write-requires-clause-held c =
       c.args.rom.now,
       held kept.setup kept.history c.args.chipset.now c.args.rom.now c.args.access.now c.decoded-target.result.0 c.decoded-target.result.1 kept.of kept.image
           c.requires.bus.aligned (c.decoded-target.ensures.decoded kept.setup kept.history
-    (stands_inside kept.setup (byte_of kept.setup kept.history) _ _ c.regs.ensures.regs kept.of.registers.map) kept.image),
+          (stands_inside kept.setup (byte_of kept.setup kept.history) _ _ c.regs.ensures.regs kept.of.registers.map) kept.image),
     )
 
 pub read-requires-clause-held : goal.read-requires-clause-held

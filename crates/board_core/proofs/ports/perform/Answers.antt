@@ -1,4 +1,4 @@
-use Rattle.board_core.proofs.LookLemmas.{few_changes}
+use Rattle.board_core.proofs.RegisterLemmas.{few_changes}
 use Rattle.board_core.proofs.PortLemmas.{held, there, fits, written_fits, write_answer, read_answer, chipset_written, chipset_read}
 use Rattle.board_core.proofs.ports.perform.Goals as goal
 
