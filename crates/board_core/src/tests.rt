@@ -8,8 +8,8 @@ ghost use Rattle.board_core.specs.Forms.{IsTaken};
 
 use crate::{Board, BoardOpen, Setup};
 use arrayvec::ArrayVec;
-use board_base::{Access, Denial, Dev, Kind, PortAccess, Reg, Target, Width};
-use board_spec::{Event, Reply};
+use board_base::{Access, Area, Denial, Dev, Kind, PortAccess, Reg, Target, Width};
+use board_spec::{Event, Look, Reply};
 use pci_bars::{BaseSpec, CardSpec};
 use std::alloc::{AllocError, Global};
 use std::process::Abort;
@@ -28,11 +28,13 @@ enum Statement {
     Out(Width, u16, u32),
     In(Width, u16),
     Reset(u8),
+    LookAt(Kind, u32),
 }
 
 /// What answers: memory, the ROM at an offset, a card by its device, base and offset, a port, a register by its
 /// device, function and offset, or nobody, by such a register, by the configuration address or by no register.
-/// A write to the ROM is denied by XBCS, or by no register.
+/// A write to the ROM is denied by XBCS, or by no register. What a look sees: a version, and the first and the last
+/// address of an area.
 #[derive(Clone, Copy)]
 enum Place {
     Dram,
@@ -48,16 +50,19 @@ enum Place {
     Denied(u8, u8, u8),
     Disabled,
     Nobody,
+    Seen(u32, u32, u32, Area),
 }
 
 /// A statement, the value that it must read, and what must answer.
 type Line = (Statement, Option<u32>, Place);
 
 use Place::{
-    Card, Confadd, Config, Control, Denied, Disabled, Dram, Nobody, ReadOnly, Rom, Shadow, Smram,
-    WriteProtected,
+    Card, Confadd, Config, Control, Denied, Disabled, Dram, Nobody, ReadOnly, Rom, Seen, Shadow,
+    Smram, WriteProtected,
 };
-use Statement::{Fetch, FetchInSmm, In, Out, Read, ReadInSmm, Reset, Select, Write, WriteInSmm};
+use Statement::{
+    Fetch, FetchInSmm, In, LookAt, Out, Read, ReadInSmm, Reset, Select, Write, WriteInSmm,
+};
 use Width::{Four, One, Two};
 
 /// PAM2's high nibble opens CC000h to CFFFFh for writes alone.
@@ -158,6 +163,67 @@ const TWO_CARDS_AT_ONE_ADDRESS: [Line; 11] = [
     (Read(One, 0xC000_0000), Some(0x00), Card(2, 0, 0x00)),
 ];
 
+/// A card with 1 MiB at E0000000h, and then under the ROM. Each write of a base or of the command is a map write.
+const CARD_MOVED_UNDER_THE_ROM: [Line; 10] = [
+    (Select(0x8000_1010), None, Confadd),
+    (Out(Four, 0, 0xE000_0000), None, Config(2, 0, 0x10)),
+    (Select(0x8000_1004), None, Confadd),
+    (Out(One, 0, 0x02), None, Config(2, 0, 0x04)),
+    (
+        LookAt(Kind::Read, 0xE000_0000),
+        None,
+        Seen(2, 0xE000_0000, 0xE00F_FFFF, Area::Card(2, 0)),
+    ),
+    (Select(0x8000_1010), None, Confadd),
+    (Out(Four, 0, 0xFFFF_FFFF), None, Config(2, 0, 0x10)),
+    (In(Four, 0), Some(0xFFF0_0000), Config(2, 0, 0x10)),
+    (
+        LookAt(Kind::Read, 0xE000_0000),
+        None,
+        Seen(3, 0x0080_0000, 0xFFEF_FFFF, Area::Abort),
+    ),
+    (
+        LookAt(Kind::Read, 0xFFFE_0000),
+        None,
+        Seen(3, 0xFFF0_0000, 0xFFFE_FFFF, Area::Card(2, 0)),
+    ),
+];
+
+/// A window of 16 KiB that is open for writes alone, as looks at each kind of access see it. A store that changes no
+/// bit of a register of the map is a map write, as a hard reset is; a store to another register is none.
+const LOOKS_BY_KIND: [Line; 10] = [
+    (Select(0x8000_0058), None, Confadd),
+    (Out(One, 3, 0x20), None, Config(0, 0, 0x5B)),
+    (
+        LookAt(Kind::Read, 0xC_C000),
+        None,
+        Seen(1, 0xA_0000, 0xE_FFFF, Area::Abort),
+    ),
+    (
+        LookAt(Kind::Write, 0xC_C000),
+        None,
+        Seen(1, 0xC_C000, 0xC_FFFF, Area::Shadow(0)),
+    ),
+    (Out(One, 3, 0x20), None, Config(0, 0, 0x5B)),
+    (Out(One, 0, 0x01), None, Config(0, 0, 0x58)),
+    (
+        LookAt(Kind::Write, 0xD_0000),
+        None,
+        Seen(2, 0xD_0000, 0xE_FFFF, Area::Abort),
+    ),
+    (Reset(0x06), None, Control),
+    (
+        LookAt(Kind::Write, 0xC_C000),
+        None,
+        Seen(3, 0xA_0000, 0xE_FFFF, Area::Abort),
+    ),
+    (
+        LookAt(Kind::Fetch, 0xF_0000),
+        None,
+        Seen(3, 0xF_0000, 0xF_FFFF, Area::Rom),
+    ),
+];
+
 /// An access to memory.
 fn memory(rt: &impl Abort, kind: Kind, width: Width, addr: u32, smm: bool, value: u32) -> Event
     requires value { is_write kind ≡ false → value ≡ 0 }
@@ -227,6 +293,11 @@ fn event(rt: &impl Abort, statement: Statement) -> Event
             width: One,
             value: u32::from(value),
         }),
+        LookAt(kind, addr) => Event::Look {
+            kind,
+            addr,
+            smm: false,
+        },
     }
 }
 
@@ -235,9 +306,9 @@ fn denied_by(dev: u8, fun: u8, off: u8) -> Option<Denial> {
     Some(Denial::Register(Reg { dev, fun, off }))
 }
 
-/// The target and the denial of a reply.
-fn answered(place: Place) -> (Target, Option<Denial>) {
-    match place {
+/// The reply that is expected.
+fn expected(value: Option<u32>, place: Place) -> Reply {
+    let (target, denial) = match place {
         Dram => (Target::Dram(0), None),
         Shadow => (Target::Shadow(0), None),
         Smram => (Target::Smram, None),
@@ -251,6 +322,19 @@ fn answered(place: Place) -> (Target, Option<Denial>) {
         Denied(dev, fun, off) => (Target::Abort, denied_by(dev, fun, off)),
         Disabled => (Target::Abort, Some(Denial::Confadd)),
         Nobody => (Target::Abort, Some(Denial::NoRegister)),
+        Seen(version, lo, hi, area) => {
+            return Reply::Saw(Look {
+                version,
+                lo,
+                hi,
+                area,
+            });
+        }
+    };
+    Reply::Bus {
+        value,
+        target,
+        denial,
     }
 }
 
@@ -265,12 +349,12 @@ fn vga_card(dev: u8) -> CardSpec
     }
 }
 
-/// A card with 4 KiB of memory.
-fn memory_card(dev: u8) -> CardSpec
-    ensures card { result ≡ record { dev = dev; vga = false; bases = MemoryBase 12 ∷ [] } }
+/// A card with 2 to the power of `bits` bytes of memory.
+fn memory_card(dev: u8, bits: u8) -> CardSpec
+    ensures card { result ≡ record { dev = dev; vga = false; bases = MemoryBase bits ∷ [] } }
 {
     let mut bases = ArrayVec::new();
-    bases.push(BaseSpec::Memory(12));
+    bases.push(BaseSpec::Memory(bits));
     CardSpec {
         dev,
         vga: false,
@@ -302,7 +386,12 @@ fn setup(alloc: Global, cards: Vec<CardSpec>, rom_size: u32) -> Result<Setup, Al
 }
 
 /// Steps a new board through a table and compares each reply, and the numbers of the entries.
-fn replies(rt: &impl Abort, alloc: Global, cards: Vec<CardSpec>, lines: &[Line]) -> Result<(), Fail>
+fn replies(
+    rt: &impl Abort,
+    alloc: Global,
+    cards: Vec<CardSpec>,
+    lines: &[Line],
+) -> Result<Board, Fail>
     requires cards { IsCardList cards.items }
     requires windows { memory_of_cards cards.items ≤ 0x400_0000 }
 {
@@ -311,21 +400,15 @@ fn replies(rt: &impl Abort, alloc: Global, cards: Vec<CardSpec>, lines: &[Line])
     for line in lines {
         let (statement, value, place) = *line;
         let event = event(rt, statement);
-        let (target, denial) = answered(place);
         assert!(rt; board.history().spare() >= 1);
         let reply = board.step(0, &event);
-        let expected = Reply::Bus {
-            value,
-            target,
-            denial,
-        };
-        assert_eq!(rt; reply, expected);
+        assert_eq!(rt; reply, expected(value, place));
         assert_eq!(rt;
             board.history().entries().last().map(|entry| entry.seq),
             Some(board.history().len())
         );
     }
-    Ok(())
+    Ok(board)
 }
 
 #[test]
@@ -336,21 +419,35 @@ fn a_board_without_cards(rt: HostRuntime) -> Result<(), Fail> {
     replies(&rt, alloc, Vec::new(alloc), &SMRAM_UNDER_THE_LOCK)?;
     replies(&rt, alloc, Vec::new(alloc), &WIDE)?;
     replies(&rt, alloc, Vec::new(alloc), &HOLE)?;
-    replies(&rt, alloc, Vec::new(alloc), &READS_OF_THE_ROM)
+    replies(&rt, alloc, Vec::new(alloc), &READS_OF_THE_ROM)?;
+    replies(&rt, alloc, Vec::new(alloc), &LOOKS_BY_KIND)?;
+    Ok(())
 }
 
 #[test]
 fn a_vga_card(rt: HostRuntime) -> Result<(), Fail> {
     let alloc = rt.alloc();
     let cards = vec![in alloc; vga_card(2)]?;
-    replies(&rt, alloc, cards, &DATA_TO_THE_SCREEN)
+    replies(&rt, alloc, cards, &DATA_TO_THE_SCREEN)?;
+    Ok(())
 }
 
 #[test]
 fn two_cards_at_one_address(rt: HostRuntime) -> Result<(), Fail> {
     let alloc = rt.alloc();
-    let cards = vec![in alloc; memory_card(2), memory_card(3)]?;
-    replies(&rt, alloc, cards, &TWO_CARDS_AT_ONE_ADDRESS)
+    let cards = vec![in alloc; memory_card(2, 12), memory_card(3, 12)]?;
+    replies(&rt, alloc, cards, &TWO_CARDS_AT_ONE_ADDRESS)?;
+    Ok(())
+}
+
+#[test]
+fn looks_at_a_card(rt: HostRuntime) -> Result<(), Fail> {
+    let alloc = rt.alloc();
+    let cards = vec![in alloc; memory_card(2, 20)]?;
+    let board = replies(&rt, alloc, cards, &CARD_MOVED_UNDER_THE_ROM)?;
+    assert_eq!(rt; board.map().version(), 3);
+    assert_eq!(rt; board.map().ranges().len(), 7);
+    Ok(())
 }
 
 #[test]
