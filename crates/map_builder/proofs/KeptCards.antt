@@ -1,0 +1,226 @@
+-- The card that answers at an address is the same before and after a change that moves no window round it.
+use Rattle.std.proofs.Common.{◌≡◌, ℕ, zero, suc, ◌+◌, ◌-◌, ◌*◌, ◌/◌, ◌<◌, ◌≤◌, ◌⊎◌, inl, inr, Bool, true, false, cond, List, [], ◌∷◌, length, get_or, Option, Some, None, refl, sym, ◌∙◌, ap, subst, arith}
+use Rattle.std.specs.Prelude.{◌==◌, ◌&&◌, All, find, flat_map, slice_get}
+use Rattle.std.specs.Option.{option_map_or}
+use Rattle.std.specs.List.{AllByRecursion}
+use Rattle.std.proofs.lemmas.Bool.{cases_Bool, cond-true, cond-false, eq-eqb, ne_eqb}
+use Rattle.std.proofs.lemmas.Bool.Decides.{nat_tests}
+use Rattle.std.proofs.lemmas.Option.{slice_get_within}
+use Rattle.std.proofs.lemmas.List.Elements.{recursion_from_All}
+use Rattle.std.proofs.lemmas.List.Folds.{find-append}
+use Rattle.board_base.specs.declared.target.Reg.{Reg}
+use Rattle.board_spec.specs.Setup.{Base, MemoryBase, IoBase, FittedCard, Setup, IsCard, IsCardList, Rises, card_at}
+use Rattle.board_spec.specs.Bits.{is_bit, is_within}
+use Rattle.board_spec.specs.Decode.{Bytes, Window, card_register, base_value, is_covered, vga_window, memory_windows, is_enabled_for, memory_claim}
+use Rattle.pci_bars.specs.Cards.{CardBytes}
+use Rattle.map_builder.specs.Changed.{card_windows, windows_of}
+use Rattle.map_builder.specs.Held.{held_by, card_held}
+use Rattle.map_builder.proofs.OutsideLemmas.{Outside, not_covered, none_covered, and_no}
+use Rattle.map_builder.proofs.DeviceLemmas.{from_base, Hold, card_is, windows_of_card}
+
+-- a register keeps its byte, or an address lies outside the windows that it governs, by what the registers held before and
+-- hold after
+abbrev pub Kept : Setup → (bytes new : Bytes) → (addr : ℕ) → Reg → Type 0
+Kept setup bytes new addr reg =
+    (new reg ≡ bytes reg) ⊎ (Outside addr (windows_of setup bytes reg) × Outside addr (windows_of setup new reg))
+
+-- ---- what the bases of a card hold
+
+values : Bytes → ℕ → List ℕ
+values bytes dev =
+    base_value bytes dev 0 ∷ base_value bytes dev 1 ∷ base_value bytes dev 2 ∷ base_value bytes dev 3 ∷ base_value bytes dev 4 ∷ base_value bytes dev 5 ∷ []
+
+values_hold : (bytes : Bytes) (dev : ℕ) → Hold bytes dev (values bytes dev)
+unfolding values
+values_hold bytes dev zero below = refl
+values_hold bytes dev (suc zero) below = refl
+values_hold bytes dev (suc (suc zero)) below = refl
+values_hold bytes dev (suc (suc (suc zero))) below = refl
+values_hold bytes dev (suc (suc (suc (suc zero)))) below = refl
+values_hold bytes dev (suc (suc (suc (suc (suc zero))))) below = refl
+values_hold bytes dev (suc (suc (suc (suc (suc (suc k)))))) below = absurd (omega arith)
+
+state : Bytes → FittedCard → CardBytes
+state bytes card = record { card = card; command = 0; line = 0; bases = values bytes card.dev }
+
+state_is : (bytes : Bytes) (card : FittedCard) (off : ℕ) → length card.bases ≤ 6 → card_windows bytes off card ≡ card_held off (state bytes card)
+unfolding state
+state_is bytes card off few = card_is bytes (state bytes card) off few (values_hold bytes card.dev)
+
+base_held : (bytes : Bytes) (card : FittedCard) (off k : ℕ) (base : Base) → 0x10 + 4 * k ≤ off → off ≤ 0x13 + 4 * k → k < 6 → slice_get card.bases k ≡ Some base →
+    card_held off (state bytes card) ≡ held_by base (base_value bytes card.dev k)
+unfolding state
+base_held bytes card off k base from to below at =
+    let other : (off == 0x04) ≡ false = ne_eqb off 0x04 (omega arith) in
+    let bases : is_within 0x10 0x27 off ≡ true = grind (arith, nat_tests) in
+    let number : (off - 0x10) / 4 ≡ k = omega arith in
+    rw (other, bases, number, at, sym (values_hold bytes card.dev k below)) refl
+
+-- ---- cards of a list by their device numbers
+
+found : (cards : List FittedCard) → Rises cards → (k : ℕ) (d : FittedCard) → k < length cards →
+    find (λ card. card.dev == (get_or cards k d).dev) cards ≡ Some (get_or cards k d)
+found [] rises k d within = absurd (omega arith)
+found (card ∷ later) rises zero d within =
+    cond-true (card.dev == card.dev) (Some card) (find (λ other. other.dev == card.dev) later) (eq-eqb card.dev card.dev refl)
+found (card ∷ later) rises (suc k) d within =
+    let above : card.dev < (get_or later k d).dev = rises.0 k d (omega arith) in
+    cond-false (card.dev == (get_or later k d).dev) (Some card) (find (λ other. other.dev == (get_or later k d).dev) later) (ne_eqb _ _ (omega arith))
+    ∙ found later rises.1 k d (omega arith)
+
+record IsFitted (setup : Setup) (card : FittedCard) : Type 0 where
+  pub at : card_at setup card.dev ≡ Some card
+  pub first : 2 ≤ card.dev
+  pub few : length card.bases ≤ 6
+
+fitted : (setup : Setup) → IsCardList setup.cards → All (IsFitted setup) setup.cards
+fitted setup list k d within =
+    let is : IsCard (get_or setup.cards k d) = list.each k d within in
+    record { at = found setup.cards list.rises k d within; first = is.first; few = is.count }
+
+abbrev window : (dev k inside bits : ℕ) → Window
+window dev k inside bits = record { dev = dev; base = k; inside = inside; bits = bits }
+
+-- ---- one step of the search
+
+step_same : (e e' c c' : Bool) (w w' r r' : Option Window) → e' ≡ e → c' ≡ c → w' ≡ w → r' ≡ r → cond (e' && c') w' r' ≡ cond (e && c) w r
+step_same e e' c c' w w' r r' same_e same_c same_w same_r = rw (same_e, same_c, same_w, same_r) refl
+
+step_past : (e e' c c' : Bool) (w w' r r' : Option Window) → c ≡ false → c' ≡ false → r' ≡ r → cond (e' && c') w' r' ≡ cond (e && c) w r
+step_past e e' c c' w w' r r' none none' same_r = rw (none, none', and_no e, and_no e') same_r
+
+module _ (setup : Setup) (bytes new : Bytes) (addr : ℕ) (kept : (reg : Reg) → Kept setup bytes new addr reg) where
+  abbrev claims : Bytes → Window → Bool
+  claims registers = λ window. is_enabled_for 1 registers window.dev && is_covered addr window
+
+  abbrev pub BaseKept : ℕ → ℕ → Base → Type 0
+  BaseKept dev k base =
+      (base_value new dev k ≡ base_value bytes dev k)
+      ⊎ (Outside addr (held_by base (base_value bytes dev k)) × Outside addr (held_by base (base_value new dev k)))
+
+  windows_at : (registers : Bytes) (card : FittedCard) (off : ℕ) → IsFitted setup card →
+      windows_of setup registers (card_register card.dev off) ≡ card_windows registers off card
+  windows_at registers card off is =
+      windows_of_card setup registers (card_register card.dev off) (omega (arith, is.first)) (omega (arith, is.first)) refl
+      ∙ ap (λ (at : Option FittedCard). option_map_or (card_windows registers off) at []) is.at
+
+  outside_base : (registers : Bytes) (card : FittedCard) (off k : ℕ) (base : Base) → IsFitted setup card → 0x10 + 4 * k ≤ off → off ≤ 0x13 + 4 * k → k < 6 →
+      slice_get card.bases k ≡ Some base → Outside addr (windows_of setup registers (card_register card.dev off)) →
+      Outside addr (held_by base (base_value registers card.dev k))
+  outside_base registers card off k base is from to below at out =
+      subst (Outside addr)
+      (windows_at registers card off is ∙ state_is registers card off is.few ∙ base_held registers card off k base from to below at) out
+
+  base_moved : (card : FittedCard) (off k : ℕ) (base : Base) → IsFitted setup card → 0x10 + 4 * k ≤ off → off ≤ 0x13 + 4 * k → k < 6 →
+      slice_get card.bases k ≡ Some base →
+      (new (card_register card.dev off) ≡ bytes (card_register card.dev off)) ⊎ BaseKept card.dev k base
+  base_moved card off k base is from to below at =
+      elim (kept (card_register card.dev off)) [
+        | inl same ↦ inl same
+        | inr out ↦ inr (inr (
+          outside_base bytes card off k base is from to below at out.0,
+          outside_base new card off k base is from to below at out.1,
+        ))
+      ]
+
+  base_kept : (card : FittedCard) (k : ℕ) (base : Base) → IsFitted setup card → k < 6 → slice_get card.bases k ≡ Some base → BaseKept card.dev k base
+  base_kept card k base is below at =
+      elim (base_moved card (0x10 + 4 * k) k base is (omega arith) (omega arith) below at) [
+        | inr moved ↦ moved
+        | inl b0 ↦
+            elim (base_moved card (0x10 + 4 * k + 1) k base is (omega arith) (omega arith) below at) [
+              | inr moved ↦ moved
+              | inl b1 ↦
+                  elim (base_moved card (0x10 + 4 * k + 2) k base is (omega arith) (omega arith) below at) [
+                    | inr moved ↦ moved
+                    | inl b2 ↦
+                        elim (base_moved card (0x10 + 4 * k + 3) k base is (omega arith) (omega arith) below at) [
+                          | inr moved ↦ moved
+                          | inl b3 ↦ inl (rw (b0, b1, b2, b3) refl)
+                        ]
+                  ]
+            ]
+      ]
+
+  bases_same : (dev first : ℕ) (bases : List Base) → is_enabled_for 1 new dev ≡ is_enabled_for 1 bytes dev →
+      ((j : ℕ) (base : Base) → slice_get bases j ≡ Some base → BaseKept dev (first + j) base) →
+      find (claims new) (from_base new dev first bases) ≡ find (claims bytes) (from_base bytes dev first bases)
+  bases_same dev first [] enabled each = refl
+  bases_same dev first (IoBase bits ∷ later) enabled each =
+      bases_same dev (first + 1) later enabled
+      (λ j base at. let place : first + suc j ≡ first + 1 + j = omega arith in subst (λ (k : ℕ). BaseKept dev k base) place (each (suc j) base at))
+  bases_same dev first (MemoryBase bits ∷ later) enabled each =
+      let rest : find (claims new) (from_base new dev (first + 1) later) ≡ find (claims bytes) (from_base bytes dev (first + 1) later) =
+      bases_same dev (first + 1) later enabled
+      (λ j base at. let place : first + suc j ≡ first + 1 + j = omega arith in subst (λ (k : ℕ). BaseKept dev k base) place (each (suc j) base at)) in
+      let here : BaseKept dev first (MemoryBase bits) =
+      let place : first + 0 ≡ first = omega arith in subst (λ (k : ℕ). BaseKept dev k (MemoryBase bits)) place (each 0 (MemoryBase bits) refl) in
+      let old : Option Window = find (claims bytes) (from_base bytes dev (first + 1) later) in
+      let next : Option Window = find (claims new) (from_base new dev (first + 1) later) in
+      elim here [
+        | inl same ↦
+            step_same (is_enabled_for 1 bytes dev) (is_enabled_for 1 new dev)
+            (is_covered addr (window dev first (base_value bytes dev first) bits)) (is_covered addr (window dev first (base_value new dev first) bits))
+            (Some (window dev first (base_value bytes dev first) bits)) (Some (window dev first (base_value new dev first) bits)) old next
+            enabled (ap (λ v. is_covered addr (window dev first v bits)) same) (ap (λ v. Some (window dev first v bits)) same) rest
+        | inr out ↦
+            step_past (is_enabled_for 1 bytes dev) (is_enabled_for 1 new dev)
+            (is_covered addr (window dev first (base_value bytes dev first) bits)) (is_covered addr (window dev first (base_value new dev first) bits))
+            (Some (window dev first (base_value bytes dev first) bits)) (Some (window dev first (base_value new dev first) bits)) old next
+            (not_covered addr (window dev first (base_value bytes dev first) bits) out.0.0)
+            (not_covered addr (window dev first (base_value new dev first) bits) out.1.0) rest
+      ]
+
+  vga_same : (card : FittedCard) → is_enabled_for 1 new card.dev ≡ is_enabled_for 1 bytes card.dev →
+      find (claims new) (vga_window card) ≡ find (claims bytes) (vga_window card)
+  vga_same card enabled =
+      elim (cases_Bool card.vga) [
+        | inr plain ↦ rw plain refl
+        | inl vga ↦
+            rw vga
+            (step_same (is_enabled_for 1 bytes card.dev) (is_enabled_for 1 new card.dev)
+            (is_covered addr (window card.dev 7 0xA_0000 17)) (is_covered addr (window card.dev 7 0xA_0000 17))
+            (Some (window card.dev 7 0xA_0000 17)) (Some (window card.dev 7 0xA_0000 17)) None None enabled refl refl refl)
+      ]
+
+  -- the windows of a card of which its command is none
+  command_outside : (registers : Bytes) (card : FittedCard) → IsFitted setup card → Outside addr (windows_of setup registers (card_register card.dev 0x04)) →
+      find (claims registers) (memory_windows registers card) ≡ None
+  command_outside registers card is out =
+      none_covered addr (memory_windows registers card) (λ dev. is_enabled_for 1 registers dev) (subst (Outside addr) (windows_at registers card 0x04 is) out)
+
+  card_same : (card : FittedCard) → IsFitted setup card →
+      find (claims new) (memory_windows new card) ≡ find (claims bytes) (memory_windows bytes card)
+  card_same card is =
+      elim (kept (card_register card.dev 0x04)) [
+        | inr out ↦ command_outside new card is out.1 ∙ sym (command_outside bytes card is out.0)
+        | inl same ↦
+            let enabled : is_enabled_for 1 new card.dev ≡ is_enabled_for 1 bytes card.dev = ap (λ command. is_bit command 1) same in
+            let bases : find (claims new) (from_base new card.dev 0 card.bases) ≡ find (claims bytes) (from_base bytes card.dev 0 card.bases) =
+            bases_same card.dev 0 card.bases enabled
+            (λ j base at.
+            let place : j ≡ 0 + j = omega arith in
+            subst (λ (k : ℕ). BaseKept card.dev k base) place
+            (base_kept card j base is (omega (arith, slice_get_within card.bases j base at, is.few)) at)) in
+            rw (
+              find-append (claims new) (from_base new card.dev 0 card.bases) (vga_window card),
+              find-append (claims bytes) (from_base bytes card.dev 0 card.bases) (vga_window card),
+              bases,
+              vga_same card enabled,
+            ) refl
+      ]
+
+  cards_same : (cards : List FittedCard) → AllByRecursion (IsFitted setup) cards →
+      find (claims new) (flat_map (memory_windows new) cards) ≡ find (claims bytes) (flat_map (memory_windows bytes) cards)
+  cards_same [] each = refl
+  cards_same (card ∷ later) each =
+      rw (
+        find-append (claims new) (memory_windows new card) (flat_map (memory_windows new) later),
+        find-append (claims bytes) (memory_windows bytes card) (flat_map (memory_windows bytes) later),
+        card_same card each.0,
+        cards_same later each.1,
+      ) refl
+
+  pub claim_same : IsCardList setup.cards → memory_claim setup new addr ≡ memory_claim setup bytes addr
+  unfolding memory_claim
+  claim_same list = cards_same setup.cards (recursion_from_All (IsFitted setup) setup.cards (fitted setup list))

@@ -1,0 +1,176 @@
+-- The areas of an address are the same before and after a change that moves nothing round it.
+use Rattle.std.proofs.Common.{◌≡◌, ℕ, zero, suc, ◌+◌, ◌-◌, ◌*◌, ◌/◌, ◌<◌, ◌≤◌, ◌⊎◌, inl, inr, Bool, true, false, [], ◌∷◌, None, refl, sym, ◌∙◌, ap, subst, arith, lit<}
+use Rattle.std.specs.Prelude.{◌==◌, ◌||◌, nat_le, nat_lt, if◌then◌else◌}
+use Rattle.std.proofs.lemmas.Bool.{cases_Bool, cases_lt, ne_eqb}
+use Rattle.std.proofs.lemmas.Bool.Decides.{nat_tests}
+use Rattle.board_base.specs.declared.access.Kind.{Kind}
+use Rattle.board_base.specs.declared.access.Kind.TheVariants.{Fetch, Read, Write}
+use Rattle.board_base.specs.declared.target.Reg.{Reg}
+use Rattle.board_spec.specs.Setup.{Setup, IsCardList}
+use Rattle.board_spec.specs.Bits.{is_bit, is_within}
+use Rattle.board_spec.specs.Decode.{Bytes, bridge, isa, boundary, top_of, row_of, is_in, hole_of, is_high_window, nibble, is_open, is_shadow_range, is_shadowed, is_smram_range, is_rom_selected, area_of}
+use Rattle.board_spec.specs.FlatMap.{six_areas}
+use Rattle.map_builder.specs.Changed.{from_to, bridge_windows, IsOutside}
+use Rattle.map_builder.proofs.OutsideLemmas.{Outside, and_no}
+use Rattle.map_builder.proofs.KeptCards.{Kept, claim_same}
+
+outside_range : (addr lo hi : ℕ) → IsOutside addr (from_to lo hi) → is_within lo hi addr ≡ false
+outside_range addr lo hi (inl below) = grind (arith, nat_tests)
+outside_range addr lo hi (inr above) = grind (arith, nat_tests)
+
+-- ---- ranges of addresses that no register governs
+
+in_no_hole : (fdhc addr : ℕ) → IsOutside addr (from_to 0x8_0000 0x9_FFFF) → IsOutside addr (from_to 0xF0_0000 0xFF_FFFF) →
+    is_in (hole_of fdhc) addr ≡ false
+in_no_hole fdhc addr low high =
+    elim (cases_Bool (fdhc / 0x40 == 1)) [
+      | inl first ↦ rw first (outside_range addr 0x8_0000 0x9_FFFF low)
+      | inr not_first ↦
+          elim (cases_Bool (fdhc / 0x40 == 2)) [
+            | inl second ↦ rw (not_first, second) (outside_range addr 0xF0_0000 0xFF_FFFF high)
+            | inr not_second ↦ rw (not_first, not_second) refl
+          ]
+    ]
+
+or_no : (a : Bool) → (a || false) ≡ a
+or_no true = refl
+or_no false = refl
+
+always_rom : ℕ → Bool
+always_rom addr = is_within 0xF_0000 0xF_FFFF addr || is_within 0xFFFF_0000 0xFFFF_FFFF addr
+
+rom_outside : (xbcs addr : ℕ) → IsOutside addr (from_to 0xE_0000 0xE_FFFF) → IsOutside addr (from_to 0xFFF8_0000 0xFFFE_FFFF) →
+    is_rom_selected xbcs addr ≡ always_rom addr
+unfolding always_rom
+rom_outside xbcs addr low high =
+    let last : is_within 0xFFFE_0000 0xFFFE_FFFF addr ≡ false = outside_range addr 0xFFFE_0000 0xFFFE_FFFF (elim high [ inl below ↦ inl (omega arith) | inr above ↦ inr above ]) in
+    let rest : is_within 0xFFF8_0000 0xFFFD_FFFF addr ≡ false = outside_range addr 0xFFF8_0000 0xFFFD_FFFF (elim high [ inl below ↦ inl below | inr above ↦ inr (omega arith) ]) in
+    rw (
+      outside_range addr 0xE_0000 0xE_FFFF low,
+      last,
+      rest,
+      and_no (is_bit xbcs 6),
+      and_no (is_bit xbcs 7),
+      or_no (is_within 0xF_0000 0xF_FFFF addr || is_within 0xFFFF_0000 0xFFFF_FFFF addr),
+      or_no (is_within 0xF_0000 0xF_FFFF addr || is_within 0xFFFF_0000 0xFFFF_FFFF addr),
+    ) refl
+
+-- ---- the windows of PAM
+
+pam_offset : ℕ → ℕ
+pam_offset addr = if nat_le 0xF_0000 addr then 0x59 else 0x5A + (addr - 0xC_0000) / 0x8000
+
+pam_window_low : (off addr : ℕ) → off ≡ 0x5A + (addr - 0xC_0000) / 0x8000 → 0xC_0000 ≤ addr → addr < 0xF_0000 → Outside addr (bridge_windows off) → ⊥
+pam_window_low off addr is above below out =
+    let not_first : (off == 0x59) ≡ false = ne_eqb off 0x59 (omega arith) in
+    let within : is_within 0x5A 0x5F off ≡ true = grind (arith, nat_tests) in
+    let windows : bridge_windows off ≡ from_to (0xC_0000 + 0x8000 * (off - 0x5A)) (0xC_7FFF + 0x8000 * (off - 0x5A)) ∷ [] = rw (not_first, within) refl in
+    let here : Outside addr (from_to (0xC_0000 + 0x8000 * (off - 0x5A)) (0xC_7FFF + 0x8000 * (off - 0x5A)) ∷ []) = subst (Outside addr) windows out in
+    elim here.0 [ inl lower ↦ omega arith | inr higher ↦ omega arith ]
+
+in_pam_window : (addr : ℕ) → is_shadow_range addr ≡ true → Outside addr (bridge_windows (pam_offset addr)) → ⊥
+unfolding pam_offset
+in_pam_window addr shadow out =
+    let above : 0xC_0000 ≤ addr = grind (arith, nat_tests) in
+    let below : addr ≤ 0xF_FFFF = grind (arith, nat_tests) in
+    elim (cases_Bool (nat_le 0xF_0000 addr)) [
+      | inl high ↦
+          let from : 0xF_0000 ≤ addr = grind (arith, nat_tests) in
+          let here : Outside addr (bridge_windows 0x59) = rw high at out in
+          elim here.0 [ inl lower ↦ omega arith | inr higher ↦ omega arith ]
+      | inr low ↦
+          let from : addr < 0xF_0000 = grind (arith, nat_tests) in
+          let here : Outside addr (bridge_windows (0x5A + (addr - 0xC_0000) / 0x8000)) = rw low at out in
+          pam_window_low (0x5A + (addr - 0xC_0000) / 0x8000) addr refl above from here
+    ]
+
+-- ---- rows of DRAM
+
+row_window : (row : ℕ) → row < 8 → bridge_windows (0x60 + row) ≡ from_to 0 0x7F7F_FFFF ∷ []
+row_window row below =
+    let not_pam0 : (0x60 + row == 0x59) ≡ false = ne_eqb (0x60 + row) 0x59 (omega arith) in
+    let not_pam : is_within 0x5A 0x5F (0x60 + row) ≡ false = grind (arith, nat_tests) in
+    let within : is_within 0x60 0x67 (0x60 + row) ≡ true = grind (arith, nat_tests) in
+    rw (not_pam0, not_pam, within) refl
+
+no_row : (bytes : Bytes) (addr : ℕ) → top_of bytes ≤ 0x7F80_0000 → 0x7F80_0000 ≤ addr → row_of bytes addr ≡ None
+unfolding row_of
+no_row bytes addr top high = let past : nat_lt addr (top_of bytes) ≡ false = grind (arith, nat_tests) in rw past refl
+
+module _ (setup : Setup) (bytes new : Bytes) (addr : ℕ) (kept : (reg : Reg) → Kept setup bytes new addr reg) where
+  hole_same : is_in (hole_of (new (bridge 0x68))) addr ≡ is_in (hole_of (bytes (bridge 0x68))) addr
+  hole_same =
+      elim (kept (bridge 0x68)) [
+        | inl same ↦ ap (λ fdhc. is_in (hole_of fdhc) addr) same
+        | inr out ↦ in_no_hole (new (bridge 0x68)) addr out.0.0 out.0.1.0 ∙ sym (in_no_hole (bytes (bridge 0x68)) addr out.0.0 out.0.1.0)
+      ]
+
+  rom_same : is_rom_selected (new (isa 0x4E)) addr ≡ is_rom_selected (bytes (isa 0x4E)) addr
+  rom_same =
+      elim (kept (isa 0x4E)) [
+        | inl same ↦ ap (λ xbcs. is_rom_selected xbcs addr) same
+        | inr out ↦ rom_outside (new (isa 0x4E)) addr out.0.0 out.0.1.0 ∙ sym (rom_outside (bytes (isa 0x4E)) addr out.0.0 out.0.1.0)
+      ]
+
+  smram_same : (new (bridge 0x72) ≡ bytes (bridge 0x72)) ⊎ (is_smram_range addr ≡ false)
+  smram_same =
+      elim (kept (bridge 0x72)) [ inl same ↦ inl same | inr out ↦ inr (outside_range addr 0xA_0000 0xB_FFFF out.0.0) ]
+
+  shadow_same : (kind : Kind) → is_shadowed new addr kind ≡ is_shadowed bytes addr kind
+  unfolding pam_offset
+  shadow_same kind =
+      elim (cases_Bool (is_shadow_range addr)) [
+        | inr beside ↦ rw beside refl
+        | inl within ↦
+            elim (kept (bridge (pam_offset addr))) [
+              | inl same ↦ rw within (ap (λ pam. is_open (nibble pam (is_high_window addr)) kind) same)
+              | inr out ↦ absurd (in_pam_window addr within out.0)
+            ]
+      ]
+
+  row_kept : (row : ℕ) → row < 8 → (boundary new row ≡ boundary bytes row) ⊎ (0x7F80_0000 ≤ addr)
+  row_kept row below =
+      elim (kept (bridge (0x60 + row))) [
+        | inl same ↦ inl (ap (λ byte. byte * 0x80_0000) same)
+        | inr out ↦
+            let here : Outside addr (from_to 0 0x7F7F_FFFF ∷ []) = subst (Outside addr) (row_window row below) out.0 in
+            elim here.0 [ inl lower ↦ absurd (omega arith) | inr higher ↦ inr (omega arith) ]
+      ]
+
+  rows_kept : (n : ℕ) → n ≤ 8 → ((row : ℕ) → row < n → boundary new row ≡ boundary bytes row) ⊎ (0x7F80_0000 ≤ addr)
+  rows_kept zero few = inl (λ row below. absurd (omega arith))
+  rows_kept (suc n) few =
+      elim (rows_kept n (omega arith)) [
+        | inr high ↦ inr high
+        | inl before ↦
+            elim (row_kept n (omega arith)) [
+              | inr high ↦ inr high
+              | inl here ↦ inl (λ row below.
+                  elim (cases_lt row n) [
+                    | inl less ↦ before row less
+                    | inr not_less ↦ let at : row ≡ n = omega arith in subst (λ (k : ℕ). boundary new k ≡ boundary bytes k) (sym at) here
+                  ])
+            ]
+      ]
+
+  row_same : top_of bytes ≤ 0x7F80_0000 → top_of new ≤ 0x7F80_0000 → row_of new addr ≡ row_of bytes addr
+  unfolding row_of
+  row_same top top' =
+      elim (rows_kept 8 (omega arith)) [
+        | inr high ↦ no_row new addr top' high ∙ sym (no_row bytes addr top high)
+        | inl same ↦
+            rw (same 0 (lit< tt), same 1 (lit< tt), same 2 (lit< tt), same 3 (lit< tt), same 4 (lit< tt), same 5 (lit< tt), same 6 (lit< tt), same 7 (lit< tt)) refl
+      ]
+
+  module _ (list : IsCardList setup.cards) (top : top_of bytes ≤ 0x7F80_0000) (top' : top_of new ≤ 0x7F80_0000) where
+    area_same : (kind : Kind) (smm : Bool) → area_of setup new addr kind smm ≡ area_of setup bytes addr kind smm
+    unfolding area_of
+    area_same kind smm =
+        elim smram_same [
+          | inl same ↦ rw (row_same top top', same, shadow_same kind, hole_same, rom_same, claim_same setup bytes new addr kept list) refl
+          | inr beside ↦ rw (row_same top top', beside, shadow_same kind, hole_same, rom_same, claim_same setup bytes new addr kept list) refl
+        ]
+
+    pub areas_same : six_areas setup new addr ≡ six_areas setup bytes addr
+    areas_same =
+        rw (area_same Fetch false, area_same Read false, area_same Write false, area_same Fetch true, area_same Read true, area_same Write true) refl

@@ -1,0 +1,156 @@
+-- A change keeps each register whose windows lie elsewhere.
+use Rattle.std.proofs.Common.{◌≡◌, ℕ, zero, suc, ◌+◌, ◌-◌, ◌*◌, ◌%◌, ◌^◌, ◌<◌, ◌≤◌, inl, inr, true, List, [], ◌∷◌, length, get_or, take, refl, sym, ◌∙◌, ap, subst, arith}
+use Rattle.std.specs.Prelude.{flat_map, bit_and, bit_or}
+use Rattle.std.specs.Int.Bits.{and_mask, and_zero_r, or_zero_r}
+use Rattle.std.proofs.lemmas.Bool.{cases_Bool}
+use Rattle.std.proofs.lemmas.Bool.Decides.{nat_tests}
+use Rattle.std.proofs.lemmas.List.Elements.{recursion_from_All}
+use Rattle.board_base.specs.declared.access.Width.{Width}
+use Rattle.board_base.specs.declared.access.Width.TheVariants.{One, Two, Four}
+use Rattle.board_base.specs.declared.target.Reg.{Reg}
+use Rattle.board_base.specs.Access.{bytes_of}
+use Rattle.board_spec.specs.declared.map_change.MapChange.{MapChange}
+use Rattle.board_spec.specs.declared.map_change.MapChange.TheVariants.{Store, Reset}
+use Rattle.board_spec.specs.Setup.{Setup, IsCardList}
+use Rattle.board_spec.specs.Bits.{byte, merged}
+use Rattle.board_spec.specs.RegisterTable.{host_bridge, reset_byte, writable_bits}
+use Rattle.board_spec.specs.Registers.{covers, byte_after}
+use Rattle.board_spec.specs.Decode.{Bytes, bridge, boundary, top_of}
+use Rattle.board_spec.specs.MapWrites.{reg_after}
+use Rattle.board_spec.specs.FlatMap.{address_count, six_areas}
+use Rattle.addr_decode.specs.MapRegs.{MapBytes, StandsFor}
+use Rattle.map_builder.specs.declared.range.Changed.{Changed}
+use Rattle.map_builder.specs.Changed.{windows_of, windows_covered, after, changed_windows, bounds_or_zero, IsOutside}
+use Rattle.map_builder.specs.Map.{HasBoard}
+use Rattle.map_builder.specs.Laws.{WindowsHoldChanges}
+use Rattle.map_builder.proofs.OutsideLemmas.{Outside, outside_bounds, outside_left, outside_right}
+use Rattle.map_builder.proofs.WindowLemmas.{offsets}
+use Rattle.map_builder.proofs.KeptCards.{Kept}
+use Rattle.map_builder.proofs.KeptLemmas.{areas_same}
+
+-- ---- the registers that a store covers
+
+outside_at : (addr : ℕ) (windows : ℕ → List Changed) (xs : List ℕ) (k : ℕ) → k < length xs → Outside addr (flat_map windows xs) →
+    Outside addr (windows (get_or xs k 0))
+outside_at addr windows [] k within out = absurd (omega arith)
+outside_at addr windows (x ∷ xs) zero within out = outside_left addr (windows x) (flat_map windows xs) out
+outside_at addr windows (x ∷ xs) (suc k) within out =
+    outside_at addr windows xs k (omega arith) (outside_right addr (windows x) (flat_map windows xs) out)
+
+offset_is : (width : Width) (k : ℕ) → k < bytes_of width → (k < length (take (bytes_of width) offsets)) × (get_or (take (bytes_of width) offsets) k 0 ≡ k)
+offset_is One zero below = (omega arith, refl)
+offset_is One (suc k) below = absurd (omega arith)
+offset_is Two zero below = (omega arith, refl)
+offset_is Two (suc zero) below = (omega arith, refl)
+offset_is Two (suc (suc k)) below = absurd (omega arith)
+offset_is Four zero below = (omega arith, refl)
+offset_is Four (suc zero) below = (omega arith, refl)
+offset_is Four (suc (suc zero)) below = (omega arith, refl)
+offset_is Four (suc (suc (suc zero))) below = (omega arith, refl)
+offset_is Four (suc (suc (suc (suc k)))) below = absurd (omega arith)
+
+outside_of : (addr : ℕ) (windows : ℕ → List Changed) (width : Width) (k : ℕ) → k < bytes_of width →
+    Outside addr (flat_map windows (take (bytes_of width) offsets)) → Outside addr (windows k)
+outside_of addr windows width k below out =
+    let at = offset_is width k below in
+    subst (λ (j : ℕ). Outside addr (windows j)) at.1 (outside_at addr windows (take (bytes_of width) offsets) k at.0 out)
+
+register : (dev fun off : ℕ) → Reg
+register dev fun off = record { dev = dev; fun = fun; off = off }
+
+same_register : (reg other : Reg) → reg.dev ≡ other.dev → reg.fun ≡ other.fun → reg.off ≡ other.off → reg ≡ other
+unfolding register
+same_register reg other devs funs offs =
+    let same : register reg.dev reg.fun reg.off ≡ register other.dev other.fun other.off = cc in same
+
+record IsCovered (at : Reg) (width : Width) (reg : Reg) : Type 0 where
+  pub k : ℕ
+  pub below : k < bytes_of width
+  pub is : reg_after at k ≡ reg
+
+covered : (at : Reg) (width : Width) (reg : Reg) → covers at width reg ≡ true → IsCovered at width reg
+covered at width reg is =
+    let devs : at.dev ≡ reg.dev = grind (arith, nat_tests) in
+    let funs : at.fun ≡ reg.fun = grind (arith, nat_tests) in
+    let from : at.off ≤ reg.off = grind (arith, nat_tests) in
+    let to : reg.off < at.off + bytes_of width = grind (arith, nat_tests) in
+    record {
+      k = reg.off - at.off;
+      below = omega arith;
+      is = same_register (reg_after at (reg.off - at.off)) reg devs funs (omega arith);
+    }
+
+-- each register that a store covers governs windows elsewhere, and the others keep their bytes
+store_keeps : (setup : Setup) (bytes : Bytes) (at : Reg) (width : Width) (value addr : ℕ) →
+    Outside addr (changed_windows setup bytes (Store at width value)) → (reg : Reg) → Kept setup bytes (after setup (Store at width value) bytes) addr reg
+unfolding windows_covered
+store_keeps setup bytes at width value addr out reg =
+    elim (cases_Bool (covers at width reg)) [
+      | inr beside ↦ inl (rw beside refl)
+      | inl over ↦
+          let is = covered at width reg over in
+          let new : Bytes = after setup (Store at width value) bytes in
+          let before : Outside addr (windows_of setup bytes (reg_after at is.k)) =
+          outside_of addr (λ k. windows_of setup bytes (reg_after at k)) width is.k is.below
+          (outside_left addr (windows_covered setup bytes (Store at width value)) (windows_covered setup new (Store at width value)) out) in
+          let later : Outside addr (windows_of setup new (reg_after at is.k)) =
+          outside_of addr (λ k. windows_of setup new (reg_after at k)) width is.k is.below
+          (outside_right addr (windows_covered setup bytes (Store at width value)) (windows_covered setup new (Store at width value)) out) in
+          inr (
+            subst (λ (other : Reg). Outside addr (windows_of setup bytes other)) is.is before,
+            subst (λ (other : Reg). Outside addr (windows_of setup new other)) is.is later,
+          )
+    ]
+
+-- ---- the top of DRAM
+
+merged-all : (old written : ℕ) → written < 256 → merged 0xFF old written ≡ written
+merged-all old written below =
+    ap (λ n. bit_or n (bit_and old 0)) (and_mask written 8)
+    ∙ ap (λ n. bit_or (written % 2 ^ 8) n) (and_zero_r old)
+    ∙ or_zero_r (written % 2 ^ 8)
+    ∙ omega arith
+
+last_row_writable : (setup : Setup) → writable_bits setup (bridge 0x67) ≡ 0xFF
+unfolding writable_bits host_bridge
+last_row_writable setup = refl
+
+-- a stored byte is a byte
+last_row_after : (setup : Setup) (old written : ℕ) → written < 256 → byte_after setup (bridge 0x67) old written ≡ written
+last_row_after setup old written below = rw (last_row_writable setup) (merged-all old written below)
+
+last_row_at_reset : (setup : Setup) → reset_byte setup (bridge 0x67) ≡ 1
+unfolding reset_byte host_bridge
+last_row_at_reset setup = refl
+
+pub top_after : (setup : Setup) (bytes : Bytes) (change : MapChange) → top_of bytes ≤ 0x7F80_0000 → top_of (after setup change bytes) ≤ 0x7F80_0000
+top_after setup bytes Reset top = rw (last_row_at_reset setup) (omega arith)
+top_after setup bytes (Store at width value) top =
+    elim (cases_Bool (covers at width (bridge 0x67))) [
+      | inr beside ↦ rw beside top
+      | inl over ↦ rw (over, last_row_after setup (bytes (bridge 0x67)) (byte value (0x67 - at.off)) (omega arith)) (omega arith)
+    ]
+
+-- outside all changed windows nothing changes
+changes_keep : (setup : Setup) (bytes : Bytes) (change : MapChange) (addr : ℕ) → IsCardList setup.cards → top_of bytes ≤ 0x7F80_0000 → addr < address_count →
+    Outside addr (changed_windows setup bytes change) → six_areas setup (after setup change bytes) addr ≡ six_areas setup bytes addr
+unfolding windows_covered
+changes_keep setup bytes Reset addr list top address out =
+    elim out.0 [ inl below ↦ absurd (omega arith) | inr above ↦ absurd (omega arith) ]
+changes_keep setup bytes (Store at width value) addr list top address out =
+    areas_same setup bytes (after setup (Store at width value) bytes) addr (store_keeps setup bytes at width value addr out) list top
+    (top_after setup bytes (Store at width value) top)
+
+pub windows_hold_changes : WindowsHoldChanges
+windows_hold_changes setup bytes change addr list top address out =
+    changes_keep setup bytes change addr list top address (recursion_from_All (IsOutside addr) (changed_windows setup bytes change) out)
+
+-- outside their bounds nothing changes, on each board that has the registers of some board
+pub outside_keeps : (regs : MapBytes) (setup : Setup) (bytes : Bytes) → HasBoard regs → (change : MapChange) (addr : ℕ) → StandsFor setup bytes regs →
+    addr < address_count → IsOutside addr (bounds_or_zero (changed_windows setup bytes change)) →
+    six_areas setup (after setup change bytes) addr ≡ six_areas setup bytes addr
+outside_keeps regs setup bytes board change addr stands address out =
+    let list : IsCardList setup.cards = subst IsCardList (board.stands.cards.0 ∙ sym stands.cards.0) board.cards in
+    let last : boundary bytes 7 ≡ boundary board.bytes 7 =
+    ap (λ (byte : ℕ). byte * 0x80_0000) (sym (stands.rows 7 (omega arith)) ∙ board.stands.rows 7 (omega arith)) in
+    changes_keep setup bytes change addr list (rw last board.top) address (outside_bounds addr (changed_windows setup bytes change) out)

@@ -1,0 +1,10 @@
+pub mod BoardLemmas
+pub mod AreaLemmas
+pub mod BuildLemmas
+pub mod FindLemmas
+pub mod WindowLemmas
+pub mod DeviceLemmas
+pub mod OutsideLemmas
+pub mod KeptCards
+pub mod KeptLemmas
+pub mod KeptStores

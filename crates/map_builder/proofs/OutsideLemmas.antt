@@ -1,0 +1,70 @@
+-- Addresses outside windows and outside their bounds.
+use Rattle.std.proofs.Common.{◌≡◌, ℕ, ◌+◌, ◌*◌, ◌/◌, ◌%◌, ◌^◌, ◌<◌, inl, inr, Bool, true, false, List, [], ◌∷◌, ◌++◌, map, Option, Some, None, refl, ap, arith}
+use Rattle.std.specs.Prelude.{◌&&◌, unwrap_or, find}
+use Rattle.std.specs.List.{AllByRecursion}
+use Rattle.std.proofs.Math.Pow.{split}
+use Rattle.std.proofs.lemmas.Bool.{ne_eqb}
+use Rattle.std.proofs.lemmas.Nat.{pow_pos}
+use Rattle.board_spec.specs.Decode.{Window, is_covered}
+use Rattle.map_builder.specs.declared.range.Changed.{Changed}
+use Rattle.map_builder.specs.Changed.{from_to, decoded, bounds, bounds_or_zero, joined, IsOutside}
+
+-- an address outside all of some windows
+abbrev pub Outside : ℕ → List Changed → Type 0
+Outside addr windows = AllByRecursion (IsOutside addr) windows
+
+-- ---- outside their bounds
+
+abbrev OutsideSome : ℕ → Option Changed → Type 0
+OutsideSome addr None = Unit {0}
+OutsideSome addr (Some interval) = IsOutside addr interval
+
+outside_both : (addr : ℕ) (here : Changed) (there : Option Changed) → OutsideSome addr (joined (Some here) there) →
+    IsOutside addr here × OutsideSome addr there
+outside_both addr here None out = (out, tt)
+outside_both addr here (Some there) (inl below) = (inl (omega arith), inl (omega arith))
+outside_both addr here (Some there) (inr above) = (inr (omega arith), inr (omega arith))
+
+outside_each : (addr : ℕ) (windows : List Changed) → OutsideSome addr (bounds windows) → Outside addr windows
+unfolding bounds
+outside_each addr [] out = tt
+outside_each addr (window ∷ later) out =
+    let both = outside_both addr window (bounds later) out in (both.0, outside_each addr later both.1)
+
+outside_some : (addr : ℕ) (found : Option Changed) → IsOutside addr (unwrap_or found (from_to 0 0)) → OutsideSome addr found
+outside_some addr None out = tt
+outside_some addr (Some interval) out = out
+
+pub outside_bounds : (addr : ℕ) (windows : List Changed) → IsOutside addr (bounds_or_zero windows) → Outside addr windows
+outside_bounds addr windows out = outside_each addr windows (outside_some addr (bounds windows) out)
+
+-- ---- parts of a list of windows
+
+pub outside_left : (addr : ℕ) (xs ys : List Changed) → Outside addr (xs ++ ys) → Outside addr xs
+outside_left addr [] ys out = tt
+outside_left addr (x ∷ xs) ys out = (out.0, outside_left addr xs ys out.1)
+
+pub outside_right : (addr : ℕ) (xs ys : List Changed) → Outside addr (xs ++ ys) → Outside addr ys
+outside_right addr [] ys out = out
+outside_right addr (x ∷ xs) ys out = outside_right addr xs ys out.1
+
+-- ---- windows of cards
+
+pub not_covered : (addr : ℕ) (window : Window) → IsOutside addr (decoded window) → is_covered addr window ≡ false
+not_covered addr window out =
+    ne_eqb (window.inside / 2 ^ window.bits) (addr / 2 ^ window.bits)
+    (λ same.
+    let parts : addr / 2 ^ window.bits * 2 ^ window.bits + addr % 2 ^ window.bits ≡ addr = split addr window.bits in
+    let positive : 0 < 2 ^ window.bits = pow_pos window.bits in
+    let first : window.inside / 2 ^ window.bits * 2 ^ window.bits ≡ addr / 2 ^ window.bits * 2 ^ window.bits = ap (λ q. q * 2 ^ window.bits) same in
+    elim out [ inl below ↦ omega arith | inr above ↦ omega arith ])
+
+pub and_no : (a : Bool) → (a && false) ≡ false
+and_no true = refl
+and_no false = refl
+
+pub none_covered : (addr : ℕ) (windows : List Window) (counts : ℕ → Bool) → Outside addr (map decoded windows) →
+    find (λ window. counts window.dev && is_covered addr window) windows ≡ None
+none_covered addr [] counts out = refl
+none_covered addr (window ∷ later) counts out =
+    rw (not_covered addr window out.0, and_no (counts window.dev)) (none_covered addr later counts out.1)

@@ -1,0 +1,88 @@
+-- The windows of the address map that each register byte governs, and the bounds of those that a change may change.
+use Rattle.std.specs.Prelude.{ℕ, ◌+◌, ◌-◌, ◌*◌, ◌/◌, ◌^◌, ◌<◌, ◌⊎◌, ◌==◌, min, max, ◌&&◌, if◌then◌else◌, List, [], ◌∷◌, ◌++◌, take, map, filter, flat_map, Option, Some, None, unwrap_or}
+use Rattle.std.specs.Option.{option_map_or}
+use Rattle.board_base.specs.declared.target.Reg.{Reg}
+use Rattle.board_base.specs.Access.{bytes_of}
+use Rattle.board_spec.specs.declared.map_change.MapChange.{MapChange}
+use Rattle.board_spec.specs.declared.map_change.MapChange.TheVariants.{Store, Reset}
+use Rattle.board_spec.specs.Setup.{FittedCard, Setup, card_at}
+use Rattle.board_spec.specs.Bits.{is_within}
+use Rattle.board_spec.specs.Decode.{Bytes, Window, memory_windows}
+use Rattle.board_spec.specs.Registers.{changed_byte}
+use Rattle.board_spec.specs.MapWrites.{reg_after}
+use Rattle.addr_decode.specs.Edges.{first_address}
+use Rattle.map_builder.specs.declared.range.Changed.{Changed}
+
+-- the addresses from a first one to a last one
+abbrev pub from_to : ℕ → ℕ → Changed
+from_to lo hi = record { lo = lo; hi = hi }
+
+-- ---- the windows that a register byte governs
+
+-- 00.0. PAM0: the window of 64 KiB at F0000h. PAM1 to PAM6: two windows of 16 KiB each, from C0000h on. A row of
+-- DRAM ends at most at 255 times 8 MiB. FDHC: the two holes. SMRAM: A0000h to BFFFFh
+abbrev pub bridge_windows : (off : ℕ) → List Changed
+bridge_windows off =
+    if off == 0x59 then from_to 0xF_0000 0xF_FFFF ∷ [] else
+    if is_within 0x5A 0x5F off then from_to (0xC_0000 + 0x8000 * (off - 0x5A)) (0xC_7FFF + 0x8000 * (off - 0x5A)) ∷ [] else
+    if is_within 0x60 0x67 off then from_to 0 0x7F7F_FFFF ∷ [] else
+    if off == 0x68 then from_to 0x8_0000 0x9_FFFF ∷ from_to 0xF0_0000 0xFF_FFFF ∷ [] else
+    if off == 0x72 then from_to 0xA_0000 0xB_FFFF ∷ [] else []
+
+-- 01.0. XBCS: the ranges of the ROM that it selects
+abbrev pub isa_windows : (off : ℕ) → List Changed
+isa_windows off = if off == 0x4E then from_to 0xE_0000 0xE_FFFF ∷ from_to 0xFFF8_0000 0xFFFE_FFFF ∷ [] else []
+
+-- what a memory base of a card decodes, or its VGA window
+abbrev pub decoded : Window → Changed
+decoded window = from_to (first_address window) (first_address window + (2 ^ window.bits - 1))
+
+-- a card. The command: every memory base, and the VGA window. A base register: the base, where it is for memory
+abbrev pub card_windows : Bytes → (off : ℕ) → FittedCard → List Changed
+card_windows bytes off card =
+    if off == 0x04 then map decoded (memory_windows bytes card) else
+    if is_within 0x10 0x27 off then map decoded (filter (λ window. window.base == (off - 0x10) / 4) (memory_windows bytes card)) else []
+
+-- where the registers hold these bytes
+abbrev pub windows_of : Setup → Bytes → Reg → List Changed
+windows_of setup bytes reg =
+    if reg.dev == 0 && reg.fun == 0 then bridge_windows reg.off else
+    if reg.dev == 1 && reg.fun == 0 then isa_windows reg.off else
+    if reg.fun == 0 then option_map_or (card_windows bytes reg.off) (card_at setup reg.dev) [] else []
+
+-- ---- the windows that a change may change
+
+-- those of the bytes that it covers. A hard reset covers them all
+unfoldable pub windows_covered : Setup → Bytes → MapChange → List Changed
+windows_covered setup bytes Reset = from_to 0 0xFFFF_FFFF ∷ []
+windows_covered setup bytes (Store reg width value) =
+    flat_map (λ k. windows_of setup bytes (reg_after reg k)) (take (bytes_of width) (0 ∷ 1 ∷ 2 ∷ 3 ∷ []))
+
+-- the registers after a change
+abbrev pub after : Setup → MapChange → Bytes → Bytes
+after setup change bytes = λ reg. changed_byte setup change reg (bytes reg)
+
+-- by what the registers held before the whole change, and by what they hold after it: a base may have moved
+abbrev pub changed_windows : Setup → Bytes → MapChange → List Changed
+changed_windows setup bytes change = windows_covered setup bytes change ++ windows_covered setup (after setup change bytes) change
+
+-- ---- their bounds
+
+-- the least interval that holds both
+abbrev pub joined : Option Changed → Option Changed → Option Changed
+joined None there = there
+joined (Some here) None = Some here
+joined (Some here) (Some there) = Some (from_to (min here.lo there.lo) (max here.hi there.hi))
+
+-- the least first and the greatest last address of some windows
+unfoldable pub bounds : List Changed → Option Changed
+bounds [] = None
+bounds (window ∷ later) = joined (Some window) (bounds later)
+
+-- both are 0 where there is no window
+abbrev pub bounds_or_zero : List Changed → Changed
+bounds_or_zero windows = unwrap_or (bounds windows) (from_to 0 0)
+
+-- an address lies outside an interval
+abbrev pub IsOutside : (addr : ℕ) → Changed → Type 0
+IsOutside addr interval = (addr < interval.lo) ⊎ (interval.hi < addr)

@@ -1,0 +1,5 @@
+pub mod Map
+pub mod Find
+pub mod Changed
+pub mod Held
+pub mod Laws

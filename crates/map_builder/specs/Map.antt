@@ -1,0 +1,51 @@
+-- The memory map as the crate keeps it: the registers, the ranges and the version.
+use Rattle.std.specs.Prelude.{ℕ, ◌≡◌, ◌≢◌, ◌-◌, ◌^◌, ◌<◌, ◌≤◌, ◌⊎◌, List, [], ◌∷◌, ◌++◌, length, All, slice_index}
+use Rattle.board_base.specs.declared.target.Area.{Area}
+use Rattle.board_spec.specs.Setup.{Setup, IsCardList}
+use Rattle.board_spec.specs.Decode.{Bytes, top_of}
+use Rattle.board_spec.specs.FlatMap.{MapRange, Tiles, IsFlatMapOf}
+use Rattle.pci_bars.specs.Cards.{CardBytes}
+use Rattle.addr_decode.specs.MapRegs.{MapBytes, AreFitted, StandsFor}
+use Rattle.map_builder.specs.declared.range.Range.{Range}
+
+-- the registers that the map depends on, its ranges, and how many changes it has had
+pub record Mapped : Type 0 where
+  pub regs : MapBytes
+  pub ranges : List MapRange
+  pub version : ℕ
+
+abbrev pub range_of : Range → MapRange
+range_of range = record { lo = range.lo; hi = range.hi; areas = range.row.areas }
+
+-- some board has these registers. The last boundary register is a byte, so that its DRAM ends at most at 255 times 8 MiB
+pub record HasBoard (regs : MapBytes) : Type 0 where
+  pub setup : Setup
+  pub bytes : Bytes
+  pub cards : IsCardList setup.cards
+  pub top : top_of bytes ≤ 0x7F80_0000
+  pub stands : StandsFor setup bytes regs
+
+-- the ranges are the flat map of every board that has these registers, and cover all addresses
+pub record IsMapOf (regs : MapBytes) (ranges : List MapRange) : Type 0 where
+  pub fitted : AreFitted regs.cards
+  pub board : HasBoard regs
+  pub tiles : Tiles 0 ranges
+  pub map : (setup : Setup) (bytes : Bytes) → StandsFor setup bytes regs → IsFlatMapOf setup bytes ranges
+
+-- the base registers of cards hold doublewords
+abbrev pub AreDoublewords : List CardBytes → Type 0
+AreDoublewords cards = All (λ card. (k : ℕ) → slice_index card.bases k < 2 ^ 32) cards
+
+-- the registers are as wide as their types say, and there are at most eight cards
+pub record HaveWidths (regs : MapBytes) : Type 0 where
+  pub rows : (row : ℕ) → slice_index regs.drb row < 2 ^ 8
+  pub count : length regs.cards ≤ 8
+  pub bases : AreDoublewords regs.cards
+
+-- how the ranges go on at an address with these areas: the last range has them too, or it ends below, and another begins
+abbrev pub GoesOn : (ranges ranges' : List MapRange) → (last last' : MapRange) → (addr : ℕ) → List Area → Type 0
+GoesOn ranges ranges' last last' addr areas =
+    ((areas ≡ last.areas) × (ranges' ≡ ranges) × (last' ≡ last))
+    ⊎ ((areas ≢ last.areas)
+    × (ranges' ≡ ranges ++ record last { hi = addr - 1 } ∷ [])
+    × (last' ≡ record { lo = addr; hi = 0xFFFF_FFFF; areas = areas }))

@@ -1,0 +1,135 @@
+//! The memory map as one list of ranges.
+ghost use Rattle.std.specs.Prelude.{◌≡◌, ◌≤◌, ◌<◌, ◌+◌, ℕ, length, map};
+ghost use Rattle.board_base.specs.declared.access.Kind.{Kind};
+ghost use Rattle.board_spec.specs.Setup.{Setup};
+ghost use Rattle.board_spec.specs.Registers.{changed_byte};
+ghost use Rattle.board_spec.specs.Decode.{Bytes};
+ghost use Rattle.board_spec.specs.FlatMap.{address_count, six_areas, Tiles, IsFlatMapOf, IsSpan};
+ghost use Rattle.pci_bars.specs.Cards.{cards_of};
+ghost use Rattle.addr_decode.specs.MapRegs.{AreFitted, StandsFor, map_bytes};
+ghost use Rattle.map_builder.specs.Map.{range_of};
+ghost use Rattle.map_builder.specs.Changed.{after, changed_windows, bounds_or_zero, IsOutside};
+
+use crate::build::{CAPACITY, ranges_of};
+use crate::changed::{bounds_covered, joined};
+use crate::find::span_of;
+use crate::range::{Changed, Range, Span};
+use crate::widths::hold_widths;
+use addr_decode::{MapChange, MapRegs};
+use arrayvec::ArrayVec;
+use board_base::Kind;
+use std::marker::Model;
+
+/// The answer where no window changes.
+const NOTHING: Changed = Changed { lo: 0, hi: 0 };
+
+/// The memory map of some registers, and how many changes it has had: the least list of ranges from the first address
+/// to the last in each of which every address has the same areas.
+#[derive(Drop)]
+pub struct FlatMap {
+    regs: MapRegs,
+    ranges: ArrayVec<Range, CAPACITY>,
+    version: u32,
+}
+
+impl Model for FlatMap {
+    ghost use Rattle.std.specs.Prelude.{map};
+    ghost use Rattle.addr_decode.specs.MapRegs.{map_bytes};
+    ghost use Rattle.map_builder.specs.Map.{Mapped, IsMapOf, range_of};
+
+    ghost Value = { Mapped };
+
+    ghost view = { λ flat. record { regs = map_bytes flat.regs; ranges = map range_of flat.ranges.items; version = flat.version } };
+
+    ghost invariant = { λ flat. IsMapOf (map_bytes flat.regs) (map range_of flat.ranges.items) };
+}
+
+impl FlatMap {
+    /// The map of these registers, at version 0.
+    pub fn from_scratch(regs: MapRegs) -> FlatMap
+        requires cards { AreFitted regs.cards.items }
+        ensures regs { result.regs ≡ map_bytes regs }
+        ensures version { result.version ≡ 0 }
+        ensures map { (setup : Setup) (bytes : Bytes) → StandsFor setup bytes result.regs → IsFlatMapOf setup bytes result.ranges }
+        ensures few { length result.ranges ≤ 126 }
+    {
+        hold_widths(&regs);
+        let ranges = ranges_of(&regs);
+        FlatMap {
+            regs,
+            ranges,
+            version: 0,
+        }
+    }
+
+    /// An equal map. It takes no memory.
+    pub fn copy(&self) -> FlatMap
+        ensures equal { result ≡ self.now }
+    {
+        let mut ranges = ArrayVec::new();
+        ranges.try_extend_from_slice(&self.ranges).unwrap();
+        FlatMap {
+            regs: self.regs.copy(),
+            ranges,
+            version: self.version,
+        }
+    }
+
+    /// The ranges in rising order of address.
+    pub fn ranges(&self) -> &[Range]
+        ensures ranges { map range_of result.now ≡ self.now.ranges }
+        ensures tiles { Tiles 0 self.now.ranges }
+        ensures map { (setup : Setup) (bytes : Bytes) → StandsFor setup bytes self.now.regs
+            → IsFlatMapOf setup bytes self.now.ranges }
+    {
+        &self.ranges
+    }
+
+    /// The registers that this is the map of.
+    pub fn regs(&self) -> &MapRegs
+        ensures regs { map_bytes result.now ≡ self.now.regs }
+        ensures fitted { AreFitted self.now.regs.cards }
+    {
+        &self.regs
+    }
+
+    /// How many changes the map has had since it was built.
+    pub fn version(&self) -> u32
+        ensures version { result ≡ self.now.version }
+    {
+        self.version
+    }
+
+    /// The longest interval round an address in which this kind of access has one area, and that area.
+    pub fn find(&self, addr: u32, kind: Kind, smm: bool) -> Span
+        ensures span { (setup : Setup) (bytes : Bytes) → StandsFor setup bytes self.now.regs
+            → IsSpan setup bytes addr kind smm result.lo result.hi result.area }
+    {
+        span_of(&self.ranges, addr, kind, smm)
+    }
+
+    /// Makes a change of the registers, which raises the version by one, and tells the bounds of the addresses whose
+    /// areas it may change: the least first and the greatest last address of the windows that the registers govern
+    /// which it covers. Both are 0 where there is no such window.
+    pub fn apply(&mut self, change: &MapChange) -> Changed
+        requires version { self.old.version < 4_000_000 }
+        ensures stands { (setup : Setup) (bytes : Bytes) → StandsFor setup bytes self.old.regs
+            → StandsFor setup (λ reg. changed_byte setup change.now reg (bytes reg)) self.new.regs }
+        ensures same_cards { cards_of self.new.regs.cards ≡ cards_of self.old.regs.cards }
+        ensures version { self.new.version ≡ self.old.version + 1 }
+        ensures map { (setup : Setup) (bytes : Bytes) → StandsFor setup bytes self.new.regs
+            → IsFlatMapOf setup bytes self.new.ranges }
+        ensures changed { (setup : Setup) (bytes : Bytes) → StandsFor setup bytes self.old.regs
+            → result ≡ bounds_or_zero (changed_windows setup bytes change.now) }
+        ensures kept { (setup : Setup) (bytes : Bytes) → StandsFor setup bytes self.old.regs
+            → (addr : ℕ) → addr < address_count → IsOutside addr result
+            → six_areas setup (after setup change.now bytes) addr ≡ six_areas setup bytes addr }
+    {
+        let before = bounds_covered(&self.regs, change);
+        self.regs.apply(change);
+        self.ranges = ranges_of(&self.regs);
+        self.version += 1;
+        let changed = joined(before, bounds_covered(&self.regs, change));
+        changed.unwrap_or(NOTHING)
+    }
+}

@@ -1,0 +1,16 @@
+//! The memory map as one list of ranges, built from the registers on which it depends.
+#![tactic(auto)]
+
+mod build;
+mod changed;
+mod find;
+mod flat_map;
+pub mod laws;
+mod range;
+mod widths;
+
+pub use flat_map::FlatMap;
+pub use range::{Changed, Range, Span};
+
+#[cfg(test)]
+mod tests;

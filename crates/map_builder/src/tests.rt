@@ -1,0 +1,140 @@
+ghost use Rattle.std.specs.Prelude.{◌≡◌};
+ghost use Rattle.board_spec.specs.Setup.{IsCard};
+ghost use Rattle.addr_decode.specs.MapRegs.{AreFitted};
+
+use crate::{Changed, FlatMap, Span};
+use addr_decode::{MapChange, MapRegs};
+use arrayvec::ArrayVec;
+use board_base::{Area, Kind, Reg, Width};
+use pci_bars::{BaseSpec, CardSpec};
+
+/// A board of 8 MiB whose one card, device 2, has a memory base of 1 MiB, an I/O base and the VGA window.
+fn board() -> MapRegs
+    ensures fitted { AreFitted result.cards.items }
+{
+    let mut bases = ArrayVec::new();
+    bases.push(BaseSpec::Memory(20));
+    bases.push(BaseSpec::Io(4));
+    MapRegs::reset_of(&[CardSpec {
+        dev: 2,
+        vga: true,
+        bases,
+    }])
+}
+
+fn store(dev: u8, off: u8, width: Width, value: u32) -> MapChange {
+    MapChange::Store {
+        reg: Reg { dev, fun: 0, off },
+        width,
+        value,
+    }
+}
+
+#[test]
+fn map_after_reset(rt: HostRuntime) {
+    let map = FlatMap::from_scratch(MapRegs::reset_of(&[]));
+    let expected = [
+        (0x0000_0000, 0x0009_FFFF, Area::Dram(0)),
+        (0x000A_0000, 0x000E_FFFF, Area::Abort),
+        (0x000F_0000, 0x000F_FFFF, Area::Rom),
+        (0x0010_0000, 0x007F_FFFF, Area::Dram(0)),
+        (0x0080_0000, 0xFFFE_FFFF, Area::Abort),
+        (0xFFFF_0000, 0xFFFF_FFFF, Area::Rom),
+    ];
+    assert_eq!(rt; map.ranges().len(), expected.len());
+    for (range, (lo, hi, area)) in map.ranges().iter().zip(expected) {
+        assert_eq!(rt; (range.lo, range.hi), (lo, hi));
+        assert_eq!(rt; range.row.areas, [area; 6]);
+    }
+    assert_eq!(rt; map.version(), 0);
+}
+
+#[test]
+fn changes_move_spans(rt: HostRuntime) {
+    let (read, write) = (Kind::Read, Kind::Write);
+    let (abort, card) = (Area::Abort, Area::Card(2, 0));
+    let (vga, dram, smram) = (Area::Card(2, 7), Area::Dram(0), Area::Smram);
+    let base = store(2, 0x10, Width::Four, 0xE000_0000);
+    let on = store(2, 0x04, Width::One, 0x02);
+    let moved = store(2, 0x10, Width::Four, 0xFFF0_0000);
+    let ports = store(2, 0x14, Width::Four, 0x0000_0300);
+    let pam = store(0, 0x5A, Width::Two, 0x2000);
+    let open = store(0, 0x72, Width::One, 0x08);
+    let mut map = FlatMap::from_scratch(board());
+    let mut version = 0;
+    for (change, changed, addr, kind, smm, span) in [
+        (
+            base,
+            (0x0000_0000, 0xE00F_FFFF),
+            0xE000_0000,
+            read,
+            false,
+            (0x0080_0000, 0xFFFE_FFFF, abort),
+        ),
+        (
+            on,
+            (0x000A_0000, 0xE00F_FFFF),
+            0xE000_0000,
+            read,
+            false,
+            (0xE000_0000, 0xE00F_FFFF, card),
+        ),
+        (
+            ports,
+            (0x0000_0000, 0x0000_0000),
+            0x000A_0000,
+            read,
+            false,
+            (0x000A_0000, 0x000B_FFFF, vga),
+        ),
+        (
+            moved,
+            (0xE000_0000, 0xFFFF_FFFF),
+            0xE000_0000,
+            read,
+            false,
+            (0x0080_0000, 0xFFEF_FFFF, abort),
+        ),
+        (
+            pam,
+            (0x000C_0000, 0x000C_FFFF),
+            0xFFFE_0000,
+            read,
+            false,
+            (0xFFF0_0000, 0xFFFE_FFFF, card),
+        ),
+        (
+            open,
+            (0x000A_0000, 0x000B_FFFF),
+            0x000A_0000,
+            write,
+            true,
+            (0x000A_0000, 0x000B_FFFF, smram),
+        ),
+        (
+            MapChange::Reset,
+            (0x0000_0000, 0xFFFF_FFFF),
+            0x0009_FFFF,
+            write,
+            true,
+            (0x0000_0000, 0x0009_FFFF, dram),
+        ),
+    ] {
+        let (lo, hi) = changed;
+        assert_eq!(rt; map.apply(&change), Changed { lo, hi });
+        version += 1;
+        let (lo, hi, area) = span;
+        let copy = map.copy();
+        assert_eq!(rt;
+            map.find(addr, kind, smm),
+            Span { lo, hi, area },
+            "at {addr}"
+        );
+        assert_eq!(rt;
+            copy.find(addr, kind, smm),
+            Span { lo, hi, area },
+            "at {addr}"
+        );
+        assert_eq!(rt; copy.version(), version);
+    }
+}
