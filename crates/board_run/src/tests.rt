@@ -9,7 +9,7 @@ use std::thread::Threads;
 fn texts_and_codes(rt: HostRuntime) -> Result<(), Fail> {
     let cases = [
         (Status::Done, 0, ""),
-        (Status::Usage, 1, "usage: board replay FILE"),
+        (Status::Usage, 1, "usage: board replay FILE, map FILE"),
         (Status::ReadFault(Which::Script), 2, "read fault: script"),
         (Status::ReadFault(Which::Rom), 2, "read fault: rom"),
         (Status::WriteFault, 3, "write fault"),
