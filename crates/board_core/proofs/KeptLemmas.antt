@@ -4,7 +4,7 @@ use Rattle.std.specs.Prelude.{if◌then◌else◌, ◌==◌, slice_index, slice_
 use Rattle.std.proofs.lemmas.Bool.{cases_eq, cases_Bool}
 use Rattle.std.proofs.lemmas.Bool.Decides.{nat_tests}
 use Rattle.board_spec.specs.declared.event.Event.{Event}
-use Rattle.board_spec.specs.declared.event.Event.TheVariants.{Memory, Port}
+use Rattle.board_spec.specs.declared.event.Event.TheVariants.{Memory, Port, Look as LookAt}
 use Rattle.board_spec.specs.declared.event.Reply.{Reply}
 use Rattle.board_spec.specs.declared.event.Entry.{Entry}
 use Rattle.board_spec.specs.Setup.{Setup, IsSetup}
@@ -20,6 +20,7 @@ use Rattle.board_core.specs.Kept.{HasRegisters, HasStores, IsChipsetOf, IsKept, 
 pub in_range_anywhere : (here there : Setup) (event : Event) → IsTaken event → IsInRange here event → IsInRange there event
 in_range_anywhere here there (Memory access) taken is = is
 in_range_anywhere here there (Port access) taken is = is
+in_range_anywhere here there (LookAt kind addr smm) taken is = is
 in_range_anywhere here there _ taken is = absurd taken
 
 -- ---- a new board

@@ -1,6 +1,7 @@
 mod BridgeLemmas
 mod CardLemmas
 mod SpaceLemmas
+mod MapLemmas
 mod RegisterLemmas
 mod AddressLemmas
 mod ReachLemmas

@@ -15,7 +15,7 @@ use Rattle.board_spec.specs.declared.event.Event.TheVariants.{Memory}
 use Rattle.board_spec.specs.declared.event.Entry.{Entry}
 use Rattle.board_spec.specs.declared.event.Reply.TheVariants.{Bus}
 use Rattle.board_spec.specs.Setup.{Setup, IsRomSize}
-use Rattle.board_spec.specs.Registers.{reset_control, config_address, byte_of}
+use Rattle.board_spec.specs.Registers.{byte_of}
 use Rattle.board_spec.specs.Decode.{Bytes, Window, bridge, isa, first_of, line_where, card_area, row_of, hole_of, is_in, is_smram_range, is_shadowed, smram_answers, is_rom_selected, memory_claim, area_of}
 use Rattle.board_spec.specs.Bits.{is_within}
 use Rattle.board_spec.specs.InRange.{FitsAccess}
@@ -29,6 +29,7 @@ use Rattle.board_core.specs.Stores.{IsHeld}
 use Rattle.board_core.specs.Decoded.{IsDecoded}
 use Rattle.board_core.specs.Kept.{HasRegisters, HasStores, IsChipsetOf}
 use Rattle.board_core.proofs.StoresLemmas.{stores_unwritten}
+use Rattle.board_core.proofs.RegisterLemmas.{quiet}
 
 -- ---- what is reached
 
@@ -99,7 +100,7 @@ held_in setup history chipset addr width RomArea kept aligned claim = rom_within
 held_in setup history chipset addr width (CardArea dev base) kept aligned claim =
     let by = claim dev base refl in
     let sized : IsSized setup by.0 =
-    memory_claim_sized setup (byte_of setup history) chipset.registers.map.cards.items addr by.0 kept.registers.fitted.each kept.registers.map.cards by.1 in
+    memory_claim_sized setup (byte_of setup history) chipset.registers.map.regs.cards addr by.0 kept.registers.fitted.each kept.registers.map.cards by.1 in
     lies_in_base setup chipset.stores.contents by.0 dev base addr width sized by.2 by.3
     (lies_in_window setup history chipset.stores.contents by.0 addr width sized kept.stores.contents aligned)
 held_in setup history chipset addr width AbortArea kept aligned claim = tt
@@ -149,15 +150,8 @@ read_answer setup history access target denial value reads is value_is = rw (rea
 -- an access to memory leaves the registers
 registers_after : (setup : Setup) (history : List Entry) (entry : Entry) (access : Access) (registers : Registers) → entry.event ≡ Memory access →
     HasRegisters setup history registers → HasRegisters setup (entry ∷ history) registers
-unfolding byte_of config_address reset_control
-registers_after setup history entry access registers event kept = record {
-  address = rw event kept.address;
-  control = rw event kept.control;
-  space = rw event kept.space;
-  map = rw event kept.map;
-  fitted = kept.fitted;
-  taken = kept.taken;
-}
+registers_after setup history entry access registers event kept =
+    quiet setup history entry registers (record { control = rw event refl; address = rw event refl }) (rw event refl) kept
 
 -- and stores what a write puts
 pub write_puts :

@@ -73,7 +73,7 @@ held_target setup history chipset port width (Config reg) kept aligned is = with
 held_target setup history chipset port width (Card dev base off) kept aligned is =
     let window : Window = is.1.0 in
     let sized : IsSized setup window =
-    io_claim_sized setup (byte_of setup history) chipset.registers.map.cards.items port window kept.registers.fitted.each kept.registers.map.cards is.1.1 in
+    io_claim_sized setup (byte_of setup history) chipset.registers.map.regs.cards port window kept.registers.fitted.each kept.registers.map.cards is.1.1 in
     rw (← is.1.2, ← is.1.3, ← is.1.4) (lies_in_window setup history chipset.stores.contents window port width sized kept.stores.contents aligned)
 held_target setup history chipset port width Abort kept aligned is = tt
 held_target setup history chipset port width _ kept aligned is = absurd is

@@ -1,5 +1,5 @@
 -- The registers after one more entry.
-use Rattle.std.proofs.Common.{◌≡◌, ◌≢◌, ℕ, Bool, true, false, ◌&&◌, inl, inr, List, [], ◌∷◌, Option, Some, None, refl, sym, ◌∙◌, ap, subst, arith}
+use Rattle.std.proofs.Common.{◌≡◌, ◌≢◌, ℕ, ◌+◌, Bool, true, false, ◌&&◌, inl, inr, List, [], ◌∷◌, Option, Some, None, refl, sym, ◌∙◌, ap, subst, arith}
 use Rattle.std.specs.Prelude.{◌==◌, if◌then◌else◌, unwrap_or, option_map}
 use Rattle.std.proofs.lemmas.Bool.{cases_Bool, cases_eq, ne_eqb}
 use Rattle.std.proofs.lemmas.Bool.Decides.{nat_tests}
@@ -14,12 +14,15 @@ use Rattle.board_spec.specs.declared.map_change.MapChange.TheVariants.{Store, Re
 use Rattle.board_spec.specs.Setup.{Setup}
 use Rattle.board_spec.specs.RegisterTable.{reset_byte}
 use Rattle.board_spec.specs.Registers.{is_hard_value, control_after, control_written, address_written, kept_address, is_hard_reset, reset_control, config_address, is_config_port, config_store, register_change, changed_byte, byte_with, byte_of}
+use Rattle.board_spec.specs.MapWrites.{touches_map, map_change_of, map_writes_of, version_of}
 use Rattle.board_spec.specs.Decode.{Bytes}
-use Rattle.addr_decode.specs.MapRegs.{AreFitted, StandsFor, map_bytes}
+use Rattle.addr_decode.specs.MapRegs.{AreFitted, StandsFor}
+use Rattle.map_builder.specs.Map.{Mapped}
 use Rattle.board_core.specs.declared.registers.Registers.{Registers}
 use Rattle.board_core.specs.Space.{IsSpaceOf}
 use Rattle.board_core.specs.Forms.{routing_address}
-use Rattle.board_core.specs.Kept.{HasRegisters}
+use Rattle.board_core.specs.Kept.{HasRegisters, IsFlat}
+use Rattle.board_core.proofs.MapLemmas.{no_change, beside_map, in_map, version_raised, version_stays, map_stays}
 
 -- ---- what an access writes
 
@@ -81,38 +84,78 @@ pub follows :
     control_written entry.event ≡ None → register_change setup history entry.event ≡ change → HasRegisters setup history old →
     new.address ≡ unwrap_or (option_map kept_address (address_written entry.event)) old.address → new.control ≡ old.control →
     IsSpaceOf setup (λ reg. byte_with setup change reg (byte_of setup history reg)) new.space →
-    StandsFor setup (λ reg. byte_with setup change reg (byte_of setup history reg)) (map_bytes new.map) →
-    AreFitted new.map.cards.items → new.address ≢ routing_address →
+    StandsFor setup (byte_of setup (entry ∷ history)) new.map.regs → new.map.version ≡ version_of setup (entry ∷ history) →
+    AreFitted new.map.regs.cards → IsFlat new.map → new.address ≢ routing_address →
     HasRegisters setup (entry ∷ history) new
 unfolding config_address reset_control
-follows setup history entry old new change none is kept address control space map fitted taken = record {
+follows setup history entry old new change none is kept address control space map version fitted flat taken = record {
   address = rw none (address ∙ ap (λ (a : ℕ). unwrap_or (option_map kept_address (address_written entry.event)) a) kept.address);
   control = rw none (control ∙ kept.control);
   space = bytes_after (λ bytes. IsSpaceOf setup bytes new.space) setup history entry change is space;
-  map = bytes_after (λ bytes. StandsFor setup bytes (map_bytes new.map)) setup history entry change is map;
+  map = map;
+  version = version;
   fitted = fitted;
+  flat = flat;
   taken = taken;
 }
+
+-- an entry that is no map write leaves the map
+same_map : (setup : Setup) (history : List Entry) (entry : Entry) (map map' : Mapped) → map_change_of setup history entry.event ≡ None → map' ≡ map →
+    StandsFor setup (byte_of setup history) map.regs → StandsFor setup (byte_of setup (entry ∷ history)) map'.regs
+same_map setup history entry map map' none same stands =
+    subst (λ (m : Mapped). StandsFor setup (byte_of setup (entry ∷ history)) m.regs) (sym same) (map_stays setup history entry map.regs none stands)
+
+same_version : (setup : Setup) (history : List Entry) (entry : Entry) (map map' : Mapped) → map_change_of setup history entry.event ≡ None → map' ≡ map →
+    map.version ≡ version_of setup history → map'.version ≡ version_of setup (entry ∷ history)
+same_version setup history entry map map' none same is =
+    ap (λ (m : Mapped). m.version) same ∙ is ∙ sym (version_stays setup history entry none)
+
+-- a map write raises its version
+raised : (setup : Setup) (history : List Entry) (entry : Entry) (change : MapChange) (map map' : Mapped) →
+    map_change_of setup history entry.event ≡ Some change → map'.version ≡ map.version + 1 → map.version ≡ version_of setup history →
+    map'.version ≡ version_of setup (entry ∷ history)
+raised setup history entry change map map' is more was =
+    more ∙ ap (λ (n : ℕ). n + 1) was ∙ sym (version_raised setup history entry change is)
 
 -- an event that writes no register
 pub quiet :
     (setup : Setup) (history : List Entry) (entry : Entry) (old : Registers) → IsDataAlone entry.event →
     register_change setup history entry.event ≡ None → HasRegisters setup history old → HasRegisters setup (entry ∷ history) old
 quiet setup history entry old alone none kept =
-    follows setup history entry old old None alone.control none kept (rw (alone.address) refl) refl kept.space kept.map kept.fitted kept.taken
+    let still : map_change_of setup history entry.event ≡ None = no_change setup history entry.event none in
+    follows setup history entry old old None alone.control none kept (rw (alone.address) refl) refl kept.space
+    (same_map setup history entry old.map old.map still refl kept.map) (same_version setup history entry old.map old.map still refl kept.version)
+    kept.fitted kept.flat kept.taken
 
--- one that stores in configuration space
-pub stores :
+-- one that stores in configuration space a byte that the map depends on
+pub stores_in_map :
     (setup : Setup) (history : List Entry) (entry : Entry) (old new : Registers) (at : Reg) (width : Width) (value : ℕ) →
-    register_change setup history entry.event ≡ Some (Store at width value) → HasRegisters setup history old →
-    new.address ≡ old.address → new.control ≡ old.control →
+    register_change setup history entry.event ≡ Some (Store at width value) → touches_map setup (Store at width value) ≡ true →
+    HasRegisters setup history old → new.address ≡ old.address → new.control ≡ old.control →
     IsSpaceOf setup (λ reg. changed_byte setup (Store at width value) reg (byte_of setup history reg)) new.space →
-    StandsFor setup (λ reg. changed_byte setup (Store at width value) reg (byte_of setup history reg)) (map_bytes new.map) →
-    AreFitted new.map.cards.items → HasRegisters setup (entry ∷ history) new
-stores setup history entry old new at width value change kept address control space map fitted =
+    StandsFor setup (λ reg. changed_byte setup (Store at width value) reg (byte_of setup history reg)) new.map.regs →
+    new.map.version ≡ old.map.version + 1 → AreFitted new.map.regs.cards → IsFlat new.map → HasRegisters setup (entry ∷ history) new
+stores_in_map setup history entry old new at width value change touched kept address control space map version fitted flat =
     let alone : IsDataAlone entry.event = stores_alone setup history entry.event at width value change in
-    follows setup history entry old new (Some (Store at width value)) alone.control change kept (rw (alone.address) address) control space map fitted
-    (rw address kept.taken)
+    let write : map_change_of setup history entry.event ≡ Some (Store at width value) =
+    in_map setup history entry.event (Store at width value) change touched in
+    follows setup history entry old new (Some (Store at width value)) alone.control change kept (rw (alone.address) address) control space
+    (bytes_after (λ bytes. StandsFor setup bytes new.map.regs) setup history entry (Some (Store at width value)) change map)
+    (raised setup history entry (Store at width value) old.map new.map write version kept.version) fitted flat (rw address kept.taken)
+
+-- one that stores none
+pub stores_beside :
+    (setup : Setup) (history : List Entry) (entry : Entry) (old new : Registers) (at : Reg) (width : Width) (value : ℕ) →
+    register_change setup history entry.event ≡ Some (Store at width value) → touches_map setup (Store at width value) ≡ false →
+    HasRegisters setup history old → new.address ≡ old.address → new.control ≡ old.control →
+    IsSpaceOf setup (λ reg. changed_byte setup (Store at width value) reg (byte_of setup history reg)) new.space →
+    new.map ≡ old.map → HasRegisters setup (entry ∷ history) new
+stores_beside setup history entry old new at width value change beside kept address control space map =
+    let alone : IsDataAlone entry.event = stores_alone setup history entry.event at width value change in
+    let still : map_change_of setup history entry.event ≡ None = beside_map setup history entry.event (Store at width value) change beside in
+    follows setup history entry old new (Some (Store at width value)) alone.control change kept (rw (alone.address) address) control space
+    (same_map setup history entry old.map new.map still map kept.map) (same_version setup history entry old.map new.map still map kept.version)
+    (rw map kept.fitted) (rw map kept.flat) (rw address kept.taken)
 
 -- one that writes the configuration address
 pub addresses :
@@ -121,22 +164,26 @@ pub addresses :
     kept_address value ≢ routing_address → HasRegisters setup history old →
     new.address ≡ kept_address value → new.control ≡ old.control → new.space ≡ old.space → new.map ≡ old.map →
     HasRegisters setup (entry ∷ history) new
-addresses setup history entry old new value no_control no_change put taken kept address control space map =
-    follows setup history entry old new None no_control no_change kept (rw put address) control (rw space kept.space) (rw map kept.map)
-    (rw map kept.fitted) (rw address taken)
+addresses setup history entry old new value no_control none put taken kept address control space map =
+    let still : map_change_of setup history entry.event ≡ None = no_change setup history entry.event none in
+    follows setup history entry old new None no_control none kept (rw put address) control (rw space kept.space)
+    (same_map setup history entry old.map new.map still map kept.map) (same_version setup history entry old.map new.map still map kept.version)
+    (rw map kept.fitted) (rw map kept.flat) (rw address taken)
 
 -- ---- and after one that writes it
 
 pub registers_at_reset : (setup : Setup) (registers : Registers) → registers.address ≡ 0 → registers.control ≡ 0 →
-    IsSpaceOf setup (reset_byte setup) registers.space → StandsFor setup (reset_byte setup) (map_bytes registers.map) →
-    AreFitted registers.map.cards.items → HasRegisters setup [] registers
-unfolding byte_of config_address reset_control
-registers_at_reset setup registers address control space map fitted = record {
+    IsSpaceOf setup (reset_byte setup) registers.space → StandsFor setup (reset_byte setup) registers.map.regs →
+    registers.map.version ≡ 0 → AreFitted registers.map.regs.cards → IsFlat registers.map → HasRegisters setup [] registers
+unfolding byte_of config_address reset_control map_writes_of
+registers_at_reset setup registers address control space map version fitted flat = record {
   address = address;
   control = control;
   space = space;
   map = map;
+  version = version;
   fitted = fitted;
+  flat = flat;
   taken = rw address (λ same. omega arith);
 }
 
@@ -170,12 +217,15 @@ control_writes setup history entry old new byte put soft kept address control sp
     let elsewhere : address_written entry.event ≡ None = control_alone entry.event byte put in
     let none : register_change setup history entry.event ≡ None =
     rw (put, soft') (control_stores_none setup (config_address history) entry.event byte put) in
+    let still : map_change_of setup history entry.event ≡ None = no_change setup history entry.event none in
     record {
       address = rw (put, soft', elsewhere) (address ∙ kept.address);
       control = rw put (control ∙ ap (λ (c : ℕ). control_after c (Some byte)) kept.control);
       space = bytes_after (λ bytes. IsSpaceOf setup bytes new.space) setup history entry None none (rw space kept.space);
-      map = bytes_after (λ bytes. StandsFor setup bytes (map_bytes new.map)) setup history entry None none (rw map kept.map);
+      map = same_map setup history entry old.map new.map still map kept.map;
+      version = same_version setup history entry old.map new.map still map kept.version;
       fitted = rw map kept.fitted;
+      flat = rw map kept.flat;
       taken = rw address kept.taken;
     }
 
@@ -184,17 +234,20 @@ pub control_resets :
     (setup : Setup) (history : List Entry) (entry : Entry) (old new : Registers) (byte : ℕ) →
     control_written entry.event ≡ Some byte → is_hard_value old.control byte ≡ true → HasRegisters setup history old →
     new.address ≡ 0 → new.control ≡ control_after old.control (Some byte) →
-    IsSpaceOf setup (reset_byte setup) new.space → StandsFor setup (reset_byte setup) (map_bytes new.map) → AreFitted new.map.cards.items →
+    IsSpaceOf setup (reset_byte setup) new.space → StandsFor setup (reset_byte setup) new.map.regs →
+    new.map.version ≡ old.map.version + 1 → AreFitted new.map.regs.cards → IsFlat new.map →
     HasRegisters setup (entry ∷ history) new
 unfolding config_address reset_control
-control_resets setup history entry old new byte put hard kept address control space map fitted =
+control_resets setup history entry old new byte put hard kept address control space map version fitted flat =
     let hard' : is_hard_value (reset_control history) byte ≡ true = rw (← kept.control) hard in
     let all : register_change setup history entry.event ≡ Some Reset = rw (put, hard') refl in
     record {
       address = rw (put, hard') address;
       control = rw put (control ∙ ap (λ (c : ℕ). control_after c (Some byte)) kept.control);
       space = bytes_after (λ bytes. IsSpaceOf setup bytes new.space) setup history entry (Some Reset) all space;
-      map = bytes_after (λ bytes. StandsFor setup bytes (map_bytes new.map)) setup history entry (Some Reset) all map;
+      map = bytes_after (λ bytes. StandsFor setup bytes new.map.regs) setup history entry (Some Reset) all map;
+      version = raised setup history entry Reset old.map new.map (in_map setup history entry.event Reset all refl) version kept.version;
       fitted = fitted;
+      flat = flat;
       taken = rw address (λ same. omega arith);
     }

@@ -6,9 +6,13 @@ use Rattle.board_spec.specs.declared.event.Entry.{Entry}
 use Rattle.board_spec.specs.Setup.{Setup, IsSetup}
 use Rattle.board_spec.specs.Legal.{entries_by, IsLegal}
 use Rattle.board_spec.specs.Registers.{reset_control, config_address, byte_of}
+use Rattle.board_spec.specs.MapWrites.{version_of}
+use Rattle.board_spec.specs.Decode.{Bytes}
+use Rattle.board_spec.specs.FlatMap.{IsFlatMapOf}
 use Rattle.dram_store.specs.Dram.{IsDramOf}
 use Rattle.pci_bars.specs.Contents.{IsContentsOf}
-use Rattle.addr_decode.specs.MapRegs.{AreFitted, StandsFor, map_bytes}
+use Rattle.addr_decode.specs.MapRegs.{AreFitted, StandsFor}
+use Rattle.map_builder.specs.Map.{Mapped}
 use Rattle.access_history.specs.Past.{most}
 use Rattle.board_core.specs.declared.registers.Registers.{Registers}
 use Rattle.board_core.specs.declared.stores.Stores.{Stores}
@@ -16,14 +20,20 @@ use Rattle.board_core.specs.declared.chipset.Chipset.{Chipset}
 use Rattle.board_core.specs.Space.{IsSpaceOf}
 use Rattle.board_core.specs.Forms.{routing_address}
 
+-- the ranges of a map are the flat map of every board that has its registers
+abbrev pub IsFlat : Mapped → Type 0
+IsFlat map = (setup : Setup) (bytes : Bytes) → StandsFor setup bytes map.regs → IsFlatMapOf setup bytes map.ranges
+
 -- the registers after a history: the configuration address, the reset control, those in configuration space, and the
--- copy of those that the address map depends on
+-- memory map with the copy of those that it depends on
 pub record HasRegisters (setup : Setup) (history : List Entry) (registers : Registers) : Type 0 where
   pub address : registers.address ≡ config_address history
   pub control : registers.control ≡ reset_control history
   pub space : IsSpaceOf setup (byte_of setup history) registers.space
-  pub map : StandsFor setup (byte_of setup history) (map_bytes registers.map)
-  pub fitted : AreFitted registers.map.cards.items
+  pub map : StandsFor setup (byte_of setup history) registers.map.regs
+  pub version : registers.map.version ≡ version_of setup history
+  pub fitted : AreFitted registers.map.regs.cards
+  pub flat : IsFlat registers.map
   pub taken : registers.address ≢ routing_address
 
 -- the bytes of the DRAM and behind the bases of the cards after a history
@@ -37,10 +47,11 @@ pub record IsChipsetOf (setup : Setup) (history : List Entry) (chipset : Chipset
   pub registers : HasRegisters setup history chipset.registers
   pub stores : HasStores setup history chipset.stores
 
--- a chipset of some board and some history
+-- a chipset of some board and some history, to which there is room to add
 pub record IsChipset (chipset : Chipset) (rom : List ℕ) : Type 0 where
   pub setup : Setup
   pub history : List Entry
+  pub few : length history < most
   pub of : IsChipsetOf setup history chipset
   pub image : setup.rom ≡ rom
 

@@ -6,6 +6,9 @@ ghost use Rattle.board_spec.specs.Setup.{IsCardList, IsRomSize, memory_of_cards}
 ghost use Rattle.board_spec.specs.InRange.{IsInRange};
 ghost use Rattle.board_spec.specs.Answer.{IsAnswer};
 ghost use Rattle.board_spec.specs.Legal.{IsLegal};
+ghost use Rattle.board_spec.specs.Registers.{byte_of};
+ghost use Rattle.board_spec.specs.MapWrites.{version_of};
+ghost use Rattle.board_spec.specs.FlatMap.{IsFlatMapOf};
 ghost use Rattle.access_history.specs.Past.{most};
 ghost use Rattle.board_core.specs.Forms.{IsTaken};
 ghost use Rattle.board_core.specs.Kept.{IsChipset, IsChipsetOf, next_entry};
@@ -14,10 +17,11 @@ use crate::chipset::Chipset;
 use crate::registers::Registers;
 use crate::setup::{BoardOpen, Setup};
 use crate::stores::Stores;
-use crate::{memory, ports};
+use crate::{look, memory, ports};
 use access_history::History;
 use board_base::NoMemory;
 use board_spec::{Entry, Event, Reply};
+use map_builder::FlatMap;
 use std::alloc::Global;
 use std::marker::Model;
 
@@ -67,6 +71,7 @@ fn perform(chipset: &mut Chipset, rom: &[u8], event: &Event) -> Reply
     match event {
         Event::Memory(access) => memory::perform(chipset, rom, access),
         Event::Port(access) => ports::perform(chipset, access),
+        Event::Look { kind, addr, smm } => look::perform(chipset, *kind, *addr, *smm),
         _ => unreachable!(),
     }
 }
@@ -107,7 +112,7 @@ impl Board {
     }
 
     /// Does an event of a processor, 0 to 7, and tells the reply. It takes no memory. For now it takes accesses to
-    /// memory, and those to ports that are not a device's which is still to come.
+    /// memory, those to ports that are not a device's which is still to come, and looks at the memory map.
     pub fn step(&mut self, actor: u8, event: &Event) -> Reply
         requires actor { actor < 8 }
         requires in_range { IsInRange self.old.setup event.now }
@@ -138,5 +143,14 @@ impl Board {
         ensures history { result.now ≡ record { entries = self.now.entries; spare = self.now.spare } }
     {
         &self.history
+    }
+
+    /// The memory map of the registers as they stand. Its version is the number of map writes so far: the stores to a
+    /// register that the map depends on, and the hard resets.
+    pub fn map(&self) -> &FlatMap
+        ensures map { IsFlatMapOf self.now.setup (byte_of self.now.setup self.now.entries) result.now.ranges }
+        ensures version { result.now.version ≡ version_of self.now.setup self.now.entries }
+    {
+        &self.chipset.registers.map
     }
 }

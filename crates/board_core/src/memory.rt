@@ -91,7 +91,7 @@ pub fn perform(chipset: &mut Chipset, rom: &[u8], access: &Access) -> Reply
     ensures board { (setup : Setup) (history : List Entry) (entry : Entry) → IsChipsetOf setup history chipset.old → setup.rom ≡ rom.now
         → entry.event ≡ Memory access.now → entry.reply ≡ result → IsChipsetOf setup (entry ∷ history) chipset.new }
 {
-    let (target, denial) = decoded(&chipset.registers.map, rom, access);
+    let (target, denial) = decoded(chipset.registers.map.regs(), rom, access);
     if access.kind.is_write() {
         write(chipset, target, access);
         return Reply::Bus {

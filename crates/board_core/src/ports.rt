@@ -1,7 +1,7 @@
 //! Accesses to ports: configuration mechanism one at 0CF8h and 0CFCh to 0CFFh, reset control at 0CF9h, the empty
 //! socket of the keyboard controller, and the ports of the cards.
 
-ghost use Rattle.std.specs.Prelude.{◌≡◌, ◌≤◌, ◌%◌, ℕ, List, [], ◌∷◌};
+ghost use Rattle.std.specs.Prelude.{◌≡◌, ◌≤◌, ◌<◌, ◌%◌, ℕ, List, [], ◌∷◌};
 ghost use Rattle.board_base.specs.declared.access.Width.{Width};
 ghost use Rattle.board_base.specs.Access.{bytes_of, largest_of};
 ghost use Rattle.board_spec.specs.declared.event.Entry.{Entry};
@@ -11,6 +11,7 @@ ghost use Rattle.board_spec.specs.InRange.{IsBusAccess};
 ghost use Rattle.board_spec.specs.Stored.{Cell, byte_put, entry_put};
 ghost use Rattle.board_spec.specs.Answer.{port_answer, port_value, value_at};
 ghost use Rattle.addr_decode.specs.MapRegs.{AreFitted};
+ghost use Rattle.access_history.specs.Past.{most};
 ghost use Rattle.board_core.specs.Forms.{IsTakenPort};
 ghost use Rattle.board_core.specs.Ports.{IsPortDevice, IsPortTarget, IsThere, FitsDevice, FitsTarget, WritesDevice, Writes};
 ghost use Rattle.board_core.specs.Kept.{HasRegisters, HasStores, IsChipset, IsChipsetOf};
@@ -59,7 +60,8 @@ fn read(chipset: &Chipset, target: Target, access: &PortAccess) -> u32
 fn write_device(registers: &mut Registers, dev: Dev, value: u32)
     requires fits { FitsDevice dev value }
     requires space { AreFitted registers.old.space.cards.items }
-    requires map { AreFitted registers.old.map.cards.items }
+    requires map { AreFitted registers.old.map.regs.cards }
+    requires version { registers.old.map.version < most }
     ensures registers { (setup : Setup) (history : List Entry) (entry : Entry) → HasRegisters setup history registers.old
         → WritesDevice setup history entry.event dev value → HasRegisters setup (entry ∷ history) registers.new }
 {
@@ -78,7 +80,8 @@ fn write(chipset: &mut Chipset, target: Target, access: &PortAccess)
     requires value { access.now.value ≤ largest_of access.now.width }
     requires fits { FitsTarget target access.now.value }
     requires space { AreFitted chipset.old.registers.space.cards.items }
-    requires map { AreFitted chipset.old.registers.map.cards.items }
+    requires map { AreFitted chipset.old.registers.map.regs.cards }
+    requires version { chipset.old.registers.map.version < most }
     ensures registers { (setup : Setup) (history : List Entry) (entry : Entry) → HasRegisters setup history chipset.old.registers
         → Writes setup history entry.event target access.now.width access.now.value
         → HasRegisters setup (entry ∷ history) chipset.new.registers }
