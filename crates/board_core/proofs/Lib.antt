@@ -8,4 +8,5 @@ mod ReachLemmas
 mod PortLemmas
 mod StoresLemmas
 mod MemoryLemmas
+mod LookLemmas
 mod KeptLemmas

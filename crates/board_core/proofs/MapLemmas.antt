@@ -1,17 +1,23 @@
 -- The memory map after one more entry: its version, and its registers where the entry is no map write.
-use Rattle.std.proofs.Common.{◌≡◌, ℕ, ◌+◌, ◌<◌, ◌≤◌, inl, inr, Bool, true, false, ◌||◌, List, [], ◌∷◌, ◌++◌, Option, Some, None, length, get_or, refl, sym, ◌∙◌, ap, arith}
-use Rattle.std.specs.Prelude.{is_some}
+use Rattle.std.proofs.Common.{◌≡◌, ℕ, zero, suc, ◌+◌, ◌-◌, ◌<◌, ◌≤◌, inl, inr, Bool, true, false, ◌||◌, List, [], ◌∷◌, ◌++◌, Option, Some, None, length, take, get_or, refl, sym, ◌∙◌, ap, subst, arith}
+use Rattle.std.specs.Prelude.{is_some, ◌==◌, ◌&&◌}
 use Rattle.std.specs.Option.{option_to_list}
+use Rattle.std.proofs.lemmas.Bool.{cases_Bool, false≢true}
 use Rattle.std.proofs.lemmas.Bool.Decides.{nat_tests}
+use Rattle.std.proofs.lemmas.List.Folds.{list_any_at}
+use Rattle.board_base.specs.declared.access.Width.{Width}
+use Rattle.board_base.specs.declared.access.Width.TheVariants.{One, Two, Four}
 use Rattle.board_base.specs.declared.target.Reg.{Reg}
+use Rattle.board_base.specs.Access.{bytes_of}
 use Rattle.board_spec.specs.declared.event.Event.{Event}
 use Rattle.board_spec.specs.declared.event.Entry.{Entry}
 use Rattle.board_spec.specs.declared.map_change.MapChange.{MapChange}
+use Rattle.board_spec.specs.declared.map_change.MapChange.TheVariants.{Store}
 use Rattle.board_spec.specs.Setup.{Setup, card_at}
-use Rattle.board_spec.specs.Registers.{register_change, byte_of}
-use Rattle.board_spec.specs.MapWrites.{is_map_byte, touches_map, map_change_of, map_writes_of, version_of, registers_after}
-use Rattle.board_spec.specs.Decode.{bridge, isa, card_register}
-use Rattle.board_spec.proofs.MapWriteLaws.{map_writes_decide}
+use Rattle.board_spec.specs.Bits.{is_within}
+use Rattle.board_spec.specs.Registers.{covers, changed_byte, register_change}
+use Rattle.board_spec.specs.MapWrites.{is_map_byte, reg_after, touches_map, map_change_of, map_writes_of, version_of}
+use Rattle.board_spec.specs.Decode.{Bytes, bridge, isa, card_register}
 use Rattle.pam_windows.specs.Pam.{IsPamOffset}
 use Rattle.pci_bars.specs.Cards.{CardBytes, DecodesAs}
 use Rattle.addr_decode.specs.MapRegs.{MapBytes, StandsFor}
@@ -66,10 +72,11 @@ few_writes setup (entry ∷ before) =
 
 -- ---- the registers of the map
 
-last_of_three : (a b c : Bool) → c ≡ true → (a || b || c) ≡ true
-last_of_three true b c is = refl
-last_of_three false true c is = refl
-last_of_three false false c is = is
+-- a command or a base of a card that is fitted
+card_byte : (a b fitted command base : Bool) → fitted ≡ true → (command || base) ≡ true → (a || b || fitted && true && (command || base)) ≡ true
+card_byte true b fitted command base is either = refl
+card_byte false true fitted command base is either = refl
+card_byte false false fitted command base is either = rw (is, either) refl
 
 row_in_map : (setup : Setup) (row : ℕ) → row < 8 → is_map_byte setup (bridge (0x60 + row)) ≡ true
 row_in_map setup row below = grind (arith, nat_tests)
@@ -77,36 +84,103 @@ row_in_map setup row below = grind (arith, nat_tests)
 window_in_map : (setup : Setup) (off : ℕ) → IsPamOffset off → is_map_byte setup (bridge off) ≡ true
 window_in_map setup off within = grind (arith, nat_tests)
 
+at_map_offset : (off : ℕ) → IsMapOffset off → (off == 0x04 || is_within 0x10 0x27 off) ≡ true
+at_map_offset off (inl command) = rw command refl
+at_map_offset off (inr base) = grind (arith, nat_tests)
+
 card_in_map : (setup : Setup) (dev off : ℕ) → is_some (card_at setup dev) ≡ true → IsMapOffset off → is_map_byte setup (card_register dev off) ≡ true
-card_in_map setup dev off fitted (inl command) = last_of_three _ _ _ (rw (fitted, command) refl)
-card_in_map setup dev off fitted (inr base) = last_of_three _ _ _ (rw fitted (grind (arith, nat_tests)))
+card_in_map setup dev off fitted within =
+    card_byte (dev == 0 && 0 == 0 && (is_within 0x59 0x68 off || off == 0x72)) (dev == 1 && 0 == 0 && off == 0x4E)
+    (is_some (card_at setup dev)) (off == 0x04) (is_within 0x10 0x27 off) fitted (at_map_offset off within)
 
--- an entry that is no map write leaves each byte that the map depends on
-byte_stays : (setup : Setup) (history : List Entry) (entry : Entry) (reg : Reg) → map_change_of setup history entry.event ≡ None →
-    is_map_byte setup reg ≡ true → byte_of setup (entry ∷ history) reg ≡ byte_of setup history reg
-byte_stays setup history entry reg none is =
-    map_writes_decide setup (entry ∷ history) reg is
-    ∙ ap (λ (writes : List MapChange). registers_after setup writes reg) (writes_stay setup history entry none)
-    ∙ sym (map_writes_decide setup history reg is)
+-- the places of the bytes of a store
+place_is : (width : Width) (k : ℕ) → k < bytes_of width → get_or (take (bytes_of width) (0 ∷ 1 ∷ 2 ∷ 3 ∷ [])) k 0 ≡ k
+place_is One zero below = refl
+place_is One (suc k) below = absurd (omega arith)
+place_is Two zero below = refl
+place_is Two (suc zero) below = refl
+place_is Two (suc (suc k)) below = absurd (omega arith)
+place_is Four zero below = refl
+place_is Four (suc zero) below = refl
+place_is Four (suc (suc zero)) below = refl
+place_is Four (suc (suc (suc zero))) below = refl
+place_is Four (suc (suc (suc (suc k)))) below = absurd (omega arith)
 
-card_stays : (setup : Setup) (history : List Entry) (entry : Entry) (card : CardBytes) → map_change_of setup history entry.event ≡ None →
-    DecodesAs setup (byte_of setup history) card → DecodesAs setup (byte_of setup (entry ∷ history)) card
-card_stays setup history entry card none decodes =
-    decodes-same setup (byte_of setup history) (byte_of setup (entry ∷ history)) card
-    (λ off within. byte_stays setup history entry (card_register card.card.dev off) none
-    (card_in_map setup card.card.dev off (rw (decodes.fitted) refl) within))
+count_is : (width : Width) → length {A = ℕ} (take (bytes_of width) (0 ∷ 1 ∷ 2 ∷ 3 ∷ [])) ≡ bytes_of width
+count_is One = refl
+count_is Two = refl
+count_is Four = refl
+
+covers_map : (setup : Setup) (at : Reg) (width : Width) (value k : ℕ) → k < bytes_of width → is_map_byte setup (reg_after at k) ≡ true →
+    touches_map setup (Store at width value) ≡ true
+covers_map setup at width value k below is =
+    list_any_at (λ j. is_map_byte setup (reg_after at j)) (take (bytes_of width) (0 ∷ 1 ∷ 2 ∷ 3 ∷ [])) k 0
+    (subst (λ (n : ℕ). k < n) (sym (count_is width)) below)
+    (subst (λ (j : ℕ). is_map_byte setup (reg_after at j) ≡ true) (sym (place_is width k below)) is)
+
+record IsCovered (at reg : Reg) (width : Width) : Type 0 where
+  dev : at.dev ≡ reg.dev
+  fun : at.fun ≡ reg.fun
+  above : at.off ≤ reg.off
+  below : reg.off < at.off + bytes_of width
+
+covered : (at reg : Reg) (width : Width) → covers at width reg ≡ true → IsCovered at reg width
+covered at reg width is = record {
+  dev = grind (arith, nat_tests);
+  fun = grind (arith, nat_tests);
+  above = grind (arith, nat_tests);
+  below = grind (arith, nat_tests);
+}
+
+reg_made : (dev fun off : ℕ) → Reg
+reg_made dev fun off = record { dev = dev; fun = fun; off = off }
+
+-- a register that is covered is one of those from the first on
+reg_is : (at reg : Reg) (width : Width) → IsCovered at reg width → reg_after at (reg.off - at.off) ≡ reg
+unfolding reg_made
+reg_is at reg width is =
+    let off : at.off + (reg.off - at.off) ≡ reg.off = omega (arith, is.above) in
+    let dev : at.dev ≡ reg.dev = is.dev in
+    let fun : at.fun ≡ reg.fun = is.fun in
+    let same : reg_made at.dev at.fun (at.off + (reg.off - at.off)) ≡ reg_made reg.dev reg.fun reg.off = cc in same
+
+-- a store beside the bytes that the map depends on leaves each of them
+byte_stays : (setup : Setup) (at : Reg) (width : Width) (value : ℕ) (reg : Reg) (old : ℕ) → touches_map setup (Store at width value) ≡ false →
+    is_map_byte setup reg ≡ true → changed_byte setup (Store at width value) reg old ≡ old
+byte_stays setup at width value reg old beside is =
+    elim (cases_Bool (covers at width reg)) [
+      | inl inside ↦
+          let there : IsCovered at reg width = covered at reg width inside in
+          let here : is_map_byte setup (reg_after at (reg.off - at.off)) ≡ true =
+          subst (λ (r : Reg). is_map_byte setup r ≡ true) (sym (reg_is at reg width there)) is in
+          absurd (false≢true (sym beside ∙ covers_map setup at width value (reg.off - at.off) (omega (arith, there.above, there.below)) here))
+      | inr outside ↦ rw outside refl
+    ]
+
+card_stays : (setup : Setup) (bytes : Bytes) (at : Reg) (width : Width) (value : ℕ) (card : CardBytes) →
+    touches_map setup (Store at width value) ≡ false → DecodesAs setup bytes card →
+    DecodesAs setup (λ reg. changed_byte setup (Store at width value) reg (bytes reg)) card
+card_stays setup bytes at width value card beside decodes =
+    decodes-same setup bytes (λ reg. changed_byte setup (Store at width value) reg (bytes reg)) card
+    (λ off within. byte_stays setup at width value (card_register card.card.dev off) (bytes (card_register card.card.dev off)) beside
+    (card_in_map setup card.card.dev off (ap (λ card. is_some card) decodes.fitted) within))
     decodes
 
-pub map_stays : (setup : Setup) (history : List Entry) (entry : Entry) (regs : MapBytes) → map_change_of setup history entry.event ≡ None →
-    StandsFor setup (byte_of setup history) regs → StandsFor setup (byte_of setup (entry ∷ history)) regs
-map_stays setup history entry regs none stands =
-    let stays : (reg : Reg) → is_map_byte setup reg ≡ true → byte_of setup (entry ∷ history) reg ≡ byte_of setup history reg =
-    λ reg is. byte_stays setup history entry reg none is in
+pub map_stays : (setup : Setup) (bytes : Bytes) (at : Reg) (width : Width) (value : ℕ) (regs : MapBytes) →
+    touches_map setup (Store at width value) ≡ false → StandsFor setup bytes regs →
+    StandsFor setup (λ reg. changed_byte setup (Store at width value) reg (bytes reg)) regs
+map_stays setup bytes at width value regs beside stands =
+    let stays : (reg : Reg) → is_map_byte setup reg ≡ true → changed_byte setup (Store at width value) reg (bytes reg) ≡ bytes reg =
+    λ reg is. byte_stays setup at width value reg (bytes reg) beside is in
     record {
       rows = λ row below. stands.rows row below ∙ sym (stays (bridge (0x60 + row)) (row_in_map setup row below));
       hole = stands.hole ∙ sym (stays (bridge 0x68) refl);
       windows = λ off within. stands.windows off within ∙ sym (stays (bridge off) (window_in_map setup off within));
       smram = stands.smram ∙ sym (stays (bridge 0x72) refl);
       xbcs = stands.xbcs ∙ sym (stays (isa 0x4E) refl);
-      cards = (stands.cards.0, λ k d within. card_stays setup history entry (get_or regs.cards k d) none (stands.cards.1 k d within));
+      cards = (stands.cards.0, λ k d within. card_stays setup bytes at width value (get_or regs.cards k d) beside (stands.cards.1 k d within));
     }
+
+-- the registers that a map is seen to have are those inside it
+pub stands_inside : (setup : Setup) (bytes : Bytes) (inside seen : MapBytes) → inside ≡ seen → StandsFor setup bytes seen → StandsFor setup bytes inside
+stands_inside setup bytes inside seen is stands = subst (λ (regs : MapBytes). StandsFor setup bytes regs) (sym is) stands

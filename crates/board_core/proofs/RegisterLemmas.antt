@@ -84,7 +84,7 @@ pub follows :
     control_written entry.event ≡ None → register_change setup history entry.event ≡ change → HasRegisters setup history old →
     new.address ≡ unwrap_or (option_map kept_address (address_written entry.event)) old.address → new.control ≡ old.control →
     IsSpaceOf setup (λ reg. byte_with setup change reg (byte_of setup history reg)) new.space →
-    StandsFor setup (byte_of setup (entry ∷ history)) new.map.regs → new.map.version ≡ version_of setup (entry ∷ history) →
+    StandsFor setup (λ reg. byte_with setup change reg (byte_of setup history reg)) new.map.regs → new.map.version ≡ version_of setup (entry ∷ history) →
     AreFitted new.map.regs.cards → IsFlat new.map → new.address ≢ routing_address →
     HasRegisters setup (entry ∷ history) new
 unfolding config_address reset_control
@@ -92,19 +92,14 @@ follows setup history entry old new change none is kept address control space ma
   address = rw none (address ∙ ap (λ (a : ℕ). unwrap_or (option_map kept_address (address_written entry.event)) a) kept.address);
   control = rw none (control ∙ kept.control);
   space = bytes_after (λ bytes. IsSpaceOf setup bytes new.space) setup history entry change is space;
-  map = map;
+  map = bytes_after (λ bytes. StandsFor setup bytes new.map.regs) setup history entry change is map;
   version = version;
   fitted = fitted;
   flat = flat;
   taken = taken;
 }
 
--- an entry that is no map write leaves the map
-same_map : (setup : Setup) (history : List Entry) (entry : Entry) (map map' : Mapped) → map_change_of setup history entry.event ≡ None → map' ≡ map →
-    StandsFor setup (byte_of setup history) map.regs → StandsFor setup (byte_of setup (entry ∷ history)) map'.regs
-same_map setup history entry map map' none same stands =
-    subst (λ (m : Mapped). StandsFor setup (byte_of setup (entry ∷ history)) m.regs) (sym same) (map_stays setup history entry map.regs none stands)
-
+-- an entry that is no map write leaves the version of the map
 same_version : (setup : Setup) (history : List Entry) (entry : Entry) (map map' : Mapped) → map_change_of setup history entry.event ≡ None → map' ≡ map →
     map.version ≡ version_of setup history → map'.version ≡ version_of setup (entry ∷ history)
 same_version setup history entry map map' none same is =
@@ -123,9 +118,8 @@ pub quiet :
     register_change setup history entry.event ≡ None → HasRegisters setup history old → HasRegisters setup (entry ∷ history) old
 quiet setup history entry old alone none kept =
     let still : map_change_of setup history entry.event ≡ None = no_change setup history entry.event none in
-    follows setup history entry old old None alone.control none kept (rw (alone.address) refl) refl kept.space
-    (same_map setup history entry old.map old.map still refl kept.map) (same_version setup history entry old.map old.map still refl kept.version)
-    kept.fitted kept.flat kept.taken
+    follows setup history entry old old None alone.control none kept (rw (alone.address) refl) refl kept.space kept.map
+    (same_version setup history entry old.map old.map still refl kept.version) kept.fitted kept.flat kept.taken
 
 -- one that stores in configuration space a byte that the map depends on
 pub stores_in_map :
@@ -140,8 +134,7 @@ stores_in_map setup history entry old new at width value change touched kept add
     let write : map_change_of setup history entry.event ≡ Some (Store at width value) =
     in_map setup history entry.event (Store at width value) change touched in
     follows setup history entry old new (Some (Store at width value)) alone.control change kept (rw (alone.address) address) control space
-    (bytes_after (λ bytes. StandsFor setup bytes new.map.regs) setup history entry (Some (Store at width value)) change map)
-    (raised setup history entry (Store at width value) old.map new.map write version kept.version) fitted flat (rw address kept.taken)
+    map (raised setup history entry (Store at width value) old.map new.map write version kept.version) fitted flat (rw address kept.taken)
 
 -- one that stores none
 pub stores_beside :
@@ -154,8 +147,8 @@ stores_beside setup history entry old new at width value change beside kept addr
     let alone : IsDataAlone entry.event = stores_alone setup history entry.event at width value change in
     let still : map_change_of setup history entry.event ≡ None = beside_map setup history entry.event (Store at width value) change beside in
     follows setup history entry old new (Some (Store at width value)) alone.control change kept (rw (alone.address) address) control space
-    (same_map setup history entry old.map new.map still map kept.map) (same_version setup history entry old.map new.map still map kept.version)
-    (rw map kept.fitted) (rw map kept.flat) (rw address kept.taken)
+    (rw map (map_stays setup (byte_of setup history) at width value old.map.regs beside kept.map))
+    (same_version setup history entry old.map new.map still map kept.version) (rw map kept.fitted) (rw map kept.flat) (rw address kept.taken)
 
 -- one that writes the configuration address
 pub addresses :
@@ -166,9 +159,8 @@ pub addresses :
     HasRegisters setup (entry ∷ history) new
 addresses setup history entry old new value no_control none put taken kept address control space map =
     let still : map_change_of setup history entry.event ≡ None = no_change setup history entry.event none in
-    follows setup history entry old new None no_control none kept (rw put address) control (rw space kept.space)
-    (same_map setup history entry old.map new.map still map kept.map) (same_version setup history entry old.map new.map still map kept.version)
-    (rw map kept.fitted) (rw map kept.flat) (rw address taken)
+    follows setup history entry old new None no_control none kept (rw put address) control (rw space kept.space) (rw map kept.map)
+    (same_version setup history entry old.map new.map still map kept.version) (rw map kept.fitted) (rw map kept.flat) (rw address taken)
 
 -- ---- and after one that writes it
 
@@ -222,7 +214,7 @@ control_writes setup history entry old new byte put soft kept address control sp
       address = rw (put, soft', elsewhere) (address ∙ kept.address);
       control = rw put (control ∙ ap (λ (c : ℕ). control_after c (Some byte)) kept.control);
       space = bytes_after (λ bytes. IsSpaceOf setup bytes new.space) setup history entry None none (rw space kept.space);
-      map = same_map setup history entry old.map new.map still map kept.map;
+      map = bytes_after (λ bytes. StandsFor setup bytes new.map.regs) setup history entry None none (rw map kept.map);
       version = same_version setup history entry old.map new.map still map kept.version;
       fitted = rw map kept.fitted;
       flat = rw map kept.flat;

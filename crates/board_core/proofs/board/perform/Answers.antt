@@ -14,3 +14,7 @@ returns-in-Memory-clause-board c = λ setup history entry kept image event repli
 pub returns-in-Port-clause-board : goal.returns-in-Port-clause-board
 returns-in-Port-clause-board c = λ setup history entry kept image event replied.
     c.perform-in-Port.ensures.board setup history entry kept (event ∙ c.in-Port.is) replied
+
+pub returns-in-Look-clause-board : goal.returns-in-Look-clause-board
+returns-in-Look-clause-board c = λ setup history entry kept image event replied.
+    c.perform-in-Look.ensures.board setup history entry kept (event ∙ c.in-Look.is)

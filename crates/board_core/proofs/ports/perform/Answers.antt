@@ -1,3 +1,4 @@
+use Rattle.board_core.proofs.LookLemmas.{few_changes}
 use Rattle.board_core.proofs.PortLemmas.{held, there, fits, written_fits, write_answer, read_answer, chipset_written, chipset_read}
 use Rattle.board_core.proofs.ports.perform.Goals as goal
 
@@ -14,6 +15,10 @@ write-requires-clause-fits c =
     fits kept.setup kept.history access c.decode_port-target.result.0 c.decode_port-target.result.1 c.requires.taken c.if-access.true
     (written_fits access.write access.width access.value c.if-access.true c.requires.bus.fits)
     (c.decode_port-target.ensures.decoded kept.setup kept.history kept.of.registers)
+
+pub write-requires-clause-version : goal.write-requires-clause-version
+write-requires-clause-version c =
+    let kept = c.requires.kept.1 in few_changes kept.setup kept.history c.args.chipset.now.registers kept.of.registers kept.few
 
 pub read-requires-clause-target : goal.read-requires-clause-target
 read-requires-clause-target c =

@@ -8,7 +8,8 @@ returns-then-write c = record {
   registers = λ setup history entry put kept.
       control_resets setup history entry c.args.self.now c.reset.new.self c.args.byte put (sym c.write.ensures.hard ∙ c.if-write.true) kept
       c.reset.ensures.address (c.reset.ensures.control ∙ c.write.ensures.byte)
-      (c.reset.ensures.space setup (byte_of setup history) kept.space) (c.reset.ensures.map setup (byte_of setup history) kept.map) c.reset.ensures.fitted;
+      (c.reset.ensures.space setup (byte_of setup history) kept.space) (c.reset.ensures.map setup (byte_of setup history) kept.map)
+      c.reset.ensures.version c.reset.ensures.fitted c.reset.ensures.flat;
 }
 
 pub returns-else-write : goal.returns-else-write
