@@ -97,7 +97,7 @@ fn perform<S: Shelf, K: Sink>(
     shelf: &mut S,
     out: &mut K,
 ) -> Result<(), Status>
-    ensures caused { IsCaused (status_of result) (Some (said_by command))
+    ensures caused { IsCaused (status_of result) (Some (said_by command.entry))
         (record { files = S.files shelf.old; faults_before = S.faults shelf.old; faults_now = S.faults shelf.new; failed_name = S.failed_name shelf.new })
         (record { faults_before = K.faults out.old; faults_now = K.faults out.new; taken_before = K.taken out.old; taken_now = K.taken out.new }) }
     ensures only { IfErr result IsRefusal }

@@ -26,6 +26,7 @@ fn replay_statements(board: &mut Board, statements: &[Statement]) -> Result<(), 
     requires count { length statements.now ≤ most_statements }
     requires fresh { board.old.entries ≡ [] }
     ensures replay { OnOk result (IsReplayOf board.old.setup statements.now board.new.entries) }
+    ensures setup { OnOk result (board.new.setup ≡ board.old.setup) }
 {
     board.reserve(statements.len() as u32)?;
     for statement in statements {
@@ -74,7 +75,7 @@ fn map_text(alloc: Global, board: &Board) -> Result<String, NoMemory>
 
 /// What a command tells of a board.
 fn told(alloc: Global, command: Command, board: &Board) -> Result<String, NoMemory>
-    ensures told { IfOk result (λ text. IsTold (said_by command) board.now.setup board.now.entries (string_bytes text)) }
+    ensures told { IfOk result (λ text. IsTold (said_by command.entry) board.now.setup board.now.entries (string_bytes text)) }
 {
     match command {
         Command::Replay(_) => log_text(alloc, board),
@@ -91,7 +92,7 @@ pub fn command_text(
     rom: Vec<u8>,
 ) -> Result<String, BoardOpen>
     requires taken { IsTakenScript (said_of script) }
-    ensures text { IfOk result (λ text. IsTextOf (said_by command) (said_of script) rom.items (string_bytes text)) }
+    ensures text { IfOk result (λ text. IsTextOf (said_by command.entry) (said_of script) rom.items (string_bytes text)) }
     ensures bad_rom { (result ≡ Err BoardOpen.BadRom) ↔ ¬ IsRomSize (length rom.items) }
 {
     let board = replayed(alloc, script, rom)?;

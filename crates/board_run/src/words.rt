@@ -16,7 +16,7 @@ pub enum Command<'a> {
 impl<'a> Command<'a> {
     /// The name of the script that the command reads.
     pub fn script(self) -> &'a str
-        ensures name { result.now ≡ script_of (said_by self) }
+        ensures name { result.now ≡ script_of (said_by self.entry) }
     {
         match self {
             Command::Replay(script) | Command::Map(script) => script,
