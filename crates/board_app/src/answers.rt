@@ -6,10 +6,12 @@ ghost use Rattle.board_app.specs.Words.{is_own, is_own_word};
 const HELP: &str = "\
 board: the PC chipset behind many virtual machines, with a log of every access
 
-usage: board replay FILE
+usage: board replay FILE, map FILE
 
   replay FILE   runs the script FILE, with the BIOS ROM that it names, and writes its access log
                 to standard output
+  map FILE      runs it too, and writes the address map that it leaves: a line a range, with what
+                a fetch, a read and a write reach outside SMM, and then in SMM
   --help        writes this text
   --version     writes the version
 

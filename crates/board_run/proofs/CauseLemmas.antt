@@ -14,11 +14,11 @@ use Rattle.board_core.specs.declared.setup.BoardOpen.TheVariants.{BadRom, NoMemo
 use Rattle.board_run.specs.declared.status.Which.TheVariants.{Script, Rom}
 use Rattle.board_run.specs.declared.status.Status.{Status}
 use Rattle.board_run.specs.declared.status.Status.TheVariants.{Done, Usage, ReadFault, WriteFault, TooLong, BadScript, BadImage, NoMemory}
-use Rattle.board_run.specs.Words.{Command, Replay}
+use Rattle.board_run.specs.Words.{Command, Replay, Map, script_of}
 use Rattle.board_run.specs.Output.{AppendsFront}
-use Rattle.board_run.specs.Replays.{IsLogOf, IsReplayText}
+use Rattle.board_run.specs.Replays.{IsCommandText, IsTextOf}
 use Rattle.board_run.specs.Statuses.{status_of_board_open, status_of_put_fault}
-use Rattle.board_run.specs.Outcomes.{script_limit, rom_limit, ShelfCall, SinkCall, OfScript, IsTooLong, IsRefusedAt, HasRom, IsLongRom, IsBadRom, FailsAtScript, FailsAtRom, IsNotFetched, PutsReplay, PutsReplayFront, Stopped, IsCaused}
+use Rattle.board_run.specs.Outcomes.{script_limit, rom_limit, ShelfCall, SinkCall, OfCommand, OfScript, IsTooLong, IsRefusedAt, HasRom, IsLongRom, IsBadRom, FailsAtScript, FailsAtRom, IsNotFetched, PutsText, PutsTextFront, Stopped, IsCaused}
 
 -- ---- the causes, one for each status
 
@@ -27,11 +27,11 @@ Nothing sink = Keeps sink.taken_before sink.taken_now
 
 module _ (command : Option Command) (shelf : ShelfCall) (sink : SinkCall) where
   abbrev Front : Type 0
-  Front = OfScript command shelf.files (PutsReplayFront sink.taken_before sink.taken_now)
+  Front = OfCommand command shelf.files (PutsTextFront sink.taken_before sink.taken_now)
 
   -- what a status says
   abbrev Cause : Status → Type 0
-  Cause Done = OfScript command shelf.files (PutsReplay sink.taken_before sink.taken_now)
+  Cause Done = OfCommand command shelf.files (PutsText sink.taken_before sink.taken_now)
   Cause Usage = Nothing sink
   Cause (ReadFault Script) = FailsAtScript command shelf × Nothing sink
   Cause (ReadFault Rom) = FailsAtRom command shelf × Nothing sink
@@ -74,16 +74,17 @@ module _ (command : Option Command) (shelf : ShelfCall) (sink : SinkCall) where
 
 -- ---- what was read
 
--- a script was read from the file of this name, and says this
-pub record WasRead (told : Option (List ℕ → List ℕ)) (name bytes : List ℕ) (said : Said) : Type 0 where
-  pub whole : OfFile told name (λ file. bytes ≡ file)
+-- the script of a command was read, and says this
+pub record WasRead (told : Option (List ℕ → List ℕ)) (command : Command) (bytes : List ℕ) (said : Said) : Type 0 where
+  pub whole : OfFile told (script_of command) (λ file. bytes ≡ file)
   pub fits : length bytes ≤ script_limit
   pub script : IsScript bytes said
 
 pub was_read :
-    (told : Option (List ℕ → List ℕ)) (name bytes given : List ℕ) (said : Said) → OfFile told name (λ file. bytes ≡ file) →
-    length bytes ≤ script_limit → given ≡ bytes → IsScript given said → WasRead told name bytes said
-was_read told name bytes given said whole fits same script =
+    (told : Option (List ℕ → List ℕ)) (command : Command) (bytes given : List ℕ) (said : Said) →
+    OfFile told (script_of command) (λ file. bytes ≡ file) → length bytes ≤ script_limit → given ≡ bytes → IsScript given said →
+    WasRead told command bytes said
+was_read told command bytes given said whole fits same script =
     record { whole = whole; fits = fits; script = subst (λ (bytes' : List ℕ). IsScript bytes' said) same script }
 
 of_file :
@@ -92,18 +93,18 @@ of_file :
 of_file told files name P is holds = subst (λ (told' : Option (List ℕ → List ℕ)). OfFile told' name P) is holds
 
 of_script :
-    (told : Option (List ℕ → List ℕ)) (name bytes : List ℕ) (P : (List ℕ → List ℕ) → List ℕ → Type 0) →
-    OfFile told name (λ file. bytes ≡ file) → ((files : List ℕ → List ℕ) → told ≡ Some files → P files bytes) →
-    OfScript (Some (Replay name)) told P
-of_script None name bytes P whole holds = tt
-of_script (Some files) name bytes P whole holds = subst (P files) whole (holds files refl)
+    (told : Option (List ℕ → List ℕ)) (command : Command) (bytes : List ℕ) (P : Command → (List ℕ → List ℕ) → List ℕ → Type 0) →
+    OfFile told (script_of command) (λ file. bytes ≡ file) → ((files : List ℕ → List ℕ) → told ≡ Some files → P command files bytes) →
+    OfCommand (Some command) told P
+of_script None command bytes P whole holds = tt
+of_script (Some files) command bytes P whole holds = subst (P command files) whole (holds files refl)
 
 has_rom :
-    (told : Option (List ℕ → List ℕ)) (name bytes : List ℕ) (said : Said) (P : (name rom : List ℕ) → Type 0) →
-    WasRead told name bytes said → ((files : List ℕ → List ℕ) → told ≡ Some files → P said.rom (files said.rom)) →
-    OfScript (Some (Replay name)) told (HasRom P)
-has_rom told name bytes said P read holds =
-    of_script told name bytes (HasRom P) read.whole
+    (told : Option (List ℕ → List ℕ)) (command : Command) (bytes : List ℕ) (said : Said) (P : (name rom : List ℕ) → Type 0) →
+    WasRead told command bytes said → ((files : List ℕ → List ℕ) → told ≡ Some files → P said.rom (files said.rom)) →
+    OfScript (Some command) told (HasRom P)
+has_rom told command bytes said P read holds =
+    of_script told command bytes (λ _. HasRom P) read.whole
     (λ files is. record { said = said; fits = read.fits; script = read.script; image = holds files is })
 
 -- ---- the ROM was not fetched
@@ -115,7 +116,7 @@ rose_before before between now later rose =
       | inr last ↦ inr last
     ]
 
-module _ (told : Option (List ℕ → List ℕ)) (name bytes : List ℕ) (said : Said) (before between now : ℕ) (kept : List ℕ) (sink : SinkCall) where
+module _ (told : Option (List ℕ → List ℕ)) (command : Command) (bytes : List ℕ) (said : Said) (before between now : ℕ) (kept : List ℕ) (sink : SinkCall) where
   abbrev Whole : ShelfCall
   Whole = record { files = told; faults_before = before; faults_now = now; failed_name = kept }
 
@@ -123,8 +124,8 @@ module _ (told : Option (List ℕ → List ℕ)) (name bytes : List ℕ) (said :
   Second = record { files = told; faults_before = between; faults_now = now; failed_name = kept }
 
   rom_cause :
-      (status : Status) → WasRead told name bytes said → before ≤ between → Nothing sink →
-      IsNotFetched Rom said.rom rom_limit Second status → Cause (Some (Replay name)) Whole sink status
+      (status : Status) → WasRead told command bytes said → before ≤ between → Nothing sink →
+      IsNotFetched Rom said.rom rom_limit Second status → Cause (Some command) Whole sink status
   rom_cause Done read later nothing cause = absurd cause
   rom_cause Usage read later nothing cause = absurd cause
   rom_cause (ReadFault Script) read later nothing cause = let other = cause.0 in absurd cc
@@ -132,7 +133,7 @@ module _ (told : Option (List ℕ → List ℕ)) (name bytes : List ℕ) (said :
       let names = cause.1.names in (
         record {
           rose = rose_before before between now later cause.1.rose;
-          names = has_rom told name bytes said (λ name' rom. kept ≡ take 255 name') read (λ files is. names);
+          names = has_rom told command bytes said (λ name rom. kept ≡ take 255 name) read (λ files is. names);
         },
         nothing,
       )
@@ -140,7 +141,7 @@ module _ (told : Option (List ℕ → List ℕ)) (name bytes : List ℕ) (said :
   rom_cause (TooLong Script) read later nothing cause = let other = cause.0 in absurd cc
   rom_cause (TooLong Rom) read later nothing cause =
       let long = cause.1 in (
-        has_rom told name bytes said IsLongRom read (λ files is. of_file told files said.rom (λ rom. rom_limit < length rom) is long),
+        has_rom told command bytes said IsLongRom read (λ files is. of_file told files said.rom (λ rom. rom_limit < length rom) is long),
         nothing,
       )
   rom_cause (BadScript line why) read later nothing cause = absurd cause
@@ -148,10 +149,10 @@ module _ (told : Option (List ℕ → List ℕ)) (name bytes : List ℕ) (said :
   rom_cause NoMemory read later nothing cause = inl nothing
 
   pub rom_not_fetched :
-      (status : Status) → WasRead told name bytes said → before ≤ between → Nothing sink →
-      IsNotFetched Rom said.rom rom_limit Second status → IsCaused status (Some (Replay name)) Whole sink
+      (status : Status) → WasRead told command bytes said → before ≤ between → Nothing sink →
+      IsNotFetched Rom said.rom rom_limit Second status → IsCaused status (Some command) Whole sink
   rom_not_fetched status read later nothing cause =
-      caused (Some (Replay name)) Whole sink status (rom_cause status read later nothing cause)
+      caused (Some command) Whole sink status (rom_cause status read later nothing cause)
 
 -- ---- there was no board
 
@@ -163,86 +164,102 @@ rom_size size other =
       | inr bad ↦ absurd (other (λ is. grind (arith, nat_tests)))
     ]
 
-module _ (name bytes rom : List ℕ) (said : Said) (shelf : ShelfCall) (sink : SinkCall) where
+module _ (command : Command) (bytes rom : List ℕ) (said : Said) (shelf : ShelfCall) (sink : SinkCall) where
   board_cause :
-      (fault : BoardOpen) → WasRead shelf.files name bytes said → OfFile shelf.files said.rom (λ file. rom ≡ file) →
+      (fault : BoardOpen) → WasRead shelf.files command bytes said → OfFile shelf.files said.rom (λ file. rom ≡ file) →
       length rom ≤ rom_limit → (fault ≡ BadRom → ¬ IsRomSize (length rom)) → Nothing sink →
-      Cause (Some (Replay name)) shelf sink (status_of_board_open fault)
+      Cause (Some command) shelf sink (status_of_board_open fault)
   board_cause BadRom read whole fits size nothing = (
-    has_rom shelf.files name bytes said IsBadRom read
+    has_rom shelf.files command bytes said IsBadRom read
         (λ files is. subst (IsBadRom said.rom) (of_file shelf.files files said.rom (λ file. rom ≡ file) is whole) (fits, size refl)),
     nothing,
   )
   board_cause NoMemoryForBoard read whole fits size nothing = inl nothing
 
   pub no_board :
-      (fault : BoardOpen) → WasRead shelf.files name bytes said → OfFile shelf.files said.rom (λ file. rom ≡ file) →
+      (fault : BoardOpen) → WasRead shelf.files command bytes said → OfFile shelf.files said.rom (λ file. rom ≡ file) →
       length rom ≤ rom_limit → (fault ≡ BadRom → ¬ IsRomSize (length rom)) → Nothing sink →
-      IsCaused (status_of_board_open fault) (Some (Replay name)) shelf sink
+      IsCaused (status_of_board_open fault) (Some command) shelf sink
   no_board fault read whole fits size nothing =
-      caused (Some (Replay name)) shelf sink (status_of_board_open fault) (board_cause fault read whole fits size nothing)
+      caused (Some command) shelf sink (status_of_board_open fault) (board_cause fault read whole fits size nothing)
 
 -- ---- the text was put, or a front of it
 
--- a script within its limit has this text
-pub record HasText (text : List ℕ) (files : List ℕ → List ℕ) (file : List ℕ) : Type 0 where
+-- a command whose script is within its limit has this text
+pub record HasText (text : List ℕ) (command : Command) (files : List ℕ → List ℕ) (file : List ℕ) : Type 0 where
   pub fits : length file ≤ script_limit
-  pub replay : IsReplayText files file text
+  pub says : IsCommandText command files file text
 
-replay_text :
-    (files : List ℕ → List ℕ) (bytes rom text : List ℕ) (said : Said) → IsScript bytes said → rom ≡ files said.rom →
-    IsRomSize (length rom) → IsLogOf said rom text → IsReplayText files bytes text
-replay_text files bytes rom text said script whole size log =
-    let log' : IsLogOf said (files said.rom) text = subst (λ (rom' : List ℕ). IsLogOf said rom' text) whole log in
-    record {
-      said = said;
-      history = log'.history;
-      script = script;
-      rom = subst (λ (rom' : List ℕ). IsRomSize (length rom')) whole size;
-      replay = log'.replay;
-      locked = log'.locked;
-      log = log'.log;
-    }
+command_text :
+    (command : Command) (files : List ℕ → List ℕ) (bytes text : List ℕ) (said : Said) → IsScript bytes said →
+    IsRomSize (length (files said.rom)) → IsTextOf command said (files said.rom) text → IsCommandText command files bytes text
+command_text (Replay script) files bytes text said read size is = record {
+  said = said;
+  history = is.history;
+  script = read;
+  rom = size;
+  replay = is.replay;
+  locked = is.locked;
+  log = is.told;
+}
+command_text (Map script) files bytes text said read size is = record {
+  said = said;
+  history = is.history;
+  ranges = is.told.ranges;
+  script = read;
+  rom = size;
+  replay = is.replay;
+  map = is.told.map;
+  lines = is.told.lines;
+}
+
+text_of_rom :
+    (command : Command) (files : List ℕ → List ℕ) (bytes rom text : List ℕ) (said : Said) → IsScript bytes said → rom ≡ files said.rom →
+    IsRomSize (length rom) → IsTextOf command said rom text → IsCommandText command files bytes text
+text_of_rom command files bytes rom text said read whole size is =
+    command_text command files bytes text said read (subst (λ (rom' : List ℕ). IsRomSize (length rom')) whole size)
+    (subst (λ (rom' : List ℕ). IsTextOf command said rom' text) whole is)
 
 pub has_text :
-    (told : Option (List ℕ → List ℕ)) (name bytes rom text : List ℕ) (said : Said) → WasRead told name bytes said →
-    OfFile told said.rom (λ file. rom ≡ file) → IsRomSize (length rom) → IsLogOf said rom text →
-    OfScript (Some (Replay name)) told (HasText text)
-has_text told name bytes rom text said read whole size log =
-    of_script told name bytes (HasText text) read.whole
-    (λ files is. record {
+    (told : Option (List ℕ → List ℕ)) (command : Command) (bytes rom text : List ℕ) (said : Said) → WasRead told command bytes said →
+    OfFile told said.rom (λ file. rom ≡ file) → IsRomSize (length rom) → IsTextOf command said rom text →
+    OfCommand (Some command) told (HasText text)
+has_text told command bytes rom text said read whole size is =
+    of_script told command bytes (HasText text) read.whole
+    (λ files at. record {
       fits = read.fits;
-      replay =
-          replay_text files bytes rom text said read.script (of_file told files said.rom (λ file. rom ≡ file) is whole) size log;
+      says =
+          text_of_rom command files bytes rom text said read.script (of_file told files said.rom (λ file. rom ≡ file) at whole) size is;
     })
 
-pub map_script :
-    (command : Option Command) (told : Option (List ℕ → List ℕ)) (P Q : (List ℕ → List ℕ) → List ℕ → Type 0) →
-    ((files : List ℕ → List ℕ) (file : List ℕ) → P files file → Q files file) → OfScript command told P → OfScript command told Q
-map_script None told P Q each of = of
-map_script (Some (Replay script)) None P Q each of = tt
-map_script (Some (Replay script)) (Some files) P Q each of = each files (files script) of
+pub map_command :
+    (command : Option Command) (told : Option (List ℕ → List ℕ)) (P Q : Command → (List ℕ → List ℕ) → List ℕ → Type 0) →
+    ((of : Command) (files : List ℕ → List ℕ) (file : List ℕ) → P of files file → Q of files file) → OfCommand command told P →
+    OfCommand command told Q
+map_command None told P Q each holds = holds
+map_command (Some command) None P Q each holds = tt
+map_command (Some command) (Some files) P Q each holds = each command files (files (script_of command)) holds
 
 module _ (command : Option Command) (shelf : ShelfCall) (sink : SinkCall) (text : List ℕ) where
-  front_put : OfScript command shelf.files (HasText text) → AppendsFront sink.taken_before sink.taken_now text → Front command shelf sink
+  front_put : OfCommand command shelf.files (HasText text) → AppendsFront sink.taken_before sink.taken_now text → Front command shelf sink
   front_put has taken =
-      map_script command shelf.files (HasText text) (PutsReplayFront sink.taken_before sink.taken_now)
-      (λ files file is. record { text = text; fits = is.fits; replay = is.replay; taken = taken }) has
+      map_command command shelf.files (HasText text) (PutsTextFront sink.taken_before sink.taken_now)
+      (λ of files file is. record { text = text; fits = is.fits; says = is.says; taken = taken }) has
 
   put_cause :
-      (fault : PutFault) → OfScript command shelf.files (HasText text) → AppendsFront sink.taken_before sink.taken_now text →
+      (fault : PutFault) → OfCommand command shelf.files (HasText text) → AppendsFront sink.taken_before sink.taken_now text →
       (fault ≡ Failed → Rose sink.faults_before sink.faults_now) → Cause command shelf sink (status_of_put_fault fault)
   put_cause Failed has taken rose = (rose refl, front_put has taken)
   put_cause NoMemoryForPut has taken rose = inr (front_put has taken)
 
   pub not_put :
-      (fault : PutFault) → OfScript command shelf.files (HasText text) → AppendsFront sink.taken_before sink.taken_now text →
+      (fault : PutFault) → OfCommand command shelf.files (HasText text) → AppendsFront sink.taken_before sink.taken_now text →
       (fault ≡ Failed → Rose sink.faults_before sink.faults_now) → IsCaused (status_of_put_fault fault) command shelf sink
   not_put fault has taken rose = caused command shelf sink (status_of_put_fault fault) (put_cause fault has taken rose)
 
   pub all_put :
-      OfScript command shelf.files (HasText text) → Appends sink.taken_before sink.taken_now text → IsCaused Done command shelf sink
+      OfCommand command shelf.files (HasText text) → Appends sink.taken_before sink.taken_now text → IsCaused Done command shelf sink
   all_put has taken =
       caused command shelf sink Done
-      (map_script command shelf.files (HasText text) (PutsReplay sink.taken_before sink.taken_now)
-      (λ files file is. record { text = text; fits = is.fits; replay = is.replay; taken = taken }) has)
+      (map_command command shelf.files (HasText text) (PutsText sink.taken_before sink.taken_now)
+      (λ of files file is. record { text = text; fits = is.fits; says = is.says; taken = taken }) has)

@@ -10,10 +10,10 @@ use Rattle.script_text.specs.ScriptText.{Said, Refusal, script_from}
 use Rattle.board_run.specs.declared.status.Which.TheVariants.{Script, Rom}
 use Rattle.board_run.specs.declared.status.Status.{Status}
 use Rattle.board_run.specs.declared.status.Status.TheVariants.{Done, Usage, ReadFault, WriteFault, TooLong, BadScript, BadImage, NoMemory}
-use Rattle.board_run.specs.Words.{Command, Replay}
-use Rattle.board_run.specs.Replays.{IsReplayText}
-use Rattle.board_run.proofs.CauseLemmas.{map_script}
-use Rattle.board_run.specs.Outcomes.{script_limit, rom_limit, ShelfCall, SinkCall, OfScript, HasScript, IsTooLong, IsRefusedAt, HasRom, IsLongRom, IsBadRom, IsGoodRom, IsGood, FailsAtScript, PutsReplay, PutsReplayFront, IsCaused, Answers, IsExact}
+use Rattle.board_run.specs.Words.{Command, Replay, Map, script_of}
+use Rattle.board_run.specs.Replays.{IsCommandText}
+use Rattle.board_run.proofs.CauseLemmas.{map_command}
+use Rattle.board_run.specs.Outcomes.{script_limit, rom_limit, ShelfCall, SinkCall, OfCommand, OfScript, HasScript, IsTooLong, IsRefusedAt, HasRom, IsLongRom, IsBadRom, IsGoodRom, IsGood, FailsAtScript, PutsText, PutsTextFront, IsCaused, Answers, IsExact}
 
 -- ---- the answer that the files ask for, where the outside is quiet
 
@@ -84,9 +84,13 @@ other_rom : (name rom : List ℕ) → IsBadRom name rom → rom_answer (length r
 unfolding rom_answer
 other_rom name rom is = rw (not_long rom_limit (length rom) is.0, size_false (length rom) is.1) refl
 
-replayed : (files : List ℕ → List ℕ) (file text : List ℕ) → length file ≤ script_limit → IsReplayText files file text → Asks Done files file
-replayed files file text fits replay =
-    short_script files file (Ok replay.said) fits replay.script ∙ good_rom replay.said.rom (files replay.said.rom) replay.rom
+says_text :
+    (command : Command) (files : List ℕ → List ℕ) (file text : List ℕ) → length file ≤ script_limit → IsCommandText command files file text →
+    Asks Done files file
+says_text (Replay script) files file text fits is =
+    short_script files file (Ok is.said) fits is.script ∙ good_rom is.said.rom (files is.said.rom) is.rom
+says_text (Map script) files file text fits is =
+    short_script files file (Ok is.said) fits is.script ∙ good_rom is.said.rom (files is.said.rom) is.rom
 
 -- ---- of the script of a command
 
@@ -95,14 +99,14 @@ map_has :
     ((files : List ℕ → List ℕ) (file : List ℕ) → P files file → Q files file) → HasScript command told P → HasScript command told Q
 map_has None told P Q each has = has
 map_has (Some command) None P Q each has = has
-map_has (Some (Replay script)) (Some files) P Q each has = each files (files script) has
+map_has (Some command) (Some files) P Q each has = each files (files (script_of command)) has
 
 same_answer :
     (command : Option Command) (told : Option (List ℕ → List ℕ)) (status wanted : Status) → HasScript command told (Asks wanted) →
     OfScript command told (Asks status) → status ≡ wanted
 same_answer None told status wanted has of = absurd of
 same_answer (Some command) None status wanted has of = absurd has
-same_answer (Some (Replay script)) (Some files) status wanted has of = sym of ∙ has
+same_answer (Some command) (Some files) status wanted has of = sym of ∙ has
 
 is_asked : (command : Option Command) (told : Option (List ℕ → List ℕ)) (P : (List ℕ → List ℕ) → List ℕ → Type 0) → HasScript command told P → command ≢ None
 is_asked None told P has = λ _. has
@@ -110,7 +114,7 @@ is_asked (Some command) told P has = λ e. cc
 
 rose_at_script : (command : Option Command) (shelf : ShelfCall) → FailsAtScript command shelf → Rose shelf.faults_before shelf.faults_now
 rose_at_script None shelf fails = absurd fails
-rose_at_script (Some (Replay script)) shelf fails = fails.rose
+rose_at_script (Some command) shelf fails = fails.rose
 
 -- ---- the status that is left
 
@@ -119,7 +123,13 @@ module _ (command : Option Command) (shelf : ShelfCall) (sink : SinkCall) where
       (P : (List ℕ → List ℕ) → List ℕ → Type 0) (status : Status) →
       ((files : List ℕ → List ℕ) (file : List ℕ) → P files file → Asks status files file) → OfScript command shelf.files P →
       OfScript command shelf.files (Asks status)
-  of_script P status each = map_script command shelf.files P (Asks status) each
+  of_script P status each = map_command command shelf.files (λ _. P) (λ _. Asks status) (λ of. each)
+
+  of_text :
+      (P : Command → (List ℕ → List ℕ) → List ℕ → Type 0) →
+      ((of : Command) (files : List ℕ → List ℕ) (file : List ℕ) → P of files file → Asks Done files file) →
+      OfCommand command shelf.files P → OfScript command shelf.files (Asks Done)
+  of_text P each = map_command command shelf.files P (λ _. Asks Done) each
 
   -- the status is the answer that the files ask for, where its causes hold
   left :
@@ -129,16 +139,16 @@ module _ (command : Option Command) (shelf : ShelfCall) (sink : SinkCall) where
   left Done wanted usage is has quiet calm =
       inl
       (same_answer command shelf.files Done wanted has
-      (of_script (PutsReplay sink.taken_before sink.taken_now) Done
-      (λ files file puts. replayed files file puts.text puts.fits puts.replay) (is.done refl)))
+      (of_text (PutsText sink.taken_before sink.taken_now)
+      (λ of files file puts. says_text of files file puts.text puts.fits puts.says) (is.done refl)))
   left Usage wanted usage is has quiet calm = absurd (is_asked command shelf.files (Asks wanted) has (usage.0 refl))
   left (ReadFault Script) wanted usage is has quiet calm = absurd (quiet (rose_at_script command shelf (is.read_fault_script refl)))
   left (ReadFault Rom) wanted usage is has quiet calm = absurd (quiet (is.read_fault_rom refl).rose)
   left WriteFault wanted usage is has quiet calm =
       let same =
       same_answer command shelf.files Done wanted has
-      (of_script (PutsReplayFront sink.taken_before sink.taken_now) Done
-      (λ files file puts. replayed files file puts.text puts.fits puts.replay) is.stopped) in
+      (of_text (PutsTextFront sink.taken_before sink.taken_now)
+      (λ of files file puts. says_text of files file puts.text puts.fits puts.says) is.stopped) in
       absurd (calm (sym same) (is.write_fault refl))
   left (TooLong Script) wanted usage is has quiet calm =
       inl

@@ -4,3 +4,4 @@ mod CauseLemmas
 mod ExactLemmas
 mod TakenLemmas
 mod ReplayLemmas
+mod MapLemmas

@@ -73,7 +73,7 @@ taken_event : (event : Event) → is_taken event ≡ true → IsTaken event
 unfolding is_taken
 taken_event (Memory access) h = tt
 taken_event (Port access) h = port_access access h
-taken_event (Look kind addr smm) h = cc
+taken_event (Look kind addr smm) h = tt
 taken_event Ack h = cc
 taken_event (Pulses count) h = cc
 taken_event (Time moment) h = cc

@@ -11,7 +11,7 @@ name_of Rom = codes "rom"
 
 abbrev pub text_of : Status → List ℕ
 text_of Done = []
-text_of Usage = codes "usage: board replay FILE"
+text_of Usage = codes "usage: board replay FILE, map FILE"
 text_of (ReadFault which) = codes "read fault: " ++ name_of which
 text_of WriteFault = codes "write fault"
 text_of (TooLong which) = codes "too long: " ++ name_of which

@@ -1,6 +1,7 @@
 pub mod Status
 pub mod FaultText
 pub mod Words
+pub mod Commands
 pub mod Files
 pub mod Output
 pub mod Replays

@@ -8,8 +8,8 @@ use Rattle.board_run.specs.declared.status.Which.{Which}
 use Rattle.board_run.specs.declared.status.Which.TheVariants.{Script, Rom}
 use Rattle.board_run.specs.declared.status.Status.{Status}
 use Rattle.board_run.specs.declared.status.Status.TheVariants.{Done, ReadFault, WriteFault, TooLong, BadScript, BadImage, NoMemory}
-use Rattle.board_run.specs.Words.{Command, Replay}
-use Rattle.board_run.specs.Replays.{IsReplayText}
+use Rattle.board_run.specs.Words.{Command, script_of}
+use Rattle.board_run.specs.Replays.{IsCommandText}
 use Rattle.board_run.specs.Output.{AppendsFront}
 
 -- the most bytes of a script: 16 MiB
@@ -39,17 +39,21 @@ pub record SinkCall : Type 0 where
 
 -- ---- the script of a command
 
+-- the words are a command; and where the shelf tells its files, this holds of it, of them and of its script
+abbrev pub OfCommand : Option Command → Option (List ℕ → List ℕ) → (Command → (List ℕ → List ℕ) → List ℕ → Type 0) → Type 0
+OfCommand None told P = ⊥
+OfCommand (Some command) None P = Unit {0}
+OfCommand (Some command) (Some files) P = P command files (files (script_of command))
+
 -- the words are a command; and where the shelf tells its files, this holds of them and of the command's script
 abbrev pub OfScript : Option Command → Option (List ℕ → List ℕ) → ((List ℕ → List ℕ) → List ℕ → Type 0) → Type 0
-OfScript None told P = ⊥
-OfScript (Some (Replay script)) None P = Unit {0}
-OfScript (Some (Replay script)) (Some files) P = P files (files script)
+OfScript command told P = OfCommand command told (λ _. P)
 
 -- the words are a command, the shelf tells its files, and this holds of them and of the command's script
 abbrev pub HasScript : Option Command → Option (List ℕ → List ℕ) → ((List ℕ → List ℕ) → List ℕ → Type 0) → Type 0
 HasScript None told P = ⊥
 HasScript (Some command) None P = ⊥
-HasScript (Some (Replay script)) (Some files) P = P files (files script)
+HasScript (Some command) (Some files) P = P files (files (script_of command))
 
 -- ---- what the files are: each word is of all files by their names, and of the script
 
@@ -95,7 +99,7 @@ pub record FailsAt (name : List ℕ) (shelf : ShelfCall) : Type 0 where
 -- the words are a command, and a fault rose at its script
 abbrev pub FailsAtScript : Option Command → ShelfCall → Type 0
 FailsAtScript None shelf = ⊥
-FailsAtScript (Some (Replay script)) shelf = FailsAt script shelf
+FailsAtScript (Some command) shelf = FailsAt (script_of command) shelf
 
 -- the words are a command, and a fault rose at its ROM, whose name the shelf keeps, cut to 255 bytes
 pub record FailsAtRom (command : Option Command) (shelf : ShelfCall) : Type 0 where
@@ -111,18 +115,18 @@ IsNotFetched which name limit shelf _ = ⊥
 
 -- ---- what was put
 
--- a sink took the whole text of the replay of a script within its limit
-pub record PutsReplay (before now : Option (List ℕ)) (files : List ℕ → List ℕ) (file : List ℕ) : Type 0 where
+-- a sink took the whole text of a command, whose script is within its limit
+pub record PutsText (before now : Option (List ℕ)) (command : Command) (files : List ℕ → List ℕ) (file : List ℕ) : Type 0 where
   pub text : List ℕ
   pub fits : length file ≤ script_limit
-  pub replay : IsReplayText files file text
+  pub says : IsCommandText command files file text
   pub taken : Appends before now text
 
 -- a sink took a front of that text
-pub record PutsReplayFront (before now : Option (List ℕ)) (files : List ℕ → List ℕ) (file : List ℕ) : Type 0 where
+pub record PutsTextFront (before now : Option (List ℕ)) (command : Command) (files : List ℕ → List ℕ) (file : List ℕ) : Type 0 where
   pub text : List ℕ
   pub fits : length file ≤ script_limit
-  pub replay : IsReplayText files file text
+  pub says : IsCommandText command files file text
   pub taken : AppendsFront before now text
 
 -- what a command that was not done leaves at the sink: a front of its text where the sink failed, that or nothing
@@ -137,8 +141,8 @@ Stopped _ before now Front = Keeps before now
 
 -- a status comes only where its cause holds
 pub record IsCaused (status : Status) (command : Option Command) (shelf : ShelfCall) (sink : SinkCall) : Type 0 where
-  -- done: the sink took the log of the replay, in which the lock law holds
-  pub done : status ≡ Done → OfScript command shelf.files (PutsReplay sink.taken_before sink.taken_now)
+  -- done: the sink took the text of the command, the log of the replay or the address map behind it
+  pub done : status ≡ Done → OfCommand command shelf.files (PutsText sink.taken_before sink.taken_now)
   -- a fault rose at the script
   pub read_fault_script : status ≡ ReadFault Script → FailsAtScript command shelf
   -- a fault rose at the ROM that the script names
@@ -157,7 +161,7 @@ pub record IsCaused (status : Status) (command : Option Command) (shelf : ShelfC
   pub no_bad_image_script : status ≢ BadImage Script
   -- what was put before it came, where it is not done
   pub stopped : Stopped status sink.taken_before sink.taken_now
-      (OfScript command shelf.files (PutsReplayFront sink.taken_before sink.taken_now))
+      (OfCommand command shelf.files (PutsTextFront sink.taken_before sink.taken_now))
 
 -- a status is this one, unless memory ran out
 abbrev pub Answers : Status → Status → Type 0

@@ -5,10 +5,22 @@ use Rattle.std.specs.Global.{Global}
 -- a command, with the names of the files that it reads
 pub data Command : Type 0 where
   Replay : (script : List ℕ) → Command
+  Map : (script : List ℕ) → Command
 
--- `replay FILE`
+-- the name of the script that a command reads
+abbrev pub script_of : Command → List ℕ
+script_of (Replay script) = script
+script_of (Map script) = script
+
+-- the command of a verb with the name of a file
+unfoldable pub command_with : (verb file : List ℕ) → Option Command
+command_with verb file =
+    if bytes_eq verb (codes "replay") then Some (Replay file) else
+    if bytes_eq verb (codes "map") then Some (Map file) else None
+
+-- `replay FILE` and `map FILE`
 abbrev pub command_of : List (List ℕ) → Option Command
-command_of (verb ∷ file ∷ []) = if bytes_eq verb (codes "replay") then Some (Replay file) else None
+command_of (verb ∷ file ∷ []) = command_with verb file
 command_of _ = None
 
 -- the command that the words ask for

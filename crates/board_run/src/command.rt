@@ -2,15 +2,16 @@
 
 ghost use Rattle.std.specs.Prelude.{◌≡◌, ℕ, ◌<◌, ◌≤◌, ◌^◌, ◌↔◌, Some, None, IfOk, IfErr, vec_len};
 ghost use Rattle.board_base.specs.Outside.{Rose, OfFile};
-ghost use Rattle.board_run.specs.Words.{Replay, asked};
+ghost use Rattle.board_run.specs.Words.{asked};
+ghost use Rattle.board_run.specs.Commands.{said_by};
 ghost use Rattle.board_run.specs.Statuses.{status_of, IsRefusal};
-ghost use Rattle.board_run.specs.Outcomes.{OfScript, IsNotFetched, PutsReplay, IsCaused, IsExact};
+ghost use Rattle.board_run.specs.Outcomes.{OfCommand, IsNotFetched, PutsText, IsCaused, IsExact};
 
 use crate::files::{FileFault, read_file};
 use crate::output::put_all;
-use crate::replay::replay_text;
+use crate::replay::command_text;
 use crate::status::{Status, Which};
-use crate::words::replayed_file;
+use crate::words::{Command, command_of};
 use board_base::{Gate, PutFault, Shelf, Sink};
 use board_core::BoardOpen;
 use script_text::{ScriptFault, read_script};
@@ -89,22 +90,22 @@ fn fetch<S: Shelf>(
     }
 }
 
-/// Replays a script from the shelf on a board with its ROM, and puts the log.
-fn replay<S: Shelf, K: Sink>(
+/// Replays the script of a command from the shelf on a board with its ROM, and puts what the command tells.
+fn perform<S: Shelf, K: Sink>(
     alloc: Global,
-    name: &str,
+    command: Command,
     shelf: &mut S,
     out: &mut K,
 ) -> Result<(), Status>
-    ensures caused { IsCaused (status_of result) (Some (Replay name.now))
+    ensures caused { IsCaused (status_of result) (Some (said_by command.entry))
         (record { files = S.files shelf.old; faults_before = S.faults shelf.old; faults_now = S.faults shelf.new; failed_name = S.failed_name shelf.new })
         (record { faults_before = K.faults out.old; faults_now = K.faults out.new; taken_before = K.taken out.old; taken_now = K.taken out.new }) }
     ensures only { IfErr result IsRefusal }
 {
-    let bytes = fetch(alloc, shelf, Which::Script, name, SCRIPT_LIMIT)?;
+    let bytes = fetch(alloc, shelf, Which::Script, command.script(), SCRIPT_LIMIT)?;
     let script = read_script(alloc, &bytes)?;
     let rom = fetch(alloc, shelf, Which::Rom, script.rom.as_str(), ROM_LIMIT)?;
-    let text = replay_text(alloc, script, rom)?;
+    let text = command_text(alloc, command, script, rom)?;
     put_all(out, text.as_bytes())?;
     Ok(())
 }
@@ -116,18 +117,18 @@ fn obey<S: Shelf, K: Sink>(alloc: Global, words: &[String], shelf: &mut S, out: 
         (record { files = S.files shelf.old; faults_before = S.faults shelf.old; faults_now = S.faults shelf.new; failed_name = S.failed_name shelf.new })
         (record { faults_before = K.faults out.old; faults_now = K.faults out.new; taken_before = K.taken out.old; taken_now = K.taken out.new }) }
 {
-    let Some(script) = replayed_file(words) else {
+    let Some(command) = command_of(words) else {
         return Status::Usage;
     };
-    match replay(alloc, script, shelf, out) {
+    match perform(alloc, command, shelf, out) {
         Ok(()) => Status::Done,
         Err(status) => status,
     }
 }
 
 /// Runs one command over a shelf of files and a sink: `replay FILE` puts the log of the replay of a
-/// script. Where several causes hold, the words come first, then the script, then its ROM, then what
-/// is put. Nothing is put before all else is done.
+/// script, and `map FILE` the address map behind it. Where several causes hold, the words come first,
+/// then the script, then its ROM, then what is put. Nothing is put before all else is done.
 pub fn board<R: Threads + Wait + Sync, S: Shelf, K: Sink, G: Gate>(
     _rt: &R,
     alloc: Global,
@@ -138,7 +139,7 @@ pub fn board<R: Threads + Wait + Sync, S: Shelf, K: Sink, G: Gate>(
 ) -> Status
     ensures usage { (result ≡ Status.Usage) ↔ (asked words.now ≡ None) }
     ensures done { result ≡ Status.Done →
-        OfScript (asked words.now) (S.files shelf.old) (PutsReplay (K.taken out.old) (K.taken out.new)) }
+        OfCommand (asked words.now) (S.files shelf.old) (PutsText (K.taken out.old) (K.taken out.new)) }
     ensures caused { IsCaused result (asked words.now)
         (record { files = S.files shelf.old; faults_before = S.faults shelf.old; faults_now = S.faults shelf.new; failed_name = S.failed_name shelf.new })
         (record { faults_before = K.faults out.old; faults_now = K.faults out.new; taken_before = K.taken out.old; taken_now = K.taken out.new }) }

@@ -3,6 +3,7 @@
 
 mod command;
 mod files;
+mod map;
 mod memory;
 mod message;
 mod output;

@@ -22,7 +22,7 @@ fn text_of(alloc: Global, status: &Status) -> Result<String, AllocError>
 {
     match status {
         Status::Done => Ok(String::new(alloc)),
-        Status::Usage => String::from_str(alloc, "usage: board replay FILE"),
+        Status::Usage => String::from_str(alloc, "usage: board replay FILE, map FILE"),
         Status::ReadFault(which) => format!(in alloc; "read fault: {}", name_of(*which)),
         Status::WriteFault => String::from_str(alloc, "write fault"),
         Status::TooLong(which) => format!(in alloc; "too long: {}", name_of(*which)),

@@ -9,7 +9,7 @@ use std::thread::Threads;
 fn texts_and_codes(rt: HostRuntime) -> Result<(), Fail> {
     let cases = [
         (Status::Done, 0, ""),
-        (Status::Usage, 1, "usage: board replay FILE"),
+        (Status::Usage, 1, "usage: board replay FILE, map FILE"),
         (Status::ReadFault(Which::Script), 2, "read fault: script"),
         (Status::ReadFault(Which::Rom), 2, "read fault: rom"),
         (Status::WriteFault, 3, "write fault"),
@@ -30,23 +30,40 @@ fn texts_and_codes(rt: HostRuntime) -> Result<(), Fail> {
     Ok(())
 }
 
+/// Words, each a `String`.
+fn words_of(alloc: Global, texts: &[&str]) -> Result<Vec<String>, Fail> {
+    let mut words = Vec::new(alloc);
+    for text in texts {
+        words.push(String::from_str(alloc, text)?)?;
+    }
+    Ok(words)
+}
+
+/// Words that are no command, over files that a command would read.
+const NO_COMMANDS: [&[&str]; 7] = [
+    &[],
+    &["replay"],
+    &["replay", "s", "s"],
+    &["map"],
+    &["map", "s", "s"],
+    &["look", "s"],
+    &["s", "map"],
+];
+
 #[test]
 fn words_that_are_no_command(rt: HostRuntime) -> Result<(), Fail> {
-    let mut words = Vec::new(rt.alloc());
     let mut shelf = SafeShelf {
-        files: Vec::new(rt.alloc()),
+        files: files_of(rt.alloc(), SETUP, ROM_SIZE)?,
     };
-    let mut out = SafeSink::new(rt.alloc());
-    assert_eq!(rt;
-        board(&rt, rt.alloc(), &words, &mut shelf, &mut out, &QuietGate),
-        Status::Usage
-    );
-    words.push(String::from_str(rt.alloc(), "replay")?)?;
-    assert_eq!(rt;
-        board(&rt, rt.alloc(), &words, &mut shelf, &mut out, &QuietGate),
-        Status::Usage
-    );
-    assert_eq!(rt; out.bytes.len(), 0);
+    for texts in NO_COMMANDS {
+        let words = words_of(rt.alloc(), texts)?;
+        let mut out = SafeSink::new(rt.alloc());
+        assert_eq!(rt;
+            board(&rt, rt.alloc(), &words, &mut shelf, &mut out, &QuietGate),
+            Status::Usage
+        );
+        assert_eq!(rt; out.bytes.len(), 0);
+    }
     Ok(())
 }
 
@@ -59,7 +76,7 @@ fn rom_of(alloc: Global, size: usize) -> Result<Vec<u8>, Fail> {
     Ok(bytes)
 }
 
-/// The files of a replay: a script, and a ROM of this size.
+/// The files of a command: a script, and a ROM of this size.
 fn files_of(alloc: Global, script: &str, rom: usize) -> Result<Vec<(String, Vec<u8>)>, Fail> {
     let mut files = Vec::new(alloc);
     files.push((
@@ -70,23 +87,16 @@ fn files_of(alloc: Global, script: &str, rom: usize) -> Result<Vec<(String, Vec<
     Ok(files)
 }
 
-/// The words `replay s`.
-fn replay_words(alloc: Global) -> Result<Vec<String>, Fail> {
-    let mut words = Vec::new(alloc);
-    words.push(String::from_str(alloc, "replay")?)?;
-    words.push(String::from_str(alloc, "s")?)?;
-    Ok(words)
-}
-
-/// Replays a script with a ROM of this size.
-fn replayed<R: Threads + Wait + Sync>(
+/// Runs the command of this verb for a script, with a ROM of this size.
+fn answered<R: Threads + Wait + Sync>(
     rt: &R,
     alloc: Global,
+    verb: &str,
     script: &str,
     rom: usize,
     out: &mut SafeSink,
 ) -> Result<Status, Fail> {
-    let words = replay_words(alloc)?;
+    let words = words_of(alloc, &[verb, "s"])?;
     let mut shelf = SafeShelf {
         files: files_of(alloc, script, rom)?,
     };
@@ -138,7 +148,7 @@ fn scripts_and_their_logs(rt: HostRuntime) -> Result<(), Fail> {
         script.push_str(body)?;
         let mut out = SafeSink::new(rt.alloc());
         assert_eq!(rt;
-            replayed(&rt, rt.alloc(), script.as_str(), rom, &mut out)?,
+            answered(&rt, rt.alloc(), "replay", script.as_str(), rom, &mut out)?,
             status,
             "of {body} with a ROM of {rom}"
         );
@@ -314,19 +324,22 @@ const CARD_IN_THE_HOLE: [Row; 15] = [
     ("r b 00F00004", "FF abort 00.0.68"),
 ];
 
-/// Ones written to a base leave the bits that place it: 1 MiB.
-const CARD_MOVED: [Row; 7] = [
+/// Ones written to a base leave the bits that place it: 1 MiB. Each such write moves the card in the address map.
+const CARD_MOVED: [Row; 10] = [
     ("out d 0CF8 80001010", "- confadd -"),
     ("out d 0CFC E0000000", "- config:02.0.10 -"),
     ("out d 0CF8 80001004", "- confadd -"),
     ("out b 0CFC 02", "- config:02.0.04 -"),
+    ("look r E0000000", "2 E0000000 E00FFFFF card:2.0"),
     ("out d 0CF8 80001010", "- confadd -"),
     ("out d 0CFC FFFFFFFF", "- config:02.0.10 -"),
     ("in d 0CFC", "FFF00000 config:02.0.10 -"),
+    ("look r E0000000", "3 00800000 FFEFFFFF abort"),
+    ("look r FFFE0000", "3 FFF00000 FFFEFFFF card:2.0"),
 ];
 
 /// Two cards at one place: the lower enabled one answers, and where none is, the lower one's command register is why.
-const TWO_CARDS_AT_ONE_PLACE: [Row; 11] = [
+const TWO_CARDS_AT_ONE_PLACE: [Row; 12] = [
     ("out d 0CF8 80001010", "- confadd -"),
     ("out d 0CFC C0000000", "- config:02.0.10 -"),
     ("out d 0CF8 80001810", "- confadd -"),
@@ -338,6 +351,7 @@ const TWO_CARDS_AT_ONE_PLACE: [Row; 11] = [
     ("out d 0CF8 80001004", "- confadd -"),
     ("out b 0CFC 02", "- config:02.0.04 -"),
     ("r b C0000000", "00 card:2.0:00000000 -"),
+    ("look r C0000000", "4 C0000000 C0000FFF card:2.0"),
 ];
 
 /// The configuration ports by width, enable bit and device, and the bits that the address keeps.
@@ -407,11 +421,61 @@ fn statements_and_their_replies(rt: HostRuntime) -> Result<(), Fail> {
         }
         let mut out = SafeSink::new(rt.alloc());
         assert_eq!(rt;
-            replayed(&rt, rt.alloc(), script.as_str(), ROM_SIZE, &mut out)?,
+            answered(
+                &rt,
+                rt.alloc(),
+                "replay",
+                script.as_str(),
+                ROM_SIZE,
+                &mut out
+            )?,
             Status::Done,
             "of {script}"
         );
         assert_eq!(rt; out.bytes.as_slice(), log.as_bytes(), "of {script}");
+    }
+    Ok(())
+}
+
+/// Statements behind the setup, and the address map that they leave.
+const MAPS: [(&str, &str); 2] = [
+    (
+        "",
+        "\
+00000000 0009FFFF dram:0 dram:0 dram:0 dram:0 dram:0 dram:0
+000A0000 000EFFFF abort abort abort abort abort abort
+000F0000 000FFFFF rom rom rom rom rom rom
+00100000 007FFFFF dram:0 dram:0 dram:0 dram:0 dram:0 dram:0
+00800000 FFFEFFFF abort abort abort abort abort abort
+FFFF0000 FFFFFFFF rom rom rom rom rom rom
+",
+    ),
+    // writes to the place of the BIOS go to the DRAM under it
+    (
+        "0 out d 0CF8 80000058\n0 out b 0CFD 20\n",
+        "\
+00000000 0009FFFF dram:0 dram:0 dram:0 dram:0 dram:0 dram:0
+000A0000 000EFFFF abort abort abort abort abort abort
+000F0000 000FFFFF rom rom shadow:0 rom rom shadow:0
+00100000 007FFFFF dram:0 dram:0 dram:0 dram:0 dram:0 dram:0
+00800000 FFFEFFFF abort abort abort abort abort abort
+FFFF0000 FFFFFFFF rom rom rom rom rom rom
+",
+    ),
+];
+
+#[test]
+fn maps_behind_a_replay(rt: HostRuntime) -> Result<(), Fail> {
+    for (statements, map) in MAPS {
+        let mut script = String::from_str(rt.alloc(), SETUP)?;
+        write!(script, "phase\n{statements}")?;
+        let mut out = SafeSink::new(rt.alloc());
+        assert_eq!(rt;
+            answered(&rt, rt.alloc(), "map", script.as_str(), ROM_SIZE, &mut out)?,
+            Status::Done,
+            "of {statements}"
+        );
+        assert_eq!(rt; out.bytes.as_slice(), map.as_bytes(), "of {statements}");
     }
     Ok(())
 }
@@ -428,7 +492,7 @@ const FAULTS: [(bool, u32, u32, Status, &str); 4] = [
 #[test]
 fn faults_of_the_outside(rt: HostRuntime) -> Result<(), Fail> {
     let alloc = rt.alloc();
-    let words = replay_words(alloc)?;
+    let words = words_of(alloc, &["replay", "s"])?;
     for (with_rom, failing_fetch, failing_put, status, name) in FAULTS {
         let mut files = files_of(alloc, SETUP, ROM_SIZE)?;
         if !with_rom {

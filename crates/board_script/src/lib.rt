@@ -1,10 +1,12 @@
-//! The texts of the board: the log of a history, a line for each entry. Each function that appends
-//! leaves what the text had: where memory runs out, a part of the new words may stand after it.
+//! The texts of the board: the log of a history, a line for each entry, and the address map, a line for
+//! each range. Each function that appends leaves what the text had: where memory runs out, a part of the
+//! new words may stand after it.
 #![tactic(auto)]
 
 mod hex;
 mod line;
 mod log;
+mod map;
 mod reply;
 mod statement;
 mod target;
@@ -14,6 +16,7 @@ pub use board_spec::{Entry, Event, Look, Reply, Statement};
 pub use hex::{push_hex_byte, push_hex_long, push_hex_offset, push_hex_value, push_hex_word};
 pub use line::Line;
 pub use log::{log_line, push_line, push_log};
+pub use map::push_range;
 pub use reply::{push_interval, push_reply};
 pub use statement::{push_access, push_event, push_moment, push_port};
 pub use target::{push_area, push_denial, push_register, push_target};

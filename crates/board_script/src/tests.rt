@@ -351,3 +351,50 @@ fn looks_and_other_events_have_their_lines(rt: HostRuntime) -> Result<(), Fail> 
         ],
     )
 }
+
+#[test]
+fn a_map_has_a_line_for_each_range(rt: HostRuntime) -> Result<(), Fail> {
+    let mut text = String::new(rt.alloc());
+    let after_reset = [
+        (0x0000_0000, 0x0009_FFFF, Area::Dram(0)),
+        (0x000A_0000, 0x000E_FFFF, Area::Abort),
+        (0x000F_0000, 0x000F_FFFF, Area::Rom),
+        (0x0010_0000, 0x007F_FFFF, Area::Dram(0)),
+        (0x0080_0000, 0xFFFE_FFFF, Area::Abort),
+        (0xFFFF_0000, 0xFFFF_FFFF, Area::Rom),
+    ];
+    for (lo, hi, area) in after_reset {
+        push_range(&mut text, lo, hi, &[area; 6])?;
+    }
+    assert_eq!(rt;
+        text.as_str(),
+        "\
+00000000 0009FFFF dram:0 dram:0 dram:0 dram:0 dram:0 dram:0
+000A0000 000EFFFF abort abort abort abort abort abort
+000F0000 000FFFFF rom rom rom rom rom rom
+00100000 007FFFFF dram:0 dram:0 dram:0 dram:0 dram:0 dram:0
+00800000 FFFEFFFF abort abort abort abort abort abort
+FFFF0000 FFFFFFFF rom rom rom rom rom rom
+"
+    );
+    Ok(())
+}
+
+#[test]
+fn a_range_has_an_area_for_each_kind_of_access(rt: HostRuntime) -> Result<(), Fail> {
+    let mut text = String::new(rt.alloc());
+    let areas = [
+        Area::Abort,
+        Area::Rom,
+        Area::Card(2, 7),
+        Area::Smram,
+        Area::Dram(3),
+        Area::Shadow(0),
+    ];
+    push_range(&mut text, 0x000A_0000, 0x000B_FFFF, &areas)?;
+    assert_eq!(rt;
+        text.as_str(),
+        "000A0000 000BFFFF abort rom card:2.7 smram dram:3 shadow:0\n"
+    );
+    Ok(())
+}

@@ -186,7 +186,7 @@ in_range : (event : Event) → is_taken event ≡ true → HasFittingValue event
 unfolding is_taken
 in_range (Memory access) e fits = λ setup. record { aligned = memory_aligned access e; fits = fits }
 in_range (Port access) e fits = λ setup. record { aligned = port_aligned access e; fits = fits }
-in_range (LookAt kind addr smm) e fits = absurd cc
+in_range (LookAt kind addr smm) e fits = λ setup. tt
 in_range Ack e fits = absurd cc
 in_range (Pulses count) e fits = absurd cc
 in_range (Time moment) e fits = absurd cc

@@ -1,13 +1,13 @@
--- The statements that this stage of the board takes: accesses to memory, and to the ports of all devices but those
--- that it does not have.
-use Rattle.std.specs.Prelude.{ℕ, ◌%◌, ◌==◌, Bool, false, ◌&&◌, not, List, [], ◌∷◌}
+-- The statements that this stage of the board takes: accesses to memory, accesses to the ports of all devices but
+-- those that it does not have, and looks at the address map.
+use Rattle.std.specs.Prelude.{ℕ, ◌%◌, ◌==◌, Bool, true, false, ◌&&◌, not, List, [], ◌∷◌}
 use Rattle.std.specs.List.{list_any}
 use Rattle.board_base.specs.Access.{bytes_of}
 use Rattle.board_base.specs.declared.access.Width.{Width}
 use Rattle.board_base.specs.declared.access.Access.{Access}
 use Rattle.board_base.specs.declared.access.PortAccess.{PortAccess}
 use Rattle.board_spec.specs.declared.event.Event.{Event}
-use Rattle.board_spec.specs.declared.event.Event.TheVariants.{Memory, Port}
+use Rattle.board_spec.specs.declared.event.Event.TheVariants.{Memory, Port, Look as LookAt}
 use Rattle.board_spec.specs.Bits.{is_within}
 use Rattle.board_spec.specs.Registers.{kept_address}
 
@@ -47,4 +47,5 @@ is_taken_port access =
 unfoldable pub is_taken : Event → Bool
 is_taken (Memory access) = is_taken_access access
 is_taken (Port access) = is_taken_port access
+is_taken (LookAt kind addr smm) = true
 is_taken _ = false

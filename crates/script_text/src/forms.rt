@@ -1,5 +1,5 @@
-//! The statements that this stage of the board takes: accesses to memory, and to the ports of all devices but
-//! those that it does not have.
+//! The statements that this stage of the board takes: accesses to memory, accesses to the ports of all devices but
+//! those that it does not have, and looks at the address map.
 
 ghost use Rattle.std.specs.Prelude.{◌≡◌};
 ghost use Rattle.script_text.specs.Forms.{is_aligned, is_taken_access, is_absent_port, names_routing, is_taken_port, is_taken};
@@ -87,8 +87,9 @@ pub fn is_taken(event: &Event) -> bool
     match event {
         Event::Memory(access) => is_taken_access(access),
         Event::Port(access) => is_taken_port(access),
-        Event::Look { .. }
-        | Event::Ack
+        // A look has no width, and its address need not be a multiple of one.
+        Event::Look { .. } => true,
+        Event::Ack
         | Event::Pulses(_)
         | Event::Time(_)
         | Event::Wire { .. }

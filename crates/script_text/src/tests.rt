@@ -275,7 +275,7 @@ fn a_card_line_is_refused(rt: HostRuntime) -> Result<(), Fail> {
 }
 
 // A statement behind the setup, and whether it is taken.
-const STATEMENTS: [(&[u8], bool); 79] = [
+const STATEMENTS: [(&[u8], bool); 86] = [
     (b"0 r b 00001000", true),
     (b"0 r b 0000abCD", true),
     (b"0 w b 00001000 fF", true),
@@ -304,7 +304,14 @@ const STATEMENTS: [(&[u8], bool); 79] = [
     (b"0 w w 00001000 0001", true),
     (b"0 w d 00001004 01234567 smm", true),
     (b"0 w d 00001006 01234567", false),
-    (b"0 look r 00001000", false),
+    (b"0 look r F0000000", true),
+    (b"0 look f 00001000", true),
+    (b"0 look w 00000001 smm", true),
+    (b"0 look x 00000000", false),
+    (b"0 look r 0000000", false),
+    (b"0 look r b 00000000", false),
+    (b"0 look r 00000000 00", false),
+    (b"0 look r", false),
     (b"0 ack", false),
     (b"0 out d 0CF8 80000058", true),
     (b"0 out d 0CF8 80000860", false),
