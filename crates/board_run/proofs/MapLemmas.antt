@@ -1,6 +1,6 @@
 -- The text of a map, one range after another.
 use Rattle.std.proofs.Common.{◌≡◌, ℕ, ◌+◌, ◌<◌, List, [], ◌∷◌, ◌++◌, take, length, get_or, sym, ◌∙◌, ap, append_assoc}
-use Rattle.std.specs.Prelude.{map, flat_map}
+use Rattle.std.specs.Prelude.{map}
 use Rattle.std.proofs.lemmas.List.{take_more, map-append, append-nil}
 use Rattle.std.proofs.lemmas.Grind.{flat_map-append}
 use Rattle.board_spec.specs.Text.{line_feed}

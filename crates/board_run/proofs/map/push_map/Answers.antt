@@ -1,4 +1,3 @@
-use Rattle.std.proofs.Common.{rules}
 use Rattle.board_run.proofs.MapLemmas.{map_text-more}
 use Rattle.board_run.proofs.map.push_map.Goals as goal
 
