@@ -11,6 +11,7 @@ ghost use Rattle.addr_decode.specs.EdgeSearch.{nearer as nearer_by, nearest as n
 
 use crate::regs::MapRegs;
 use pci_bars::{BaseSpec, CardRegs};
+use pmc_regs::end_of;
 
 /// The edges that no register moves: the ends of the hole at 512 KiB, of SMRAM, of the shadow windows, of the hole
 /// at 15 MiB, and of the ranges of the ROM below 4 GiB.
@@ -38,8 +39,6 @@ const FIXED_EDGES: [u32; 21] = [
     0xFFFF_0000,
 ];
 
-/// The bytes that a boundary register counts: 8 MiB.
-const BOUNDARY_UNIT: u32 = 0x80_0000;
 /// How many base address registers a card has.
 const BASE_REGISTERS: usize = 6;
 
@@ -81,7 +80,7 @@ fn nearest_end_of_rows(found: Option<u32>, addr: u32, drb: &[u8; 8]) -> Option<u
 {
     let mut least = found;
     for boundary in drb {
-        least = nearer(least, addr, u32::from(*boundary) * BOUNDARY_UNIT);
+        least = nearer(least, addr, end_of(*boundary));
     }
     least
 }

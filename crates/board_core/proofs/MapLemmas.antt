@@ -16,6 +16,7 @@ use Rattle.board_spec.specs.declared.map_change.MapChange.TheVariants.{Store}
 use Rattle.board_spec.specs.Setup.{Setup, card_at}
 use Rattle.board_spec.specs.Bits.{is_within}
 use Rattle.board_spec.specs.Registers.{covers, changed_byte, register_change}
+use Rattle.board_spec.proofs.MapWriteLaws.{untouched}
 use Rattle.board_spec.specs.MapWrites.{is_map_byte, reg_after, touches_map, map_change_of, map_writes_of, version_of}
 use Rattle.board_spec.specs.Decode.{Bytes, bridge, isa, card_register}
 use Rattle.pam_windows.specs.Pam.{IsPamOffset}
@@ -93,77 +94,13 @@ card_in_map setup dev off fitted within =
     card_byte (dev == 0 && 0 == 0 && (is_within 0x59 0x68 off || off == 0x72)) (dev == 1 && 0 == 0 && off == 0x4E)
     (is_some (card_at setup dev)) (off == 0x04) (is_within 0x10 0x27 off) fitted (at_map_offset off within)
 
--- the places of the bytes of a store
-place_is : (width : Width) (k : ℕ) → k < bytes_of width → get_or (take (bytes_of width) (0 ∷ 1 ∷ 2 ∷ 3 ∷ [])) k 0 ≡ k
-place_is One zero below = refl
-place_is One (suc k) below = absurd (omega arith)
-place_is Two zero below = refl
-place_is Two (suc zero) below = refl
-place_is Two (suc (suc k)) below = absurd (omega arith)
-place_is Four zero below = refl
-place_is Four (suc zero) below = refl
-place_is Four (suc (suc zero)) below = refl
-place_is Four (suc (suc (suc zero))) below = refl
-place_is Four (suc (suc (suc (suc k)))) below = absurd (omega arith)
-
-count_is : (width : Width) → length {A = ℕ} (take (bytes_of width) (0 ∷ 1 ∷ 2 ∷ 3 ∷ [])) ≡ bytes_of width
-count_is One = refl
-count_is Two = refl
-count_is Four = refl
-
-covers_map : (setup : Setup) (at : Reg) (width : Width) (value k : ℕ) → k < bytes_of width → is_map_byte setup (reg_after at k) ≡ true →
-    touches_map setup (Store at width value) ≡ true
-covers_map setup at width value k below is =
-    list_any_at (λ j. is_map_byte setup (reg_after at j)) (take (bytes_of width) (0 ∷ 1 ∷ 2 ∷ 3 ∷ [])) k 0
-    (subst (λ (n : ℕ). k < n) (sym (count_is width)) below)
-    (subst (λ (j : ℕ). is_map_byte setup (reg_after at j) ≡ true) (sym (place_is width k below)) is)
-
-record IsCovered (at reg : Reg) (width : Width) : Type 0 where
-  dev : at.dev ≡ reg.dev
-  fun : at.fun ≡ reg.fun
-  above : at.off ≤ reg.off
-  below : reg.off < at.off + bytes_of width
-
-covered : (at reg : Reg) (width : Width) → covers at width reg ≡ true → IsCovered at reg width
-covered at reg width is = record {
-  dev = grind (arith, nat_tests);
-  fun = grind (arith, nat_tests);
-  above = grind (arith, nat_tests);
-  below = grind (arith, nat_tests);
-}
-
-reg_made : (dev fun off : ℕ) → Reg
-reg_made dev fun off = record { dev = dev; fun = fun; off = off }
-
--- a register that is covered is one of those from the first on
-reg_is : (at reg : Reg) (width : Width) → IsCovered at reg width → reg_after at (reg.off - at.off) ≡ reg
-unfolding reg_made
-reg_is at reg width is =
-    let off : at.off + (reg.off - at.off) ≡ reg.off = omega (arith, is.above) in
-    let dev : at.dev ≡ reg.dev = is.dev in
-    let fun : at.fun ≡ reg.fun = is.fun in
-    let same : reg_made at.dev at.fun (at.off + (reg.off - at.off)) ≡ reg_made reg.dev reg.fun reg.off = cc in same
-
--- a store beside the bytes that the map depends on leaves each of them
-byte_stays : (setup : Setup) (at : Reg) (width : Width) (value : ℕ) (reg : Reg) (old : ℕ) → touches_map setup (Store at width value) ≡ false →
-    is_map_byte setup reg ≡ true → changed_byte setup (Store at width value) reg old ≡ old
-byte_stays setup at width value reg old beside is =
-    elim (cases_Bool (covers at width reg)) [
-      | inl inside ↦
-          let there : IsCovered at reg width = covered at reg width inside in
-          let here : is_map_byte setup (reg_after at (reg.off - at.off)) ≡ true =
-          subst (λ (r : Reg). is_map_byte setup r ≡ true) (sym (reg_is at reg width there)) is in
-          absurd (false≢true (sym beside ∙ covers_map setup at width value (reg.off - at.off) (omega (arith, there.above, there.below)) here))
-      | inr outside ↦ rw outside refl
-    ]
-
 card_stays : (setup : Setup) (bytes : Bytes) (at : Reg) (width : Width) (value : ℕ) (card : CardBytes) →
     touches_map setup (Store at width value) ≡ false → DecodesAs setup bytes card →
     DecodesAs setup (λ reg. changed_byte setup (Store at width value) reg (bytes reg)) card
 card_stays setup bytes at width value card beside decodes =
     decodes-same setup bytes (λ reg. changed_byte setup (Store at width value) reg (bytes reg)) card
-    (λ off within. byte_stays setup at width value (card_register card.card.dev off) (bytes (card_register card.card.dev off)) beside
-    (card_in_map setup card.card.dev off (ap (λ card. is_some card) decodes.fitted) within))
+    (λ off within. untouched setup (Store at width value) (card_register card.card.dev off) (bytes (card_register card.card.dev off))
+    (card_in_map setup card.card.dev off (ap (λ card. is_some card) decodes.fitted) within) beside)
     decodes
 
 pub map_stays : (setup : Setup) (bytes : Bytes) (at : Reg) (width : Width) (value : ℕ) (regs : MapBytes) →
@@ -171,7 +108,7 @@ pub map_stays : (setup : Setup) (bytes : Bytes) (at : Reg) (width : Width) (valu
     StandsFor setup (λ reg. changed_byte setup (Store at width value) reg (bytes reg)) regs
 map_stays setup bytes at width value regs beside stands =
     let stays : (reg : Reg) → is_map_byte setup reg ≡ true → changed_byte setup (Store at width value) reg (bytes reg) ≡ bytes reg =
-    λ reg is. byte_stays setup at width value reg (bytes reg) beside is in
+    λ reg is. untouched setup (Store at width value) reg (bytes reg) is beside in
     record {
       rows = λ row below. stands.rows row below ∙ sym (stays (bridge (0x60 + row)) (row_in_map setup row below));
       hole = stands.hole ∙ sym (stays (bridge 0x68) refl);

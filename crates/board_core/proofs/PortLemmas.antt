@@ -29,7 +29,8 @@ use Rattle.board_spec.specs.Ports.{Decoded, port_target_of}
 use Rattle.pci_bars.proofs.WindowLemmas.{IsSized, io_claim_sized, lies_in_window}
 use Rattle.board_core.specs.declared.registers.Registers.{Registers}
 use Rattle.board_core.specs.declared.chipset.Chipset.{Chipset}
-use Rattle.board_core.specs.Forms.{routing_address, names_routing, IsTakenPort}
+use Rattle.board_spec.specs.ToCome.{routing_address, names_routing}
+use Rattle.board_core.specs.Forms.{IsTakenPort}
 use Rattle.board_core.specs.Ports.{reached, IsPortTarget, IsThere, FitsTarget, WritesNone, WritesAddress, Writes}
 use Rattle.board_core.specs.Kept.{HasRegisters, HasStores, IsChipsetOf}
 use Rattle.board_core.proofs.AddressLemmas.{IsNamed, named, within_function, off_routing}

@@ -21,7 +21,7 @@ use Rattle.addr_decode.specs.declared.onboard.Onboard.{Onboard}
 use Rattle.addr_decode.specs.Onboard.{if_selected, byte_port, wide_port, onboard_at}
 use Rattle.addr_decode.specs.Ports.{after_onboard, ports_in_order}
 use Rattle.addr_decode.proofs.PortLemmas.{in_order}
-use Rattle.board_core.specs.Forms.{is_device_port}
+use Rattle.board_spec.specs.ToCome.{is_device_port}
 
 -- ---- the ports of the devices that are still to come
 
@@ -46,6 +46,7 @@ no_disk_register : (port : ℕ) → is_within 0x1F0 0x1F7 port ≡ false → is_
 no_disk_register port is = grind (arith, nat_tests)
 
 no_device : (port : ℕ) → is_device_port port ≡ false → IsNoDevice port
+unfolding is_device_port
 no_device port is =
     let to_disk = neither _ _ is in
     let to_disk_data = neither _ _ (to_disk.0) in

@@ -1,29 +1,9 @@
 -- The events that the board takes for now.
-use Rattle.std.specs.Prelude.{ℕ, ◌≡◌, ◌==◌, Bool, false, ◌&&◌, ◌||◌}
-use Rattle.board_base.specs.Access.{bytes_of}
+use Rattle.std.specs.Prelude.{◌≡◌, false}
 use Rattle.board_base.specs.declared.access.PortAccess.{PortAccess}
 use Rattle.board_spec.specs.declared.event.Event.{Event}
 use Rattle.board_spec.specs.declared.event.Event.TheVariants.{Memory, Port, Look as LookAt}
-use Rattle.board_spec.specs.Bits.{is_within}
-use Rattle.board_spec.specs.Registers.{kept_address}
-
--- the ports of the devices that are still to come: the 8259A pair, the 8254 and port 61h, the clock, the disk, and the
--- edge and level control
-abbrev pub is_device_port : ℕ → Bool
-is_device_port port =
-    is_within 0x20 0x21 port || is_within 0xA0 0xA1 port
-    || is_within 0x40 0x43 port || port == 0x61
-    || is_within 0x70 0x71 port
-    || is_within 0x1F0 0x1F7 port || port == 0x3F6
-    || is_within 0x4D0 0x4D1 port
-
--- the configuration address that names the interrupt routing, 60h of 01.0
-abbrev pub routing_address : ℕ
-routing_address = 0x8000_0860
-
-abbrev pub names_routing : PortAccess → Bool
-names_routing access =
-    access.write && access.port == 0xCF8 && bytes_of access.width == 4 && kept_address access.value == routing_address
+use Rattle.board_spec.specs.ToCome.{is_device_port, names_routing}
 
 -- a port access reaches no device that is still to come
 pub record IsTakenPort (access : PortAccess) : Type 0 where

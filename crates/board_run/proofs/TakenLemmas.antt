@@ -10,9 +10,10 @@ use Rattle.board_spec.specs.declared.event.Statement.{Statement}
 use Rattle.board_spec.specs.Setup.{Setup}
 use Rattle.board_spec.specs.Bits.{is_within}
 use Rattle.board_spec.specs.InRange.{IsInRange}
-use Rattle.script_text.specs.Forms.{is_aligned, is_absent_port, names_routing as reads_routing, is_taken_port, is_taken}
+use Rattle.board_spec.specs.ToCome.{is_device_port, names_routing}
+use Rattle.script_text.specs.Forms.{is_aligned, is_taken_port, is_taken}
 use Rattle.script_text.specs.Taken.{IsTaken as IsTakenStatement}
-use Rattle.board_core.specs.Forms.{is_device_port, IsTakenPort, IsTaken}
+use Rattle.board_core.specs.Forms.{IsTakenPort, IsTaken}
 
 and_first : (a b : Bool) → (a && b) ≡ true → a ≡ true
 and_first true b h = refl
@@ -26,47 +27,15 @@ is_false : (a : Bool) → not a ≡ true → a ≡ false
 is_false true h = cc
 is_false false h = refl
 
-in_one : (port only : ℕ) → is_within only only port ≡ (port == only)
-in_one port only =
-    elim (cases_Bool (port == only)) [
-      | inl same ↦ rw (same, eqb-true port only same) grind (arith, nat_tests)
-      | inr other ↦ rw other grind (arith, nat_tests)
-    ]
-
-reordered :
-    (a e b c d f g h : Bool) →
-    (a || (b || (c || (d || (e || (f || (g || (h || false)))))))) ≡ (a || e || b || c || d || f || g || h)
-reordered true e b c d f g h = refl
-reordered false true true c d f g h = refl
-reordered false true false true d f g h = refl
-reordered false true false false true f g h = refl
-reordered false true false false false f g h = refl
-reordered false false true c d f g h = refl
-reordered false false false true d f g h = refl
-reordered false false false false true f g h = refl
-reordered false false false false false true g h = refl
-reordered false false false false false false true h = refl
-reordered false false false false false false false true = refl
-reordered false false false false false false false false = refl
-
--- the same ports, in another order
-same_ports : (port : ℕ) → is_absent_port port ≡ is_device_port port
-unfolding is_absent_port
-same_ports port =
-    rw (← in_one port 0x61, ← in_one port 0x3F6)
-    (reordered
-    (is_within 0x20 0x21 port) (is_within 0xA0 0xA1 port) (is_within 0x40 0x43 port) (is_within 0x61 0x61 port)
-    (is_within 0x70 0x71 port) (is_within 0x1F0 0x1F7 port) (is_within 0x3F6 0x3F6 port) (is_within 0x4D0 0x4D1 port))
-
 port_access : (access : PortAccess) → is_taken_port access ≡ true → IsTakenPort access
 unfolding is_taken_port
 port_access access h =
-    let place = and_first (is_aligned access.port access.width && not (is_absent_port access.port)) (not (reads_routing access)) h in
-    let port = and_second (is_aligned access.port access.width) (not (is_absent_port access.port)) place in
-    let address = and_second (is_aligned access.port access.width && not (is_absent_port access.port)) (not (reads_routing access)) h in
+    let place = and_first (is_aligned access.port access.width && not (is_device_port access.port)) (not (names_routing access)) h in
+    let port = and_second (is_aligned access.port access.width) (not (is_device_port access.port)) place in
+    let address = and_second (is_aligned access.port access.width && not (is_device_port access.port)) (not (names_routing access)) h in
     record {
-      port = rw (← same_ports access.port) (is_false (is_absent_port access.port) port);
-      address = is_false (reads_routing access) address;
+      port = is_false (is_device_port access.port) port;
+      address = is_false (names_routing access) address;
     }
 
 taken_event : (event : Event) → is_taken event ≡ true → IsTaken event

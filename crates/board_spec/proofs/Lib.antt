@@ -2,9 +2,9 @@ pub mod MergedLemmas
 pub mod StoreLemmas
 pub mod TableLemmas
 pub mod MapByteLaws
+pub mod MapWriteLaws
 mod FlatMapLaws
 mod SpanLaws
-mod MapWriteLaws
 mod LockLaws
 mod ReplayLaws
 mod ExampleSpans

@@ -84,7 +84,7 @@ true_not_false : (b : Bool) → b ≡ true → b ≡ false → ⊥
 true_not_false b p q = cc
 
 -- a change that covers no map byte leaves each map byte
-untouched :
+pub untouched :
     (setup : Setup) (change : MapChange) (reg : Reg) (old : ℕ) → is_map_byte setup reg ≡ true →
     touches_map setup change ≡ false → changed_byte setup change reg old ≡ old
 untouched setup Reset reg old is not = absurd (true_not_false true refl not)

@@ -10,6 +10,7 @@ pub mod Ports
 pub mod FlatMap
 pub mod Stored
 pub mod Devices
+pub mod ToCome
 pub mod Answer
 pub mod InRange
 pub mod Legal

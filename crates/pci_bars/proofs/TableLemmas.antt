@@ -8,7 +8,7 @@ use Rattle.board_spec.specs.Setup.{Base, FittedCard, Setup, IsCard, card_at}
 use Rattle.board_spec.specs.Bits.{byte, long_bytes}
 use Rattle.board_spec.specs.RegisterTable.{Line, line, read_only, card_function, function_lines, listed, base_reset, base_writable, reset_byte, writable_bits}
 use Rattle.board_spec.specs.Decode.{card_register}
-use Rattle.board_spec.proofs.TableLemmas.{listed-past, listed-before, listed-here, at_or_above}
+use Rattle.board_spec.proofs.TableLemmas.{listed-past, listed-before, listed-here, each_below}
 use Rattle.pci_bars.specs.Bases.{of_base}
 use Rattle.pci_bars.specs.Cards.{CardBytes, is_kept_offset, header_of}
 
@@ -142,37 +142,13 @@ past_bases column card off count above =
 
 -- ---- the header, and what is not kept
 
--- what holds at each of the first sixteen offsets
-each_of_header :
-    (P : ℕ → Type 0) → P 0 → P 1 → P 2 → P 3 → P 4 → P 5 → P 6 → P 7 → P 8 → P 9 → P 10 → P 11 → P 12 → P 13 → P 14 → P 15 →
-    (off : ℕ) → off < 16 → P off
-each_of_header P p0 p1 p2 p3 p4 p5 p6 p7 p8 p9 p10 p11 p12 p13 p14 p15 off below =
-    at_or_above P 0 off (omega arith) p0
-    (λ h1. at_or_above P 1 off h1 p1
-    (λ h2. at_or_above P 2 off h2 p2
-    (λ h3. at_or_above P 3 off h3 p3
-    (λ h4. at_or_above P 4 off h4 p4
-    (λ h5. at_or_above P 5 off h5 p5
-    (λ h6. at_or_above P 6 off h6 p6
-    (λ h7. at_or_above P 7 off h7 p7
-    (λ h8. at_or_above P 8 off h8 p8
-    (λ h9. at_or_above P 9 off h9 p9
-    (λ h10. at_or_above P 10 off h10 p10
-    (λ h11. at_or_above P 11 off h11 p11
-    (λ h12. at_or_above P 12 off h12 p12
-    (λ h13. at_or_above P 13 off h13 p13
-    (λ h14. at_or_above P 14 off h14 p14
-    (λ h15. at_or_above P 15 off h15 p15
-    (λ h16. absurd (omega arith)))))))))))))))))
-
 pub reset-header :
     (card : CardBytes) (off : ℕ) → off < 16 → off ≢ 4 →
     listed (λ entry. entry.reset) (card_function card.card) off ≡ get_or (header_of card) off 0
 unfolding card_function
-reset-header card =
-    each_of_header (λ off. off ≢ 4 → listed (λ entry. entry.reset) (card_function card.card) off ≡ get_or (header_of card) off 0)
-    (λ _. refl) (λ _. refl) (λ _. refl) (λ _. refl) (λ apart. absurd (apart refl)) (λ _. refl) (λ _. refl) (λ _. refl)
-    (λ _. refl) (λ _. refl) (λ _. refl) (λ _. refl) (λ _. refl) (λ _. refl) (λ _. refl) (λ _. refl)
+reset-header card off below =
+    each_below (λ off. off ≢ 4 → listed (λ entry. entry.reset) (card_function card.card) off ≡ get_or (header_of card) off 0) 16 off
+    (λ _. refl, (λ _. refl, (λ _. refl, (λ _. refl, (λ apart. absurd (apart refl), (λ _. refl, (λ _. refl, (λ _. refl, (λ _. refl, (λ _. refl, (λ _. refl, (λ _. refl, (λ _. refl, (λ _. refl, (λ _. refl, (λ _. refl, tt)))))))))))))))) below
 
 -- what an offset has that is not kept: a byte, none of whose bits can be written
 pub record IsFixed (card : FittedCard) (off : ℕ) : Type 0 where
@@ -185,17 +161,25 @@ class_byte false = lit< tt
 
 fixed-header : (card : FittedCard) → card.dev ≤ 9 → (off : ℕ) → off < 16 → off ≢ 4 → IsFixed card off
 unfolding card_function
-fixed-header card last =
+fixed-header card last off below =
     let dev : card.dev < 256 = omega arith in
-    each_of_header (λ off. off ≢ 4 → IsFixed card off)
-    (λ _. record { byte = lit< tt; writable = refl }) (λ _. record { byte = lit< tt; writable = refl })
-    (λ _. record { byte = dev; writable = refl }) (λ _. record { byte = lit< tt; writable = refl })
-    (λ apart. absurd (apart refl)) (λ _. record { byte = lit< tt; writable = refl })
-    (λ _. record { byte = lit< tt; writable = refl }) (λ _. record { byte = lit< tt; writable = refl })
-    (λ _. record { byte = lit< tt; writable = refl }) (λ _. record { byte = lit< tt; writable = refl })
-    (λ _. record { byte = lit< tt; writable = refl }) (λ _. record { byte = class_byte card.vga; writable = refl })
-    (λ _. record { byte = lit< tt; writable = refl }) (λ _. record { byte = lit< tt; writable = refl })
-    (λ _. record { byte = lit< tt; writable = refl }) (λ _. record { byte = lit< tt; writable = refl })
+    each_below (λ off. off ≢ 4 → IsFixed card off) 16 off
+    (λ _. record { byte = lit< tt; writable = refl },
+    (λ _. record { byte = lit< tt; writable = refl },
+    (λ _. record { byte = dev; writable = refl },
+    (λ _. record { byte = lit< tt; writable = refl },
+    (λ apart. absurd (apart refl),
+    (λ _. record { byte = lit< tt; writable = refl },
+    (λ _. record { byte = lit< tt; writable = refl },
+    (λ _. record { byte = lit< tt; writable = refl },
+    (λ _. record { byte = lit< tt; writable = refl },
+    (λ _. record { byte = lit< tt; writable = refl },
+    (λ _. record { byte = lit< tt; writable = refl },
+    (λ _. record { byte = class_byte card.vga; writable = refl },
+    (λ _. record { byte = lit< tt; writable = refl },
+    (λ _. record { byte = lit< tt; writable = refl },
+    (λ _. record { byte = lit< tt; writable = refl },
+    (λ _. record { byte = lit< tt; writable = refl }, tt)))))))))))))))) below
 
 -- past the bases only the interrupt line and pin are listed
 pub past_pin :

@@ -8,4 +8,4 @@ mod rows;
 
 pub use hole::{fdhc_after, hole_of};
 pub use pmc::Pmc;
-pub use rows::{row_of, top_of};
+pub use rows::{end_of, row_of, top_of};

@@ -37,8 +37,8 @@ fn first_above(drb: &[u8; 8], addr: u32) -> Option<usize>
     drb.iter().position(|boundary| addr < end_of(*boundary))
 }
 
-/// The address at which a row with this boundary register ends.
-fn end_of(boundary: u8) -> u32
+/// The address at which a row with this boundary register ends, in units of 8 MiB (82441FX, offsets 60h to 67h).
+pub fn end_of(boundary: u8) -> u32
     ensures end { result ≡ boundary * 0x80_0000 }
     ensures largest { result ≤ 0x7F80_0000 }
 {

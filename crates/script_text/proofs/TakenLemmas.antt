@@ -22,7 +22,8 @@ use Rattle.board_spec.specs.Setup.{Setup}
 use Rattle.board_spec.specs.InRange.{FitsAccess, IsInRange}
 use Rattle.script_text.specs.Numbers.{digit_value, digit_of, number_after, hex_of, decimal_of}
 use Rattle.script_text.specs.StatementText.{width_of, kind_of, address_of, port_of, value_of, smm_of, read_of, write_of, in_of, out_of, look_of, event_of_fields}
-use Rattle.script_text.specs.Forms.{is_aligned, is_taken_access, is_absent_port, names_routing, is_taken_port, is_taken}
+use Rattle.board_spec.specs.ToCome.{is_device_port, names_routing}
+use Rattle.script_text.specs.Forms.{is_aligned, is_taken_access, is_taken_port, is_taken}
 use Rattle.script_text.specs.Lines.{lines_of, fields_of}
 use Rattle.script_text.specs.ScriptText.{Said, ◌>>=◌, most_statements, on_line, front_line, fixed_line, mib_of, mib_in_range, memory_line, is_name, rom_of, rom_line, statement_of, next_statement, cards_from, statements_from, script_from}
 use Rattle.script_text.specs.declared.fault.ScriptFault.{ScriptFault}
@@ -175,8 +176,8 @@ aligned_is place width e = eqb-true _ 0 e
 port_aligned : (access : PortAccess) → is_taken_port access ≡ true → access.port % bytes_of access.width ≡ 0
 unfolding is_taken_port
 port_aligned access e =
-    let allowed = both (is_aligned access.port access.width && not (is_absent_port access.port)) (not (names_routing access)) e in
-    aligned_is access.port access.width (both (is_aligned access.port access.width) (not (is_absent_port access.port)) allowed.0).0
+    let allowed = both (is_aligned access.port access.width && not (is_device_port access.port)) (not (names_routing access)) e in
+    aligned_is access.port access.width (both (is_aligned access.port access.width) (not (is_device_port access.port)) allowed.0).0
 
 memory_aligned : (access : Access) → is_taken_access access ≡ true → access.addr % bytes_of access.width ≡ 0
 unfolding is_taken_access

@@ -2,28 +2,11 @@
 //! those that it does not have, and looks at the address map.
 
 ghost use Rattle.std.specs.Prelude.{◌≡◌};
-ghost use Rattle.script_text.specs.Forms.{is_aligned, is_taken_access, is_absent_port, names_routing, is_taken_port, is_taken};
+ghost use Rattle.board_spec.specs.ToCome.{is_device_port, names_routing};
+ghost use Rattle.script_text.specs.Forms.{is_aligned, is_taken_access, is_taken_port, is_taken};
 
 use board_base::{Access, PortAccess, Width};
 use board_spec::Event;
-
-/// The ports of devices that this stage does not have, from the first to the last of each.
-const ABSENT_PORTS: [(u16, u16); 8] = [
-    // The interrupt controllers are at 20h and A0h.
-    (0x20, 0x21),
-    // The timer.
-    (0x40, 0x43),
-    // The system port.
-    (0x61, 0x61),
-    // The clock.
-    (0x70, 0x71),
-    (0xA0, 0xA1),
-    // The disk.
-    (0x1F0, 0x1F7),
-    (0x3F6, 0x3F6),
-    // The edges and levels of the interrupts.
-    (0x4D0, 0x4D1),
-];
 
 /// The port of the configuration address.
 const CONFIGURATION_ADDRESS: u16 = 0xCF8;
@@ -49,14 +32,16 @@ fn is_taken_access(access: &Access) -> bool
     is_aligned(access.addr, access.width)
 }
 
-/// Whether the port is one of a device that this stage does not have.
-#[tactic(auto, unfolding(crate::specs::Forms::is_absent_port))]
-fn is_absent_port(port: u16) -> bool
-    ensures absent { result ≡ is_absent_port port }
+/// Whether the port is one of a device that this stage does not have: the 8259A pair, the 8254 and port 61h, the
+/// clock, the disk, and the edges and levels of the interrupts.
+#[tactic(auto, unfolding(board_spec::specs::ToCome::is_device_port))]
+fn is_device_port(port: u16) -> bool
+    ensures device { result ≡ is_device_port port }
 {
-    ABSENT_PORTS
-        .iter()
-        .any(|(first, last)| *first <= port && port <= *last)
+    matches!(
+        port,
+        0x20..=0x21 | 0xA0..=0xA1 | 0x40..=0x43 | 0x61 | 0x70..=0x71 | 0x1F0..=0x1F7 | 0x3F6 | 0x4D0..=0x4D1
+    )
 }
 
 /// Whether this makes the configuration address name the routing of the interrupts.
@@ -75,7 +60,7 @@ fn is_taken_port(access: &PortAccess) -> bool
     ensures taken { result ≡ is_taken_port access.now }
 {
     is_aligned(u32::from(access.port), access.width)
-        && !is_absent_port(access.port)
+        && !is_device_port(access.port)
         && !names_routing(access)
 }
 
