@@ -14,7 +14,7 @@ use Rattle.board_spec.specs.RegisterTable.{function_exists}
 use Rattle.board_spec.specs.Registers.{address_written, kept_address, config_address, is_hard_reset, is_enabled, bus_of, device_of, function_of, register_of, config_register}
 use Rattle.board_spec.specs.MapWrites.{reg_after}
 use Rattle.cfg_ports.proofs.AddressLemmas.{kept_address-again, kept_address-low_bits, within_space}
-use Rattle.board_core.specs.Forms.{routing_address}
+use Rattle.board_spec.specs.ToCome.{routing_address}
 use Rattle.board_core.specs.Space.{is_routing, IsOffRouting}
 use Rattle.board_core.proofs.RegisterLemmas.{both_right}
 

@@ -21,7 +21,7 @@ use Rattle.map_builder.specs.Map.{Mapped}
 use Rattle.access_history.specs.Past.{most}
 use Rattle.board_core.specs.declared.registers.Registers.{Registers}
 use Rattle.board_core.specs.Space.{IsSpaceOf}
-use Rattle.board_core.specs.Forms.{routing_address}
+use Rattle.board_spec.specs.ToCome.{routing_address}
 use Rattle.board_core.specs.Kept.{HasRegisters, IsFlat}
 use Rattle.board_core.proofs.MapLemmas.{no_change, beside_map, in_map, version_raised, version_stays, few_writes, map_stays}
 

@@ -18,7 +18,7 @@ use Rattle.board_core.specs.declared.registers.Registers.{Registers}
 use Rattle.board_core.specs.declared.stores.Stores.{Stores}
 use Rattle.board_core.specs.declared.chipset.Chipset.{Chipset}
 use Rattle.board_core.specs.Space.{IsSpaceOf}
-use Rattle.board_core.specs.Forms.{routing_address}
+use Rattle.board_spec.specs.ToCome.{routing_address}
 
 -- the ranges of a map are the flat map of every board that has its registers
 abbrev pub IsFlat : Mapped → Type 0

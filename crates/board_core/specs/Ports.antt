@@ -14,7 +14,7 @@ use Rattle.board_spec.specs.Setup.{Setup}
 use Rattle.board_spec.specs.RegisterTable.{function_exists}
 use Rattle.board_spec.specs.Registers.{control_written, address_written, kept_address, config_address, register_change, byte_of}
 use Rattle.board_spec.specs.Ports.{Decoded, port_target_of}
-use Rattle.board_core.specs.Forms.{routing_address}
+use Rattle.board_spec.specs.ToCome.{routing_address}
 use Rattle.board_core.specs.Space.{IsOffRouting}
 use Rattle.board_core.specs.Stores.{IsStored}
 
