@@ -8,14 +8,11 @@ ghost use Rattle.addr_decode.specs.MapRegs.{AreFitted, AreReset, StandsFor, map_
 
 use crate::cards::push_card;
 use arrayvec::ArrayVec;
+use pam_windows::PAM_RESET;
 use pci_bars::{CardRegs, CardSpec};
-
-/// A boundary register after a reset: all rows end at 8 MiB.
-const DRB_RESET: u8 = 0x01;
-/// SMRAM after a reset: closed, and the bits that read 010.
-const SMRAM_RESET: u8 = 0x02;
-/// XBCS after a reset: the clock and the keyboard controller are selected.
-const XBCS_RESET: u8 = 0x03;
+use pmc_regs::{DRB_RESET, FDHC_RESET};
+use smram_ctl::SMRAM_RESET;
+use xbus_select::XBCS_RESET;
 
 /// The registers that the address map depends on: DRB0 to DRB7, FDHC, PAM0 to PAM6 and SMRAM of the host
 /// bridge, XBCS of the ISA bridge, and the cards in rising order of device.
@@ -86,8 +83,8 @@ fn after_reset(cards: ArrayVec<CardRegs, 8>) -> MapRegs
 {
     MapRegs {
         drb: [DRB_RESET; 8],
-        fdhc: 0,
-        pam: [0; 7],
+        fdhc: FDHC_RESET,
+        pam: [PAM_RESET; 7],
         smram: SMRAM_RESET,
         xbcs: XBCS_RESET,
         cards,

@@ -5,5 +5,5 @@
 mod pam;
 mod window;
 
-pub use pam::{Pam, store_pam};
+pub use pam::{PAM_RESET, Pam, store_pam};
 pub use window::{Window, window_of};

@@ -14,6 +14,8 @@ use board_spec::bits::merged;
 use board_spec::offset::PAM0;
 use std::marker::Model;
 
+/// What each register holds after a reset: every window is closed.
+pub const PAM_RESET: u8 = 0x00;
 /// The bits of each register that can be written. PAM0 governs one window, by its high nibble.
 const WRITABLE: [u8; 7] = [0x30, 0x33, 0x33, 0x33, 0x33, 0x33, 0x33];
 
@@ -36,7 +38,9 @@ impl Pam {
     pub fn new() -> Pam
         ensures reset { (setup : Setup) → IsPamOf (reset_byte setup) result }
     {
-        Pam { bytes: [0; 7] }
+        Pam {
+            bytes: [PAM_RESET; 7],
+        }
     }
 
     /// The register at an offset, 59h to 5Fh.

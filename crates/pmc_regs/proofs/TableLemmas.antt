@@ -14,8 +14,8 @@ pub rows_at_reset : (setup : Setup) → IsRowsOf (reset_byte setup) (1 ∷ 1 ∷
 unfolding reset_byte host_bridge
 rows_at_reset setup =
     λ row below.
-      each_below (λ row. slice_index (1 ∷ 1 ∷ 1 ∷ 1 ∷ 1 ∷ 1 ∷ 1 ∷ 1 ∷ []) row ≡ reset_byte setup (bridge (0x60 + row))) 8 row
-      (refl, (refl, (refl, (refl, (refl, (refl, (refl, (refl, tt)))))))) below
+    each_below (λ row. slice_index (1 ∷ 1 ∷ 1 ∷ 1 ∷ 1 ∷ 1 ∷ 1 ∷ 1 ∷ []) row ≡ reset_byte setup (bridge (0x60 + row))) 8 row
+    (refl, (refl, (refl, (refl, (refl, (refl, (refl, (refl, tt)))))))) below
 
 pub writable_bits-row : (setup : Setup) (row : ℕ) → row < 8 → writable_bits setup (bridge (0x60 + row)) ≡ 0xFF
 unfolding writable_bits host_bridge

@@ -23,9 +23,9 @@ use board_spec::offset::{DRB0, DRB7, FDHC};
 use std::marker::Model;
 
 /// What each boundary register holds after a reset: 8 MiB, all of them in row 0.
-const DRB_RESET: u8 = 0x01;
+pub const DRB_RESET: u8 = 0x01;
 /// What FDHC holds after a reset: no hole.
-const FDHC_RESET: u8 = 0x00;
+pub const FDHC_RESET: u8 = 0x00;
 
 /// The first bytes of the configuration space. Nothing changes them.
 const HEADER: [u8; 12] = [

@@ -15,7 +15,9 @@ pub const DLCK: u32 = 4;
 /// The bit of SMRAM enable: where it is 0, SMRAM never answers.
 const SMRAME: u32 = 3;
 /// The SMM space base segment in bits 2 to 0, which is always A0000h.
-pub const C_BASE_SEG: u8 = 0b010;
+const C_BASE_SEG: u8 = 0b010;
+/// The register after a reset: SMRAM is closed and not locked.
+pub const SMRAM_RESET: u8 = C_BASE_SEG;
 
 /// The control byte after a write to a byte that was `old`. Bit 7 reads 0 and bits 2 to 0 read 010.
 /// DLCK stays once it is set, and clears DOPEN.

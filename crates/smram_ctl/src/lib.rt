@@ -5,5 +5,5 @@
 mod control;
 mod smram;
 
-pub use control::{smram_after, smram_reaches};
+pub use control::{SMRAM_RESET, smram_after, smram_reaches};
 pub use smram::Smram;

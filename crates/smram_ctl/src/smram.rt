@@ -9,7 +9,7 @@ ghost use Rattle.board_spec.specs.Registers.{smram_after, changed_byte};
 ghost use Rattle.board_spec.specs.Decode.{Bytes, bridge, smram_answers};
 ghost use Rattle.smram_ctl.specs.Control.{IsSmramByte};
 
-use crate::control::{C_BASE_SEG, DLCK, smram_after, smram_reaches};
+use crate::control::{DLCK, SMRAM_RESET, smram_after, smram_reaches};
 use board_base::Kind;
 use board_spec::bits::is_set;
 use std::marker::Model;
@@ -37,7 +37,7 @@ impl Smram {
         ensures value { result ≡ 0x02 }
         ensures reset { (setup : Setup) → result ≡ reset_byte setup (bridge 0x72) }
     {
-        Smram { byte: C_BASE_SEG }
+        Smram { byte: SMRAM_RESET }
     }
 
     /// Writes the register, by the rule of its lock.

@@ -7,4 +7,4 @@ mod piix;
 mod xbcs;
 
 pub use piix::Piix;
-pub use xbcs::{rom_offset, rom_selected, xbcs_after};
+pub use xbcs::{XBCS_RESET, rom_offset, rom_selected, xbcs_after};

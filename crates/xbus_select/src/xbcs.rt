@@ -17,7 +17,7 @@ const LOWER_BIOS_ENABLE: u8 = 1 << 6;
 const EXTENDED_BIOS_ENABLE: u8 = 1 << 7;
 
 /// The register after a reset: the keyboard controller and the clock are selected.
-pub(crate) const XBCS_RESET: u8 = KEYBOARD_SELECT | CLOCK_SELECT;
+pub const XBCS_RESET: u8 = KEYBOARD_SELECT | CLOCK_SELECT;
 /// The bits that can be written. The others read 0.
 const WRITABLE: u8 = CLOCK_SELECT
     | KEYBOARD_SELECT
