@@ -1,3 +1,4 @@
+pub mod AreaLemmas
 pub mod MemoryLemmas
 pub mod PortLemmas
 pub mod StoreLemmas
@@ -6,5 +7,6 @@ pub mod DenialLemmas
 pub mod CardLemmas
 pub mod StandsLemmas
 pub mod EdgeCounts
+pub mod FixedEdgeLemmas
 pub mod EdgeLaws
 pub mod EdgeSearchLemmas

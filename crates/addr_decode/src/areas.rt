@@ -1,7 +1,7 @@
 //! A row of the memory map: what every kind of access at an address reaches.
-ghost use Rattle.std.specs.Prelude.{◌≡◌, ◌+◌};
+ghost use Rattle.std.specs.Prelude.{◌≡◌, ◌+◌, false};
 ghost use Rattle.board_spec.specs.Setup.{Setup};
-ghost use Rattle.board_spec.specs.Decode.{Bytes};
+ghost use Rattle.board_spec.specs.Decode.{Bytes, is_smram_range};
 ghost use Rattle.board_spec.specs.FlatMap.{six_areas};
 ghost use Rattle.addr_decode.specs.MapRegs.{AreFitted, StandsFor, map_bytes};
 
@@ -41,6 +41,25 @@ pub fn areas_at(regs: &MapRegs, addr: u32) -> SixAreas
     ensures areas { (setup : Setup) (bytes : Bytes) → StandsFor setup bytes (map_bytes regs.now)
         → result.areas ≡ six_areas setup bytes addr }
 {
+    if is_smram_address(addr) {
+        return areas_in_smram(regs, addr);
+    }
+    areas_beside_smram(regs, addr)
+}
+
+/// Whether SMRAM can answer at an address.
+fn is_smram_address(addr: u32) -> bool
+    ensures smram { result ≡ is_smram_range addr }
+{
+    0xA_0000 <= addr && addr <= 0xB_FFFF
+}
+
+/// The areas of an address at which SMRAM can answer, so that each of them is looked up.
+fn areas_in_smram(regs: &MapRegs, addr: u32) -> SixAreas
+    requires cards { AreFitted regs.now.cards.items }
+    ensures areas { (setup : Setup) (bytes : Bytes) → StandsFor setup bytes (map_bytes regs.now)
+        → result.areas ≡ six_areas setup bytes addr }
+{
     let (fetch, read, write) = (Kind::Fetch, Kind::Read, Kind::Write);
     SixAreas {
         areas: [
@@ -51,5 +70,19 @@ pub fn areas_at(regs: &MapRegs, addr: u32) -> SixAreas
             area_of(regs, addr, read, true),
             area_of(regs, addr, write, true),
         ],
+    }
+}
+
+/// The areas of an address at which SMRAM cannot answer: a fetch reaches what a read does, and SMM does not count.
+fn areas_beside_smram(regs: &MapRegs, addr: u32) -> SixAreas
+    requires cards { AreFitted regs.now.cards.items }
+    requires beside { is_smram_range addr ≡ false }
+    ensures areas { (setup : Setup) (bytes : Bytes) → StandsFor setup bytes (map_bytes regs.now)
+        → result.areas ≡ six_areas setup bytes addr }
+{
+    let read = area_of(regs, addr, Kind::Read, false);
+    let write = area_of(regs, addr, Kind::Write, false);
+    SixAreas {
+        areas: [read, read, write, read, read, write],
     }
 }

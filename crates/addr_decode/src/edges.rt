@@ -1,5 +1,5 @@
 //! The edges of the memory map: the addresses at which a row of it may differ from the one below.
-ghost use Rattle.std.specs.Prelude.{◌≡◌, ◌<◌, ◌≤◌, ◌*◌, ◌↔◌, ◌+◌, [], ◌∷◌, IfSome, IsNone, All, length, map, unwrap_or, flat_map};
+ghost use Rattle.std.specs.Prelude.{◌≡◌, ◌<◌, ◌≤◌, ◌*◌, ◌↔◌, ◌+◌, [], ◌∷◌, IfSome, IsNone, nat_lt, find, All, length, map, unwrap_or, flat_map};
 ghost use Rattle.board_spec.specs.Setup.{Setup, IsBase, IsCard};
 ghost use Rattle.board_spec.specs.Decode.{Bytes};
 ghost use Rattle.board_spec.specs.FlatMap.{address_count};
@@ -56,21 +56,16 @@ pub fn next_edge(regs: &MapRegs, addr: u32) -> Option<u32>
     ensures fewer { (setup : Setup) (bytes : Bytes) → StandsFor setup bytes (map_bytes regs.now)
         → IfSome result (λ edge. edges_after setup bytes edge < edges_after setup bytes addr) }
 {
-    let fixed = nearest(None, addr, &FIXED_EDGES);
+    let fixed = first_above(addr, &FIXED_EDGES);
     let with_rows = nearest_end_of_rows(fixed, addr, &regs.drb);
     nearest_end_of_cards(with_rows, addr, &regs.cards)
 }
 
-/// The least edge above an address: one found before, or one of these.
-#[tactic(auto, unfolding(crate::specs::EdgeSearch::nearest))]
-fn nearest(found: Option<u32>, addr: u32, edges: &[u32]) -> Option<u32>
-    ensures nearest { result ≡ nearest_by addr found edges.now }
+/// The first of these edges that lies above an address. Where they rise, it is the least.
+fn first_above(addr: u32, edges: &[u32]) -> Option<u32>
+    ensures first { result ≡ find (nat_lt addr) edges.now }
 {
-    let mut least = found;
-    for edge in edges {
-        least = nearer(least, addr, *edge);
-    }
-    least
+    edges.iter().copied().find(|edge| addr < *edge)
 }
 
 /// The least edge above an address: one found before, or the end of a row of DRAM.

@@ -4,6 +4,7 @@ use Rattle.addr_decode.specs.Edges.{edges_of, fixed_edges}
 use Rattle.addr_decode.specs.EdgeSearch.{nearest}
 use Rattle.addr_decode.specs.MapRegs.{StandsFor, map_bytes}
 use Rattle.addr_decode.proofs.EdgeSearchLemmas.{kept_edges, kept_above, kept_are_edges, in_parts, is_next, is_last}
+use Rattle.addr_decode.proofs.FixedEdgeLemmas.{first_fixed_edge}
 use Rattle.addr_decode.proofs.EdgeLaws.{same_to_next}
 use Rattle.addr_decode.proofs.EdgeCounts.{fewer_after}
 use Rattle.addr_decode.proofs.edges.next_edge.Goals as goal
@@ -12,8 +13,8 @@ found_by_parts : (c : goal.After-nearest_end_of_cards) →
     c.nearest_end_of_cards.result ≡ nearest c.args.addr None (kept_edges c.args.regs.now.drb c.args.regs.now.cards.items)
 unfolding fixed_edges
 found_by_parts c =
-    in_parts c.args.addr c.nearest-fixed.result c.nearest_end_of_rows-with_rows.result c.nearest_end_of_cards.result c.args.regs.now.drb c.args.regs.now.cards.items
-    c.nearest-fixed.ensures.nearest c.nearest_end_of_rows-with_rows.ensures.nearest (rw c.deref.ensures.0 at c.nearest_end_of_cards.ensures.nearest)
+    in_parts c.args.addr c.first_above-fixed.result c.nearest_end_of_rows-with_rows.result c.nearest_end_of_cards.result c.args.regs.now.drb c.args.regs.now.cards.items
+    (c.first_above-fixed.ensures.first ∙ first_fixed_edge c.args.addr) c.nearest_end_of_rows-with_rows.ensures.nearest (rw c.deref.ensures.0 at c.nearest_end_of_cards.ensures.nearest)
 
 found : (c : goal.After-nearest_end_of_cards) (setup : _) (bytes : _) → StandsFor setup bytes (map_bytes c.args.regs.now) →
     c.nearest_end_of_cards.result ≡ nearest c.args.addr None (edges_of setup bytes)

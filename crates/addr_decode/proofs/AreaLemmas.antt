@@ -1,0 +1,13 @@
+-- Outside A0000h to BFFFFh the area of an access is that of a read or a write outside SMM.
+use Rattle.std.proofs.Common.{◌≡◌, ℕ, false, [], ◌∷◌, refl}
+use Rattle.board_base.specs.declared.access.Kind.TheVariants.{Read, Write}
+use Rattle.board_spec.specs.Setup.{Setup}
+use Rattle.board_spec.specs.Decode.{Bytes, is_smram_range, area_of}
+use Rattle.board_spec.specs.FlatMap.{six_areas}
+
+pub areas_beside_smram : (setup : Setup) (bytes : Bytes) (addr : ℕ) → is_smram_range addr ≡ false →
+    six_areas setup bytes addr
+    ≡ area_of setup bytes addr Read false ∷ area_of setup bytes addr Read false ∷ area_of setup bytes addr Write false
+    ∷ area_of setup bytes addr Read false ∷ area_of setup bytes addr Read false ∷ area_of setup bytes addr Write false ∷ []
+unfolding area_of
+areas_beside_smram setup bytes addr beside = rw beside refl
