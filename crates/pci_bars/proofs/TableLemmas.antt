@@ -163,23 +163,52 @@ fixed-header : (card : FittedCard) → card.dev ≤ 9 → (off : ℕ) → off < 
 unfolding card_function
 fixed-header card last off below =
     let dev : card.dev < 256 = omega arith in
-    each_below (λ off. off ≢ 4 → IsFixed card off) 16 off
-    (λ _. record { byte = lit< tt; writable = refl },
-    (λ _. record { byte = lit< tt; writable = refl },
-    (λ _. record { byte = dev; writable = refl },
-    (λ _. record { byte = lit< tt; writable = refl },
-    (λ apart. absurd (apart refl),
-    (λ _. record { byte = lit< tt; writable = refl },
-    (λ _. record { byte = lit< tt; writable = refl },
-    (λ _. record { byte = lit< tt; writable = refl },
-    (λ _. record { byte = lit< tt; writable = refl },
-    (λ _. record { byte = lit< tt; writable = refl },
-    (λ _. record { byte = lit< tt; writable = refl },
-    (λ _. record { byte = class_byte card.vga; writable = refl },
-    (λ _. record { byte = lit< tt; writable = refl },
-    (λ _. record { byte = lit< tt; writable = refl },
-    (λ _. record { byte = lit< tt; writable = refl },
-    (λ _. record { byte = lit< tt; writable = refl }, tt)))))))))))))))) below
+    each_below (λ off. off ≢ 4 → IsFixed card off) 16 off (
+      λ _. record { byte = lit< tt; writable = refl },
+      (
+        λ _. record { byte = lit< tt; writable = refl },
+        (
+          λ _. record { byte = dev; writable = refl },
+          (
+            λ _. record { byte = lit< tt; writable = refl },
+            (
+              λ apart. absurd (apart refl),
+              (
+                λ _. record { byte = lit< tt; writable = refl },
+                (
+                  λ _. record { byte = lit< tt; writable = refl },
+                  (
+                    λ _. record { byte = lit< tt; writable = refl },
+                    (
+                      λ _. record { byte = lit< tt; writable = refl },
+                      (
+                        λ _. record { byte = lit< tt; writable = refl },
+                        (
+                          λ _. record { byte = lit< tt; writable = refl },
+                          (
+                            λ _. record { byte = class_byte card.vga; writable = refl },
+                            (
+                              λ _. record { byte = lit< tt; writable = refl },
+                              (
+                                λ _. record { byte = lit< tt; writable = refl },
+                                (
+                                  λ _. record { byte = lit< tt; writable = refl },
+                                  (λ _. record { byte = lit< tt; writable = refl }, tt),
+                                ),
+                              ),
+                            ),
+                          ),
+                        ),
+                      ),
+                    ),
+                  ),
+                ),
+              ),
+            ),
+          ),
+        ),
+      ),
+    ) below
 
 -- past the bases only the interrupt line and pin are listed
 pub past_pin :
