@@ -1,6 +1,7 @@
 pub mod BoardLemmas
 pub mod AreaLemmas
 pub mod BuildLemmas
+pub mod StepLemmas
 pub mod FindLemmas
 pub mod WindowLemmas
 pub mod DeviceLemmas

@@ -139,8 +139,6 @@ fn edge_up_to(regs: &MapRegs, addr: u32, hi: u32) -> Option<u32>
     ensures within { IfSome result (λ edge. edge ≤ hi) }
     ensures equal { (setup : Setup) (bytes : Bytes) → StandsFor setup bytes (map_bytes regs.now)
         → SameAreas setup bytes addr (unwrap_or result (hi + 1)) }
-    ensures fewer { (setup : Setup) (bytes : Bytes) → StandsFor setup bytes (map_bytes regs.now)
-        → IfSome result (λ edge. edges_after setup bytes edge < edges_after setup bytes addr) }
 {
     match next_edge(regs, addr) {
         Some(edge) if edge <= hi => Some(edge),
