@@ -13,10 +13,10 @@ use Rattle.map_builder.specs.declared.range.Range.{Range}
 use Rattle.map_builder.specs.Map.{range_of}
 use Rattle.map_builder.specs.Find.{no_range, range_at, Holds}
 use Rattle.map_builder.specs.Changed.{IsOutside}
-use Rattle.map_builder.specs.Build.{IsBuilt, IsRightOutside, IsMapOutside, IsMapFrom}
+use Rattle.map_builder.specs.Build.{GoesOn, IsBuilt, IsRightOutside, IsMapOutside, IsMapFrom}
 use Rattle.map_builder.proofs.BuildLemmas.{range}
-use Rattle.map_builder.proofs.FindLemmas.{Placed}
-use Rattle.map_builder.proofs.StepLemmas.{StaySame, AreasAt, is_built_first, built_step, built_over}
+use Rattle.map_builder.proofs.FindLemmas.{Placed, placed}
+use Rattle.map_builder.proofs.StepLemmas.{StaySame, AreasAt, one_address, is_built_first, built_step, built_over}
 
 -- ---- ranges by their indices
 
@@ -83,7 +83,10 @@ module _ (regs : MapBytes) (changed : Changed) (ranges : List Range) (outside : 
 
   -- ---- below
 
-  module _ (is : Placed 0 ranges) (address : changed.lo < address_count) where
+  is : Placed 0 ranges
+  is = placed 0 ranges (omega arith) outside.tiles
+
+  module _ (address : changed.lo < address_count) where
     areas_below : (k addr : ℕ) → k < length ranges → (range_at ranges k).lo ≤ addr → addr ≤ (range_at ranges k).hi → addr < changed.lo →
         AreasAt regs addr (range_at ranges k).row.areas
     areas_below k addr within above below outer setup bytes stands =
@@ -118,5 +121,14 @@ module _ (regs : MapBytes) (changed : Changed) (ranges : List Range) (outside : 
         built_over regs (map range_of (take (suc k) ranges)) (open_at ranges (suc k)) next.lo addr above
         (same_below (suc k) next.lo addr within (omega arith) below outer)
         (built_step regs (map range_of (take k ranges)) (map range_of (take (suc k) ranges)) (open_at ranges k) (open_at ranges (suc k)) here.hi next.lo next.row.areas
-        (omega arith) (omega arith) (λ setup bytes stands x low high. let one : x ≡ here.hi = omega arith in ap (six_areas setup bytes) one)
+        (omega arith) (omega arith) (one_address regs here.hi next.lo joined)
         (areas_below (suc k) next.lo within (omega arith) (is.whole (suc k) within) (omega arith)) (inr (other, pushed, refl)) before)
+
+    -- and go on at the first address of the interval
+    pub built_to_interval : (k : ℕ) (ranges' : List MapRange) (last' : MapRange) (areas : List Area) → Holds ranges k (changed.lo - 1) → 0 < changed.lo →
+        AreasAt regs changed.lo areas → GoesOn (map range_of (take k ranges)) ranges' (open_at ranges k) last' changed.lo areas →
+        IsBuilt regs ranges' last' changed.lo
+    built_to_interval k ranges' last' areas holds above at_lo on =
+        built_step regs (map range_of (take k ranges)) ranges' (open_at ranges k) last' (changed.lo - 1) changed.lo areas (omega arith) address
+        (one_address regs (changed.lo - 1) changed.lo (omega arith)) at_lo on
+        (built_below k (changed.lo - 1) holds.within holds.above holds.below (omega arith))

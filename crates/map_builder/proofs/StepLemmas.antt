@@ -81,6 +81,9 @@ AreasAt regs addr areas = (setup : Setup) (bytes : Bytes) → StandsFor setup by
 abbrev pub StaySame : MapBytes → (addr end : ℕ) → Type 0
 StaySame regs addr end = (setup : Setup) (bytes : Bytes) → StandsFor setup bytes regs → SameAreas setup bytes addr end
 
+pub one_address : (regs : MapBytes) (addr end : ℕ) → end ≡ addr + 1 → StaySame regs addr end
+one_address regs addr end next setup bytes stands x low high = let one : x ≡ addr = omega arith in ap (six_areas setup bytes) one
+
 pub is_built_first : (regs : MapBytes) (areas : List Area) → AreasAt regs 0 areas → IsBuilt regs [] (range 0 0xFFFF_FFFF areas) 0
 is_built_first regs areas at_first = record {
   built = built_first areas;

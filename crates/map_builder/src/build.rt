@@ -93,7 +93,6 @@ fn ranges_above(ranges: &[Range], changed: Changed) -> ArrayVec<Range, CAPACITY>
 /// Leaves of a map the ranges below an interval, and gives the last of them as it stands at the first address inside.
 fn cut_below(ranges: &mut ArrayVec<Range, CAPACITY>, regs: &MapRegs, changed: Changed) -> Range
     requires cards { AreFitted regs.now.cards.items }
-    requires board { HasBoard (map_bytes regs.now) }
     requires outside { IsMapOutside (map_bytes regs.now) changed (map range_of ranges.old.items) }
     ensures built { IsBuilt (map_bytes regs.now) (map range_of ranges.new.items) (range_of result) changed.lo }
 {
