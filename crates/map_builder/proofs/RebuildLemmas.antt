@@ -2,7 +2,7 @@
 use Rattle.std.proofs.Common.{◌≡◌, ◌≢◌, ℕ, zero, suc, ◌+◌, ◌-◌, ◌<◌, ◌≤◌, inl, inr, List, [], ◌∷◌, ◌++◌, length, map, take, drop, get_or, refl, sym, ◌∙◌, ap, subst, arith}
 use Rattle.std.specs.Prelude.{All}
 use Rattle.std.proofs.lemmas.List.{get_or-map, length-map, drop-map, map_more}
-use Rattle.std.proofs.lemmas.List.Elements.{All-cons, All-drop}
+use Rattle.std.proofs.lemmas.List.Elements.{All-cons, All-head, All-tail, All-drop}
 use Rattle.board_base.specs.declared.target.Area.{Area}
 use Rattle.board_spec.specs.Setup.{Setup}
 use Rattle.board_spec.specs.Decode.{Bytes}
@@ -15,7 +15,7 @@ use Rattle.map_builder.specs.Find.{no_range, range_at, Holds}
 use Rattle.map_builder.specs.Changed.{IsOutside}
 use Rattle.map_builder.specs.Build.{GoesOn, IsBuilt, IsRightOutside, IsMapOutside, IsMapFrom}
 use Rattle.map_builder.proofs.BuildLemmas.{range}
-use Rattle.map_builder.proofs.FindLemmas.{Placed, placed}
+use Rattle.map_builder.proofs.FindLemmas.{Placed, placed, tiles_below}
 use Rattle.map_builder.proofs.StepLemmas.{StaySame, AreasAt, one_address, is_built_first, built_step, built_over}
 
 -- ---- ranges by their indices
@@ -132,3 +132,39 @@ module _ (regs : MapBytes) (changed : Changed) (ranges : List Range) (outside : 
         built_step regs (map range_of (take k ranges)) ranges' (open_at ranges k) last' (changed.lo - 1) changed.lo areas (omega arith) address
         (one_address regs (changed.lo - 1) changed.lo (omega arith)) at_lo on
         (built_below k (changed.lo - 1) holds.within holds.above holds.below (omega arith))
+
+-- ---- both joined
+
+-- the ranges are built up to an address, and those above it are right
+pub record Joins (regs : MapBytes) (ranges : List MapRange) (last : MapRange) (above : List MapRange) : Type 0 where
+  pub upto : ℕ
+  pub built : IsBuilt regs ranges last upto
+  pub from : IsMapFrom regs (upto + 1) above
+
+pub joins_step : (regs : MapBytes) (ranges ranges' : List MapRange) (last last' next : MapRange) (later : List MapRange) →
+    Joins regs ranges last (next ∷ later) → GoesOn ranges ranges' last last' next.lo next.areas → Joins regs ranges' last' later
+joins_step regs ranges ranges' last last' next later joins on =
+    let tiles = joins.from.tiles in
+    let address : next.hi + 1 ≤ address_count = tiles_below (next.hi + 1) later tiles.2 in
+    let right = λ (setup : Setup) (bytes : Bytes) (stands : StandsFor setup bytes regs).
+        All-head (IsRight setup bytes) next later (joins.from.right setup bytes stands) in
+    record {
+      upto = next.hi;
+      built =
+          built_over regs ranges' last' next.lo next.hi tiles.1
+          (λ setup bytes stands x low high.
+          (right setup bytes stands).at_each x low (omega arith) ∙ sym ((right setup bytes stands).at_each next.lo (omega arith) tiles.1))
+          (built_step regs ranges ranges' last last' joins.upto next.lo next.areas (omega (arith, tiles.0)) (omega (arith, tiles.1))
+          (one_address regs joins.upto next.lo tiles.0) (λ setup bytes stands. sym ((right setup bytes stands).at_each next.lo (omega arith) tiles.1)) on joins.built);
+      from = record {
+        tiles = tiles.2;
+        right = λ setup bytes stands. All-tail (IsRight setup bytes) next later (joins.from.right setup bytes stands);
+      };
+    }
+
+-- where none are left above, the ranges are built up to the last address
+pub joined_all : (regs : MapBytes) (ranges : List MapRange) (last : MapRange) → Joins regs ranges last [] → IsBuilt regs ranges last 0xFFFF_FFFF
+joined_all regs ranges last joins =
+    let end : joins.upto + 1 ≡ address_count = joins.from.tiles in
+    let at_end : joins.upto ≡ 0xFFFF_FFFF = omega arith in
+    subst (IsBuilt regs ranges last) at_end joins.built

@@ -1,22 +1,23 @@
 -- A step to a later address, which need not be an edge: how many edges it leaves above it, and what holds of the ranges.
-use Rattle.std.proofs.Common.{◌≡◌, ◌≢◌, ℕ, ◌+◌, ◌-◌, ◌<◌, ◌≤◌, inl, inr, true, false, List, [], ◌∷◌, ◌++◌, length, sym, ◌∙◌, ap, arith}
+use Rattle.std.proofs.Common.{◌≡◌, ◌≢◌, ℕ, ◌+◌, ◌-◌, ◌<◌, ◌≤◌, inl, inr, true, false, List, [], ◌∷◌, ◌++◌, length, map, refl, sym, ◌∙◌, ap, arith}
 use Rattle.std.specs.Prelude.{nat_lt, filter}
 use Rattle.std.specs.List.{Contains}
 use Rattle.std.proofs.lemmas.Bool.{cases_Bool, cases_lt}
 use Rattle.std.proofs.lemmas.Bool.Decides.{nat_tests}
-use Rattle.std.proofs.lemmas.List.{length-append}
+use Rattle.std.proofs.lemmas.List.{length-map, length_push, map_push}
 use Rattle.board_base.specs.declared.target.Area.{Area}
 use Rattle.board_spec.specs.Setup.{Setup}
 use Rattle.board_spec.specs.Decode.{Bytes}
-use Rattle.board_spec.specs.FlatMap.{address_count, six_areas, MapRange}
+use Rattle.board_spec.specs.FlatMap.{address_count, six_areas, MapRange, Tiles, IsFlatMapOf}
 use Rattle.addr_decode.specs.MapRegs.{MapBytes, StandsFor}
 use Rattle.addr_decode.specs.Edges.{edges_of, edges_after, SameAreas}
 use Rattle.addr_decode.proofs.EdgeSearchLemmas.{contains_cases}
 use Rattle.addr_decode.proofs.EdgeCounts.{few_edges_after}
 use Rattle.addr_decode.proofs.EdgeLaws.{areas_change_at_edges}
-use Rattle.map_builder.specs.Map.{HasBoard}
+use Rattle.map_builder.specs.declared.range.Range.{Range}
+use Rattle.map_builder.specs.Map.{range_of, HasBoard}
 use Rattle.map_builder.specs.Build.{GoesOn, Built, BuiltOf, IsBuilt}
-use Rattle.map_builder.proofs.BuildLemmas.{range, built_first, built_of_first, built_on, built_of_on, few_on, up_to_edge}
+use Rattle.map_builder.proofs.BuildLemmas.{range, built_first, built_of_first, built_on, built_of_on, few_on, built_all, up_to_edge}
 
 -- ---- edges above an address
 
@@ -122,3 +123,23 @@ built_over regs ranges last addr hi order same is = record {
       };
   few = λ board. omega (arith, is.few board, edges_left board.setup board.bytes addr hi order);
 }
+
+-- ---- the ranges built up to the last address
+
+pub record IsWhole (regs : MapBytes) (ranges : List Range) : Type 0 where
+  pub tiles : Tiles 0 (map range_of ranges)
+  pub is_map : (setup : Setup) (bytes : Bytes) → StandsFor setup bytes regs → IsFlatMapOf setup bytes (map range_of ranges)
+  pub few : length ranges ≤ 126
+
+pub is_whole : (regs : MapBytes) (board : HasBoard regs) (ranges : List Range) (last : Range) →
+    IsBuilt regs (map range_of ranges) (range_of last) 0xFFFF_FFFF → IsWhole regs (ranges ++ last ∷ [])
+is_whole regs board ranges last is =
+    let pushed : map range_of (ranges ++ last ∷ []) ≡ map range_of ranges ++ range_of last ∷ [] = map_push range_of ranges last in
+    record {
+      tiles = rw pushed is.built.tiles;
+      is_map = λ setup bytes stands.
+          rw pushed
+          (built_all setup bytes (map range_of ranges) (range_of last) 0xFFFF_FFFF is.built (is.of_board setup bytes stands)
+          (one_address regs 0xFFFF_FFFF address_count refl setup bytes stands));
+      few = omega (arith, length_push ranges last, length-map ranges range_of, is.few board);
+    }

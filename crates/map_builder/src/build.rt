@@ -52,8 +52,10 @@ pub fn rebuild(ranges: &mut ArrayVec<Range, CAPACITY>, regs: &MapRegs, changed: 
 {
     let above = ranges_above(ranges, changed);
     let first = cut_below(ranges, regs, changed);
-    let rebuilt = rows_in(ranges, first, regs, changed);
-    let last = go_on_with(ranges, rebuilt, &above);
+    let mut last = rows_in(ranges, first, regs, changed);
+    for range in above.as_slice() {
+        last = range_at(ranges, last, range.lo, range.row);
+    }
     ranges.push(last);
 }
 
@@ -143,21 +145,6 @@ fn edge_up_to(regs: &MapRegs, addr: u32, hi: u32) -> Option<u32>
         Some(edge) if edge <= hi => Some(edge),
         _ => None,
     }
-}
-
-/// Builds the ranges on with those of a map that begin where they end, and gives the last of them.
-fn go_on_with(ranges: &mut ArrayVec<Range, CAPACITY>, first: Range, above: &[Range]) -> Range
-    requires room { (regs : MapBytes) × (addr : ℕ) × HasBoard regs × IsBuilt regs (map range_of ranges.old.items) (range_of first) addr
-        × IsMapFrom regs (addr + 1) (map range_of above.now) }
-    ensures built { (regs : MapBytes) (addr : ℕ) → HasBoard regs → IsBuilt regs (map range_of ranges.old.items) (range_of first) addr
-        → IsMapFrom regs (addr + 1) (map range_of above.now)
-        → IsBuilt regs (map range_of ranges.new.items) (range_of result) 0xFFFF_FFFF }
-{
-    let mut last = first;
-    for range in above {
-        last = range_at(ranges, last, range.lo, range.row);
-    }
-    last
 }
 
 /// The range of an address with these areas, where the last range is this one so far: it goes on where it has the same
