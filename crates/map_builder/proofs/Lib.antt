@@ -1,6 +1,8 @@
 pub mod BoardLemmas
 pub mod AreaLemmas
 pub mod BuildLemmas
+pub mod StepLemmas
+pub mod RebuildLemmas
 pub mod FindLemmas
 pub mod WindowLemmas
 pub mod DeviceLemmas

@@ -10,7 +10,7 @@ ghost use Rattle.addr_decode.specs.MapRegs.{AreFitted, StandsFor, map_bytes};
 ghost use Rattle.map_builder.specs.Map.{range_of};
 ghost use Rattle.map_builder.specs.Changed.{after, changed_windows, bounds_or_zero, IsOutside};
 
-use crate::build::{CAPACITY, ranges_of};
+use crate::build::{CAPACITY, ranges_of, rebuild};
 use crate::changed::{bounds_covered, joined};
 use crate::find::span_of;
 use crate::range::{Changed, Range, Span};
@@ -127,9 +127,11 @@ impl FlatMap {
     {
         let before = bounds_covered(&self.regs, change);
         self.regs.apply(change);
-        self.ranges = ranges_of(&self.regs);
-        self.version += 1;
         let changed = joined(before, bounds_covered(&self.regs, change));
+        if let Some(interval) = changed {
+            rebuild(&mut self.ranges, &self.regs, interval);
+        }
+        self.version += 1;
         changed.unwrap_or(NOTHING)
     }
 }
