@@ -10,3 +10,6 @@ pub mod OutsideLemmas
 pub mod KeptCards
 pub mod KeptLemmas
 pub mod KeptStores
+pub mod BoundsLemmas
+pub mod SameBoards
+pub mod ChangeLemmas
