@@ -18,12 +18,14 @@ use arrayvec::ArrayVec;
 
 /// The most ranges that a map can keep. A board's map has at most 126.
 pub const CAPACITY: usize = 160;
+/// The ranges of a map in rising order of address.
+pub type Ranges = ArrayVec<Range, CAPACITY>;
 /// The last address.
 const LAST_ADDRESS: u32 = 0xFFFF_FFFF;
 
 /// The flat map of registers: from the first address on, the areas at each edge go on in the range below where it has
 /// the same, and else begin a range.
-pub fn ranges_of(regs: &MapRegs) -> ArrayVec<Range, CAPACITY>
+pub fn ranges_of(regs: &MapRegs) -> Ranges
     requires cards { AreFitted regs.now.cards.items }
     requires board { HasBoard (map_bytes regs.now) }
     ensures tiles { Tiles 0 (map range_of result.items) }
@@ -39,8 +41,9 @@ pub fn ranges_of(regs: &MapRegs) -> ArrayVec<Range, CAPACITY>
 }
 
 /// Makes the ranges those of the registers, where they were a map that differs in an interval alone: the ranges below it
-/// and above it stay, those in it are built anew, and equal neighbours at its ends become one.
-pub fn rebuild(ranges: &mut ArrayVec<Range, CAPACITY>, regs: &MapRegs, changed: Changed)
+/// and above it stay, those in it are built anew, and equal neighbours at its ends become one. What `above` holds before
+/// and after counts for nothing: it is room for the ranges above, which a list of its own would have to fill first.
+pub fn rebuild(ranges: &mut Ranges, above: &mut Ranges, regs: &MapRegs, changed: Changed)
     requires cards { AreFitted regs.now.cards.items }
     requires board { HasBoard (map_bytes regs.now) }
     requires order { changed.lo ≤ changed.hi }
@@ -50,7 +53,7 @@ pub fn rebuild(ranges: &mut ArrayVec<Range, CAPACITY>, regs: &MapRegs, changed: 
         → IsFlatMapOf setup bytes (map range_of ranges.new.items) }
     ensures few { length ranges.new.items ≤ 126 }
 {
-    let above = ranges_above(ranges, changed);
+    copy_above(ranges, changed, above);
     let first = cut_below(ranges, regs, changed);
     let mut last = rows_in(ranges, first, regs, changed);
     for range in above.as_slice() {
@@ -71,16 +74,16 @@ fn first_range(regs: &MapRegs) -> Range
     }
 }
 
-/// The ranges of a map above an interval, the first of them cut where it begins inside.
-fn ranges_above(ranges: &[Range], changed: Changed) -> ArrayVec<Range, CAPACITY>
+/// Makes `above` the ranges of a map above an interval, the first of them cut where it begins inside.
+fn copy_above(ranges: &[Range], changed: Changed, above: &mut Ranges)
     requires tiles { Tiles 0 (map range_of ranges.now) }
     requires few { length ranges.now ≤ 160 }
     ensures above { (regs : MapBytes) → IsMapOutside regs changed (map range_of ranges.now)
-        → IsMapFrom regs (changed.hi + 1) (map range_of result.items) }
+        → IsMapFrom regs (changed.hi + 1) (map range_of above.new.items) }
 {
-    let mut above = ArrayVec::new();
+    above.clear();
     if changed.hi == LAST_ADDRESS {
-        return above;
+        return;
     }
     let lo = changed.hi + 1;
     let index = index_of(ranges, lo);
@@ -89,11 +92,10 @@ fn ranges_above(ranges: &[Range], changed: Changed) -> ArrayVec<Range, CAPACITY>
         ..ranges[index]
     });
     above.try_extend_from_slice(&ranges[index + 1..]).unwrap();
-    above
 }
 
 /// Leaves of a map the ranges below an interval, and gives the last of them as it stands at the first address inside.
-fn cut_below(ranges: &mut ArrayVec<Range, CAPACITY>, regs: &MapRegs, changed: Changed) -> Range
+fn cut_below(ranges: &mut Ranges, regs: &MapRegs, changed: Changed) -> Range
     requires cards { AreFitted regs.now.cards.items }
     requires outside { IsMapOutside (map_bytes regs.now) changed (map range_of ranges.old.items) }
     ensures built { IsBuilt (map_bytes regs.now) (map range_of ranges.new.items) (range_of result) changed.lo }
@@ -113,7 +115,7 @@ fn cut_below(ranges: &mut ArrayVec<Range, CAPACITY>, regs: &MapRegs, changed: Ch
 
 /// Builds the ranges on from the first to the last address of an interval, and gives the last of them.
 fn rows_in(
-    ranges: &mut ArrayVec<Range, CAPACITY>,
+    ranges: &mut Ranges,
     first: Range,
     regs: &MapRegs,
     interval: Changed,
@@ -149,7 +151,7 @@ fn edge_up_to(regs: &MapRegs, addr: u32, hi: u32) -> Option<u32>
 
 /// The range of an address with these areas, where the last range is this one so far: it goes on where it has the same
 /// areas. Else it ends below the address, is pushed, and a new range begins.
-fn range_at(ranges: &mut ArrayVec<Range, CAPACITY>, last: Range, addr: u32, row: SixAreas) -> Range
+fn range_at(ranges: &mut Ranges, last: Range, addr: u32, row: SixAreas) -> Range
     requires room { array_vec_len ranges.old < 160 }
     requires above { last.lo < addr }
     ensures goes_on { GoesOn (map range_of ranges.old.items) (map range_of ranges.new.items) (range_of last) (range_of result) addr row.areas }

@@ -11,7 +11,7 @@ ghost use Rattle.map_builder.specs.Map.{range_of, HasBoard, IsMapOf};
 ghost use Rattle.map_builder.specs.Build.{IsMapOutside};
 ghost use Rattle.map_builder.specs.Changed.{after, changed_windows, bounds_or_zero, IsOutside};
 
-use crate::build::{CAPACITY, ranges_of, rebuild};
+use crate::build::{Ranges, ranges_of, rebuild};
 use crate::changed::{bounds_covered, joined};
 use crate::find::span_of;
 use crate::range::{Changed, Range, Span};
@@ -29,7 +29,9 @@ const NOTHING: Changed = Changed { lo: 0, hi: 0 };
 #[derive(Drop)]
 pub struct FlatMap {
     regs: MapRegs,
-    ranges: ArrayVec<Range, CAPACITY>,
+    ranges: Ranges,
+    /// Room for the ranges above a change, while those below are built anew.
+    above: Ranges,
     version: u32,
 }
 
@@ -59,6 +61,7 @@ impl FlatMap {
         FlatMap {
             regs,
             ranges,
+            above: ArrayVec::new(),
             version: 0,
         }
     }
@@ -72,6 +75,7 @@ impl FlatMap {
         FlatMap {
             regs: self.regs.copy(),
             ranges,
+            above: ArrayVec::new(),
             version: self.version,
         }
     }
@@ -129,7 +133,7 @@ impl FlatMap {
         let before = bounds_covered(&self.regs, change);
         self.regs.apply(change);
         let changed = joined(before, bounds_covered(&self.regs, change));
-        rebuild_within(&mut self.ranges, &self.regs, changed);
+        rebuild_within(&mut self.ranges, &mut self.above, &self.regs, changed);
         self.version += 1;
         changed.unwrap_or(NOTHING)
     }
@@ -137,7 +141,7 @@ impl FlatMap {
 
 /// Makes the ranges those of the registers, where they were a map that differs inside bounds alone. Where there are no
 /// bounds they stay.
-fn rebuild_within(ranges: &mut ArrayVec<Range, CAPACITY>, regs: &MapRegs, bounds: Option<Changed>)
+fn rebuild_within(ranges: &mut Ranges, above: &mut Ranges, regs: &MapRegs, bounds: Option<Changed>)
     requires cards { AreFitted regs.now.cards.items }
     requires board { HasBoard (map_bytes regs.now) }
     requires order { IfSome bounds (λ interval. interval.lo ≤ interval.hi) }
@@ -146,7 +150,7 @@ fn rebuild_within(ranges: &mut ArrayVec<Range, CAPACITY>, regs: &MapRegs, bounds
     ensures map { IsMapOf (map_bytes regs.now) (map range_of ranges.new.items) }
 {
     match bounds {
-        Some(interval) => rebuild(ranges, regs, interval),
+        Some(interval) => rebuild(ranges, above, regs, interval),
         None => {}
     }
 }

@@ -14,7 +14,7 @@ loop-range-init c =
     record {
       upto = c.args.changed.hi;
       built = c.rows_in-last.ensures.built;
-      from = rw c.as_slice-range-items.ensures.value (c.ranges_above-above.ensures.above (map_bytes c.args.regs.now) (rw c.deref.ensures.0 c.requires.outside));
+      from = rw c.as_slice-range-items.ensures.value (c.copy_above.ensures.above (map_bytes c.args.regs.now) (rw c.deref.ensures.0 c.requires.outside));
     }
 
 pub range_at-last-requires-clause-room : goal.range_at-last-requires-clause-room

@@ -16,7 +16,7 @@ stood : (inside seen : Mapped) (setup : Setup) (bytes : Bytes) → inside ≡ se
 stood inside seen setup bytes is stands = subst (λ (flat : Mapped). StandsFor setup bytes flat.regs) (sym is) stands
 
 -- what is joined are the bounds of the windows of the board that the map has
-joined_is : (c : goal.After-rebuild_within-arg-2-1) →
+joined_is : (c : goal.After-rebuild_within-arg-3-1) →
     c.joined-changed.result ≡ bounds (changed_windows c.self.invariant.board.setup c.self.invariant.board.bytes c.args.change.now)
 joined_is c =
     let board = c.self.invariant.board in

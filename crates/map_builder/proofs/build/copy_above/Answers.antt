@@ -5,7 +5,7 @@ use Rattle.map_builder.specs.Map.{range_of}
 use Rattle.map_builder.specs.Find.{range_at}
 use Rattle.map_builder.specs.Build.{IsMapFrom}
 use Rattle.map_builder.proofs.RebuildLemmas.{map_above}
-use Rattle.map_builder.proofs.build.ranges_above.Goals as goal
+use Rattle.map_builder.proofs.build.copy_above.Goals as goal
 
 pub returns : goal.returns
 returns c =
@@ -15,7 +15,7 @@ returns c =
     let cut : Range = record { lo = c.args.changed.hi + 1; hi = there.hi; row = there.row } in
     let items : c.try_extend_from_slice.new.self.items ≡ cut ∷ drop (index + 1) ranges =
     rw (take_rest ranges (index + 1)) at (rw c.unwrap.ensures at c.try_extend_from_slice.ensures.ok)
-    ∙ ap (λ (before : List Range). before ++ drop (index + 1) ranges) (c.push.ensures.items ∙ ap (λ (before : List Range). before ++ cut ∷ []) c.new-above.ensures) in
+    ∙ ap (λ (before : List Range). before ++ drop (index + 1) ranges) (c.push.ensures.items ∙ ap (λ (before : List Range). before ++ cut ∷ []) c.clear.ensures) in
     record {
       above = λ regs outside.
           subst (λ (above : List Range). IsMapFrom regs (c.args.changed.hi + 1) (map range_of above)) (sym items)
