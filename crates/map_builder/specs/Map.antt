@@ -1,5 +1,5 @@
 -- The memory map as the crate keeps it: the registers, the ranges and the version.
-use Rattle.std.specs.Prelude.{ℕ, ◌≡◌, ◌^◌, ◌<◌, ◌≤◌, List, length, All, slice_index}
+use Rattle.std.specs.Prelude.{ℕ, ◌^◌, ◌<◌, ◌≤◌, List, length, All, slice_index}
 use Rattle.board_spec.specs.Setup.{Setup, IsCardList}
 use Rattle.board_spec.specs.Decode.{Bytes, top_of}
 use Rattle.board_spec.specs.FlatMap.{MapRange, Tiles, IsFlatMapOf}
