@@ -2,8 +2,8 @@ pub mod BoardLemmas
 pub mod AreaLemmas
 pub mod BuildLemmas
 pub mod StepLemmas
-pub mod RebuildLemmas
 pub mod FindLemmas
+pub mod RebuildLemmas
 pub mod WindowLemmas
 pub mod DeviceLemmas
 pub mod OutsideLemmas

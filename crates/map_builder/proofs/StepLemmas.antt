@@ -1,5 +1,5 @@
 -- A step to a later address, which need not be an edge: how many edges it leaves above it, and what holds of the ranges.
-use Rattle.std.proofs.Common.{◌≡◌, ◌≢◌, ℕ, ◌+◌, ◌-◌, ◌<◌, ◌≤◌, inl, inr, true, false, List, [], ◌∷◌, ◌++◌, length, map, refl, sym, ◌∙◌, ap, arith}
+use Rattle.std.proofs.Common.{◌≡◌, ◌≢◌, ℕ, ◌+◌, ◌<◌, ◌≤◌, inl, inr, true, List, [], ◌∷◌, ◌++◌, length, map, refl, sym, ◌∙◌, ap, arith}
 use Rattle.std.specs.Prelude.{nat_lt, filter}
 use Rattle.std.specs.List.{Contains}
 use Rattle.std.proofs.lemmas.Bool.{cases_Bool, cases_lt}
@@ -16,7 +16,7 @@ use Rattle.addr_decode.proofs.EdgeCounts.{few_edges_after}
 use Rattle.addr_decode.proofs.EdgeLaws.{areas_change_at_edges}
 use Rattle.map_builder.specs.declared.range.Range.{Range}
 use Rattle.map_builder.specs.Map.{range_of, HasBoard}
-use Rattle.map_builder.specs.Build.{GoesOn, Built, BuiltOf, IsBuilt}
+use Rattle.map_builder.specs.Build.{GoesOn, IsBuilt}
 use Rattle.map_builder.proofs.BuildLemmas.{range, built_first, built_of_first, built_on, built_of_on, few_on, built_all, up_to_edge}
 
 -- ---- edges above an address
@@ -123,6 +123,20 @@ built_over regs ranges last addr hi order same is = record {
       };
   few = λ board. omega (arith, is.few board, edges_left board.setup board.bytes addr hi order);
 }
+
+pub same_at_each : (regs : MapBytes) (lo hi : ℕ) (areas : List Area) → lo ≤ hi → ((x : ℕ) → lo ≤ x → x ≤ hi → AreasAt regs x areas) →
+    StaySame regs lo (hi + 1)
+same_at_each regs lo hi areas order each setup bytes stands x low high =
+    sym (each x low (omega arith) setup bytes stands) ∙ each lo (omega arith) order setup bytes stands
+
+-- on through a range that begins after an address, up to another up to which it is right
+pub built_range : (regs : MapBytes) (ranges ranges' : List MapRange) (last last' next : MapRange) (addr hi : ℕ) →
+    next.lo ≡ addr + 1 → next.lo ≤ hi → hi < address_count → ((x : ℕ) → next.lo ≤ x → x ≤ hi → AreasAt regs x next.areas) →
+    GoesOn ranges ranges' last last' next.lo next.areas → IsBuilt regs ranges last addr → IsBuilt regs ranges' last' hi
+built_range regs ranges ranges' last last' next addr hi joined order address each on is =
+    built_over regs ranges' last' next.lo hi order (same_at_each regs next.lo hi next.areas order each)
+    (built_step regs ranges ranges' last last' addr next.lo next.areas (omega arith) (omega arith) (one_address regs addr next.lo joined)
+    (each next.lo (omega arith) order) on is)
 
 -- ---- the ranges built up to the last address
 

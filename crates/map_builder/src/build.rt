@@ -6,7 +6,7 @@ ghost use Rattle.board_spec.specs.Setup.{Setup};
 ghost use Rattle.board_spec.specs.Decode.{Bytes};
 ghost use Rattle.board_spec.specs.FlatMap.{Tiles, IsFlatMapOf};
 ghost use Rattle.addr_decode.specs.MapRegs.{MapBytes, AreFitted, StandsFor, map_bytes};
-ghost use Rattle.addr_decode.specs.Edges.{SameAreas, edges_after};
+ghost use Rattle.addr_decode.specs.Edges.{SameAreas};
 ghost use Rattle.map_builder.specs.Map.{range_of, HasBoard};
 ghost use Rattle.map_builder.specs.Build.{GoesOn, IsBuilt, IsMapOutside, IsMapFrom};
 

@@ -1,18 +1,17 @@
-use Rattle.std.proofs.Common.{◌≡◌, ◌+◌, List, [], ◌∷◌, map, drop, arith, lit<, sym, ap, subst}
+use Rattle.std.proofs.Common.{◌≡◌, ◌+◌, List, [], ◌∷◌, map, drop, arith, lit<, sym, subst}
 use Rattle.std.proofs.lemmas.List.{length-map, drop_more, drop_all}
 use Rattle.addr_decode.specs.MapRegs.{map_bytes}
 use Rattle.map_builder.specs.declared.range.Range.{Range}
 use Rattle.map_builder.specs.Map.{range_of}
 use Rattle.map_builder.specs.Find.{no_range, range_at}
-use Rattle.map_builder.specs.Build.{IsBuilt, IsMapFrom}
 use Rattle.map_builder.proofs.StepLemmas.{IsWhole, is_whole}
-use Rattle.map_builder.proofs.RebuildLemmas.{Joins, joins_step, joined_all}
+use Rattle.map_builder.proofs.RebuildLemmas.{joins_step, joined_all}
 use Rattle.map_builder.proofs.build.rebuild.Goals as goal
 
 pub loop-range-init : goal.loop-range-init
 loop-range-init c =
     record {
-      upto = c.args.changed.hi;
+      hi = c.args.changed.hi;
       built = c.rows_in-last.ensures.built;
       from = rw c.as_slice-range-items.ensures.value (c.copy_above.ensures.above (map_bytes c.args.regs.now) (rw c.deref.ensures.0 c.requires.outside));
     }
