@@ -1,6 +1,5 @@
 -- The ranges as they are built, from the first address on: the last of them may still go on.
 use Rattle.std.proofs.Common.{◌≡◌, ◌≢◌, ℕ, ◌+◌, ◌-◌, ◌<◌, ◌≤◌, inl, inr, List, [], ◌∷◌, ◌++◌, length, refl, sym, ◌∙◌, ap, subst, arith, append_assoc}
-use Rattle.std.specs.Prelude.{All}
 use Rattle.std.proofs.lemmas.Bool.{cases_lt}
 use Rattle.std.proofs.lemmas.List.{length-append}
 use Rattle.std.proofs.lemmas.List.Elements.{All-nil, All-cons, All-append}
@@ -9,7 +8,7 @@ use Rattle.board_spec.specs.Setup.{Setup}
 use Rattle.board_spec.specs.Decode.{Bytes}
 use Rattle.board_spec.specs.FlatMap.{address_count, six_areas, MapRange, Tiles, NeighboursDiffer, IsRight, IsFlatMapOf}
 use Rattle.addr_decode.specs.Edges.{SameAreas}
-use Rattle.map_builder.specs.Map.{GoesOn}
+use Rattle.map_builder.specs.Build.{GoesOn, Built, BuiltOf}
 
 abbrev pub range : ℕ → ℕ → List Area → MapRange
 range lo hi areas = record { lo = lo; hi = hi; areas = areas }
@@ -32,18 +31,6 @@ differ_cut (here ∷ []) last addr areas other differ = (differ.0, differ_cut []
 differ_cut (here ∷ next ∷ later) last addr areas other differ = (differ.0, differ_cut (next ∷ later) last addr areas other differ.1)
 
 -- ---- what holds at each step
-
--- the ranges cover all addresses as if the last of them went on to the last address
-pub record Built (ranges : List MapRange) (last : MapRange) (addr : ℕ) : Type 0 where
-  pub tiles : Tiles 0 (ranges ++ last ∷ [])
-  pub least : NeighboursDiffer (ranges ++ last ∷ [])
-  pub begun : last.lo ≤ addr
-  pub open_end : last.hi ≡ 0xFFFF_FFFF
-
--- up to this address they are right
-pub record BuiltOf (setup : Setup) (bytes : Bytes) (ranges : List MapRange) (last : MapRange) (addr : ℕ) : Type 0 where
-  pub right : All (IsRight setup bytes) ranges
-  pub so_far : (x : ℕ) → last.lo ≤ x → x ≤ addr → six_areas setup bytes x ≡ last.areas
 
 pub built_first : (areas : List Area) → Built [] (range 0 0xFFFF_FFFF areas) 0
 built_first areas = record {
@@ -87,7 +74,7 @@ built_on ranges ranges' last last' addr edge areas built above below (inr (other
     (built_cut ranges last addr edge areas built above below other))
 
 -- the areas up to an edge
-up_to_edge : (setup : Setup) (bytes : Bytes) (last : MapRange) (addr edge : ℕ) → last.lo ≤ addr → SameAreas setup bytes addr edge →
+pub up_to_edge : (setup : Setup) (bytes : Bytes) (last : MapRange) (addr edge : ℕ) → last.lo ≤ addr → SameAreas setup bytes addr edge →
     ((x : ℕ) → last.lo ≤ x → x ≤ addr → six_areas setup bytes x ≡ last.areas) →
     (x : ℕ) → last.lo ≤ x → x < edge → six_areas setup bytes x ≡ last.areas
 up_to_edge setup bytes last addr edge begun same so_far x low high =
@@ -121,14 +108,15 @@ built_of_on setup bytes ranges ranges' last last' addr edge areas begun above sa
       so_far = λ x low high. let at_edge : x ≡ edge = omega arith in ap (six_areas setup bytes) at_edge ∙ sym row;
     }))
 
--- each step adds at most one range, and leaves one edge fewer
+-- each step adds at most one range, and then leaves fewer edges
 pub few_on : (ranges ranges' : List MapRange) (last last' : MapRange) (edge : ℕ) (areas : List Area) (before after : ℕ) →
-    GoesOn ranges ranges' last last' edge areas → after < before → length ranges + before ≤ 125 → length ranges' + after ≤ 125
-few_on ranges ranges' last last' edge areas before after (inl (here, is, last_is)) fewer few = omega (arith, ap (λ (xs : List MapRange). length xs) is)
-few_on ranges ranges' last last' edge areas before after (inr (other, is, last_is)) fewer few =
+    GoesOn ranges ranges' last last' edge areas → after ≤ before → (areas ≢ last.areas → after < before) →
+    length ranges + before ≤ 125 → length ranges' + after ≤ 125
+few_on ranges ranges' last last' edge areas before after (inl (here, is, last_is)) left fewer few = omega (arith, ap (λ (xs : List MapRange). length xs) is)
+few_on ranges ranges' last last' edge areas before after (inr (other, is, last_is)) left fewer few =
     let long : length ranges' ≡ length ranges + 1 =
     ap (λ (xs : List MapRange). length xs) is ∙ length-append ranges (range last.lo (edge - 1) last.areas ∷ []) in
-    omega arith
+    omega (arith, fewer other)
 
 -- where no edge is left, they are the map
 pub built_all : (setup : Setup) (bytes : Bytes) (ranges : List MapRange) (last : MapRange) (addr : ℕ) →

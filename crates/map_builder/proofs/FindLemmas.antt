@@ -7,7 +7,7 @@ use Rattle.std.proofs.lemmas.List.Sorted.{IsNonDecreasingBy-from_all_adjacent}
 use Rattle.board_base.specs.declared.access.Kind.{Kind}
 use Rattle.board_spec.specs.Setup.{Setup}
 use Rattle.board_spec.specs.Decode.{Bytes, area_of}
-use Rattle.board_spec.specs.FlatMap.{address_count, six_areas, Tiles, IsRight, IsFlatMapOf, IsSpan}
+use Rattle.board_spec.specs.FlatMap.{address_count, six_areas, MapRange, Tiles, IsRight, IsFlatMapOf, IsSpan}
 use Rattle.map_builder.specs.declared.range.Range.{Range}
 use Rattle.map_builder.specs.Map.{range_of}
 use Rattle.map_builder.specs.Find.{no_range, range_at, in_column, area_at, Holds, IsFirstAlike, IsLastAlike}
@@ -48,7 +48,7 @@ lowest ranges addr (suc k) is within before =
     let there : (range_at ranges (suc k)).lo ≡ (range_at ranges k).hi + 1 = rw place at joined in
     omega (arith, before k (omega arith))
 
-tiles_below : (from : ℕ) (ranges : List Range) → Tiles from (map range_of ranges) → from ≤ address_count
+pub tiles_below : (from : ℕ) (ranges : List MapRange) → Tiles from ranges → from ≤ address_count
 tiles_below from [] tiles = omega arith
 tiles_below from (range ∷ later) tiles = omega (arith, tiles_below (range.hi + 1) later tiles.2, tiles.0, tiles.1)
 
@@ -62,7 +62,7 @@ placed from (range ∷ []) below tiles = record {
   last = λ k at_end. let zero_is : k ≡ 0 = omega arith in rw zero_is tiles.2;
 }
 placed from (range ∷ next ∷ later) below tiles =
-    let end : next.hi + 1 ≤ address_count = tiles_below (next.hi + 1) later tiles.2.2 in
+    let end : next.hi + 1 ≤ address_count = tiles_below (next.hi + 1) (map range_of later) tiles.2.2 in
     let rest : Placed (range.hi + 1) (next ∷ later) = placed (range.hi + 1) (next ∷ later) (omega (arith, tiles.2.0, tiles.2.1)) tiles.2 in
     record {
       some = omega arith;

@@ -58,7 +58,7 @@ outside_of addr windows width k below out =
 register : (dev fun off : ℕ) → Reg
 register dev fun off = record { dev = dev; fun = fun; off = off }
 
-same_register : (reg other : Reg) → reg.dev ≡ other.dev → reg.fun ≡ other.fun → reg.off ≡ other.off → reg ≡ other
+pub same_register : (reg other : Reg) → reg.dev ≡ other.dev → reg.fun ≡ other.fun → reg.off ≡ other.off → reg ≡ other
 unfolding register
 same_register reg other devs funs offs =
     let same : register reg.dev reg.fun reg.off ≡ register other.dev other.fun other.off = cc in same
@@ -132,7 +132,7 @@ top_after setup bytes (Store at width value) top =
     ]
 
 -- outside all changed windows nothing changes
-changes_keep : (setup : Setup) (bytes : Bytes) (change : MapChange) (addr : ℕ) → IsCardList setup.cards → top_of bytes ≤ 0x7F80_0000 → addr < address_count →
+pub changes_keep : (setup : Setup) (bytes : Bytes) (change : MapChange) (addr : ℕ) → IsCardList setup.cards → top_of bytes ≤ 0x7F80_0000 → addr < address_count →
     Outside addr (changed_windows setup bytes change) → six_areas setup (after setup change bytes) addr ≡ six_areas setup bytes addr
 unfolding windows_covered
 changes_keep setup bytes Reset addr list top address out =

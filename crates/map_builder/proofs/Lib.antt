@@ -1,10 +1,15 @@
 pub mod BoardLemmas
 pub mod AreaLemmas
 pub mod BuildLemmas
+pub mod StepLemmas
 pub mod FindLemmas
+pub mod RebuildLemmas
 pub mod WindowLemmas
 pub mod DeviceLemmas
 pub mod OutsideLemmas
 pub mod KeptCards
 pub mod KeptLemmas
 pub mod KeptStores
+pub mod BoundsLemmas
+pub mod SameBoards
+pub mod ChangeLemmas

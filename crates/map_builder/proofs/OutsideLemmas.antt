@@ -15,7 +15,7 @@ Outside addr windows = AllByRecursion (IsOutside addr) windows
 
 -- ---- outside their bounds
 
-abbrev OutsideSome : ℕ → Option Changed → Type 0
+abbrev pub OutsideSome : ℕ → Option Changed → Type 0
 OutsideSome addr None = Unit {0}
 OutsideSome addr (Some interval) = IsOutside addr interval
 
@@ -25,7 +25,7 @@ outside_both addr here None out = (out, tt)
 outside_both addr here (Some there) (inl below) = (inl (omega arith), inl (omega arith))
 outside_both addr here (Some there) (inr above) = (inr (omega arith), inr (omega arith))
 
-outside_each : (addr : ℕ) (windows : List Changed) → OutsideSome addr (bounds windows) → Outside addr windows
+pub outside_each : (addr : ℕ) (windows : List Changed) → OutsideSome addr (bounds windows) → Outside addr windows
 unfolding bounds
 outside_each addr [] out = tt
 outside_each addr (window ∷ later) out =

@@ -1,5 +1,6 @@
 pub mod Map
 pub mod Find
 pub mod Changed
+pub mod Build
 pub mod Held
 pub mod Laws

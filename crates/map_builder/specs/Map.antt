@@ -1,6 +1,5 @@
 -- The memory map as the crate keeps it: the registers, the ranges and the version.
-use Rattle.std.specs.Prelude.{ℕ, ◌≡◌, ◌≢◌, ◌-◌, ◌^◌, ◌<◌, ◌≤◌, ◌⊎◌, List, [], ◌∷◌, ◌++◌, length, All, slice_index}
-use Rattle.board_base.specs.declared.target.Area.{Area}
+use Rattle.std.specs.Prelude.{ℕ, ◌^◌, ◌<◌, ◌≤◌, List, length, All, slice_index}
 use Rattle.board_spec.specs.Setup.{Setup, IsCardList}
 use Rattle.board_spec.specs.Decode.{Bytes, top_of}
 use Rattle.board_spec.specs.FlatMap.{MapRange, Tiles, IsFlatMapOf}
@@ -41,11 +40,3 @@ pub record HaveWidths (regs : MapBytes) : Type 0 where
   pub rows : (row : ℕ) → slice_index regs.drb row < 2 ^ 8
   pub count : length regs.cards ≤ 8
   pub bases : AreDoublewords regs.cards
-
--- how the ranges go on at an address with these areas: the last range has them too, or it ends below, and another begins
-abbrev pub GoesOn : (ranges ranges' : List MapRange) → (last last' : MapRange) → (addr : ℕ) → List Area → Type 0
-GoesOn ranges ranges' last last' addr areas =
-    ((areas ≡ last.areas) × (ranges' ≡ ranges) × (last' ≡ last))
-    ⊎ ((areas ≢ last.areas)
-    × (ranges' ≡ ranges ++ record last { hi = addr - 1 } ∷ [])
-    × (last' ≡ record { lo = addr; hi = 0xFFFF_FFFF; areas = areas }))

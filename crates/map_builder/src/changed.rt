@@ -19,7 +19,7 @@ use board_spec::offset::{
 use pci_bars::{BaseSpec, CardRegs};
 
 /// Every address.
-const EVERYTHING: Changed = Changed {
+pub const EVERYTHING: Changed = Changed {
     lo: 0,
     hi: 0xFFFF_FFFF,
 };

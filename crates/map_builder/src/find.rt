@@ -27,7 +27,7 @@ pub fn span_of(ranges: &[Range], addr: u32, kind: Kind, smm: bool) -> Span
 }
 
 /// The index of the range that holds an address.
-fn index_of(ranges: &[Range], addr: u32) -> usize
+pub fn index_of(ranges: &[Range], addr: u32) -> usize
     requires tiles { Tiles 0 (map range_of ranges.now) }
     ensures holds { Holds ranges.now result addr }
 {

@@ -1,5 +1,5 @@
 //! The memory map as one list of ranges.
-ghost use Rattle.std.specs.Prelude.{◌≡◌, ◌≤◌, ◌<◌, ◌+◌, ℕ, length, map};
+ghost use Rattle.std.specs.Prelude.{◌≡◌, ◌≤◌, ◌<◌, ◌+◌, ℕ, length, map, IfSome, MatchOption};
 ghost use Rattle.board_base.specs.declared.access.Kind.{Kind};
 ghost use Rattle.board_spec.specs.Setup.{Setup};
 ghost use Rattle.board_spec.specs.Registers.{changed_byte};
@@ -7,10 +7,11 @@ ghost use Rattle.board_spec.specs.Decode.{Bytes};
 ghost use Rattle.board_spec.specs.FlatMap.{address_count, six_areas, Tiles, IsFlatMapOf, IsSpan};
 ghost use Rattle.pci_bars.specs.Cards.{cards_of};
 ghost use Rattle.addr_decode.specs.MapRegs.{AreFitted, StandsFor, map_bytes};
-ghost use Rattle.map_builder.specs.Map.{range_of};
+ghost use Rattle.map_builder.specs.Map.{range_of, HasBoard, IsMapOf};
+ghost use Rattle.map_builder.specs.Build.{IsMapOutside};
 ghost use Rattle.map_builder.specs.Changed.{after, changed_windows, bounds_or_zero, IsOutside};
 
-use crate::build::{CAPACITY, ranges_of};
+use crate::build::{Ranges, ranges_of, rebuild};
 use crate::changed::{bounds_covered, joined};
 use crate::find::span_of;
 use crate::range::{Changed, Range, Span};
@@ -28,7 +29,9 @@ const NOTHING: Changed = Changed { lo: 0, hi: 0 };
 #[derive(Drop)]
 pub struct FlatMap {
     regs: MapRegs,
-    ranges: ArrayVec<Range, CAPACITY>,
+    ranges: Ranges,
+    /// Room for the ranges above a change, while those below are built anew.
+    above: Ranges,
     version: u32,
 }
 
@@ -58,6 +61,7 @@ impl FlatMap {
         FlatMap {
             regs,
             ranges,
+            above: ArrayVec::new(),
             version: 0,
         }
     }
@@ -71,6 +75,7 @@ impl FlatMap {
         FlatMap {
             regs: self.regs.copy(),
             ranges,
+            above: ArrayVec::new(),
             version: self.version,
         }
     }
@@ -127,9 +132,25 @@ impl FlatMap {
     {
         let before = bounds_covered(&self.regs, change);
         self.regs.apply(change);
-        self.ranges = ranges_of(&self.regs);
-        self.version += 1;
         let changed = joined(before, bounds_covered(&self.regs, change));
+        rebuild_within(&mut self.ranges, &mut self.above, &self.regs, changed);
+        self.version += 1;
         changed.unwrap_or(NOTHING)
+    }
+}
+
+/// Makes the ranges those of the registers, where they were a map that differs inside bounds alone. Where there are no
+/// bounds they stay.
+fn rebuild_within(ranges: &mut Ranges, above: &mut Ranges, regs: &MapRegs, bounds: Option<Changed>)
+    requires cards { AreFitted regs.now.cards.items }
+    requires board { HasBoard (map_bytes regs.now) }
+    requires order { IfSome bounds (λ interval. interval.lo ≤ interval.hi) }
+    requires outside { MatchOption bounds (IsMapOf (map_bytes regs.now) (map range_of ranges.old.items))
+        (λ interval. IsMapOutside (map_bytes regs.now) interval (map range_of ranges.old.items)) }
+    ensures map { IsMapOf (map_bytes regs.now) (map range_of ranges.new.items) }
+{
+    match bounds {
+        Some(interval) => rebuild(ranges, above, regs, interval),
+        None => {}
     }
 }

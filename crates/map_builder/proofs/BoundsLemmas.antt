@@ -1,0 +1,122 @@
+-- The bounds of the windows that a change may change are an interval: each window ends where it begins or above.
+use Rattle.std.proofs.Common.{◌≡◌, ℕ, ◌-◌, ◌/◌, ◌≤◌, inl, inr, List, [], ◌∷◌, ◌++◌, map, take, Option, Some, None, sym, ◌∙◌, ap, arith}
+use Rattle.std.specs.Prelude.{◌==◌, ◌&&◌, IfSome, flat_map, filter}
+use Rattle.std.specs.List.{AllByRecursion}
+use Rattle.std.specs.Option.{option_map_or}
+use Rattle.std.proofs.lemmas.Bool.{cases_Bool}
+use Rattle.board_base.specs.declared.target.Reg.{Reg}
+use Rattle.board_base.specs.Access.{bytes_of}
+use Rattle.board_spec.specs.declared.map_change.MapChange.{MapChange}
+use Rattle.board_spec.specs.declared.map_change.MapChange.TheVariants.{Store, Reset}
+use Rattle.board_spec.specs.Setup.{FittedCard, Setup, card_at}
+use Rattle.board_spec.specs.Bits.{is_within}
+use Rattle.board_spec.specs.Decode.{Bytes, Window, memory_windows}
+use Rattle.board_spec.specs.MapWrites.{reg_after}
+use Rattle.map_builder.specs.declared.range.Changed.{Changed}
+use Rattle.map_builder.specs.Changed.{decoded, bridge_windows, isa_windows, card_windows, windows_of, windows_covered, after, changed_windows, bounds, joined}
+use Rattle.map_builder.proofs.WindowLemmas.{offsets, bounds-append}
+
+abbrev IsOrdered : Changed → Type 0
+IsOrdered window = window.lo ≤ window.hi
+
+abbrev Ordered : List Changed → Type 0
+Ordered windows = AllByRecursion IsOrdered windows
+
+-- ---- windows
+
+ordered_append : (xs ys : List Changed) → Ordered xs → Ordered ys → Ordered (xs ++ ys)
+ordered_append [] ys first later = later
+ordered_append (x ∷ xs) ys first later = (first.0, ordered_append xs ys first.1 later)
+
+ordered_flat_map : (windows : ℕ → List Changed) (ks : List ℕ) → ((k : ℕ) → Ordered (windows k)) → Ordered (flat_map windows ks)
+ordered_flat_map windows [] each = tt
+ordered_flat_map windows (k ∷ ks) each = ordered_append (windows k) (flat_map windows ks) (each k) (ordered_flat_map windows ks each)
+
+bridge_ordered : (off : ℕ) → Ordered (bridge_windows off)
+bridge_ordered off =
+    elim (cases_Bool (off == 0x59)) [
+      | inl pam0 ↦ rw pam0 (omega arith, tt)
+      | inr not_pam0 ↦ rw not_pam0
+          (elim (cases_Bool (is_within 0x5A 0x5F off)) [
+            | inl pam ↦ rw pam (omega arith, tt)
+            | inr not_pam ↦ rw not_pam
+                (elim (cases_Bool (is_within 0x60 0x67 off)) [
+                  | inl drb ↦ rw drb (omega arith, tt)
+                  | inr not_drb ↦ rw not_drb
+                      (elim (cases_Bool (off == 0x68)) [
+                        | inl fdhc ↦ rw fdhc (omega arith, (omega arith, tt))
+                        | inr not_fdhc ↦ rw not_fdhc (elim (cases_Bool (off == 0x72)) [ inl smram ↦ rw smram (omega arith, tt) | inr none ↦ rw none tt ])
+                      ])
+                ])
+          ])
+    ]
+
+isa_ordered : (off : ℕ) → Ordered (isa_windows off)
+isa_ordered off = elim (cases_Bool (off == 0x4E)) [ inl xbcs ↦ rw xbcs (omega arith, (omega arith, tt)) | inr none ↦ rw none tt ]
+
+decoded_ordered : (windows : List Window) → Ordered (map decoded windows)
+decoded_ordered [] = tt
+decoded_ordered (window ∷ later) = (omega arith, decoded_ordered later)
+
+card_ordered : (bytes : Bytes) (off : ℕ) (card : FittedCard) → Ordered (card_windows bytes off card)
+card_ordered bytes off card =
+    elim (cases_Bool (off == 0x04)) [
+      | inl command ↦ rw command (decoded_ordered (memory_windows bytes card))
+      | inr not_command ↦ rw not_command
+          (elim (cases_Bool (is_within 0x10 0x27 off)) [
+            | inl base ↦ rw base (decoded_ordered (filter (λ window. window.base == (off - 0x10) / 4) (memory_windows bytes card)))
+            | inr none ↦ rw none tt
+          ])
+    ]
+
+device_ordered : (bytes : Bytes) (off : ℕ) (card : Option FittedCard) → Ordered (option_map_or (card_windows bytes off) card [])
+device_ordered bytes off None = tt
+device_ordered bytes off (Some card) = card_ordered bytes off card
+
+windows_ordered : (setup : Setup) (bytes : Bytes) (reg : Reg) → Ordered (windows_of setup bytes reg)
+windows_ordered setup bytes reg =
+    elim (cases_Bool (reg.dev == 0 && reg.fun == 0)) [
+      | inl bridge ↦ rw bridge (bridge_ordered reg.off)
+      | inr not_bridge ↦ rw not_bridge
+          (elim (cases_Bool (reg.dev == 1 && reg.fun == 0)) [
+            | inl isa ↦ rw isa (isa_ordered reg.off)
+            | inr not_isa ↦ rw not_isa
+                (elim (cases_Bool (reg.fun == 0)) [
+                  | inl card ↦ rw card (device_ordered bytes reg.off (card_at setup reg.dev))
+                  | inr none ↦ rw none tt
+                ])
+          ])
+    ]
+
+covered_ordered : (setup : Setup) (bytes : Bytes) (change : MapChange) → Ordered (windows_covered setup bytes change)
+unfolding windows_covered
+covered_ordered setup bytes Reset = (omega arith, tt)
+covered_ordered setup bytes (Store reg width value) =
+    ordered_flat_map (λ k. windows_of setup bytes (reg_after reg k)) (take (bytes_of width) offsets) (λ k. windows_ordered setup bytes (reg_after reg k))
+
+-- ---- their bounds
+
+joined_ordered : (window : Changed) (found : Option Changed) → IsOrdered window → IfSome found IsOrdered → IfSome (joined (Some window) found) IsOrdered
+joined_ordered window None one some = one
+joined_ordered window (Some interval) one some = omega arith
+
+bounds_of_ordered : (windows : List Changed) → Ordered windows → IfSome (bounds windows) IsOrdered
+unfolding bounds
+bounds_of_ordered [] ordered = tt
+bounds_of_ordered (window ∷ later) ordered = joined_ordered window (bounds later) ordered.0 (bounds_of_ordered later ordered.1)
+
+pub bounds_ordered : (setup : Setup) (bytes : Bytes) (change : MapChange) → IfSome (bounds (changed_windows setup bytes change)) (λ interval. interval.lo ≤ interval.hi)
+bounds_ordered setup bytes change =
+    let new : Bytes = after setup change bytes in
+    bounds_of_ordered (changed_windows setup bytes change)
+    (ordered_append (windows_covered setup bytes change) (windows_covered setup new change) (covered_ordered setup bytes change) (covered_ordered setup new change))
+
+-- they are joined of those before the change and those after it
+pub bounds_joined : (setup : Setup) (bytes : Bytes) (change : MapChange) (before later found : Option Changed) →
+    before ≡ bounds (windows_covered setup bytes change) → later ≡ bounds (windows_covered setup (after setup change bytes) change) →
+    found ≡ joined before later → found ≡ bounds (changed_windows setup bytes change)
+bounds_joined setup bytes change before later found before_is later_is is =
+    is
+    ∙ ap (λ (here : Option Changed). joined here later) before_is
+    ∙ ap (λ (there : Option Changed). joined (bounds (windows_covered setup bytes change)) there) later_is
+    ∙ sym (bounds-append (windows_covered setup bytes change) (windows_covered setup (after setup change bytes) change))

@@ -1,0 +1,83 @@
+-- After a change the ranges of a map are right again for each address outside the bounds of the changed windows.
+use Rattle.std.proofs.Common.{◌≡◌, ℕ, zero, suc, ◌+◌, ◌<◌, ◌≤◌, List, [], ◌∷◌, length, get_or, Option, Some, None, sym, ◌∙◌, subst, arith}
+use Rattle.std.specs.Prelude.{MatchOption}
+use Rattle.board_spec.specs.declared.map_change.MapChange.{MapChange}
+use Rattle.board_spec.specs.Setup.{Setup}
+use Rattle.board_spec.specs.Decode.{Bytes}
+use Rattle.board_spec.specs.FlatMap.{address_count, six_areas, MapRange, Tiles, IsFlatMapOf}
+use Rattle.addr_decode.specs.MapRegs.{MapBytes, AreFitted, StandsFor}
+use Rattle.map_builder.specs.declared.range.Changed.{Changed}
+use Rattle.map_builder.specs.Map.{HasBoard, IsMapOf}
+use Rattle.map_builder.specs.Build.{IsMapOutside}
+use Rattle.map_builder.specs.Changed.{after, changed_windows, bounds}
+use Rattle.map_builder.proofs.OutsideLemmas.{OutsideSome, outside_each}
+use Rattle.map_builder.proofs.KeptStores.{top_after, changes_keep}
+use Rattle.map_builder.proofs.SameBoards.{boards_same}
+
+-- the last address of a range is an address
+tiles_below : (from : ℕ) (ranges : List MapRange) → Tiles from ranges → from ≤ address_count
+tiles_below from [] tiles = omega arith
+tiles_below from (range ∷ later) tiles =
+    let next : range.hi + 1 ≤ address_count = tiles_below (range.hi + 1) later tiles.2 in omega (arith, tiles.0, tiles.1)
+
+range_below : (from : ℕ) (ranges : List MapRange) → Tiles from ranges → (k : ℕ) (d : MapRange) → k < length ranges → (get_or ranges k d).hi < address_count
+range_below from [] tiles k d within = absurd (omega arith)
+range_below from (range ∷ later) tiles zero d within =
+    let next : range.hi + 1 ≤ address_count = tiles_below (range.hi + 1) later tiles.2 in omega arith
+range_below from (range ∷ later) tiles (suc k) d within = range_below (range.hi + 1) later tiles.2 k d (omega arith)
+
+-- the board of a map after a change
+pub board_after : (old new : MapBytes) (change : MapChange) (board : HasBoard old) → StandsFor board.setup (after board.setup change board.bytes) new → HasBoard new
+board_after old new change board stands = record {
+  setup = board.setup;
+  bytes = after board.setup change board.bytes;
+  cards = board.cards;
+  top = top_after board.setup board.bytes change board.top;
+  stands = stands;
+}
+
+module _ (old new : MapBytes) (change : MapChange) (ranges : List MapRange) (is_map : IsMapOf old ranges)
+    (stands : StandsFor is_map.board.setup (after is_map.board.setup change is_map.board.bytes) new) where
+  abbrev board : HasBoard old
+  board = is_map.board
+
+  abbrev changed : Option Changed
+  changed = bounds (changed_windows board.setup board.bytes change)
+
+  was_map : IsFlatMapOf board.setup board.bytes ranges
+  was_map = is_map.map board.setup board.bytes board.stands
+
+  -- every board of the new registers has the old areas outside the bounds
+  areas_kept : (setup : Setup) (bytes : Bytes) → StandsFor setup bytes new → (addr : ℕ) → addr < address_count → OutsideSome addr changed →
+      six_areas setup bytes addr ≡ six_areas board.setup board.bytes addr
+  areas_kept setup bytes now addr address out =
+      sym (boards_same new board.setup setup (after board.setup change board.bytes) bytes board.cards stands now addr)
+      ∙ changes_keep board.setup board.bytes change addr board.cards board.top address (outside_each addr (changed_windows board.setup board.bytes change) out)
+
+  still_right : (setup : Setup) (bytes : Bytes) → StandsFor setup bytes new → (k : ℕ) (d : MapRange) → k < length ranges →
+      (addr : ℕ) → (get_or ranges k d).lo ≤ addr → addr ≤ (get_or ranges k d).hi → OutsideSome addr changed →
+      six_areas setup bytes addr ≡ (get_or ranges k d).areas
+  still_right setup bytes now k d within addr low high out =
+      areas_kept setup bytes now addr (omega (arith, range_below 0 ranges is_map.tiles k d within)) out
+      ∙ (was_map.right k d within).at_each addr low high
+
+  -- the ranges are a map but inside the bounds, and where there are none they are the map
+  pub still_map : (found : Option Changed) → changed ≡ found → AreFitted new.cards →
+      MatchOption found (IsMapOf new ranges) (λ interval. IsMapOutside new interval ranges)
+  still_map None is fitted = record {
+    fitted = fitted;
+    board = board_after old new change board stands;
+    tiles = is_map.tiles;
+    map = λ setup bytes now. record {
+      tiles = is_map.tiles;
+      right = λ k d within. record { at_each = λ addr low high. still_right setup bytes now k d within addr low high (subst (OutsideSome addr) (sym is) tt) };
+      least = was_map.least;
+    };
+  }
+  still_map (Some interval) is fitted = record {
+    tiles = is_map.tiles;
+    least = was_map.least;
+    right = λ setup bytes now k d within. record {
+      at_each = λ addr low high out. still_right setup bytes now k d within addr low high (subst (OutsideSome addr) (sym is) out);
+    };
+  }

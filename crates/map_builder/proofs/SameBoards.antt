@@ -1,0 +1,137 @@
+-- Boards that have the same registers have the same areas at each address.
+use Rattle.std.proofs.Common.{◌≡◌, ℕ, ◌+◌, ◌-◌, ◌*◌, ◌/◌, ◌%◌, ◌<◌, ◌≤◌, inl, inr, Bool, true, false, List, [], ◌∷◌, refl, sym, ◌∙◌, subst, arith}
+use Rattle.std.specs.Prelude.{◌==◌, ◌&&◌, ◌||◌, is_some, find}
+use Rattle.std.specs.List.{AllByRecursion}
+use Rattle.std.proofs.lemmas.Bool.{cases_Bool, cases_lt, false≢true}
+use Rattle.std.proofs.lemmas.Bool.Decides.{nat_tests}
+use Rattle.std.proofs.lemmas.List.Elements.{recursion_from_All}
+use Rattle.board_base.specs.declared.access.Kind.{Kind}
+use Rattle.board_base.specs.declared.access.Kind.TheVariants.{Fetch, Read, Write}
+use Rattle.board_base.specs.declared.target.Reg.{Reg}
+use Rattle.board_spec.specs.Setup.{FittedCard, Setup, IsCardList, card_at}
+use Rattle.board_spec.specs.Bits.{is_within}
+use Rattle.board_spec.specs.Decode.{Bytes, bridge, isa, card_register, memory_claim, area_of}
+use Rattle.board_spec.specs.FlatMap.{six_areas}
+use Rattle.board_spec.specs.Laws.{SameMapBytes}
+use Rattle.board_spec.proofs.MapByteLaws.{map_bytes_decide}
+use Rattle.pci_bars.specs.Cards.{CardBytes, DecodesAs, cards_of}
+use Rattle.addr_decode.specs.MapRegs.{MapBytes, StandsFor}
+use Rattle.map_builder.proofs.KeptStores.{same_register}
+
+module _ (regs : MapBytes) (setup setup' : Setup) (bytes bytes' : Bytes) (stands : StandsFor setup bytes regs) (stands' : StandsFor setup' bytes' regs) where
+  -- ---- registers of the bridges
+
+  row_same : (row : ℕ) → row < 8 → bytes (bridge (0x60 + row)) ≡ bytes' (bridge (0x60 + row))
+  row_same row below = sym (stands.rows row below) ∙ stands'.rows row below
+
+  bridge_same : (off : ℕ) → (is_within 0x59 0x68 off || off == 0x72) ≡ true → bytes (bridge off) ≡ bytes' (bridge off)
+  bridge_same off is =
+      elim (cases_Bool (off == 0x72)) [
+        | inl last ↦
+            let at : 0x72 ≡ off = grind (arith, nat_tests) in
+            subst (λ (k : ℕ). bytes (bridge k) ≡ bytes' (bridge k)) at (sym stands.smram ∙ stands'.smram)
+        | inr not_last ↦
+            let from : 0x59 ≤ off = grind (arith, nat_tests) in
+            let to : off ≤ 0x68 = grind (arith, nat_tests) in
+            elim (cases_lt off 0x60) [
+              | inl low ↦ sym (stands.windows off (from, omega arith)) ∙ stands'.windows off (from, omega arith)
+              | inr not_low ↦
+                  elim (cases_lt off 0x68) [
+                    | inl row ↦
+                        let at : 0x60 + (off - 0x60) ≡ off = omega arith in
+                        subst (λ (k : ℕ). bytes (bridge k) ≡ bytes' (bridge k)) at (row_same (off - 0x60) (omega arith))
+                    | inr not_row ↦
+                        let at : 0x68 ≡ off = omega arith in
+                        subst (λ (k : ℕ). bytes (bridge k) ≡ bytes' (bridge k)) at (sym stands.hole ∙ stands'.hole)
+                  ]
+            ]
+      ]
+
+  -- ---- registers of cards
+
+  decoded_same : (card : CardBytes) (off : ℕ) → (off == 0x04 || is_within 0x10 0x27 off) ≡ true → DecodesAs setup bytes card → DecodesAs setup' bytes' card →
+      bytes (card_register card.card.dev off) ≡ bytes' (card_register card.card.dev off)
+  decoded_same card off is decodes decodes' =
+      elim (cases_Bool (off == 0x04)) [
+        | inl command ↦
+            let at : 0x04 ≡ off = grind (arith, nat_tests) in
+            subst (λ (k : ℕ). bytes (card_register card.card.dev k) ≡ bytes' (card_register card.card.dev k)) at (decodes.command ∙ sym decodes'.command)
+        | inr base ↦
+            let from : 0x10 ≤ off = grind (arith, nat_tests) in
+            let to : off ≤ 0x27 = grind (arith, nat_tests) in
+            let k : ℕ = (off - 0x10) / 4 in
+            let j : ℕ = (off - 0x10) % 4 in
+            let at : 0x10 + 4 * k + j ≡ off = omega arith in
+            subst (λ (k : ℕ). bytes (card_register card.card.dev k) ≡ bytes' (card_register card.card.dev k)) at
+            (decodes.base_bytes k j (omega arith) (omega arith) ∙ sym (decodes'.base_bytes k j (omega arith) (omega arith)))
+      ]
+
+  found_same : (cards : List CardBytes) (dev off : ℕ) → is_some (find (λ card. card.dev == dev) (cards_of cards)) ≡ true →
+      (off == 0x04 || is_within 0x10 0x27 off) ≡ true → AllByRecursion (DecodesAs setup bytes) cards → AllByRecursion (DecodesAs setup' bytes') cards →
+      bytes (card_register dev off) ≡ bytes' (card_register dev off)
+  found_same [] dev off found is each each' = absurd (false≢true found)
+  found_same (card ∷ later) dev off found is each each' =
+      elim (cases_Bool (card.card.dev == dev)) [
+        | inl here ↦
+            let at : card.card.dev ≡ dev = grind (arith, nat_tests) in
+            subst (λ (d : ℕ). bytes (card_register d off) ≡ bytes' (card_register d off)) at (decoded_same card off is each.0 each'.0)
+        | inr not_here ↦ found_same later dev off (rw not_here at found) is each.1 each'.1
+      ]
+
+  card_same : (dev off : ℕ) → is_some (card_at setup dev) ≡ true → (off == 0x04 || is_within 0x10 0x27 off) ≡ true →
+      bytes (card_register dev off) ≡ bytes' (card_register dev off)
+  card_same dev off fitted is =
+      found_same regs.cards dev off
+      (subst (λ (cards : List FittedCard). is_some (find (λ card. card.dev == dev) cards) ≡ true) stands.cards.0 fitted) is
+      (recursion_from_All (DecodesAs setup bytes) regs.cards stands.cards.1)
+      (recursion_from_All (DecodesAs setup' bytes') regs.cards stands'.cards.1)
+
+  -- ---- all of them
+
+  at_register : (reg : Reg) (other : Reg) → other ≡ reg → bytes other ≡ bytes' other → bytes reg ≡ bytes' reg
+  at_register reg other is same = subst (λ (at : Reg). bytes at ≡ bytes' at) is same
+
+  map_bytes_same : SameMapBytes setup bytes bytes'
+  map_bytes_same reg is =
+      elim (cases_Bool (reg.dev == 0 && reg.fun == 0 && (is_within 0x59 0x68 reg.off || reg.off == 0x72))) [
+        | inl host ↦
+            let dev : 0 ≡ reg.dev = grind (arith, nat_tests) in
+            let fun : 0 ≡ reg.fun = grind (arith, nat_tests) in
+            let within : (is_within 0x59 0x68 reg.off || reg.off == 0x72) ≡ true = grind (arith, nat_tests) in
+            at_register reg (bridge reg.off) (same_register (bridge reg.off) reg dev fun refl) (bridge_same reg.off within)
+        | inr not_host ↦
+            elim (cases_Bool (reg.dev == 1 && reg.fun == 0 && reg.off == 0x4E)) [
+              | inl south ↦
+                  let dev : 1 ≡ reg.dev = grind (arith, nat_tests) in
+                  let fun : 0 ≡ reg.fun = grind (arith, nat_tests) in
+                  let off : 0x4E ≡ reg.off = grind (arith, nat_tests) in
+                  at_register reg (isa 0x4E) (same_register (isa 0x4E) reg dev fun off) (sym stands.xbcs ∙ stands'.xbcs)
+              | inr not_south ↦
+                  let card : (is_some (card_at setup reg.dev) && reg.fun == 0 && (reg.off == 0x04 || is_within 0x10 0x27 reg.off)) ≡ true =
+                  rw (not_host, not_south) at is in
+                  let fitted : is_some (card_at setup reg.dev) ≡ true = grind (arith, nat_tests) in
+                  let fun : 0 ≡ reg.fun = grind (arith, nat_tests) in
+                  let off : (reg.off == 0x04 || is_within 0x10 0x27 reg.off) ≡ true = grind (arith, nat_tests) in
+                  at_register reg (card_register reg.dev reg.off) (same_register (card_register reg.dev reg.off) reg refl fun refl)
+                  (card_same reg.dev reg.off fitted off)
+            ]
+      ]
+
+-- of a board the cards alone count
+area_by_cards : (setup setup' : Setup) (bytes : Bytes) (addr : ℕ) (kind : Kind) (smm : Bool) → setup.cards ≡ setup'.cards →
+    area_of setup bytes addr kind smm ≡ area_of setup' bytes addr kind smm
+unfolding area_of memory_claim
+area_by_cards setup setup' bytes addr kind smm same = rw same refl
+
+area_same : (regs : MapBytes) (setup setup' : Setup) (bytes bytes' : Bytes) → IsCardList setup.cards → StandsFor setup bytes regs → StandsFor setup' bytes' regs →
+    (addr : ℕ) (kind : Kind) (smm : Bool) → area_of setup bytes addr kind smm ≡ area_of setup' bytes' addr kind smm
+area_same regs setup setup' bytes bytes' list stands stands' addr kind smm =
+    (map_bytes_decide setup bytes bytes' list (map_bytes_same regs setup setup' bytes bytes' stands stands') addr kind smm).0
+    ∙ area_by_cards setup setup' bytes' addr kind smm (stands.cards.0 ∙ sym stands'.cards.0)
+
+pub boards_same : (regs : MapBytes) (setup setup' : Setup) (bytes bytes' : Bytes) → IsCardList setup.cards → StandsFor setup bytes regs → StandsFor setup' bytes' regs →
+    (addr : ℕ) → six_areas setup bytes addr ≡ six_areas setup' bytes' addr
+boards_same regs setup setup' bytes bytes' list stands stands' addr =
+    let same : (kind : Kind) (smm : Bool) → area_of setup bytes addr kind smm ≡ area_of setup' bytes' addr kind smm =
+    area_same regs setup setup' bytes bytes' list stands stands' addr in
+    rw (same Fetch false, same Read false, same Write false, same Fetch true, same Read true, same Write true) refl

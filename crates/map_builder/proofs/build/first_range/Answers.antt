@@ -1,0 +1,6 @@
+use Rattle.addr_decode.specs.MapRegs.{map_bytes}
+use Rattle.map_builder.proofs.StepLemmas.{is_built_first}
+use Rattle.map_builder.proofs.build.first_range.Goals as goal
+
+pub returns : goal.returns
+returns c = record { built = is_built_first (map_bytes c.args.regs.now) c.areas_at.result.areas c.areas_at.ensures.areas }
