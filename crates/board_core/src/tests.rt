@@ -242,6 +242,7 @@ fn memory(rt: &impl Abort, kind: Kind, width: Width, addr: u32, smm: bool, value
 }
 
 /// A read or a write of a configuration data port.
+#[tactic(auto, unfolding(board_spec::specs::ToCome::is_device_port))]
 fn data(rt: &impl Abort, write: bool, width: Width, place: u16, value: u32) -> Event
     requires value { write ≡ false → value ≡ 0 }
     ensures taken { IsTaken result }
@@ -259,6 +260,7 @@ fn data(rt: &impl Abort, write: bool, width: Width, place: u16, value: u32) -> E
 }
 
 /// A write of the configuration address.
+#[tactic(auto, unfolding(board_spec::specs::ToCome::is_device_port))]
 fn select(rt: &impl Abort, address: u32) -> Event
     ensures taken { IsTaken result }
     ensures in_range { (setup : Fitting) → IsInRange setup result }
@@ -273,6 +275,7 @@ fn select(rt: &impl Abort, address: u32) -> Event
 }
 
 /// What a statement asks of the board.
+#[tactic(auto, unfolding(board_spec::specs::ToCome::is_device_port))]
 fn event(rt: &impl Abort, statement: Statement) -> Event
     ensures taken { IsTaken result }
     ensures in_range { (setup : Fitting) → IsInRange setup result }
