@@ -66,7 +66,7 @@ pub few_edges_of_fitted :
     edges_after setup bytes addr ≤ 125
 few_edges_of_fitted setup bytes addr cards fitted count are = few_edges_after setup bytes addr (fitted_setup setup cards fitted count are.0)
 
-no_more : (low high : ℕ) (edges : List ℕ) → low ≤ high → length (filter (nat_lt high) edges) ≤ length (filter (nat_lt low) edges)
+pub no_more : (low high : ℕ) (edges : List ℕ) → low ≤ high → length (filter (nat_lt high) edges) ≤ length (filter (nat_lt low) edges)
 no_more low high [] order = omega arith
 no_more low high (edge ∷ later) order =
     elim (cases_Bool (nat_lt high edge)) [

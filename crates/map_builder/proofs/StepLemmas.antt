@@ -12,7 +12,7 @@ use Rattle.board_spec.specs.FlatMap.{address_count, six_areas, MapRange, Tiles, 
 use Rattle.addr_decode.specs.MapRegs.{MapBytes, StandsFor}
 use Rattle.addr_decode.specs.Edges.{edges_of, edges_after, SameAreas}
 use Rattle.addr_decode.proofs.EdgeSearchLemmas.{contains_cases}
-use Rattle.addr_decode.proofs.EdgeCounts.{few_edges_after}
+use Rattle.addr_decode.proofs.EdgeCounts.{no_more, few_edges_after}
 use Rattle.addr_decode.proofs.EdgeLaws.{areas_change_at_edges}
 use Rattle.map_builder.specs.declared.range.Range.{Range}
 use Rattle.map_builder.specs.Map.{range_of, HasBoard}
@@ -20,20 +20,6 @@ use Rattle.map_builder.specs.Build.{GoesOn, IsBuilt}
 use Rattle.map_builder.proofs.BuildLemmas.{range, built_first, built_of_first, built_on, built_of_on, few_on, built_all, up_to_edge}
 
 -- ---- edges above an address
-
-no_more : (low high : ℕ) (edges : List ℕ) → low ≤ high → length (filter (nat_lt high) edges) ≤ length (filter (nat_lt low) edges)
-no_more low high [] order = omega arith
-no_more low high (edge ∷ later) order =
-    elim (cases_Bool (nat_lt high edge)) [
-      | inl kept ↦
-          let also : nat_lt low edge ≡ true = grind (arith, nat_tests) in
-          rw (kept, also) (omega (arith, no_more low high later order))
-      | inr dropped ↦
-          elim (cases_Bool (nat_lt low edge)) [
-            | inl kept ↦ rw (dropped, kept) (omega (arith, no_more low high later order))
-            | inr gone ↦ rw (dropped, gone) (no_more low high later order)
-          ]
-    ]
 
 -- where as many lie above the higher address as above the lower, none lies between them
 none_between : (low high : ℕ) (edges : List ℕ) → low ≤ high → length (filter (nat_lt low) edges) ≤ length (filter (nat_lt high) edges) →

@@ -114,12 +114,7 @@ fn cut_below(ranges: &mut Ranges, regs: &MapRegs, changed: Changed) -> Range
 }
 
 /// Builds the ranges on from the first to the last address of an interval, and gives the last of them.
-fn rows_in(
-    ranges: &mut Ranges,
-    first: Range,
-    regs: &MapRegs,
-    interval: Changed,
-) -> Range
+fn rows_in(ranges: &mut Ranges, first: Range, regs: &MapRegs, interval: Changed) -> Range
     requires cards { AreFitted regs.now.cards.items }
     requires board { HasBoard (map_bytes regs.now) }
     requires order { interval.lo ≤ interval.hi }

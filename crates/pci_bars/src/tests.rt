@@ -232,6 +232,7 @@ fn write_at(contents: &mut Contents, dev: u8, base: u8, off: u32, width: Width, 
 fn contents_give_back_the_last_write(rt: HostRuntime) {
     let specs = [
         spec(2, true, BaseSpec::Memory(12), BaseSpec::Io(2)),
+        spec(3, false, BaseSpec::Memory(24), BaseSpec::Io(2)),
         spec(9, false, BaseSpec::Memory(4), BaseSpec::Io(8)),
     ];
     let mut contents = Contents::open(rt.alloc(), &specs).expect(&rt, "there is memory");
@@ -239,6 +240,7 @@ fn contents_give_back_the_last_write(rt: HostRuntime) {
         (2, 0, 0x1000),
         (2, 1, 4),
         (2, 7, 0x2_0000),
+        (3, 0, 0x100_0000),
         (9, 0, 16),
         (9, 1, 256),
         (9, 7, 0),
