@@ -1,5 +1,5 @@
 -- What each way out of a replay says of its cause.
-use Rattle.std.proofs.Common.{◌≡◌, ℕ, ◌<◌, ◌≤◌, ◌⊎◌, inl, inr, List, length, take, Option, Some, None, refl, subst, arith}
+use Rattle.std.proofs.Common.{◌≡◌, ◌≢◌, ℕ, ◌<◌, ◌≤◌, ◌⊎◌, inl, inr, List, length, take, Option, Some, None, refl, ◌∙◌, subst, arith}
 use Rattle.std.specs.Prelude.{◌==◌, ◌||◌}
 use Rattle.std.specs.Io.KnownBytes.{Appends, Keeps}
 use Rattle.std.proofs.lemmas.Bool.{cases_Bool}
@@ -11,6 +11,7 @@ use Rattle.board_spec.specs.Setup.{IsRomSize}
 use Rattle.script_text.specs.ScriptText.{Said, IsScript}
 use Rattle.board_core.specs.declared.setup.BoardOpen.{BoardOpen}
 use Rattle.board_core.specs.declared.setup.BoardOpen.TheVariants.{BadRom, NoMemory as NoMemoryForBoard}
+use Rattle.board_run.specs.declared.status.Which.{Which}
 use Rattle.board_run.specs.declared.status.Which.TheVariants.{Script, Rom}
 use Rattle.board_run.specs.declared.status.Status.{Status}
 use Rattle.board_run.specs.declared.status.Status.TheVariants.{Done, Usage, ReadFault, WriteFault, TooLong, BadScript, BadImage, NoMemory}
@@ -24,6 +25,10 @@ use Rattle.board_run.specs.Outcomes.{script_limit, rom_limit, ShelfCall, SinkCal
 
 abbrev Nothing : SinkCall → Type 0
 Nothing sink = Keeps sink.taken_before sink.taken_now
+
+-- no fault of the shelf is passed over
+abbrev HidesNoFault : ShelfCall → Status → Type 0
+HidesNoFault shelf status = ((which : Which) → status ≢ ReadFault which) → shelf.faults_now ≡ shelf.faults_before
 
 module _ (command : Option Command) (shelf : ShelfCall) (sink : SinkCall) where
   abbrev Front : Type 0
@@ -56,8 +61,8 @@ module _ (command : Option Command) (shelf : ShelfCall) (sink : SinkCall) where
   stopped (BadImage Rom) cause = cause.1
   stopped NoMemory cause = cause
 
-  caused : (status : Status) → Cause status → IsCaused status command shelf sink
-  caused status cause =
+  caused : (status : Status) → HidesNoFault shelf status → Cause status → IsCaused status command shelf sink
+  caused status no_fault cause =
       let at : (other : Status) → status ≡ other → Cause other = λ other e. subst Cause e cause in
       record {
         done = at Done;
@@ -69,6 +74,7 @@ module _ (command : Option Command) (shelf : ShelfCall) (sink : SinkCall) where
         bad_script = λ line why e. (at (BadScript line why) e).0;
         bad_image_rom = λ e. (at (BadImage Rom) e).0;
         no_bad_image_script = at (BadImage Script);
+        no_fault_hidden = no_fault;
         stopped = stopped status cause;
       }
 
@@ -81,11 +87,14 @@ pub record WasRead (told : Option (List ℕ → List ℕ)) (command : Command) (
   pub script : IsScript bytes said
 
 pub was_read :
-    (told : Option (List ℕ → List ℕ)) (command : Command) (bytes given : List ℕ) (said : Said) →
-    OfFile told (script_of command) (λ file. bytes ≡ file) → length bytes ≤ script_limit → given ≡ bytes → IsScript given said →
+    {told : Option (List ℕ → List ℕ)} {command : Command} {name bytes given : List ℕ} {said : Said} → name ≡ script_of command →
+    OfFile told name (λ file. bytes ≡ file) → given ≡ bytes → IsScript given said → length bytes ≤ script_limit →
     WasRead told command bytes said
-was_read told command bytes given said whole fits same script =
-    record { whole = whole; fits = fits; script = subst (λ (bytes' : List ℕ). IsScript bytes' said) same script }
+was_read {told = told} {bytes = bytes} {said = said} named whole same script fits = record {
+  whole = subst (λ (name' : List ℕ). OfFile told name' (λ file. bytes ≡ file)) named whole;
+  fits = fits;
+  script = subst (λ (bytes' : List ℕ). IsScript bytes' said) same script;
+}
 
 of_file :
     (told : Option (List ℕ → List ℕ)) (files : List ℕ → List ℕ) (name : List ℕ) (P : List ℕ → Type 0) →
@@ -106,6 +115,26 @@ has_rom :
 has_rom told command bytes said P read holds =
     of_script told command bytes (λ _. HasRom P) read.whole
     (λ files is. record { said = said; fits = read.fits; script = read.script; image = holds files is })
+
+-- the script of a command and its ROM were read, and no fault rose at the shelf
+pub record WereRead (shelf : ShelfCall) (command : Command) (bytes rom : List ℕ) (said : Said) : Type 0 where
+  pub script : WasRead shelf.files command bytes said
+  pub image : OfFile shelf.files said.rom (λ file. rom ≡ file)
+  pub image_fits : length rom ≤ rom_limit
+  pub quiet : shelf.faults_now ≡ shelf.faults_before
+
+pub were_read :
+    {shelf : ShelfCall} {command : Command} {name bytes given rom_name rom : List ℕ} {said : Said} {told : Option (List ℕ → List ℕ)} {between : ℕ} →
+    name ≡ script_of command → OfFile shelf.files name (λ file. bytes ≡ file) → given ≡ bytes → IsScript given said →
+    told ≡ shelf.files → rom_name ≡ said.rom → OfFile told rom_name (λ file. rom ≡ file) →
+    between ≡ shelf.faults_before → shelf.faults_now ≡ between → length bytes ≤ script_limit → length rom ≤ rom_limit →
+    WereRead shelf command bytes rom said
+were_read script_named script_whole script_same script files named whole before now script_fits fits = record {
+  script = was_read script_named script_whole script_same script script_fits;
+  image = rw (files, named) at whole;
+  image_fits = fits;
+  quiet = now ∙ before;
+}
 
 -- ---- the ROM was not fetched
 
@@ -149,15 +178,16 @@ module _ (told : Option (List ℕ → List ℕ)) (command : Command) (bytes : Li
   rom_cause NoMemory read later nothing cause = inl nothing
 
   pub rom_not_fetched :
-      (status : Status) → WasRead told command bytes said → before ≤ between → Nothing sink →
+      (status : Status) → WasRead told command bytes said → between ≡ before → HidesNoFault Second status → Nothing sink →
       IsNotFetched Rom said.rom rom_limit Second status → IsCaused status (Some command) Whole sink
-  rom_not_fetched status read later nothing cause =
-      caused (Some command) Whole sink status (rom_cause status read later nothing cause)
+  rom_not_fetched status read quiet no_fault nothing cause =
+      caused (Some command) Whole sink status (λ other. no_fault other ∙ quiet)
+      (rom_cause status read (omega arith) nothing cause)
 
 -- ---- there was no board
 
 -- a ROM that is not of another size is of one of its sizes
-pub rom_size : (size : ℕ) → ¬ ¬ IsRomSize size → IsRomSize size
+rom_size : (size : ℕ) → ¬ ¬ IsRomSize size → IsRomSize size
 rom_size size other =
     elim (cases_Bool (size == 0x1_0000 || size == 0x2_0000 || size == 0x4_0000 || size == 0x8_0000)) [
       | inl good ↦ grind (arith, nat_tests)
@@ -166,22 +196,21 @@ rom_size size other =
 
 module _ (command : Command) (bytes rom : List ℕ) (said : Said) (shelf : ShelfCall) (sink : SinkCall) where
   board_cause :
-      (fault : BoardOpen) → WasRead shelf.files command bytes said → OfFile shelf.files said.rom (λ file. rom ≡ file) →
-      length rom ≤ rom_limit → (fault ≡ BadRom → ¬ IsRomSize (length rom)) → Nothing sink →
+      (fault : BoardOpen) → WereRead shelf command bytes rom said → (fault ≡ BadRom → ¬ IsRomSize (length rom)) → Nothing sink →
       Cause (Some command) shelf sink (status_of_board_open fault)
-  board_cause BadRom read whole fits size nothing = (
-    has_rom shelf.files command bytes said IsBadRom read
-        (λ files is. subst (IsBadRom said.rom) (of_file shelf.files files said.rom (λ file. rom ≡ file) is whole) (fits, size refl)),
+  board_cause BadRom read size nothing = (
+    has_rom shelf.files command bytes said IsBadRom read.script
+        (λ files is. subst (IsBadRom said.rom) (of_file shelf.files files said.rom (λ file. rom ≡ file) is read.image)
+        (read.image_fits, size refl)),
     nothing,
   )
-  board_cause NoMemoryForBoard read whole fits size nothing = inl nothing
+  board_cause NoMemoryForBoard read size nothing = inl nothing
 
   pub no_board :
-      (fault : BoardOpen) → WasRead shelf.files command bytes said → OfFile shelf.files said.rom (λ file. rom ≡ file) →
-      length rom ≤ rom_limit → (fault ≡ BadRom → ¬ IsRomSize (length rom)) → Nothing sink →
+      (fault : BoardOpen) → WereRead shelf command bytes rom said → (fault ≡ BadRom → ¬ IsRomSize (length rom)) → Nothing sink →
       IsCaused (status_of_board_open fault) (Some command) shelf sink
-  no_board fault read whole fits size nothing =
-      caused (Some command) shelf sink (status_of_board_open fault) (board_cause fault read whole fits size nothing)
+  no_board fault read size nothing =
+      caused (Some command) shelf sink (status_of_board_open fault) (λ _. read.quiet) (board_cause fault read size nothing)
 
 -- ---- the text was put, or a front of it
 
@@ -220,16 +249,16 @@ text_of_rom command files bytes rom text said read whole size is =
     command_text command files bytes text said read (subst (λ (rom' : List ℕ). IsRomSize (length rom')) whole size)
     (subst (λ (rom' : List ℕ). IsTextOf command said rom' text) whole is)
 
-pub has_text :
-    (told : Option (List ℕ → List ℕ)) (command : Command) (bytes rom text : List ℕ) (said : Said) → WasRead told command bytes said →
-    OfFile told said.rom (λ file. rom ≡ file) → IsRomSize (length rom) → IsTextOf command said rom text →
-    OfCommand (Some command) told (HasText text)
-has_text told command bytes rom text said read whole size is =
-    of_script told command bytes (HasText text) read.whole
+has_text :
+    (shelf : ShelfCall) (command : Command) (bytes rom text : List ℕ) (said : Said) → WereRead shelf command bytes rom said →
+    ¬ ¬ IsRomSize (length rom) → IsTextOf command said rom text → OfCommand (Some command) shelf.files (HasText text)
+has_text shelf command bytes rom text said read size is =
+    of_script shelf.files command bytes (HasText text) read.script.whole
     (λ files at. record {
-      fits = read.fits;
+      fits = read.script.fits;
       says =
-          text_of_rom command files bytes rom text said read.script (of_file told files said.rom (λ file. rom ≡ file) at whole) size is;
+          text_of_rom command files bytes rom text said read.script.script
+          (of_file shelf.files files said.rom (λ file. rom ≡ file) at read.image) (rom_size (length rom) size) is;
     })
 
 pub map_command :
@@ -240,26 +269,32 @@ map_command None told P Q each holds = holds
 map_command (Some command) None P Q each holds = tt
 map_command (Some command) (Some files) P Q each holds = each command files (files (script_of command)) holds
 
-module _ (command : Option Command) (shelf : ShelfCall) (sink : SinkCall) (text : List ℕ) where
-  front_put : OfCommand command shelf.files (HasText text) → AppendsFront sink.taken_before sink.taken_now text → Front command shelf sink
+module _ (command : Command) (bytes rom text : List ℕ) (said : Said) (shelf : ShelfCall) (sink : SinkCall) where
+  front_put :
+      OfCommand (Some command) shelf.files (HasText text) → AppendsFront sink.taken_before sink.taken_now text → Front (Some command) shelf sink
   front_put has taken =
-      map_command command shelf.files (HasText text) (PutsTextFront sink.taken_before sink.taken_now)
+      map_command (Some command) shelf.files (HasText text) (PutsTextFront sink.taken_before sink.taken_now)
       (λ of files file is. record { text = text; fits = is.fits; says = is.says; taken = taken }) has
 
   put_cause :
-      (fault : PutFault) → OfCommand command shelf.files (HasText text) → AppendsFront sink.taken_before sink.taken_now text →
-      (fault ≡ Failed → Rose sink.faults_before sink.faults_now) → Cause command shelf sink (status_of_put_fault fault)
+      (fault : PutFault) → OfCommand (Some command) shelf.files (HasText text) → AppendsFront sink.taken_before sink.taken_now text →
+      (fault ≡ Failed → Rose sink.faults_before sink.faults_now) → Cause (Some command) shelf sink (status_of_put_fault fault)
   put_cause Failed has taken rose = (rose refl, front_put has taken)
   put_cause NoMemoryForPut has taken rose = inr (front_put has taken)
 
   pub not_put :
-      (fault : PutFault) → OfCommand command shelf.files (HasText text) → AppendsFront sink.taken_before sink.taken_now text →
-      (fault ≡ Failed → Rose sink.faults_before sink.faults_now) → IsCaused (status_of_put_fault fault) command shelf sink
-  not_put fault has taken rose = caused command shelf sink (status_of_put_fault fault) (put_cause fault has taken rose)
+      (fault : PutFault) → WereRead shelf command bytes rom said → ¬ ¬ IsRomSize (length rom) → IsTextOf command said rom text →
+      AppendsFront sink.taken_before sink.taken_now text → (fault ≡ Failed → Rose sink.faults_before sink.faults_now) →
+      IsCaused (status_of_put_fault fault) (Some command) shelf sink
+  not_put fault read size is taken rose =
+      caused (Some command) shelf sink (status_of_put_fault fault) (λ _. read.quiet)
+      (put_cause fault (has_text shelf command bytes rom text said read size is) taken rose)
 
   pub all_put :
-      OfCommand command shelf.files (HasText text) → Appends sink.taken_before sink.taken_now text → IsCaused Done command shelf sink
-  all_put has taken =
-      caused command shelf sink Done
-      (map_command command shelf.files (HasText text) (PutsText sink.taken_before sink.taken_now)
-      (λ of files file is. record { text = text; fits = is.fits; says = is.says; taken = taken }) has)
+      WereRead shelf command bytes rom said → ¬ ¬ IsRomSize (length rom) → IsTextOf command said rom text →
+      Appends sink.taken_before sink.taken_now text → IsCaused Done (Some command) shelf sink
+  all_put read size is taken =
+      caused (Some command) shelf sink Done (λ _. read.quiet)
+      (map_command (Some command) shelf.files (HasText text) (PutsText sink.taken_before sink.taken_now)
+      (λ of files file has. record { text = text; fits = has.fits; says = has.says; taken = taken })
+      (has_text shelf command bytes rom text said read size is))

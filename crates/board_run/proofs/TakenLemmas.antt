@@ -1,14 +1,11 @@
 -- A statement that the reader of scripts takes is one that the board takes, and in range.
-use Rattle.std.proofs.Common.{◌≡◌, ℕ, inl, inr, Bool, true, false, not, ◌&&◌, ◌||◌, refl, arith, ◌<◌}
-use Rattle.std.specs.Prelude.{◌==◌, List, All, length, slice_index_or}
-use Rattle.std.proofs.lemmas.Bool.{cases_Bool, eqb-true}
-use Rattle.std.proofs.lemmas.Bool.Decides.{nat_tests}
+use Rattle.std.proofs.Common.{◌≡◌, ℕ, Bool, true, false, not, ◌&&◌, refl, ◌<◌}
+use Rattle.std.specs.Prelude.{List, All, length, slice_index_or}
 use Rattle.board_base.specs.declared.access.PortAccess.{PortAccess}
 use Rattle.board_spec.specs.declared.event.Event.{Event}
 use Rattle.board_spec.specs.declared.event.Event.TheVariants.{Memory, Port, Look, Ack, Pulses, Time, Wire, Line, BadSector}
 use Rattle.board_spec.specs.declared.event.Statement.{Statement}
 use Rattle.board_spec.specs.Setup.{Setup}
-use Rattle.board_spec.specs.Bits.{is_within}
 use Rattle.board_spec.specs.InRange.{IsInRange}
 use Rattle.board_spec.specs.ToCome.{is_device_port, names_routing}
 use Rattle.script_text.specs.Forms.{is_aligned, is_taken_port, is_taken}

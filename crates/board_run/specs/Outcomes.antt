@@ -159,6 +159,8 @@ pub record IsCaused (status : Status) (command : Option Command) (shelf : ShelfC
   pub bad_image_rom : status ≡ BadImage Rom → OfScript command shelf.files (HasRom IsBadRom)
   -- a script is no image
   pub no_bad_image_script : status ≢ BadImage Script
+  -- no fault of the shelf is passed over: where it counted one, the status is a read fault
+  pub no_fault_hidden : ((which : Which) → status ≢ ReadFault which) → shelf.faults_now ≡ shelf.faults_before
   -- what was put before it came, where it is not done
   pub stopped : Stopped status sink.taken_before sink.taken_now
       (OfCommand command shelf.files (PutsTextFront sink.taken_before sink.taken_now))

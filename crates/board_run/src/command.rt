@@ -1,7 +1,9 @@
 //! The commands, from their words to what is put.
 
-ghost use Rattle.std.specs.Prelude.{◌≡◌, ℕ, ◌<◌, ◌≤◌, ◌^◌, ◌↔◌, Some, None, IfOk, IfErr, vec_len};
+ghost use Rattle.std.specs.Prelude.{◌≡◌, ◌≢◌, ℕ, ◌<◌, ◌≤◌, ◌^◌, ◌↔◌, Some, None, IfOk, IfErr, OnOk, vec_len};
 ghost use Rattle.board_base.specs.Outside.{Rose, OfFile};
+ghost use Rattle.board_run.specs.declared.status.Which.{Which};
+ghost use Rattle.board_run.specs.declared.status.Status.{Status};
 ghost use Rattle.board_run.specs.Words.{asked};
 ghost use Rattle.board_run.specs.Commands.{said_by};
 ghost use Rattle.board_run.specs.Statuses.{status_of, IsRefusal};
@@ -80,6 +82,8 @@ fn fetch<S: Shelf>(
     ensures refused { IfErr result (IsNotFetched which name.now limit
         (record { files = S.files shelf.old; faults_before = S.faults shelf.old; faults_now = S.faults shelf.new; failed_name = S.failed_name shelf.new })) }
     ensures later { S.faults shelf.old ≤ S.faults shelf.new }
+    ensures quiet { OnOk result (S.faults shelf.new ≡ S.faults shelf.old) }
+    ensures no_fault { IfErr result (λ status. ((of : Which) → status ≢ Status.ReadFault of) → S.faults shelf.new ≡ S.faults shelf.old) }
     ensures same_files { S.files shelf.new ≡ S.files shelf.old }
 {
     match read_file(alloc, shelf, name, limit) {
@@ -101,6 +105,7 @@ fn perform<S: Shelf, K: Sink>(
         (record { files = S.files shelf.old; faults_before = S.faults shelf.old; faults_now = S.faults shelf.new; failed_name = S.failed_name shelf.new })
         (record { faults_before = K.faults out.old; faults_now = K.faults out.new; taken_before = K.taken out.old; taken_now = K.taken out.new }) }
     ensures only { IfErr result IsRefusal }
+    ensures same_files { S.files shelf.new ≡ S.files shelf.old }
 {
     let bytes = fetch(alloc, shelf, Which::Script, command.script(), SCRIPT_LIMIT)?;
     let script = read_script(alloc, &bytes)?;
@@ -116,6 +121,7 @@ fn obey<S: Shelf, K: Sink>(alloc: Global, words: &[String], shelf: &mut S, out: 
     ensures caused { IsCaused result (asked words.now)
         (record { files = S.files shelf.old; faults_before = S.faults shelf.old; faults_now = S.faults shelf.new; failed_name = S.failed_name shelf.new })
         (record { faults_before = K.faults out.old; faults_now = K.faults out.new; taken_before = K.taken out.old; taken_now = K.taken out.new }) }
+    ensures same_files { S.files shelf.new ≡ S.files shelf.old }
 {
     let Some(command) = command_of(words) else {
         return Status::Usage;
@@ -145,6 +151,7 @@ pub fn board<R: Threads + Wait + Sync, S: Shelf, K: Sink, G: Gate>(
         (record { faults_before = K.faults out.old; faults_now = K.faults out.new; taken_before = K.taken out.old; taken_now = K.taken out.new }) }
     ensures exact { IsExact result (asked words.now) (S.files shelf.old)
         (¬ Rose (S.faults shelf.old) (S.faults shelf.new)) (¬ Rose (K.faults out.old) (K.faults out.new)) }
+    ensures same_files { S.files shelf.new ≡ S.files shelf.old }
 {
     obey(alloc, words, shelf, out)
 }

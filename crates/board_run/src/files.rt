@@ -72,6 +72,8 @@ fn read_on<S: Shelf>(
     ensures names { IfErr result (λ fault. fault ≡ FileFault.Failed → S.failed_name shelf.new ≡ take 255 name.now) }
     ensures only { IfErr result (λ fault. fault ≢ FileFault.TooLong) }
     ensures later { S.faults shelf.old ≤ S.faults shelf.new }
+    ensures quiet { OnOk result (S.faults shelf.new ≡ S.faults shelf.old) }
+    ensures no_fault { IfErr result (λ fault. fault ≢ FileFault.Failed → S.faults shelf.new ≡ S.faults shelf.old) }
     ensures same_files { S.files shelf.new ≡ S.files shelf.old }
 {
     let taken = shelf.fetch(name, bytes.len() as u64, piece)?;
@@ -97,6 +99,8 @@ pub fn read_file<S: Shelf>(
     ensures names { IfErr result (λ fault. fault ≡ FileFault.Failed →
         S.failed_name shelf.new ≡ take 255 name.now) }
     ensures later { S.faults shelf.old ≤ S.faults shelf.new }
+    ensures quiet { OnOk result (S.faults shelf.new ≡ S.faults shelf.old) }
+    ensures no_fault { IfErr result (λ fault. fault ≢ FileFault.Failed → S.faults shelf.new ≡ S.faults shelf.old) }
     ensures same_files { S.files shelf.new ≡ S.files shelf.old }
 {
     let mut bytes = Vec::new(alloc);

@@ -1,4 +1,4 @@
-use Rattle.std.proofs.Common.{◌≡◌, ◌+◌, ◌-◌, ◌<◌, ◌≤◌, vec_len}
+use Rattle.std.proofs.Common.{◌≡◌, ◌+◌, ◌-◌, ◌<◌, vec_len}
 use Rattle.board_base.specs.Outside.{OfFile}
 use Rattle.board_run.specs.Files.{IsFront}
 use Rattle.board_run.proofs.files.read_file.Given as goal
@@ -7,7 +7,7 @@ abbrev pub invariant-loop-shelf : goal.invariant-loop-shelf
 invariant-loop-shelf g l = record {
   front : OfFile (g.S.Shelf.files l.fn.shelf) l.name (IsFront l.bytes.items);
   room : 0 < vec_len l.piece;
-  later : g.S.Shelf.faults l.fn.shelf ≤ g.S.Shelf.faults l.shelf;
+  no_fault : g.S.Shelf.faults l.shelf ≡ g.S.Shelf.faults l.fn.shelf;
   same : g.S.Shelf.files l.shelf ≡ g.S.Shelf.files l.fn.shelf;
 }
 
