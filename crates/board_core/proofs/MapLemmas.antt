@@ -1,23 +1,19 @@
 -- The memory map after one more entry: its version, and its registers where the entry is no map write.
-use Rattle.std.proofs.Common.{◌≡◌, ℕ, zero, suc, ◌+◌, ◌-◌, ◌<◌, ◌≤◌, inl, inr, Bool, true, false, ◌||◌, List, [], ◌∷◌, ◌++◌, Option, Some, None, length, take, get_or, refl, sym, ◌∙◌, ap, subst, arith}
+use Rattle.std.proofs.Common.{◌≡◌, ℕ, ◌+◌, ◌<◌, ◌≤◌, inl, inr, Bool, true, false, ◌||◌, List, [], ◌∷◌, ◌++◌, Option, Some, None, length, get_or, refl, sym, ◌∙◌, ap, subst, arith}
 use Rattle.std.specs.Prelude.{is_some, ◌==◌, ◌&&◌}
 use Rattle.std.specs.Option.{option_to_list}
-use Rattle.std.proofs.lemmas.Bool.{cases_Bool, false≢true}
 use Rattle.std.proofs.lemmas.Bool.Decides.{nat_tests}
-use Rattle.std.proofs.lemmas.List.Folds.{list_any_at}
 use Rattle.board_base.specs.declared.access.Width.{Width}
-use Rattle.board_base.specs.declared.access.Width.TheVariants.{One, Two, Four}
 use Rattle.board_base.specs.declared.target.Reg.{Reg}
-use Rattle.board_base.specs.Access.{bytes_of}
 use Rattle.board_spec.specs.declared.event.Event.{Event}
 use Rattle.board_spec.specs.declared.event.Entry.{Entry}
 use Rattle.board_spec.specs.declared.map_change.MapChange.{MapChange}
 use Rattle.board_spec.specs.declared.map_change.MapChange.TheVariants.{Store}
 use Rattle.board_spec.specs.Setup.{Setup, card_at}
 use Rattle.board_spec.specs.Bits.{is_within}
-use Rattle.board_spec.specs.Registers.{covers, changed_byte, register_change}
+use Rattle.board_spec.specs.Registers.{changed_byte, register_change}
 use Rattle.board_spec.proofs.MapWriteLaws.{untouched}
-use Rattle.board_spec.specs.MapWrites.{is_map_byte, reg_after, touches_map, map_change_of, map_writes_of, version_of}
+use Rattle.board_spec.specs.MapWrites.{is_map_byte, touches_map, map_change_of, map_writes_of, version_of}
 use Rattle.board_spec.specs.Decode.{Bytes, bridge, isa, card_register}
 use Rattle.pam_windows.specs.Pam.{IsPamOffset}
 use Rattle.pci_bars.specs.Cards.{CardBytes, DecodesAs}
