@@ -11,7 +11,7 @@ mod pieces;
 mod steps;
 mod target;
 
-pub use access::{Access, Kind, PortAccess, Width};
+pub use access::{Access, Kind, PortAccess, WideAccess, Width};
 pub use fault::{Failed, NoMemory, PutFault};
 pub use memory_shelf::{MemShelf, SafeShelf};
 pub use memory_sink::{MemSink, SafeSink};
