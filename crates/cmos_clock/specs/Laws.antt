@@ -1,6 +1,6 @@
 -- Laws of the clock's machine, in the words of someone who uses the clock.
 use Rattle.std.specs.Prelude.{◌≡◌, ◌≢◌, ℕ, ◌+◌, ◌*◌, ◌/◌, ◌%◌, ◌<◌, ◌≤◌, Bool, true, false, ◌&&◌, ◌||◌, ◌==◌, nat_le, if◌then◌else◌, length}
-use Rattle.cmos_clock.specs.Clock.{CivilTime, Clock, has_bit, worth, byte_at, control_of, is_set, is_binary, is_24_hour, number_byte, hour_byte, interrupt_line, read_value, after_read, after_write, after_moment, after_reset, second_at, second_alarm_at, minute_at, minute_alarm_at, hour_at, hour_alarm_at, weekday_at, day_at, month_at, year_at, register_a, register_b, register_c, update_interrupts, power_on}
+use Rattle.device_spec.specs.Clock.{CivilTime, Clock, has_bit, worth, byte_at, control_of, is_set, is_binary, is_24_hour, number_byte, hour_byte, interrupt_line, read_value, after_read, after_write, after_moment, after_reset, second_at, second_alarm_at, minute_at, minute_alarm_at, hour_at, hour_alarm_at, weekday_at, day_at, month_at, year_at, register_a, register_b, register_c, update_interrupts, power_on}
 
 -- The time is shown
 

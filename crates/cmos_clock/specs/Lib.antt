@@ -1,3 +1,1 @@
-pub mod Clock
 pub mod Laws
-pub mod View

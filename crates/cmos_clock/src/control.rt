@@ -1,6 +1,6 @@
 // Register B: what the clock does and how it writes its time.
 ghost use Rattle.std.specs.Prelude.{◌≡◌, ◌<◌};
-ghost use Rattle.cmos_clock.specs.Clock.{alarm_interrupts, bcd, control_reset, control_written, has_bit, hour_byte, is_24_hour, is_binary, is_set, number_byte, update_interrupts};
+ghost use Rattle.device_spec.specs.Clock.{alarm_interrupts, bcd, control_reset, control_written, has_bit, hour_byte, is_24_hour, is_binary, is_set, number_byte, update_interrupts};
 
 // The places of its bits.
 const SET: u32 = 7;

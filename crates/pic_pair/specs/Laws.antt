@@ -1,9 +1,9 @@
 -- What follows from the definitions of one chip and of the pair.
 use Rattle.std.specs.Prelude.{◌≡◌, ◌≢◌, ℕ, true, false, Some, List, ◌∷◌, ◌++◌, ◌+◌, ◌/◌, ◌%◌, ◌<◌, ◌&&◌, not, is_some, slice_index}
 use Rattle.std.specs.List.{list_all}
-use Rattle.pic_pair.specs.Levels.{has, is_bit}
-use Rattle.pic_pair.specs.Pic.{Chip, priority_order, is_blocking, blocks_itself, is_requested, interrupt, chip_after_write}
-use Rattle.pic_pair.specs.Pair.{Pair, settled, answer_of, pair_after_acknowledge}
+use Rattle.device_spec.specs.Levels.{has, is_bit}
+use Rattle.device_spec.specs.Pic.{Chip, priority_order, is_blocking, blocks_itself, is_requested, interrupt, chip_after_write}
+use Rattle.device_spec.specs.Pair.{Pair, settled, answer_of, pair_after_acknowledge}
 
 -- The priorities go round from the level after the lowest to the lowest.
 abbrev pub PrioritiesGoRound : Type 0

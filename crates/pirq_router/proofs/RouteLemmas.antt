@@ -2,7 +2,7 @@
 use Rattle.std.proofs.Common.{zero, suc, cond, not, ltb, ◌%◌, ◌≡◌, ℕ, ◌+◌, ◌<◌, Bool, true, false, eqb, ◌||◌, ◌&&◌, List, length, get_or, set, Some, None, refl, sym, ap, ◌∙◌, add-one, get_or-set_same, get_or-set_other, inl, inr}
 use Rattle.std.proofs.Math.Bool.{or-false, and-true, and-false}
 use Rattle.std.proofs.lemmas.Bool.{cases_eq, cases_Bool, eq-eqb, ne_eqb, and_parts, or_from, not-true, both_ways}
-use Rattle.pirq_router.specs.Routing.{Routes, drives_among, drives, line_of_route, is_reserved_line}
+use Rattle.device_spec.specs.Routing.{Routes, drives_among, drives, line_of_route, is_reserved_line}
 
 -- no pin holds a line
 pub drives_among-none : (routes : Routes) (pins : List Bool) (line : ℕ) → drives_among 0 routes pins line ≡ false

@@ -1,6 +1,6 @@
 //! The edge/level control registers of the PIIX3, ports 4D0h and 4D1h.
 ghost use Rattle.std.specs.Prelude.{◌≡◌};
-ghost use Rattle.pirq_router.specs.Elcr.{trigger_byte, triggers_after_write, triggers_at_reset};
+ghost use Rattle.device_spec.specs.Elcr.{trigger_byte, triggers_after_write, triggers_at_reset};
 
 use std::marker::Model;
 
@@ -17,7 +17,7 @@ pub struct Elcr {
 }
 
 impl Model for Elcr {
-    ghost use Rattle.pirq_router.specs.Elcr.{Triggers};
+    ghost use Rattle.device_spec.specs.Elcr.{Triggers};
 
     ghost Value = { Triggers };
 

@@ -1,6 +1,6 @@
 //! The PIRQ route control registers, PIRQRC[A:D] of the PIIX3.
 ghost use Rattle.std.specs.Prelude.{◌≡◌, ℕ, ◌<◌, ◌-◌, if◌then◌else◌, replicate, IfSome, slice_index_or, false};
-ghost use Rattle.pirq_router.specs.Routing.{route_byte, routes_after_write, route_reset, is_line_driven, is_route_offset, line_of_route, ReservedLinesRest};
+ghost use Rattle.device_spec.specs.Routing.{route_byte, routes_after_write, route_reset, is_line_driven, is_route_offset, line_of_route, ReservedLinesRest};
 
 use std::marker::Model;
 
@@ -27,7 +27,7 @@ pub struct Pirq {
 }
 
 impl Model for Pirq {
-    ghost use Rattle.pirq_router.specs.Routing.{Routes};
+    ghost use Rattle.device_spec.specs.Routing.{Routes};
 
     ghost Value = { Routes };
 

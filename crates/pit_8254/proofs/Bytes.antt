@@ -1,7 +1,7 @@
 -- The bytes of a count.
 use Rattle.std.proofs.Common.{◌≡◌, ℕ, ◌+◌, ◌*◌, ◌/◌, ◌%◌, ◌<◌, ◌==◌, ◌⊎◌, inl, inr, false, refl, arith}
 use Rattle.std.proofs.lemmas.Bool.{cases_Bool, eqb-true}
-use Rattle.pit_8254.specs.Pit.{Mode, Notation, Binary, Decimal, is_periodic, modulus, count_of_number, low_byte, high_byte}
+use Rattle.device_spec.specs.Pit.{Mode, Notation, Binary, Decimal, is_periodic, modulus, count_of_number, low_byte, high_byte}
 use Rattle.pit_8254.specs.PitLaws.{CountReadsAsWritten}
 
 binary : (n low high : ℕ) → low < 256 → high < 256 → n ≡ low + 256 * high → (n % 256 ≡ low) × (n / 256 % 256 ≡ high)

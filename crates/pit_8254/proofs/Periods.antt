@@ -2,7 +2,7 @@
 use Rattle.std.proofs.Common.{◌≡◌, ℕ, zero, suc, ◌+◌, ◌-◌, ◌*◌, ◌/◌, ◌%◌, ◌<◌, ◌≤◌, ◌==◌, ◌&&◌, not, Bool, true, false, cond, inl, inr, refl, ap, sym, subst, ◌∙◌, arith}
 use Rattle.std.proofs.lemmas.Bool.{cases_Bool}
 use Rattle.std.proofs.lemmas.Bool.Decides.{nat_tests}
-use Rattle.pit_8254.specs.Pit.{RateGenerator, SquareWave, CounterState, load, count_down, count_to_reload, count_half, pulse_by_mode, pulse}
+use Rattle.device_spec.specs.Pit.{RateGenerator, SquareWave, CounterState, load, count_down, count_to_reload, count_half, pulse_by_mode, pulse}
 use Rattle.pit_8254.specs.PitLaws.{pulses_of}
 use Rattle.pit_8254.specs.PitPeriods.{IsAtLoad, RateRepeats, SquareRepeats}
 

@@ -1,6 +1,6 @@
 -- A read-back is one latch after another.
 use Rattle.std.proofs.Common.{◌≡◌, ℕ, Bool, true, false, cond, List, [], ◌∷◌, Option, Some, None, refl, sym, ◌∙◌}
-use Rattle.pit_8254.specs.Pit.{CounterState, PitState, access_numbered, element_bytes, status_byte, latch_count, latch_status, control, read_back, read_back_chosen, write_control}
+use Rattle.device_spec.specs.Pit.{CounterState, PitState, access_numbered, element_bytes, status_byte, latch_count, latch_status, control, read_back, read_back_chosen, write_control}
 use Rattle.pit_8254.specs.PitLaws.{read_back_word, ReadBackIsOneByOne, ReadBackIsLatch, ReadBackOfBoth}
 use Rattle.pit_8254.proofs.Latches.{latch_count-held, latch_count-empty}
 

@@ -1,6 +1,6 @@
 -- Laws of the 8254's machine.
 use Rattle.std.specs.Prelude.{◌≡◌, ℕ, zero, suc, ◌+◌, ◌<◌, ◌/◌, ◌%◌, Bool, true, false, if◌then◌else◌, List, [], ◌∷◌, None, length}
-use Rattle.pit_8254.specs.Pit.{Mode, Notation, Binary, Decimal, is_periodic, count_of_bytes, low_byte, high_byte, CounterState, PitState, element_bytes, latch_count, read_back, read, write, set_gate, pulse, write_control, pulses, rises}
+use Rattle.device_spec.specs.Pit.{Mode, Notation, Binary, Decimal, is_periodic, count_of_bytes, low_byte, high_byte, CounterState, PitState, element_bytes, latch_count, read_back, read, write, set_gate, pulse, write_control, pulses, rises}
 
 -- A LATCHED COUNT
 

@@ -1,6 +1,6 @@
 -- Whole periods of the 8254's rate generator and square wave.
 use Rattle.std.specs.Prelude.{◌≡◌, ℕ, ◌+◌, ◌-◌, ◌/◌, ◌<◌, ◌≤◌, true, false, Some}
-use Rattle.pit_8254.specs.Pit.{Mode, RateGenerator, SquareWave, CounterState, first_element}
+use Rattle.device_spec.specs.Pit.{Mode, RateGenerator, SquareWave, CounterState, first_element}
 use Rattle.pit_8254.specs.PitLaws.{pulses_of}
 
 -- the counter stands directly after a load of n that left OUT at 1, n is the count written last, and the gate is 1

@@ -4,7 +4,7 @@
 #![tactic(auto)]
 
 ghost use Rattle.std.specs.Prelude.{◌≡◌, ◌+◌, ◌<◌, ◌≤◌};
-ghost use Rattle.pit_8254.specs.Pit.{IsTimerPort, reset, port_read, port_write, read_back_chosen, write_control, set_gate2, out_of, pulse_all, pulses, rises};
+ghost use Rattle.device_spec.specs.Pit.{IsTimerPort, reset, port_read, port_write, read_back_chosen, write_control, set_gate2, out_of, pulse_all, pulses, rises};
 
 mod counting;
 mod latch;
@@ -34,7 +34,7 @@ pub struct Pit {
 }
 
 impl Model for Pit {
-    ghost use Rattle.pit_8254.specs.Pit.{PitState};
+    ghost use Rattle.device_spec.specs.Pit.{PitState};
 
     ghost Value = { PitState };
 
@@ -50,7 +50,7 @@ pub struct Rises {
 
 impl Pit {
     /// A timer at reset, with the gate of counter 2 at 0.
-    #[tactic(auto, unfolding(crate::specs::Pit::reset))]
+    #[tactic(auto, unfolding(device_spec::specs::Pit::reset))]
     pub fn new() -> Pit
         ensures state { result ≡ reset }
     {
@@ -69,7 +69,7 @@ impl Pit {
     }
 
     /// A read of a byte at one of ports 40h to 43h.
-    #[tactic(auto, unfolding(crate::specs::Pit::port_read))]
+    #[tactic(auto, unfolding(device_spec::specs::Pit::port_read))]
     pub fn port_read(&mut self, port: u16) -> u8
         requires { IsTimerPort port }
         ensures byte { result ≡ (port_read port self.old).0 }
@@ -84,7 +84,7 @@ impl Pit {
     }
 
     /// A write of a byte at one of ports 40h to 43h.
-    #[tactic(auto, unfolding(crate::specs::Pit::port_write))]
+    #[tactic(auto, unfolding(device_spec::specs::Pit::port_write))]
     pub fn port_write(&mut self, port: u16, byte: u8)
         requires { IsTimerPort port }
         ensures state { self.new ≡ port_write port byte self.old }
@@ -98,7 +98,7 @@ impl Pit {
     }
 
     /// A control word: SC 0 to 2 names the counter, SC 3 is read-back.
-    #[tactic(auto, unfolding(crate::specs::Pit::write_control))]
+    #[tactic(auto, unfolding(device_spec::specs::Pit::write_control))]
     fn write_control(&mut self, word: u8)
         ensures state { self.new ≡ write_control word self.old }
     {
@@ -111,7 +111,7 @@ impl Pit {
     }
 
     /// A read-back command, whose bits 3 to 1 choose counters 2 to 0.
-    #[tactic(auto, unfolding(crate::specs::Pit::read_back_chosen))]
+    #[tactic(auto, unfolding(device_spec::specs::Pit::read_back_chosen))]
     fn read_back_chosen(&mut self, word: u8)
         ensures state { self.new ≡ read_back_chosen word self.old }
     {
@@ -127,7 +127,7 @@ impl Pit {
     }
 
     /// Sets the gate of counter 2.
-    #[tactic(auto, unfolding(crate::specs::Pit::set_gate2))]
+    #[tactic(auto, unfolding(device_spec::specs::Pit::set_gate2))]
     pub fn gate2(&mut self, on: bool)
         ensures state { self.new ≡ set_gate2 on self.old }
     {
@@ -135,7 +135,7 @@ impl Pit {
     }
 
     /// Runs the clock for `n` pulses.
-    #[tactic(auto, unfolding(crate::specs::Pit::pulses, crate::specs::Pit::rises))]
+    #[tactic(auto, unfolding(device_spec::specs::Pit::pulses, device_spec::specs::Pit::rises))]
     pub fn pulses(&mut self, n: u32) -> Rises
         ensures state { self.new ≡ pulses n self.old }
         ensures rose { result.rose ≡ rises n self.old }
@@ -156,7 +156,7 @@ impl Pit {
     }
 
     /// One pulse of the clock, which all counters share.
-    #[tactic(auto, unfolding(crate::specs::Pit::pulse_all))]
+    #[tactic(auto, unfolding(device_spec::specs::Pit::pulse_all))]
     fn pulse(&mut self)
         ensures state { self.new ≡ pulse_all self.old }
     {
@@ -166,7 +166,7 @@ impl Pit {
     }
 
     /// The level of OUT of counter 0, 1 or 2.
-    #[tactic(auto, unfolding(crate::specs::Pit::out_of))]
+    #[tactic(auto, unfolding(device_spec::specs::Pit::out_of))]
     pub fn out(&self, counter: u8) -> bool
         requires { counter < 3 }
         ensures level { result ≡ out_of counter self.now }
@@ -180,7 +180,7 @@ impl Pit {
 }
 
 impl Default for Pit {
-    ghost use Rattle.pit_8254.specs.Pit.{PitState};
+    ghost use Rattle.device_spec.specs.Pit.{PitState};
 
     ghost is_default = { λ p. p ≡ reset };
 

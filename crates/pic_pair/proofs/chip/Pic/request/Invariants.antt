@@ -1,6 +1,6 @@
 -- What the search is for is among the levels that are left.
 use Rattle.std.proofs.Common.{◌≡◌, ℕ, ◌<◌, drop, length, get_or}
-use Rattle.pic_pair.specs.Pic.{request}
+use Rattle.device_spec.specs.Pic.{request}
 use Rattle.pic_pair.proofs.ChipLemmas.{scan}
 use Rattle.pic_pair.proofs.chip.Pic.request.Given as goal
 

@@ -1,7 +1,7 @@
 -- No line is held at first; then each pin adds its own.
 use Rattle.std.proofs.Common.{◌≡◌, false, get_or, length, Some, None, length-set, refl, sym, ap, ◌∙◌, arith}
 use Rattle.std.proofs.lemmas.List.{get_or-replicate}
-use Rattle.pirq_router.specs.Routing.{line_of_route}
+use Rattle.device_spec.specs.Routing.{line_of_route}
 use Rattle.pirq_router.proofs.RouteLemmas.{drives_among-none, drives_among-routed, drives_among-unrouted, line-raised}
 use Rattle.pirq_router.proofs.pirq.Pirq.route.Goals as goal
 use Rattle.pirq_router.proofs.pirq.Pirq.route.Goals.{in-Some, in-None}

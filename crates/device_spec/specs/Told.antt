@@ -1,6 +1,6 @@
 -- What a `Moment` stands for.
 use Rattle.board_base.specs.declared.moment.Moment.{Moment}
-use Rattle.cmos_clock.specs.Clock.{CivilTime}
+use Rattle.device_spec.specs.Clock.{CivilTime}
 
 -- the moment, as the clock is told it
 abbrev pub civil_time : Moment → CivilTime

@@ -2,7 +2,7 @@
 -- board's choice.
 use Rattle.std.specs.Prelude.{ℕ, Bool, true, false, Option, Some, None, List, [], ◌∷◌, ◌++◌, ◌+◌, ◌*◌, ◌/◌, ◌%◌, ◌==◌, ◌&&◌, ◌||◌, not, take, drop, if◌then◌else◌}
 use Rattle.std.specs.List.{find, list_any}
-use Rattle.pic_pair.specs.Levels.{Levels, all_levels, has, levels_where, no_levels, with_level, without_level, is_bit, levels_of_byte, byte_of_levels}
+use Rattle.device_spec.specs.Levels.{Levels, all_levels, has, levels_where, no_levels, with_level, without_level, is_bit, levels_of_byte, byte_of_levels}
 
 -- the initialisation command words that follow ICW1
 pub data Word : Type 0 where

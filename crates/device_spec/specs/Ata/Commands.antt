@@ -1,7 +1,7 @@
 -- What each command does, and what goes on as its words move.
 use Rattle.std.specs.Prelude.{ℕ, zero, suc, ◌+◌, ◌==◌, nat_lt, Bool, true, false, not, ◌&&◌, ◌||◌, if◌then◌else◌, [], Option, Some, None, Result, Ok, Err}
-use Rattle.ata_pio.specs.Ata.State.{Medium, Registers, Ready, Failed, Reading, Writing, Identifying, Drive, sectors_of, is_bad, reset_drive, is_drive_one}
-use Rattle.ata_pio.specs.Ata.Address.{named, naming, head_of, left_of, counted}
+use Rattle.device_spec.specs.Ata.State.{Medium, Registers, Ready, Failed, Reading, Writing, Identifying, Drive, sectors_of, is_bad, reset_drive, is_drive_one}
+use Rattle.device_spec.specs.Ata.Address.{named, naming, head_of, left_of, counted}
 
 -- The bits of the error register: ABRT, IDNF and UNC.
 abbrev pub aborted : ℕ

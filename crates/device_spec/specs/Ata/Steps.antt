@@ -2,9 +2,9 @@
 use Rattle.std.specs.Prelude.{ℕ, ◌+◌, ◌*◌, ◌/◌, ◌%◌, ◌==◌, nat_le, Bool, false, ◌&&◌, ◌||◌, if◌then◌else◌, List, [], ◌∷◌, ◌++◌, length}
 use Rattle.board_base.specs.declared.access.Width.{Width}
 use Rattle.board_base.specs.declared.access.Width.TheVariants.{One, Two, Four}
-use Rattle.ata_pio.specs.Ata.State.{Medium, Registers, Activity, Ready, Failed, Reading, Writing, Identifying, Drive, Disk, is_bit, sectors_of, word_at, stored, marked, device_byte, reset_drive, power_on_drive, status_of, is_drq}
-use Rattle.ata_pio.specs.Ata.Identify.{identify_word}
-use Rattle.ata_pio.specs.Ata.Commands.{ended, sector_read, sector_written, commanded}
+use Rattle.device_spec.specs.Ata.State.{Medium, Registers, Activity, Ready, Failed, Reading, Writing, Identifying, Drive, Disk, is_bit, sectors_of, word_at, stored, marked, device_byte, reset_drive, power_on_drive, status_of, is_drq}
+use Rattle.device_spec.specs.Ata.Identify.{identify_word}
+use Rattle.device_spec.specs.Ata.Commands.{ended, sector_read, sector_written, commanded}
 
 -- The ports, by width: words at the data port, and bytes at the registers of the task file and at
 -- device control.

@@ -1,6 +1,6 @@
 -- The sector that the address registers name, as a number, and how a number is written back.
 use Rattle.std.specs.Prelude.{ℕ, ◌+◌, ◌-◌, ◌*◌, ◌/◌, ◌%◌, ◌==◌, nat_lt, ◌||◌, if◌then◌else◌, Option, Some, None}
-use Rattle.ata_pio.specs.Ata.State.{Registers, is_lba}
+use Rattle.device_spec.specs.Ata.State.{Registers, is_lba}
 
 -- Every track has 63 sectors, which are counted from 1, and every cylinder has 16 heads.
 abbrev pub track_sectors : ℕ

@@ -1,8 +1,8 @@
 -- The two 8259As of a PC: the master at ports 20h and 21h has the lines 0 to 7, the slave at A0h and
 -- A1h has the lines 8 to 15, and the slave's INT is input 2 of the master.
 use Rattle.std.specs.Prelude.{ℕ, Bool, true, false, Option, Some, None, List, ◌∷◌, ◌+◌, ◌/◌, ◌%◌, ◌==◌, is_some, take, drop, replicate, if◌then◌else◌}
-use Rattle.pic_pair.specs.Levels.{Levels, with_level, without_level, is_bit, levels_of_byte}
-use Rattle.pic_pair.specs.Pic.{Chip, chip_at_reset, chip_after_inputs, chip_after_write, byte_read, chip_after_read, interrupt, acknowledged, acknowledged_if}
+use Rattle.device_spec.specs.Levels.{Levels, with_level, without_level, is_bit, levels_of_byte}
+use Rattle.device_spec.specs.Pic.{Chip, chip_at_reset, chip_after_inputs, chip_after_write, byte_read, chip_after_read, interrupt, acknowledged, acknowledged_if}
 
 pub record Pair : Type 0 where
   pub master : Chip

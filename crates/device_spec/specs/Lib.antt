@@ -1,0 +1,9 @@
+pub mod Ata
+pub mod Clock
+pub mod Elcr
+pub mod Levels
+pub mod Pair
+pub mod Pic
+pub mod Pit
+pub mod Routing
+pub mod Told

@@ -1,0 +1,3 @@
+//! What the devices of the board are: in `specs/` one machine for each, by its datasheet, which the
+//! crates of the devices prove their code to be.
+#![tactic(auto)]
