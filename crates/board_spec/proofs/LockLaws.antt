@@ -20,7 +20,8 @@ use Rattle.board_spec.specs.Setup.{Setup}
 use Rattle.board_spec.specs.Bits.{bit, is_bit, byte, is_within}
 use Rattle.board_spec.specs.RegisterTable.{reset_byte, host_bridge}
 use Rattle.board_spec.specs.Registers.{is_hard_reset, config_address, config_register, config_store, register_change, covers, smram_after, byte_with, byte_of, is_config_port}
-use Rattle.board_spec.specs.Decode.{Bytes, bridge, isa, Window, first_of, line_where, card_area, row_of, hole_of, is_in, is_shadowed, is_rom_selected, memory_claim, reaches_smram, smram_answers, is_smram_range, area_under, area_of}
+use Rattle.board_spec.specs.Decode.{Bytes, Window, first_of, line_where, card_area, row_of, hole_of, is_in, is_shadowed, is_rom_selected, memory_claim, reaches_smram, smram_answers, is_smram_range, area_under, area_of}
+use Rattle.board_spec.specs.RegisterNames.{bridge, isa, smram}
 use Rattle.board_spec.specs.Answer.{target_at, memory_answer, IsAnswer}
 use Rattle.board_spec.specs.Legal.{IsNext, IsLegal}
 use Rattle.board_spec.specs.LockLaw.{SetsLock, NoHardReset, IsOutsideSmm, NamesSmram}
@@ -59,9 +60,6 @@ shut_after old written = record {
       let below : lock < 2 = omega arith in
       (smram_bits ((1 - lock) * bit written 6) (bit written 5) lock (bit written 3) (omega arith) (bit_below written 5) below (bit_below written 3)).1 ∙ none;
 }
-
-smram : Reg
-smram = bridge 0x72
 
 reset_kept : (setup : Setup) → Kept (reset_byte setup smram)
 unfolding reset_byte host_bridge smram

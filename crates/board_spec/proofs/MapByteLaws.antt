@@ -8,7 +8,8 @@ use Rattle.std.proofs.lemmas.List.Elements.{All-nil, All-cons, All-append, recur
 use Rattle.board_base.specs.declared.access.Kind.{Kind}
 use Rattle.board_spec.specs.Setup.{Base, MemoryBase, IoBase, FittedCard, Setup, IsCard, IsCardList, card_at}
 use Rattle.board_spec.specs.Bits.{is_bit, is_within}
-use Rattle.board_spec.specs.Decode.{Bytes, bridge, isa, card_register, boundary, row_of, is_high_window, is_open, nibble, is_shadow_range, is_shadowed, Window, is_covered, base_value, memory_window, vga_window, memory_windows, is_enabled_for, first_window, memory_claim, memory_shut, area_of, denial_of}
+use Rattle.board_spec.specs.Decode.{Bytes, boundary, row_of, is_high_window, is_open, nibble, is_shadow_range, is_shadowed, Window, is_covered, base_value, memory_window, vga_window, memory_windows, is_enabled_for, first_window, memory_claim, memory_shut, area_of, denial_of}
+use Rattle.board_spec.specs.RegisterNames.{bridge, isa, card_register}
 use Rattle.board_spec.specs.Laws.{SameMapBytes, MapBytesDecide}
 
 -- ---- searches in lists

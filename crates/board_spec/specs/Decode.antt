@@ -71,6 +71,9 @@ abbrev pub nibble : ℕ → Bool → ℕ
 nibble byte true = byte / 0x10
 nibble byte false = byte % 0x10
 
+abbrev pub is_shadow_range : ℕ → Bool
+is_shadow_range addr = lies_in shadow_range addr
+
 -- bit 0 of the nibble opens the window for reads and fetches, bit 1 for writes
 abbrev pub is_open : ℕ → Kind → Bool
 is_open enables Fetch = is_bit enables 0
@@ -79,7 +82,7 @@ is_open enables Write = is_bit enables 1
 
 abbrev pub is_shadowed : Bytes → ℕ → Kind → Bool
 is_shadowed bytes addr kind =
-    lies_in shadow_range addr && is_open (nibble (bytes (pam_register addr)) (is_high_window addr)) kind
+    is_shadow_range addr && is_open (nibble (bytes (pam_register addr)) (is_high_window addr)) kind
 
 -- ---- SMRAM (82441FX)
 
@@ -97,6 +100,9 @@ reaches_smram true true opened kind smm = is_fetch kind && (smm || opened)
 
 abbrev pub smram_answers : ℕ → Kind → Bool → Bool
 smram_answers control kind smm = reaches_smram (is_bit control 3) (is_bit control 5) (is_bit control 6) kind smm
+
+abbrev pub is_smram_range : ℕ → Bool
+is_smram_range addr = lies_in smram_range addr
 
 -- ---- the BIOS ROM (82371SB, XBCS)
 
@@ -211,7 +217,7 @@ card_area window = Card window.dev window.base
 abbrev pub area_under : (row : Option ℕ) → (opened shadowed hole rom : Bool) → (claim : Option Window) → ℕ → Area
 area_under row opened shadowed hole rom claim addr =
     first_of
-    (line_where (lies_in smram_range addr && is_some row && opened) Smram
+    (line_where (is_smram_range addr && is_some row && opened) Smram
     ∷ line_where (is_some row && shadowed) (Shadow (unwrap_or row 0))
     ∷ line_where (not (lies_in upper_memory addr) && is_some row && not hole) (Dram (unwrap_or row 0))
     ∷ line_where rom Rom
@@ -237,7 +243,7 @@ abbrev pub abort_denial : (top : ℕ) → (shut unselected : Option Window) → 
 abort_denial top shut unselected addr =
     first_of
     (line_where (lies_in selectable_bios addr) (Register xbcs)
-    ∷ line_where (lies_in smram_range addr && nat_lt 0 top) (Register smram)
+    ∷ line_where (is_smram_range addr && nat_lt 0 top) (Register smram)
     ∷ line_where (lies_in expansion_range addr && nat_lt 0 top) (Register (pam_register addr))
     ∷ line_where (nat_lt addr top) (Register fdhc)
     ∷ option_map command_of shut

@@ -1,5 +1,8 @@
 pub mod Setup
 pub mod Bits
+pub mod Ranges
+pub mod PortNames
+pub mod RegisterNames
 pub mod RegisterTable
 pub mod Registers
 pub mod MapWrites
@@ -8,11 +11,13 @@ pub mod WideStores
 pub mod Decode
 pub mod Ports
 pub mod FlatMap
+pub mod WideParts
 pub mod Stored
+pub mod InRange
 pub mod Devices
+pub mod Interrupts
 pub mod ToCome
 pub mod Answer
-pub mod InRange
 pub mod Legal
 pub mod Orders
 pub mod LockLaw

@@ -64,7 +64,10 @@ pub enum Reply {
         denial: Option<Denial>,
     },
     /// The value of a wide access that reads, and what answered each of its parts.
-    Parts { value: Option<u64>, parts: Parts },
+    Parts {
+        value: Option<u64>,
+        parts: Parts,
+    },
     /// What a look saw.
     Saw(Look),
 }

@@ -7,7 +7,8 @@ use Rattle.board_spec.specs.Setup.{Setup}
 use Rattle.board_spec.specs.Bits.{merged}
 use Rattle.board_spec.specs.RegisterTable.{host_bridge, reset_byte, writable_bits}
 use Rattle.board_spec.specs.Registers.{is_smram_register, changed_byte}
-use Rattle.board_spec.specs.Decode.{Bytes, bridge}
+use Rattle.board_spec.specs.Decode.{Bytes}
+use Rattle.board_spec.specs.RegisterNames.{bridge}
 use Rattle.pam_windows.specs.Pam.{IsPamOffset, IsPamOf, pam_byte}
 use Rattle.board_spec.proofs.StoreLemmas.{changed_byte-one_same, changed_byte-one_other}
 

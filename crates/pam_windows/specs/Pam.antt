@@ -1,6 +1,7 @@
 -- The PAM registers are the list of their seven bytes, the one at offset 59h first.
 use Rattle.std.specs.Prelude.{◌≡◌, ◌≤◌, ℕ, ◌-◌, List, slice_index}
-use Rattle.board_spec.specs.Decode.{Bytes, bridge}
+use Rattle.board_spec.specs.Decode.{Bytes}
+use Rattle.board_spec.specs.RegisterNames.{bridge}
 
 -- the offsets of the PAM registers
 abbrev pub IsPamOffset : ℕ → Type 0

@@ -5,7 +5,8 @@ ghost use Rattle.board_spec.specs.declared.map_change.MapChange.TheVariants.{Sto
 ghost use Rattle.board_spec.specs.Setup.{Setup};
 ghost use Rattle.board_spec.specs.RegisterTable.{reset_byte};
 ghost use Rattle.board_spec.specs.Registers.{changed_byte};
-ghost use Rattle.board_spec.specs.Decode.{Bytes, bridge, is_shadowed};
+ghost use Rattle.board_spec.specs.Decode.{Bytes, is_shadowed};
+ghost use Rattle.board_spec.specs.RegisterNames.{bridge};
 ghost use Rattle.pam_windows.specs.Pam.{IsPamOffset, IsPamOf, pam_byte};
 
 use crate::window::Window;

@@ -2,7 +2,8 @@
 use Rattle.std.specs.Prelude.{◌≡◌, ◌<◌, ◌⊎◌, ℕ, ◌+◌, List, slice_index}
 use Rattle.board_spec.specs.Setup.{Setup}
 use Rattle.board_spec.specs.RegisterTable.{reset_byte}
-use Rattle.board_spec.specs.Decode.{Bytes, bridge}
+use Rattle.board_spec.specs.Decode.{Bytes}
+use Rattle.board_spec.specs.RegisterNames.{bridge}
 
 -- the bytes of DRB0 to DRB7, and that of FDHC
 pub record PmcBytes : Type 0 where

@@ -14,7 +14,8 @@ ghost use Rattle.board_spec.specs.declared.map_change.MapChange.TheVariants.{Sto
 ghost use Rattle.board_spec.specs.Setup.{Setup};
 ghost use Rattle.board_spec.specs.RegisterTable.{reset_byte};
 ghost use Rattle.board_spec.specs.Registers.{changed_byte};
-ghost use Rattle.board_spec.specs.Decode.{Bytes, bridge, top_of as top_by, row_of as row_by, hole_of as hole_by};
+ghost use Rattle.board_spec.specs.Decode.{Bytes, top_of as top_by, row_of as row_by, hole_of as hole_by};
+ghost use Rattle.board_spec.specs.RegisterNames.{bridge};
 ghost use Rattle.pmc_regs.specs.Pmc.{IsPmcOffset, IsFixedOffset, IsPmcOf};
 
 use crate::hole::{fdhc_after, hole_of};

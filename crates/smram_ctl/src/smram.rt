@@ -6,7 +6,8 @@ ghost use Rattle.board_spec.specs.Setup.{Setup};
 ghost use Rattle.board_spec.specs.Bits.{is_bit};
 ghost use Rattle.board_spec.specs.RegisterTable.{reset_byte};
 ghost use Rattle.board_spec.specs.Registers.{smram_after, changed_byte};
-ghost use Rattle.board_spec.specs.Decode.{Bytes, bridge, smram_answers};
+ghost use Rattle.board_spec.specs.Decode.{Bytes, smram_answers};
+ghost use Rattle.board_spec.specs.RegisterNames.{bridge};
 ghost use Rattle.smram_ctl.specs.Control.{IsSmramByte};
 
 use crate::control::{DLCK, SMRAM_RESET, smram_after, smram_reaches};

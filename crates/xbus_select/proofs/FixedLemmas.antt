@@ -8,7 +8,7 @@ use Rattle.board_base.specs.declared.target.Reg.{Reg}
 use Rattle.board_spec.specs.Setup.{Setup}
 use Rattle.board_spec.specs.Bits.{is_within}
 use Rattle.board_spec.specs.RegisterTable.{isa_bridge, ide_function, reset_byte, writable_bits}
-use Rattle.board_spec.specs.Decode.{isa, ide}
+use Rattle.board_spec.specs.RegisterNames.{isa, ide}
 
 -- a register has this byte at all times
 pub record IsFixedAt (setup : Setup) (reg : Reg) (byte : ℕ) : Type 0 where

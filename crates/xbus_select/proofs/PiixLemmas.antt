@@ -10,7 +10,8 @@ use Rattle.board_spec.specs.Setup.{Setup}
 use Rattle.board_spec.specs.Bits.{merged, byte}
 use Rattle.board_spec.specs.RegisterTable.{isa_bridge, ide_function, reset_byte, writable_bits}
 use Rattle.board_spec.specs.Registers.{covers, changed_byte}
-use Rattle.board_spec.specs.Decode.{Bytes, isa, ide}
+use Rattle.board_spec.specs.Decode.{Bytes}
+use Rattle.board_spec.specs.RegisterNames.{isa, ide}
 use Rattle.board_spec.proofs.StoreLemmas.{changed_byte-one_same, changed_byte-one_other}
 use Rattle.xbus_select.specs.Piix.{PiixBytes, piix_register, IsPiixRegister, is_writable, IsPiixOf}
 use Rattle.xbus_select.proofs.BitLemmas.{merged-none, merged-all}

@@ -4,7 +4,8 @@ use Rattle.board_base.specs.declared.target.Reg.{Reg}
 use Rattle.board_spec.specs.Setup.{Setup}
 use Rattle.board_spec.specs.Bits.{is_bit, is_within}
 use Rattle.board_spec.specs.RegisterTable.{reset_byte}
-use Rattle.board_spec.specs.Decode.{Bytes, isa, ide}
+use Rattle.board_spec.specs.Decode.{Bytes}
+use Rattle.board_spec.specs.RegisterNames.{isa, ide}
 
 -- the bytes that can be written: XBCS, and of the IDE function the low byte of the command and both
 -- bytes of IDETIM

@@ -6,7 +6,8 @@ ghost use Rattle.board_spec.specs.Setup.{Setup};
 ghost use Rattle.board_spec.specs.Bits.{is_bit};
 ghost use Rattle.board_spec.specs.RegisterTable.{reset_byte};
 ghost use Rattle.board_spec.specs.Registers.{changed_byte};
-ghost use Rattle.board_spec.specs.Decode.{Bytes, isa, ide};
+ghost use Rattle.board_spec.specs.Decode.{Bytes};
+ghost use Rattle.board_spec.specs.RegisterNames.{isa, ide};
 ghost use Rattle.xbus_select.specs.Piix.{IsPiixRegister, piix_register, IsPiixOf, is_selected};
 
 use crate::xbcs::{XBCS_RESET, selects_clock, selects_keyboard, xbcs_after};
