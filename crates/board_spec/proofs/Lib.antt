@@ -12,3 +12,5 @@ mod ExampleRuns
 mod ExampleTexts
 mod ExampleOrderRuns
 mod ExampleMapRuns
+pub mod StoredLaws
+mod SmramProofs
