@@ -14,3 +14,6 @@ mod ExampleOrderRuns
 mod ExampleMapRuns
 pub mod StoredLaws
 mod SmramProofs
+mod MapLawProofs
+mod OrderLawProofs
+mod GoesOnProofs
