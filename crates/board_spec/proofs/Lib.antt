@@ -17,3 +17,5 @@ mod SmramProofs
 mod MapLawProofs
 mod OrderLawProofs
 mod GoesOnProofs
+mod PartLemmas
+mod PartLawProofs
