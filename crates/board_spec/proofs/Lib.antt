@@ -19,3 +19,4 @@ mod OrderLawProofs
 mod GoesOnProofs
 mod PartLemmas
 mod PartLawProofs
+mod WideDramProofs
