@@ -1,6 +1,7 @@
 //! A sink in memory that takes few bytes a call.
 
-ghost use Rattle.std.specs.Prelude.{◌≡◌, ◌≢◌, ◌++◌, ◌<◌, ◌≤◌, ◌↔◌, IsErrOf, Some, length, take, min, IfOk, OnErr, Contains};
+ghost use Rattle.std.specs.Prelude.{◌≡◌, ◌≢◌, ◌++◌, ◌<◌, ◌≤◌, ◌↔◌, length, take, min, Contains};
+ghost use Rattle.std.specs.Prelude.{Some, IfOk, OnErr, IsErrOf};
 ghost use Rattle.board_base.specs.Counts.{next_call, next_fault};
 
 use crate::fault::PutFault;
@@ -41,7 +42,8 @@ impl Sink for SlowSink {
         ensures failing { self.new.inner.failing ≡ self.old.inner.failing }
         ensures fails { IsErrOf result PutFault.Failed ↔ Contains self.old.inner.failing.items self.new.inner.calls }
         ensures count { IfOk result (λ k. k ≡ min self.old.piece (length piece.now)) }
-        ensures takes { IfOk result (λ k. self.new.inner.bytes.items ≡ self.old.inner.bytes.items ++ take k piece.now) }
+        ensures takes { IfOk result (λ k. self.new.inner.bytes.items
+            ≡ self.old.inner.bytes.items ++ take k piece.now) }
         ensures refuses { OnErr result (self.new.inner.bytes.items ≡ self.old.inner.bytes.items) }
         ensures fault { IsErrOf result PutFault.Failed → self.new.inner.faults ≡ next_fault self.old.inner.faults }
         ensures no_fault { result ≢ Err PutFault.Failed → self.new.inner.faults ≡ self.old.inner.faults }
