@@ -26,10 +26,10 @@ is_map_byte setup reg =
     reg.dev == 0 && reg.fun == 0 && (is_within (pam 0).off fdhc.off reg.off || reg.off == smram.off)
     || is_same reg xbcs
     || is_some (card_at setup reg.dev) && reg.fun == 0
-        && (reg.off == (card_command reg.dev).off
-            || is_within (base_register reg.dev 0).off ((base_register reg.dev 5).off + 3) reg.off)
+    && (reg.off == (card_command reg.dev).off
+    || is_within (base_register reg.dev 0).off ((base_register reg.dev 5).off + 3) reg.off)
     || has_rom (card_at setup reg.dev) && reg.fun == 0
-        && is_within (expansion_rom reg.dev).off ((expansion_rom reg.dev).off + 3) reg.off
+    && is_within (expansion_rom reg.dev).off ((expansion_rom reg.dev).off + 3) reg.off
 
 -- the register so many bytes after another
 abbrev pub reg_after : Reg → ℕ → Reg
