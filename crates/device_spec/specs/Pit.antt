@@ -1,7 +1,8 @@
 -- The 8254 programmable interval timer, in the terms of its datasheet: three counters and the control word register.
 -- Each step gives the state after it from the state before; a read gives the byte that it answers beside it.
 -- This board's own choices are marked (choice).
-use Rattle.std.specs.Prelude.{ℕ, zero, suc, ◌+◌, ◌-◌, ◌*◌, ◌/◌, ◌%◌, ◌^◌, ◌≤◌, ◌==◌, Bool, true, false, not, ◌&&◌, ◌||◌, if◌then◌else◌, List, [], ◌∷◌, Option, Some, None, is_some}
+use Rattle.std.specs.Prelude.{ℕ, zero, suc, ◌+◌, ◌-◌, ◌*◌, ◌/◌, ◌%◌, ◌≤◌, ◌==◌, Bool, true, false, not, ◌&&◌, ◌||◌, if◌then◌else◌, List, [], ◌∷◌, Option, Some, None, is_some}
+use Rattle.device_spec.specs.Bits.{is_bit}
 
 -- ONE COUNTER
 
@@ -107,8 +108,17 @@ count_of_bytes mode notation low high =
 
 -- CONTROL WORDS: SC in bits 7:6, RW in bits 5:4, the mode in bits 3:1, BCD in bit 0
 
-abbrev pub is_bit : ℕ → ℕ → Bool
-is_bit byte k = byte / 2 ^ k % 2 == 1
+abbrev pub sc_field : ℕ → ℕ
+sc_field word = word / 64
+
+abbrev pub rw_field : ℕ → ℕ
+rw_field word = word / 16 % 4
+
+abbrev pub mode_field : ℕ → ℕ
+mode_field word = word / 2 % 8
+
+abbrev pub bcd_bit : ℕ → Bool
+bcd_bit word = is_bit word 0
 
 -- modes 6 and 7 are 2 and 3
 unfoldable pub mode_numbered : ℕ → Mode
@@ -184,7 +194,7 @@ element_bytes c = elim c.access [
 -- the status byte: OUT, null count, RW, mode, BCD from bit 7 down
 unfoldable pub status_byte : CounterState → ℕ
 status_byte c =
-    (if c.out then 128 else 0) + (if c.null_count then 64 else 0) + 16 * access_number c.access
+    (if c.out then 0x80 else 0) + (if c.null_count then 0x40 else 0) + 16 * access_number c.access
     + 2 * mode_number c.mode + notation_number c.notation
 
 -- a latch that is held stays
@@ -196,9 +206,9 @@ latch_status c = elim c.status_latch [ None ↦ record c { status_latch = Some (
 
 -- a control word for this counter: the counter latch command, or the counter anew
 unfoldable pub control : ℕ → CounterState → CounterState
-control word c = elim (access_numbered (word / 16 % 4)) [
+control word c = elim (access_numbered (rw_field word)) [
   | None ↦ latch_count c
-  | Some access ↦ programmed access (mode_numbered (word / 2 % 8)) (notation_of_bit (is_bit word 0))
+  | Some access ↦ programmed access (mode_numbered (mode_field word)) (notation_of_bit (bcd_bit word))
 ]
 
 -- a read-back command for this counter: bit 5 at 0 latches the count, bit 4 at 0 the status
@@ -398,17 +408,29 @@ reset_counter = programmed LowThenHigh SquareWave Binary
 unfoldable pub reset : PitState
 reset = record { counter0 = reset_counter; counter1 = reset_counter; counter2 = reset_counter; gate2 = false }
 
--- ports 40h to 43h: the three counters and the control word register
+-- the ports: the three counters and the control word register
+abbrev pub counter0_port : ℕ
+counter0_port = 0x40
+
+abbrev pub counter1_port : ℕ
+counter1_port = 0x41
+
+abbrev pub counter2_port : ℕ
+counter2_port = 0x42
+
+abbrev pub control_port : ℕ
+control_port = 0x43
+
 abbrev pub IsTimerPort : ℕ → Type 0
-IsTimerPort port = (64 ≤ port) × (port ≤ 67)
+IsTimerPort port = (counter0_port ≤ port) × (port ≤ control_port)
 
 -- a read of a port: the byte and the state after; the control word register reads FFh
 unfoldable pub port_read : ℕ → PitState → ℕ × PitState
 port_read port p =
-    if port == 64 then (let r = read p.counter0 in (r.0, record p { counter0 = r.1 }))
-    else (if port == 65 then (let r = read p.counter1 in (r.0, record p { counter1 = r.1 }))
-    else (if port == 66 then (let r = read p.counter2 in (r.0, record p { counter2 = r.1 }))
-    else (255, p)))
+    if port == counter0_port then (let r = read p.counter0 in (r.0, record p { counter0 = r.1 }))
+    else (if port == counter1_port then (let r = read p.counter1 in (r.0, record p { counter1 = r.1 }))
+    else (if port == counter2_port then (let r = read p.counter2 in (r.0, record p { counter2 = r.1 }))
+    else (0xFF, p)))
 
 -- a read-back command: bits 3 to 1 choose counters 2 to 0
 unfoldable pub read_back_chosen : ℕ → PitState → PitState
@@ -421,17 +443,17 @@ read_back_chosen word p = record p {
 -- a control word: SC 0 to 2 names the counter, SC 3 is read-back
 unfoldable pub write_control : ℕ → PitState → PitState
 write_control word p =
-    if word / 64 == 0 then record p { counter0 = control word p.counter0 }
-    else (if word / 64 == 1 then record p { counter1 = control word p.counter1 }
-    else (if word / 64 == 2 then record p { counter2 = control word p.counter2 }
+    if sc_field word == 0 then record p { counter0 = control word p.counter0 }
+    else (if sc_field word == 1 then record p { counter1 = control word p.counter1 }
+    else (if sc_field word == 2 then record p { counter2 = control word p.counter2 }
     else read_back_chosen word p))
 
 -- a write of a byte at a port
 unfoldable pub port_write : ℕ → ℕ → PitState → PitState
 port_write port byte p =
-    if port == 64 then record p { counter0 = write byte p.counter0 }
-    else (if port == 65 then record p { counter1 = write byte p.counter1 }
-    else (if port == 66 then record p { counter2 = write byte p.counter2 }
+    if port == counter0_port then record p { counter0 = write byte p.counter0 }
+    else (if port == counter1_port then record p { counter1 = write byte p.counter1 }
+    else (if port == counter2_port then record p { counter2 = write byte p.counter2 }
     else write_control byte p))
 
 -- gate 2 is a bit of port 61h
