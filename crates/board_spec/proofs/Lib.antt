@@ -20,3 +20,5 @@ mod GoesOnProofs
 mod PartLemmas
 mod PartLawProofs
 mod WideDramProofs
+mod DeviceAlone
+mod DeviceProofs
