@@ -13,3 +13,11 @@ mod ExampleRuns
 mod ExampleTexts
 mod ExampleOrderRuns
 mod ExampleMapRuns
+pub mod StoredLaws
+mod SmramProofs
+mod MapLawProofs
+mod OrderLawProofs
+mod GoesOnProofs
+mod PartLemmas
+mod PartLawProofs
+mod WideDramProofs
