@@ -12,3 +12,7 @@ mod ExampleRuns
 mod ExampleTexts
 mod ExampleOrderRuns
 mod ExampleMapRuns
+mod ExampleDeviceRuns
+mod ExampleDiskRuns
+mod ExampleWideRuns
+mod ExampleRomRuns

@@ -30,3 +30,7 @@ pub mod Examples
 pub mod ExampleLogs
 pub mod ExampleOrders
 pub mod ExampleMaps
+pub mod ExampleDevices
+pub mod ExampleDisk
+pub mod ExampleWide
+pub mod ExampleRoms
