@@ -8,6 +8,8 @@ mod memory_sink;
 mod moment;
 mod outside;
 mod pieces;
+mod slow_shelf;
+mod slow_sink;
 mod steps;
 mod target;
 
@@ -18,6 +20,8 @@ pub use memory_sink::{MemSink, SafeSink};
 pub use moment::Moment;
 pub use outside::{Gate, QuietGate, Shelf, Sink};
 pub use pieces::keep_name;
+pub use slow_shelf::SlowShelf;
+pub use slow_sink::SlowSink;
 pub use steps::Steps;
 pub use target::{Area, Denial, Dev, Reg, Target};
 

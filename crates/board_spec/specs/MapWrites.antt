@@ -14,20 +14,22 @@ use Rattle.board_spec.specs.RegisterNames.{pam, fdhc, smram, xbcs, card_command,
 use Rattle.board_spec.specs.RegisterTable.{reset_byte}
 use Rattle.board_spec.specs.Registers.{register_change, changed_byte}
 
--- the bytes of a card that the address map depends on: its command, its bases, and its expansion ROM's register
-abbrev pub is_card_map_byte : Option FittedCard → ℕ → Bool
-is_card_map_byte None off = false
-is_card_map_byte (Some card) off =
-    off == (card_command card.dev).off
-    || is_within (base_register card.dev 0).off ((base_register card.dev 5).off + 3) off
-    || is_some card.rom && is_within (expansion_rom card.dev).off ((expansion_rom card.dev).off + 3) off
+-- a card has an expansion ROM
+abbrev pub has_rom : Option FittedCard → Bool
+has_rom None = false
+has_rom (Some card) = is_some card.rom
 
--- the bytes that the address map depends on: PAM, DRB, FDHC and SMRAM of 00.0, XBCS of 01.0, and each card's
+-- the bytes that the address map depends on: PAM, DRB, FDHC and SMRAM of 00.0, XBCS of 01.0, the command and
+-- the bases of each card, and the register of each expansion ROM
 abbrev pub is_map_byte : Setup → Reg → Bool
 is_map_byte setup reg =
     reg.dev == 0 && reg.fun == 0 && (is_within (pam 0).off fdhc.off reg.off || reg.off == smram.off)
     || is_same reg xbcs
-    || reg.fun == 0 && is_card_map_byte (card_at setup reg.dev) reg.off
+    || is_some (card_at setup reg.dev) && reg.fun == 0
+    && (reg.off == (card_command reg.dev).off
+    || is_within (base_register reg.dev 0).off ((base_register reg.dev 5).off + 3) reg.off)
+    || has_rom (card_at setup reg.dev) && reg.fun == 0
+    && is_within (expansion_rom reg.dev).off ((expansion_rom reg.dev).off + 3) reg.off
 
 -- the register so many bytes after another
 abbrev pub reg_after : Reg → ℕ → Reg

@@ -4,7 +4,8 @@ use Rattle.std.proofs.lemmas.Bool.{cases_Bool, cases_eq, eq-eqb, ne_eqb}
 use Rattle.std.proofs.lemmas.Bool.Decides.{nat_tests}
 use Rattle.std.proofs.lemmas.Grind.{get_or-set_at}
 use Rattle.std.proofs.lemmas.List.{length-set}
-use Rattle.device_spec.specs.Clock.{CivilTime, Clock, bcd, number_byte, hour_byte, control_of, is_set, is_binary, is_24_hour, time_bytes, put, tell, byte_at, alarm_fits, alarm_rings, has_bit, control_reset, written, data_byte, control_written, update_interrupts, power_on, after_write, after_reset, after_moment, register_c, after_read}
+use Rattle.device_spec.specs.Bits.{is_bit}
+use Rattle.device_spec.specs.Clock.{CivilTime, Clock, bcd, number_byte, hour_byte, control_of, is_set, is_binary, is_24_hour, time_bytes, put, tell, byte_at, alarm_fits, alarm_rings, control_reset, written, data_byte, control_written, update_interrupts, power_on, after_write, after_reset, after_moment, register_c, after_read}
 use Rattle.cmos_clock.specs.Laws.{number_read, hour_read, Shows, IsShowable, ShowsTheMoment, HasAlarm, same_time_of_day, RingsAtItsTime, ReadingQuiets, ResetKeepsTheTime, MemoryKeeps, IsSound, StaysSound}
 
 -- two digits are read as they were written
@@ -138,7 +139,7 @@ pub rings_at_its_time : RingsAtItsTime
 rings_at_its_time clock time alarm size let_in now due set_to =
     rw let_in (ap (λ ringing. clock.alarm_flag || ringing) (rings clock time alarm size now due set_to))
 
-reset_bit : (b k : ℕ) → k < 8 → has_bit (control_reset b) k ≡ (if nat_le 3 k && nat_le k 6 then false else has_bit b k)
+reset_bit : (b k : ℕ) → k < 8 → is_bit (control_reset b) k ≡ (if nat_le 3 k && nat_le k 6 then false else is_bit b k)
 reset_bit b zero h = grind (arith, nat_tests)
 reset_bit b (suc zero) h = grind (arith, nat_tests)
 reset_bit b (suc (suc zero)) h = grind (arith, nat_tests)
@@ -155,7 +156,7 @@ reset_keeps_the_time clock size =
     let b = control_of clock in
     record {
       bytes = λ address other. get_or-set_other clock.bytes 11 address _ 0 other;
-      switches = λ k h. ap (λ byte. has_bit byte k) (get_or-set_same clock.bytes 11 (control_reset b) 0 there) ∙ reset_bit b k h;
+      switches = λ k h. ap (λ byte. is_bit byte k) (get_or-set_same clock.bytes 11 (control_reset b) 0 there) ∙ reset_bit b k h;
       index = refl;
       line = refl;
     }

@@ -1,6 +1,7 @@
 -- Laws of the clock's machine, in the words of someone who uses the clock.
 use Rattle.std.specs.Prelude.{◌≡◌, ◌≢◌, ℕ, ◌+◌, ◌*◌, ◌/◌, ◌%◌, ◌<◌, ◌≤◌, Bool, true, false, ◌&&◌, ◌||◌, ◌==◌, nat_le, if◌then◌else◌, length}
-use Rattle.device_spec.specs.Clock.{CivilTime, Clock, has_bit, worth, byte_at, control_of, is_set, is_binary, is_24_hour, number_byte, hour_byte, interrupt_line, read_value, after_read, after_write, after_moment, after_reset, second_at, second_alarm_at, minute_at, minute_alarm_at, hour_at, hour_alarm_at, weekday_at, day_at, month_at, year_at, register_a, register_b, register_c, update_interrupts, power_on}
+use Rattle.device_spec.specs.Bits.{is_bit}
+use Rattle.device_spec.specs.Clock.{CivilTime, Clock, worth, byte_at, control_of, is_set, is_binary, is_24_hour, number_byte, hour_byte, interrupt_line, read_value, after_read, after_write, after_moment, after_reset, second_at, second_alarm_at, minute_at, minute_alarm_at, hour_at, hour_alarm_at, weekday_at, day_at, month_at, year_at, register_a, register_b, register_c, update_interrupts, power_on}
 
 -- The time is shown
 
@@ -12,7 +13,7 @@ number_read control byte = if is_binary control then byte else byte / 16 * 10 + 
 abbrev pub hour_read : (control byte : ℕ) → ℕ
 hour_read control byte =
     if is_24_hour control then number_read control byte
-    else number_read control (byte % 128) % 12 + worth (has_bit byte 7) 12
+    else number_read control (byte % 128) % 12 + worth (is_bit byte 7) 12
 
 -- the bytes, read as register B has them written, are this time
 pub record Shows (clock : Clock) (time : CivilTime) : Type 0 where
@@ -77,8 +78,8 @@ ReadingQuiets = (clock : Clock) → clock.index ≡ register_c → IsQuiet (afte
 pub record IsReset (before after : Clock) : Type 0 where
   pub bytes : (address : ℕ) → address ≢ register_b → byte_at after address ≡ byte_at before address
   pub switches : (k : ℕ) → k < 8 →
-      has_bit (control_of after) k
-      ≡ (if nat_le 3 k && nat_le k 6 then false else has_bit (control_of before) k)
+      is_bit (control_of after) k
+      ≡ (if nat_le 3 k && nat_le k 6 then false else is_bit (control_of before) k)
   pub index : after.index ≡ 0
   pub line : interrupt_line after ≡ false
 

@@ -1,6 +1,7 @@
 -- The MC146818 real time clock (Motorola MC146818 datasheet, "Address Map", "Time, Calendar and Alarm
 -- Locations" and "Registers"), as a machine: what a read gives, and the state after each step.
-use Rattle.std.specs.Prelude.{ℕ, ◌+◌, ◌-◌, ◌*◌, ◌/◌, ◌%◌, ◌^◌, Bool, true, false, ◌&&◌, ◌||◌, ◌==◌, nat_le, if◌then◌else◌, List, [], ◌∷◌, replicate, slice_index, slice_set}
+use Rattle.std.specs.Prelude.{ℕ, ◌+◌, ◌-◌, ◌*◌, ◌/◌, ◌%◌, Bool, true, false, ◌&&◌, ◌||◌, ◌==◌, nat_le, if◌then◌else◌, List, [], ◌∷◌, replicate, slice_index, slice_set}
+use Rattle.device_spec.specs.Bits.{is_bit}
 
 -- a moment that the clock is told: the weekday 1 is Sunday
 pub record CivilTime : Type 0 where
@@ -19,15 +20,17 @@ pub record Clock : Type 0 where
   pub alarm_flag : Bool
   pub update_flag : Bool
 
--- bit k of a byte
-abbrev pub has_bit : ℕ → ℕ → Bool
-has_bit byte k = byte / 2 ^ k % 2 == 1
-
 -- a bit of this worth, where it is set
 abbrev pub worth : Bool → ℕ → ℕ
 worth set value = if set then value else 0
 
--- Addresses
+-- Ports and addresses
+
+abbrev pub index_port : ℕ
+index_port = 0x70
+
+abbrev pub data_port : ℕ
+data_port = 0x71
 
 abbrev pub second_at : ℕ
 second_at = 0
@@ -83,22 +86,22 @@ control_of clock = byte_at clock register_b
 
 -- SET: the time stands still
 abbrev pub is_set : ℕ → Bool
-is_set control = has_bit control 7
+is_set control = is_bit control 7
 
 -- AIE and UIE: the flag of the alarm, or of the update, raises the interrupt line
 abbrev pub alarm_interrupts : ℕ → Bool
-alarm_interrupts control = has_bit control 5
+alarm_interrupts control = is_bit control 5
 
 abbrev pub update_interrupts : ℕ → Bool
-update_interrupts control = has_bit control 4
+update_interrupts control = is_bit control 4
 
 -- DM: numbers are binary, and not binary-coded decimal
 abbrev pub is_binary : ℕ → Bool
-is_binary control = has_bit control 2
+is_binary control = is_bit control 2
 
 -- 24/12: hours are 0 to 23, and not 1 to 12 with a bit for the half of the day
 abbrev pub is_24_hour : ℕ → Bool
-is_24_hour control = has_bit control 1
+is_24_hour control = is_bit control 1
 
 -- The format of the time
 
@@ -172,7 +175,7 @@ data_byte clock =
 
 -- what a read of a port gives: port 70h cannot be read
 abbrev pub read_value : Clock → (port : ℕ) → ℕ
-read_value clock port = if port == 0x71 then data_byte clock else 0xFF
+read_value clock port = if port == data_port then data_byte clock else 0xFF
 
 -- The steps
 
@@ -183,7 +186,7 @@ without_flags clock = record clock { alarm_flag = false; update_flag = false }
 -- after a read: one of register C clears its flags
 abbrev pub after_read : Clock → (port : ℕ) → Clock
 after_read clock port =
-    if (port == 0x71) && (clock.index == register_c) then without_flags clock else clock
+    if (port == data_port) && (clock.index == register_c) then without_flags clock else clock
 
 -- register B as written: with SET, no update can raise the interrupt line
 abbrev pub control_written : ℕ → ℕ
@@ -206,8 +209,8 @@ store clock byte =
 -- after a write: port 70h takes the index from bits 6:0, and port 71h stores the byte
 abbrev pub after_write : Clock → (port byte : ℕ) → Clock
 after_write clock port byte =
-    if port == 0x70 then record clock { index = byte % 128 }
-    else if port == 0x71 then store clock byte
+    if port == index_port then record clock { index = byte % 128 }
+    else if port == data_port then store clock byte
     else clock
 
 -- a moment: the time is stored, the update's flag set, and the alarm's where the alarm rings

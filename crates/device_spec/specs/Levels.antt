@@ -1,5 +1,6 @@
 -- Sets of the eight levels of an interrupt controller, IR0 to IR7.
-use Rattle.std.specs.Prelude.{ℕ, Bool, false, List, [], ◌∷◌, ◌+◌, ◌*◌, ◌/◌, ◌%◌, ◌^◌, ◌==◌, ◌&&◌, ◌||◌, not, map, if◌then◌else◌, slice_index_or}
+use Rattle.std.specs.Prelude.{ℕ, Bool, false, List, [], ◌∷◌, ◌+◌, ◌*◌, ◌==◌, ◌&&◌, ◌||◌, not, map, if◌then◌else◌, slice_index_or}
+use Rattle.device_spec.specs.Bits.{is_bit}
 
 -- a set is the list of eight Booleans that say which levels it has
 abbrev pub Levels : Type 0
@@ -28,10 +29,6 @@ with_level set added = levels_where (λ level. (level == added) || has set level
 -- a set without one of its levels
 abbrev pub without_level : Levels → ℕ → Levels
 without_level set removed = levels_where (λ level. not (level == removed) && has set level)
-
--- whether bit k of a byte is 1
-abbrev pub is_bit : ℕ → ℕ → Bool
-is_bit byte k = byte / 2 ^ k % 2 == 1
 
 -- the set whose levels are the bits of a byte that are 1, and its byte
 abbrev pub levels_of_byte : ℕ → Levels

@@ -1,4 +1,5 @@
 pub mod Ata
+pub mod Bits
 pub mod Clock
 pub mod Elcr
 pub mod Levels

@@ -1,8 +1,9 @@
 -- The two 8259As of a PC: the master at ports 20h and 21h has the lines 0 to 7, the slave at A0h and
 -- A1h has the lines 8 to 15, and the slave's INT is input 2 of the master.
 use Rattle.std.specs.Prelude.{ℕ, Bool, true, false, Option, Some, None, List, ◌∷◌, ◌+◌, ◌/◌, ◌%◌, ◌==◌, is_some, take, drop, replicate, if◌then◌else◌}
-use Rattle.device_spec.specs.Levels.{Levels, with_level, without_level, is_bit, levels_of_byte}
-use Rattle.device_spec.specs.Pic.{Chip, chip_at_reset, chip_after_inputs, chip_after_write, byte_read, chip_after_read, interrupt, acknowledged, acknowledged_if}
+use Rattle.device_spec.specs.Bits.{is_bit}
+use Rattle.device_spec.specs.Levels.{Levels, with_level, without_level, levels_of_byte}
+use Rattle.device_spec.specs.Pic.{cascade, last_level, Chip, chip_at_reset, chip_after_inputs, chip_after_write, byte_read, chip_after_read, interrupt, acknowledged, acknowledged_if}
 
 pub record Pair : Type 0 where
   pub master : Chip
@@ -10,13 +11,13 @@ pub record Pair : Type 0 where
 
 -- Line 2 reaches no input: input 2 of the master is the slave's, and has a latch of its own.
 abbrev pub master_inputs : Levels → Levels
-master_inputs levels = without_level levels 2
+master_inputs levels = without_level levels cascade
 
 -- The slave's INT at 1 sets the latch of input 2; its fall does not clear it (this board's choice).
 abbrev pub settled : Pair → Pair
 settled pair =
     if is_some (interrupt pair.slave)
-    then record pair { master = record pair.master { latches = with_level pair.master.latches 2 } }
+    then record pair { master = record pair.master { latches = with_level pair.master.latches cascade } }
     else pair
 
 -- the pair after a reset, with the sixteen lines at these levels
@@ -80,16 +81,16 @@ pub record Answer : Type 0 where
   pub chip : ℕ
   pub is_spurious : Bool
 
--- A chip answers with its base plus the level, or spuriously with its base plus 7.
+-- A chip answers with its base plus the level, or spuriously with its base plus the last level.
 abbrev pub chip_answer : ℕ → Chip → Option ℕ → Answer
-chip_answer number chip None = record { vector = chip.base + 7; chip = number; is_spurious = true }
+chip_answer number chip None = record { vector = chip.base + last_level; chip = number; is_spurious = true }
 chip_answer number chip (Some level) = record { vector = chip.base + level; chip = number; is_spurious = false }
 
 -- The master answers, and the slave where the master's level is 2.
 abbrev pub answer_at : Pair → Option ℕ → Answer
 answer_at pair None = chip_answer 0 pair.master None
 answer_at pair (Some level) =
-    if level == 2 then chip_answer 1 pair.slave (interrupt pair.slave) else chip_answer 0 pair.master (Some level)
+    if level == cascade then chip_answer 1 pair.slave (interrupt pair.slave) else chip_answer 0 pair.master (Some level)
 
 unfoldable pub answer_of : Pair → Answer
 answer_of pair = answer_at pair (interrupt pair.master)
@@ -100,7 +101,7 @@ abbrev pub pair_acknowledged : Pair → ℕ → Pair
 pair_acknowledged pair level =
     record {
       master = acknowledged pair.master level;
-      slave = if level == 2 then acknowledged_if pair.slave (interrupt pair.slave) else pair.slave;
+      slave = if level == cascade then acknowledged_if pair.slave (interrupt pair.slave) else pair.slave;
     }
 
 abbrev pub pair_acknowledged_at : Pair → Option ℕ → Pair

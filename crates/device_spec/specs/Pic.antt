@@ -2,7 +2,16 @@
 -- board's choice.
 use Rattle.std.specs.Prelude.{ℕ, Bool, true, false, Option, Some, None, List, [], ◌∷◌, ◌++◌, ◌+◌, ◌*◌, ◌/◌, ◌%◌, ◌==◌, ◌&&◌, ◌||◌, not, take, drop, if◌then◌else◌}
 use Rattle.std.specs.List.{find, list_any}
-use Rattle.device_spec.specs.Levels.{Levels, all_levels, has, levels_where, no_levels, with_level, without_level, is_bit, levels_of_byte, byte_of_levels}
+use Rattle.device_spec.specs.Bits.{is_bit}
+use Rattle.device_spec.specs.Levels.{Levels, all_levels, has, levels_where, no_levels, with_level, without_level, levels_of_byte, byte_of_levels}
+
+-- the input of the master that the slave sits on
+abbrev pub cascade : ℕ
+cascade = 2
+
+-- the level that is lowest after a reset and after ICW1, and whose vector a spurious answer gives
+abbrev pub last_level : ℕ
+last_level = 7
 
 -- the initialisation command words that follow ICW1
 pub data Word : Type 0 where
@@ -10,7 +19,7 @@ pub data Word : Type 0 where
   Icw3 : Word
   Icw4 : Word
 
--- The state of a chip: whether a slave sits on its input 2; the base of its vectors; the sets of masked
+-- The state of a chip: whether a slave sits on it; the base of its vectors; the sets of masked
 -- levels (IMR), of levels in service (ISR) and of edges latched; the levels of its inputs and which of
 -- them are level triggered, as last given; the words still awaited, and whether a sequence of them was
 -- ever completed; the modes; the level of lowest priority; whether the next read polls; and whether a
@@ -50,7 +59,7 @@ chip_at_reset has_slave inputs =
       fully_nested = false;
       rotates = false;
       special_mask = false;
-      lowest = 7;
+      lowest = last_level;
       polls = false;
       reads_in_service = false;
     }
@@ -87,7 +96,7 @@ is_blocking chip level = has chip.in_service level && not (chip.special_mask && 
 -- In special fully nested mode a level that a slave sits on does not block itself.
 abbrev pub blocks_itself : Chip → ℕ → Bool
 blocks_itself chip level =
-    is_blocking chip level && not (chip.fully_nested && (chip.has_slave && (level == 2)))
+    is_blocking chip level && not (chip.fully_nested && (chip.has_slave && (level == cascade)))
 
 -- whether a level is pending and not masked
 abbrev pub is_requested : Chip → ℕ → Bool
@@ -147,7 +156,7 @@ chip_after_icw1 chip byte =
       fully_nested = false;
       rotates = false;
       special_mask = false;
-      lowest = 7;
+      lowest = last_level;
       polls = false;
       reads_in_service = false;
     }
@@ -193,6 +202,7 @@ chip_after_ocw3 chip byte =
       reads_in_service = if is_bit byte 1 then is_bit byte 0 else chip.reads_in_service;
     }
 
+-- the byte is ICW1 where bit 4 is 1, else OCW3 where bit 3 is 1, and else OCW2
 abbrev pub chip_after_even_write : Chip → ℕ → Chip
 chip_after_even_write chip byte =
     if is_bit byte 4 then chip_after_icw1 chip byte
@@ -231,7 +241,7 @@ abbrev pub byte_polled : Option ℕ → ℕ
 byte_polled None = 0
 byte_polled (Some level) = 0x80 + level
 
--- what a read of the even or the odd port gives
+-- what a read of the even or the odd port gives: the pending levels or those in service, and the mask
 unfoldable pub byte_read : Chip → Bool → ℕ
 byte_read chip is_odd =
     if chip.polls then byte_polled (interrupt chip)

@@ -1,7 +1,8 @@
 -- The 8254 programmable interval timer, in the terms of its datasheet: three counters and the control word register.
 -- Each step gives the state after it from the state before; a read gives the byte that it answers beside it.
 -- This board's own choices are marked (choice).
-use Rattle.std.specs.Prelude.{ℕ, zero, suc, ◌+◌, ◌-◌, ◌*◌, ◌/◌, ◌%◌, ◌^◌, ◌≤◌, ◌==◌, Bool, true, false, not, ◌&&◌, ◌||◌, if◌then◌else◌, List, [], ◌∷◌, Option, Some, None, is_some}
+use Rattle.std.specs.Prelude.{ℕ, zero, suc, ◌+◌, ◌-◌, ◌*◌, ◌/◌, ◌%◌, ◌≤◌, ◌==◌, Bool, true, false, not, ◌&&◌, ◌||◌, if◌then◌else◌, List, [], ◌∷◌, Option, Some, None, is_some}
+use Rattle.device_spec.specs.Bits.{is_bit}
 
 -- ONE COUNTER
 
@@ -54,8 +55,6 @@ pub record CounterState : Type 0 where
   pub expired : Bool
   -- the gate rose since the last pulse
   pub trigger : Bool
-  -- the level of the gate
-  pub gate : Bool
 
 -- THE BYTES OF A COUNT
 
@@ -109,8 +108,17 @@ count_of_bytes mode notation low high =
 
 -- CONTROL WORDS: SC in bits 7:6, RW in bits 5:4, the mode in bits 3:1, BCD in bit 0
 
-abbrev pub is_bit : ℕ → ℕ → Bool
-is_bit byte k = byte / 2 ^ k % 2 == 1
+abbrev pub sc_field : ℕ → ℕ
+sc_field word = word / 64
+
+abbrev pub rw_field : ℕ → ℕ
+rw_field word = word / 16 % 4
+
+abbrev pub mode_field : ℕ → ℕ
+mode_field word = word / 2 % 8
+
+abbrev pub bcd_bit : ℕ → Bool
+bcd_bit word = is_bit word 0
 
 -- modes 6 and 7 are 2 and 3
 unfoldable pub mode_numbered : ℕ → Mode
@@ -151,9 +159,9 @@ abbrev pub notation_number : Notation → ℕ
 notation_number Binary = 0
 notation_number Decimal = 1
 
--- a counter after a control word; its gate is not the word's
-unfoldable pub programmed : Access → Mode → Notation → Bool → CounterState
-programmed access mode notation gate = record {
+-- a counter after a control word
+unfoldable pub programmed : Access → Mode → Notation → CounterState
+programmed access mode notation = record {
   element = 0;
   count = None;
   in_use = 0;
@@ -171,7 +179,6 @@ programmed access mode notation gate = record {
   stopped = false;
   expired = false;
   trigger = false;
-  gate = gate;
 }
 
 -- LATCHES
@@ -187,7 +194,7 @@ element_bytes c = elim c.access [
 -- the status byte: OUT, null count, RW, mode, BCD from bit 7 down
 unfoldable pub status_byte : CounterState → ℕ
 status_byte c =
-    (if c.out then 128 else 0) + (if c.null_count then 64 else 0) + 16 * access_number c.access
+    (if c.out then 0x80 else 0) + (if c.null_count then 0x40 else 0) + 16 * access_number c.access
     + 2 * mode_number c.mode + notation_number c.notation
 
 -- a latch that is held stays
@@ -199,9 +206,9 @@ latch_status c = elim c.status_latch [ None ↦ record c { status_latch = Some (
 
 -- a control word for this counter: the counter latch command, or the counter anew
 unfoldable pub control : ℕ → CounterState → CounterState
-control word c = elim (access_numbered (word / 16 % 4)) [
+control word c = elim (access_numbered (rw_field word)) [
   | None ↦ latch_count c
-  | Some access ↦ programmed access (mode_numbered (word / 2 % 8)) (notation_of_bit (is_bit word 0)) c.gate
+  | Some access ↦ programmed access (mode_numbered (mode_field word)) (notation_of_bit (bcd_bit word))
 ]
 
 -- a read-back command for this counter: bit 5 at 0 latches the count, bit 4 at 0 the status
@@ -278,11 +285,18 @@ is_triggered_by_gate TerminalCount = false
 is_triggered_by_gate SoftwareStrobe = false
 is_triggered_by_gate _ = true
 
--- a rise sets the trigger, a fall sets OUT to 1 in modes 2 and 3
-unfoldable pub set_gate : Bool → CounterState → CounterState
-set_gate on c =
-    if on && not c.gate then record c { gate = true; trigger = c.trigger || is_triggered_by_gate c.mode }
-    else (if c.gate && not on then record c { gate = false; out = c.out || is_periodic c.mode }
+unfoldable pub gate_rises : CounterState → CounterState
+gate_rises c = record c { trigger = c.trigger || is_triggered_by_gate c.mode }
+
+-- a fall of the gate sets OUT to 1 in modes 2 and 3
+unfoldable pub gate_falls : CounterState → CounterState
+gate_falls c = record c { out = c.out || is_periodic c.mode }
+
+-- a counter whose gate goes from one level to another
+abbrev pub gate_goes : Bool → Bool → CounterState → CounterState
+gate_goes before now c =
+    if now && not before then gate_rises c
+    else (if before && not now then gate_falls c
     else c)
 
 -- ONE PULSE
@@ -339,73 +353,88 @@ count_to_strobe c =
     let d = count_down c in
     if d.element == 0 && not d.expired then record d { out = false; expired = true } else d
 
-abbrev pub is_counting : CounterState → Bool
-is_counting c = c.started && c.gate
+-- in modes 0, 2, 3 and 4 a counter counts while its gate is 1
+abbrev pub is_counting : Bool → CounterState → Bool
+is_counting gate c = c.started && gate
 
 -- the table of the modes; `triggered` says that the trigger is set and a count was written
-unfoldable pub pulse_by_mode : Mode → Bool → CounterState → CounterState
-pulse_by_mode TerminalCount triggered c =
+unfoldable pub pulse_by_mode : Mode → (gate triggered : Bool) → CounterState → CounterState
+pulse_by_mode TerminalCount gate triggered c =
     if c.stopped then c
     else (if c.load_asked then load c
-    else (if is_counting c then count_to_end c
+    else (if is_counting gate c then count_to_end c
     else c))
-pulse_by_mode OneShot triggered c =
+pulse_by_mode OneShot gate triggered c =
     if triggered then load_with false c
     else (if c.started then count_to_end c
     else c)
-pulse_by_mode RateGenerator triggered c =
+pulse_by_mode RateGenerator gate triggered c =
     if c.load_asked || triggered then load_with true c
-    else (if is_counting c then count_to_reload c
+    else (if is_counting gate c then count_to_reload c
     else c)
-pulse_by_mode SquareWave triggered c =
+pulse_by_mode SquareWave gate triggered c =
     if c.load_asked || triggered then load_with true c
-    else (if is_counting c then count_half c
+    else (if is_counting gate c then count_half c
     else c)
-pulse_by_mode SoftwareStrobe triggered c =
+pulse_by_mode SoftwareStrobe gate triggered c =
     let d = record c { out = true } in
     if d.load_asked then load d
-    else (if is_counting d then count_to_strobe d
+    else (if is_counting gate d then count_to_strobe d
     else d)
-pulse_by_mode HardwareStrobe triggered c =
+pulse_by_mode HardwareStrobe gate triggered c =
     let d = record c { out = true } in
     if triggered then load d
     else (if d.started then count_to_strobe d
     else d)
 
--- one pulse of a counter's clock: it consumes the trigger
-unfoldable pub pulse : CounterState → CounterState
-pulse c = pulse_by_mode c.mode (c.trigger && is_some c.count) (record c { trigger = false })
+-- one pulse of a counter's clock, with its gate at a level: it consumes the trigger
+unfoldable pub pulse : Bool → CounterState → CounterState
+pulse gate c = pulse_by_mode c.mode gate (c.trigger && is_some c.count) (record c { trigger = false })
 
 -- THE CHIP
 
+-- three counters and the level of gate 2; gates 0 and 1 are always 1
 pub record PitState : Type 0 where
   pub counter0 : CounterState
   pub counter1 : CounterState
   pub counter2 : CounterState
+  pub gate2 : Bool
 
 -- at reset a counter is as after a control word with RW 3, mode 3, binary
-abbrev pub reset_counter : Bool → CounterState
-reset_counter gate = programmed LowThenHigh SquareWave Binary gate
+abbrev pub reset_counter : CounterState
+reset_counter = programmed LowThenHigh SquareWave Binary
 
--- gates 0 and 1 are 1; gate 2 begins with 0
+-- gate 2 begins with 0
 unfoldable pub reset : PitState
-reset = record { counter0 = reset_counter true; counter1 = reset_counter true; counter2 = reset_counter false }
+reset = record { counter0 = reset_counter; counter1 = reset_counter; counter2 = reset_counter; gate2 = false }
 
--- ports 40h to 43h: the three counters and the control word register
+-- the ports: the three counters and the control word register
+abbrev pub counter0_port : ℕ
+counter0_port = 0x40
+
+abbrev pub counter1_port : ℕ
+counter1_port = 0x41
+
+abbrev pub counter2_port : ℕ
+counter2_port = 0x42
+
+abbrev pub control_port : ℕ
+control_port = 0x43
+
 abbrev pub IsTimerPort : ℕ → Type 0
-IsTimerPort port = (64 ≤ port) × (port ≤ 67)
+IsTimerPort port = (counter0_port ≤ port) × (port ≤ control_port)
 
 -- a read of a port: the byte and the state after; the control word register reads FFh
 unfoldable pub port_read : ℕ → PitState → ℕ × PitState
 port_read port p =
-    if port == 64 then (let r = read p.counter0 in (r.0, record p { counter0 = r.1 }))
-    else (if port == 65 then (let r = read p.counter1 in (r.0, record p { counter1 = r.1 }))
-    else (if port == 66 then (let r = read p.counter2 in (r.0, record p { counter2 = r.1 }))
-    else (255, p)))
+    if port == counter0_port then (let r = read p.counter0 in (r.0, record p { counter0 = r.1 }))
+    else (if port == counter1_port then (let r = read p.counter1 in (r.0, record p { counter1 = r.1 }))
+    else (if port == counter2_port then (let r = read p.counter2 in (r.0, record p { counter2 = r.1 }))
+    else (0xFF, p)))
 
 -- a read-back command: bits 3 to 1 choose counters 2 to 0
 unfoldable pub read_back_chosen : ℕ → PitState → PitState
-read_back_chosen word p = record {
+read_back_chosen word p = record p {
   counter0 = if is_bit word 1 then read_back word p.counter0 else p.counter0;
   counter1 = if is_bit word 2 then read_back word p.counter1 else p.counter1;
   counter2 = if is_bit word 3 then read_back word p.counter2 else p.counter2;
@@ -414,22 +443,22 @@ read_back_chosen word p = record {
 -- a control word: SC 0 to 2 names the counter, SC 3 is read-back
 unfoldable pub write_control : ℕ → PitState → PitState
 write_control word p =
-    if word / 64 == 0 then record p { counter0 = control word p.counter0 }
-    else (if word / 64 == 1 then record p { counter1 = control word p.counter1 }
-    else (if word / 64 == 2 then record p { counter2 = control word p.counter2 }
+    if sc_field word == 0 then record p { counter0 = control word p.counter0 }
+    else (if sc_field word == 1 then record p { counter1 = control word p.counter1 }
+    else (if sc_field word == 2 then record p { counter2 = control word p.counter2 }
     else read_back_chosen word p))
 
 -- a write of a byte at a port
 unfoldable pub port_write : ℕ → ℕ → PitState → PitState
 port_write port byte p =
-    if port == 64 then record p { counter0 = write byte p.counter0 }
-    else (if port == 65 then record p { counter1 = write byte p.counter1 }
-    else (if port == 66 then record p { counter2 = write byte p.counter2 }
+    if port == counter0_port then record p { counter0 = write byte p.counter0 }
+    else (if port == counter1_port then record p { counter1 = write byte p.counter1 }
+    else (if port == counter2_port then record p { counter2 = write byte p.counter2 }
     else write_control byte p))
 
 -- gate 2 is a bit of port 61h
 unfoldable pub set_gate2 : Bool → PitState → PitState
-set_gate2 on p = record p { counter2 = set_gate on p.counter2 }
+set_gate2 on p = record p { counter2 = gate_goes p.gate2 on p.counter2; gate2 = on }
 
 -- OUT of a counter
 unfoldable pub out_of : ℕ → PitState → Bool
@@ -438,7 +467,11 @@ out_of counter p =
 
 -- one pulse of the clock, which all three counters share
 unfoldable pub pulse_all : PitState → PitState
-pulse_all p = record { counter0 = pulse p.counter0; counter1 = pulse p.counter1; counter2 = pulse p.counter2 }
+pulse_all p = record p {
+  counter0 = pulse true p.counter0;
+  counter1 = pulse true p.counter1;
+  counter2 = pulse p.gate2 p.counter2;
+}
 
 -- n pulses are n single pulses
 unfoldable pub pulses : ℕ → PitState → PitState

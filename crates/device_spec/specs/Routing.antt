@@ -1,10 +1,8 @@
 -- The routing of the four PCI interrupt pins to the sixteen interrupt lines: the PIRQ route control
 -- registers of the PIIX3 (PIRQRC[A:D], offsets 60h to 63h of its function 0).
-use Rattle.std.specs.Prelude.{◌≡◌, ℕ, Bool, true, false, Option, Some, None, List, zero, suc, ◌-◌, ◌%◌, ◌==◌, ◌&&◌, ◌||◌, not, nat_lt, nat_le, if◌then◌else◌, bit_and, bit_or, slice_index, slice_index_or, slice_set}
-
--- a register byte after a write: the bits of the mask as written, the others as they were
-abbrev pub merged : ℕ → ℕ → ℕ → ℕ
-merged mask old byte = bit_or (bit_and byte mask) (bit_and old (255 - mask))
+use Rattle.std.specs.Prelude.{◌≡◌, ℕ, Bool, true, false, Option, Some, None, List, [], ◌∷◌, ◌-◌, ◌%◌, ◌==◌, ◌&&◌, ◌||◌, not, nat_lt, nat_le, if◌then◌else◌, slice_index, slice_index_or, slice_set}
+use Rattle.std.specs.List.{list_any}
+use Rattle.device_spec.specs.Bits.{merged}
 
 -- the bits of a route control register that can be written: 7, and 3 to 0
 abbrev pub route_mask : ℕ
@@ -48,16 +46,14 @@ abbrev pub drives : Option ℕ → Bool → ℕ → Bool
 drives None level line = false
 drives (Some routed) level line = level && (routed == line)
 
--- whether one of the first pins holds the line at 1
-unfoldable pub drives_among : ℕ → Routes → List Bool → ℕ → Bool
-drives_among zero routes pins line = false
-drives_among (suc k) routes pins line =
-    drives_among k routes pins line
-    || drives (line_of_route (slice_index routes k)) (slice_index_or pins k false) line
+-- the pins, PIRQA# to PIRQD#
+abbrev pub all_pins : List ℕ
+all_pins = 0 ∷ 1 ∷ 2 ∷ 3 ∷ []
 
 -- whether the pins, at these levels, hold the line at 1: where a pin that is routed to it is 1
-abbrev pub is_line_driven : Routes → List Bool → ℕ → Bool
-is_line_driven = drives_among 4
+unfoldable pub is_line_driven : Routes → List Bool → ℕ → Bool
+is_line_driven routes pins line =
+    list_any (λ pin. drives (line_of_route (slice_index routes pin)) (slice_index_or pins pin false) line) all_pins
 
 -- the law that no route reaches a reserved line
 abbrev pub ReservedLinesRest : Type 0

@@ -1,7 +1,8 @@
 -- What follows from the definitions of one chip and of the pair.
 use Rattle.std.specs.Prelude.{◌≡◌, ◌≢◌, ℕ, true, false, Some, List, ◌∷◌, ◌++◌, ◌+◌, ◌/◌, ◌%◌, ◌<◌, ◌&&◌, not, is_some, slice_index}
 use Rattle.std.specs.List.{list_all}
-use Rattle.device_spec.specs.Levels.{has, is_bit}
+use Rattle.device_spec.specs.Bits.{is_bit}
+use Rattle.device_spec.specs.Levels.{has}
 use Rattle.device_spec.specs.Pic.{Chip, priority_order, is_blocking, blocks_itself, is_requested, interrupt, chip_after_write}
 use Rattle.device_spec.specs.Pair.{Pair, settled, answer_of, pair_after_acknowledge}
 

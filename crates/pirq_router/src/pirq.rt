@@ -1,6 +1,6 @@
 //! The PIRQ route control registers, PIRQRC[A:D] of the PIIX3.
 ghost use Rattle.std.specs.Prelude.{◌≡◌, ℕ, ◌<◌, ◌-◌, if◌then◌else◌, replicate, IfSome, slice_index_or, false};
-ghost use Rattle.device_spec.specs.Routing.{route_byte, routes_after_write, route_reset, is_line_driven, is_route_offset, line_of_route, ReservedLinesRest};
+ghost use Rattle.device_spec.specs.Routing.{route_byte, routes_after_write, route_reset, is_line_driven, is_route_offset, line_of_route};
 
 use std::marker::Model;
 
@@ -107,11 +107,6 @@ fn line_of_route(byte: u8) -> Option<usize>
         _ => Some(line as usize),
     }
 }
-
-/// No pin can hold the lines 0, 1, 2, 8 and 13, whatever the registers.
-pub fn reserved_lines_rest()
-    ensures { ReservedLinesRest }
-{}
 
 #[cfg(test)]
 mod tests {

@@ -1,7 +1,8 @@
 -- A latched count stays until it is read.
 use Rattle.std.proofs.Common.{◌≡◌, ℕ, Bool, true, false, cond, List, [], ◌∷◌, length, Option, Some, None, refl, ap, sym, ◌∙◌}
-use Rattle.device_spec.specs.Pit.{Mode, TerminalCount, OneShot, RateGenerator, SquareWave, SoftwareStrobe, HardwareStrobe, Access, LowByte, HighByte, LowThenHigh, CounterState, is_bit, low_byte, high_byte, element_bytes, latch_count, latch_status, read_back, read, complete, take_low, take_byte, write, set_gate, load, count_down, count_to_end, count_to_reload, count_half, count_to_strobe, pulse_by_mode, pulse}
-use Rattle.pit_8254.specs.PitLaws.{Step, Write, Gate, Pulse, Latch, ReadBack, step_of, after, bytes_read, LatchedCountStays, LatchedCountIsRead}
+use Rattle.device_spec.specs.Bits.{is_bit}
+use Rattle.device_spec.specs.Pit.{Mode, TerminalCount, OneShot, RateGenerator, SquareWave, SoftwareStrobe, HardwareStrobe, Access, LowByte, HighByte, LowThenHigh, CounterState, low_byte, high_byte, element_bytes, latch_count, latch_status, read_back, read, complete, take_low, take_byte, write, gate_rises, gate_falls, load, count_down, count_to_end, count_to_reload, count_half, count_to_strobe, pulse_by_mode, pulse}
+use Rattle.pit_8254.specs.PitLaws.{Step, Write, GateRises, GateFalls, Pulse, Latch, ReadBack, step_of, after, bytes_read, LatchedCountStays, LatchedCountIsRead}
 
 -- WHAT LEAVES THE LATCH OF THE COUNT ALONE
 
@@ -26,9 +27,13 @@ write-latch : (byte : ℕ) (c : CounterState) → (write byte c).count_latch ≡
 unfolding write
 write-latch byte c = take_byte-by c.access c.low_written byte _ refl refl
 
-set_gate-latch : (on : Bool) (c : CounterState) → (set_gate on c).count_latch ≡ c.count_latch
-unfolding set_gate
-set_gate-latch on c = let h : SameLatch c (set_gate on c) = search (cond_same, untouched) in h.same
+gate_rises-latch : (c : CounterState) → (gate_rises c).count_latch ≡ c.count_latch
+unfolding gate_rises
+gate_rises-latch c = refl
+
+gate_falls-latch : (c : CounterState) → (gate_falls c).count_latch ≡ c.count_latch
+unfolding gate_falls
+gate_falls-latch c = refl
 
 load-by : (o : Option ℕ) (c : CounterState) → c.count ≡ o → (load c).count_latch ≡ c.count_latch
 unfolding load
@@ -54,18 +59,18 @@ count_to_strobe-latch : (c : CounterState) → (count_to_strobe c).count_latch �
 unfolding count_to_strobe count_down
 count_to_strobe-latch c = let h : SameLatch c (count_to_strobe c) = search (cond_same, untouched) in h.same
 
-pulse_by_mode-same : (mode : Mode) (triggered : Bool) (c : CounterState) → SameLatch c (pulse_by_mode mode triggered c)
+pulse_by_mode-same : (mode : Mode) (gate triggered : Bool) (c : CounterState) → SameLatch c (pulse_by_mode mode gate triggered c)
 unfolding pulse_by_mode
-pulse_by_mode-same TerminalCount t c = search (cond_same, untouched, load-latch, count_to_end-latch)
-pulse_by_mode-same OneShot t c = search (cond_same, untouched, load-latch, count_to_end-latch)
-pulse_by_mode-same RateGenerator t c = search (cond_same, untouched, load-latch, count_to_reload-latch)
-pulse_by_mode-same SquareWave t c = search (cond_same, untouched, load-latch, count_half-latch)
-pulse_by_mode-same SoftwareStrobe t c = search (cond_same, untouched, load-latch, count_to_strobe-latch)
-pulse_by_mode-same HardwareStrobe t c = search (cond_same, untouched, load-latch, count_to_strobe-latch)
+pulse_by_mode-same TerminalCount g t c = search (cond_same, untouched, load-latch, count_to_end-latch)
+pulse_by_mode-same OneShot g t c = search (cond_same, untouched, load-latch, count_to_end-latch)
+pulse_by_mode-same RateGenerator g t c = search (cond_same, untouched, load-latch, count_to_reload-latch)
+pulse_by_mode-same SquareWave g t c = search (cond_same, untouched, load-latch, count_half-latch)
+pulse_by_mode-same SoftwareStrobe g t c = search (cond_same, untouched, load-latch, count_to_strobe-latch)
+pulse_by_mode-same HardwareStrobe g t c = search (cond_same, untouched, load-latch, count_to_strobe-latch)
 
-pulse-latch : (c : CounterState) → (pulse c).count_latch ≡ c.count_latch
+pulse-latch : (gate : Bool) (c : CounterState) → (pulse gate c).count_latch ≡ c.count_latch
 unfolding pulse
-pulse-latch c = (pulse_by_mode-same c.mode _ _).same
+pulse-latch gate c = (pulse_by_mode-same c.mode gate _ _).same
 
 latch_status-by : (o : Option ℕ) (c : CounterState) → c.status_latch ≡ o → (latch_status c).count_latch ≡ c.count_latch
 unfolding latch_status
@@ -100,8 +105,9 @@ read_back-held word c b bs h =
 
 step_of-held : (s : Step) (c : CounterState) (b : ℕ) (bs : List ℕ) → c.count_latch ≡ b ∷ bs → (step_of s c).count_latch ≡ c.count_latch
 step_of-held (Write byte) c b bs h = write-latch byte c
-step_of-held (Gate on) c b bs h = set_gate-latch on c
-step_of-held Pulse c b bs h = pulse-latch c
+step_of-held GateRises c b bs h = gate_rises-latch c
+step_of-held GateFalls c b bs h = gate_falls-latch c
+step_of-held (Pulse gate) c b bs h = pulse-latch gate c
 step_of-held Latch c b bs h = ap (λ x. x.count_latch) (latch_count-held c b bs h)
 step_of-held (ReadBack word) c b bs h = read_back-held word c b bs h
 

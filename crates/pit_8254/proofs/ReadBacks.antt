@@ -37,7 +37,7 @@ latches-commute (b ∷ bs) None c h s =
 latches-commute (b ∷ bs) (Some status) c h s =
     rw (latch_count-held c b bs h, latch_status-held c status s) (sym (latch_count-held c b bs h))
 
-chip_equal : {a b c d e f : CounterState} → a ≡ d → b ≡ e → c ≡ f → ◌≡◌ {A = PitState} (record { counter0 = a; counter1 = b; counter2 = c }) (record { counter0 = d; counter1 = e; counter2 = f })
+chip_equal : {a b c d e f : CounterState} {g : Bool} → a ≡ d → b ≡ e → c ≡ f → ◌≡◌ {A = PitState} (record { counter0 = a; counter1 = b; counter2 = c; gate2 = g }) (record { counter0 = d; counter1 = e; counter2 = f; gate2 = g })
 chip_equal p q r = rw (p, q, r) refl
 
 chosen-commute : (chosen : Bool) (c : CounterState) → cond chosen (latch_status (latch_count c)) c ≡ cond chosen (latch_count (latch_status c)) c

@@ -1,21 +1,23 @@
 -- Laws of the 8254's machine.
 use Rattle.std.specs.Prelude.{◌≡◌, ℕ, zero, suc, ◌+◌, ◌<◌, ◌/◌, ◌%◌, Bool, true, false, if◌then◌else◌, List, [], ◌∷◌, None, length}
-use Rattle.device_spec.specs.Pit.{Mode, Notation, Binary, Decimal, is_periodic, count_of_bytes, low_byte, high_byte, CounterState, PitState, element_bytes, latch_count, read_back, read, write, set_gate, pulse, write_control, pulses, rises}
+use Rattle.device_spec.specs.Pit.{Mode, Notation, Binary, Decimal, is_periodic, count_of_bytes, low_byte, high_byte, CounterState, PitState, element_bytes, latch_count, read_back, read, write, gate_rises, gate_falls, pulse, write_control, pulses, rises}
 
 -- A LATCHED COUNT
 
 -- what may happen to a counter while a latched count waits to be read; a new control word would drop it
 pub data Step : Type 0 where
   Write : (byte : ℕ) → Step
-  Gate : (on : Bool) → Step
-  Pulse : Step
+  GateRises : Step
+  GateFalls : Step
+  Pulse : (gate : Bool) → Step
   Latch : Step
   ReadBack : (word : ℕ) → Step
 
 abbrev pub step_of : Step → CounterState → CounterState
 step_of (Write byte) c = write byte c
-step_of (Gate on) c = set_gate on c
-step_of Pulse c = pulse c
+step_of GateRises c = gate_rises c
+step_of GateFalls c = gate_falls c
+step_of (Pulse gate) c = pulse gate c
 step_of Latch c = latch_count c
 step_of (ReadBack word) c = read_back word c
 
@@ -85,20 +87,20 @@ PulsesAddUp =
     (n m : ℕ) (p : PitState)
     → (pulses (n + m) p ≡ pulses m (pulses n p)) × (rises (n + m) p ≡ rises n p + rises m (pulses n p))
 
--- n pulses of one counter
-unfoldable pub pulses_of : ℕ → CounterState → CounterState
-pulses_of zero c = c
-pulses_of (suc n) c = pulse (pulses_of n c)
+-- n pulses of one counter, with its gate at a level
+unfoldable pub pulses_of : Bool → ℕ → CounterState → CounterState
+pulses_of gate zero c = c
+pulses_of gate (suc n) c = pulse gate (pulses_of gate n c)
 
 -- the counters do not see one another
 abbrev pub CountersAreApart : Type 0
 CountersAreApart =
     (n : ℕ) (p : PitState)
     → pulses n p
-    ≡ record {
-      counter0 = pulses_of n p.counter0;
-      counter1 = pulses_of n p.counter1;
-      counter2 = pulses_of n p.counter2;
+    ≡ record p {
+      counter0 = pulses_of true n p.counter0;
+      counter1 = pulses_of true n p.counter1;
+      counter2 = pulses_of p.gate2 n p.counter2;
     }
 
 -- THE BYTES OF A COUNT

@@ -3,7 +3,7 @@ use Rattle.std.specs.Prelude.{◌≡◌, ℕ, ◌+◌, ◌-◌, ◌/◌, ◌<◌
 use Rattle.device_spec.specs.Pit.{Mode, RateGenerator, SquareWave, CounterState, first_element}
 use Rattle.pit_8254.specs.PitLaws.{pulses_of}
 
--- the counter stands directly after a load of n that left OUT at 1, n is the count written last, and the gate is 1
+-- the counter stands directly after a load of n that left OUT at 1, and n is the count written last
 pub record IsAtLoad (of_mode : Mode) (n : ℕ) (c : CounterState) : Type 0 where
   pub least : 2 ≤ n
   pub mode : c.mode ≡ of_mode
@@ -16,19 +16,18 @@ pub record IsAtLoad (of_mode : Mode) (n : ℕ) (c : CounterState) : Type 0 where
   pub trigger : c.trigger ≡ false
   pub started : c.started ≡ true
   pub expired : c.expired ≡ false
-  pub gate : c.gate ≡ true
 
--- n pulses are a period: OUT is 0 for the last of them
+-- with the gate at 1, n pulses are a period: OUT is 0 for the last of them
 pub record HasRatePeriod (n : ℕ) (c : CounterState) : Type 0 where
-  pub high : (k : ℕ) → k + 1 < n → (pulses_of k c).out ≡ true
-  pub low : (pulses_of (n - 1) c).out ≡ false
-  pub again : pulses_of n c ≡ c
+  pub high : (k : ℕ) → k + 1 < n → (pulses_of true k c).out ≡ true
+  pub low : (pulses_of true (n - 1) c).out ≡ false
+  pub again : pulses_of true n c ≡ c
 
--- n pulses are a period: OUT is 1 for half of them, the larger half of an odd n, and then 0
+-- with the gate at 1, n pulses are a period: OUT is 1 for half of them, the larger half of an odd n, and then 0
 pub record HasSquarePeriod (n : ℕ) (c : CounterState) : Type 0 where
-  pub high : (k : ℕ) → k < n - n / 2 → (pulses_of k c).out ≡ true
-  pub low : (k : ℕ) → n - n / 2 ≤ k → k < n → (pulses_of k c).out ≡ false
-  pub again : pulses_of n c ≡ c
+  pub high : (k : ℕ) → k < n - n / 2 → (pulses_of true k c).out ≡ true
+  pub low : (k : ℕ) → n - n / 2 ≤ k → k < n → (pulses_of true k c).out ≡ false
+  pub again : pulses_of true n c ≡ c
 
 abbrev pub RateRepeats : Type 0
 RateRepeats = (n : ℕ) (c : CounterState) → IsAtLoad RateGenerator n c → HasRatePeriod n c

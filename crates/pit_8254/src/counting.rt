@@ -1,5 +1,5 @@
 ghost use Rattle.std.specs.Prelude.{◌≡◌, Some};
-ghost use Rattle.device_spec.specs.Pit.{programmed, reset_counter, element_bytes, status_byte, latch_count, latch_status, control, read_back, read_live, read, count_of_bytes, complete, take_low, take_byte, write, set_gate};
+ghost use Rattle.device_spec.specs.Pit.{programmed, reset_counter, element_bytes, status_byte, latch_count, latch_status, control, read_back, read_live, read, count_of_bytes, complete, take_low, take_byte, write, gate_rises, gate_falls};
 ghost use Rattle.pit_8254.specs.View.{mode_view, access_view, notation_view, latch_view};
 
 mod pulsing;
@@ -28,7 +28,6 @@ pub struct Counter {
     stopped: bool,
     expired: bool,
     trigger: bool,
-    gate: bool,
 }
 
 impl Model for Counter {
@@ -55,20 +54,14 @@ impl Model for Counter {
       stopped = c.stopped;
       expired = c.expired;
       trigger = c.trigger;
-      gate = c.gate;
     } };
 }
 
 impl Counter {
-    /// A counter after a control word, with its gate at the level given.
+    /// A counter after a control word.
     #[tactic(auto, unfolding(device_spec::specs::Pit::programmed))]
-    pub fn programmed(
-        access: ByteAccess,
-        mode: CountingMode,
-        notation: CountNotation,
-        gate: bool,
-    ) -> Counter
-        ensures state { result ≡ programmed (access_view access) (mode_view mode) (notation_view notation) gate }
+    pub fn programmed(access: ByteAccess, mode: CountingMode, notation: CountNotation) -> Counter
+        ensures state { result ≡ programmed (access_view access) (mode_view mode) (notation_view notation) }
     {
         Counter {
             element: 0,
@@ -88,19 +81,17 @@ impl Counter {
             stopped: false,
             expired: false,
             trigger: false,
-            gate,
         }
     }
 
     /// A counter at reset: as after a control word with RW 3, mode 3, binary.
-    pub fn at_reset(gate: bool) -> Counter
-        ensures state { result ≡ reset_counter gate }
+    pub fn new() -> Counter
+        ensures state { result ≡ reset_counter }
     {
         Counter::programmed(
             ByteAccess::LowThenHigh,
             CountingMode::SquareWave,
             CountNotation::Binary,
-            gate,
         )
     }
 
@@ -123,7 +114,6 @@ impl Counter {
                     access,
                     CountingMode::of_word(word),
                     CountNotation::of_word(word),
-                    self.gate,
                 );
             }
         }
@@ -292,17 +282,19 @@ impl Counter {
         }
     }
 
-    /// Sets the gate: a rise is a trigger in modes 1, 2, 3 and 5, a fall sets OUT in modes 2 and 3.
-    #[tactic(auto, unfolding(device_spec::specs::Pit::set_gate))]
-    pub fn set_gate(&mut self, on: bool)
-        ensures state { self.new ≡ set_gate on self.old }
+    /// A rise of the gate, which is a trigger in modes 1, 2, 3 and 5.
+    #[tactic(auto, unfolding(device_spec::specs::Pit::gate_rises))]
+    pub fn gate_rises(&mut self)
+        ensures state { self.new ≡ gate_rises self.old }
     {
-        if on && !self.gate {
-            self.trigger = self.trigger || self.mode.is_triggered_by_gate();
-        }
-        if !on && self.gate {
-            self.out = self.out || self.mode.is_periodic();
-        }
-        self.gate = on;
+        self.trigger = self.trigger || self.mode.is_triggered_by_gate();
+    }
+
+    /// A fall of the gate, which sets OUT to 1 in modes 2 and 3.
+    #[tactic(auto, unfolding(device_spec::specs::Pit::gate_falls))]
+    pub fn gate_falls(&mut self)
+        ensures state { self.new ≡ gate_falls self.old }
+    {
+        self.out = self.out || self.mode.is_periodic();
     }
 }

@@ -1,6 +1,6 @@
 //! The 8254 programmable interval timer: three counters behind ports 40h to 43h.
 //!
-//! `specs/Pit.antt` describes the chip in the terms of its datasheet, and each call of a `Pit` is one step of it.
+//! `device_spec` describes the chip in the terms of its datasheet, and each call of a `Pit` is one step of it.
 #![tactic(auto)]
 
 ghost use Rattle.std.specs.Prelude.{◌≡◌, ◌+◌, ◌<◌, ◌≤◌};
@@ -31,6 +31,7 @@ pub struct Pit {
     counter0: Counter,
     counter1: Counter,
     counter2: Counter,
+    gate2: bool,
 }
 
 impl Model for Pit {
@@ -38,7 +39,7 @@ impl Model for Pit {
 
     ghost Value = { PitState };
 
-    ghost view = { λ p. record { counter0 = p.counter0; counter1 = p.counter1; counter2 = p.counter2 } };
+    ghost view = { λ p. record { counter0 = p.counter0; counter1 = p.counter1; counter2 = p.counter2; gate2 = p.gate2 } };
 }
 
 /// How often OUT of counter 0 rose, and the level that it has after.
@@ -55,9 +56,10 @@ impl Pit {
         ensures state { result ≡ reset }
     {
         Pit {
-            counter0: Counter::at_reset(true),
-            counter1: Counter::at_reset(true),
-            counter2: Counter::at_reset(false),
+            counter0: Counter::new(),
+            counter1: Counter::new(),
+            counter2: Counter::new(),
+            gate2: false,
         }
     }
 
@@ -131,7 +133,13 @@ impl Pit {
     pub fn gate2(&mut self, on: bool)
         ensures state { self.new ≡ set_gate2 on self.old }
     {
-        self.counter2.set_gate(on);
+        if on && !self.gate2 {
+            self.counter2.gate_rises();
+        }
+        if !on && self.gate2 {
+            self.counter2.gate_falls();
+        }
+        self.gate2 = on;
     }
 
     /// Runs the clock for `n` pulses.
@@ -160,9 +168,9 @@ impl Pit {
     fn pulse(&mut self)
         ensures state { self.new ≡ pulse_all self.old }
     {
-        self.counter0.pulse();
-        self.counter1.pulse();
-        self.counter2.pulse();
+        self.counter0.pulse(true);
+        self.counter1.pulse(true);
+        self.counter2.pulse(self.gate2);
     }
 
     /// The level of OUT of counter 0, 1 or 2.

@@ -1,5 +1,5 @@
 ghost use Rattle.std.specs.Prelude.{◌≡◌, ◌<◌, ◌≤◌, ◌%◌, ◌/◌, ◌+◌, ◌*◌, ◌^◌, option_map};
-ghost use Rattle.device_spec.specs.Pit.{mode_numbered, mode_number, is_periodic, first_element, is_terminal_count, is_triggered_by_gate, asks_for_load, access_numbered, access_number, notation_of_bit, notation_number, is_bit, byte_values, modulus, byte_value, byte_of_value, low_byte, high_byte, count_of_number};
+ghost use Rattle.device_spec.specs.Pit.{mode_numbered, mode_number, is_periodic, first_element, is_terminal_count, is_triggered_by_gate, asks_for_load, access_numbered, access_number, notation_of_bit, notation_number, rw_field, mode_field, bcd_bit, byte_values, modulus, byte_value, byte_of_value, low_byte, high_byte, count_of_number};
 ghost use Rattle.pit_8254.specs.View.{mode_view, access_view, notation_view};
 
 /// How a counter counts: modes 0 to 5 of the 8254 datasheet, in this order.
@@ -17,7 +17,7 @@ impl CountingMode {
     /// The mode of bits 3 to 1 of a control word, where 6 is mode 2 and 7 is mode 3.
     #[tactic(auto, unfolding(device_spec::specs::Pit::mode_numbered))]
     pub fn of_word(word: u8) -> CountingMode
-        ensures mode { mode_view result ≡ mode_numbered (word / 2 % 8) }
+        ensures mode { mode_view result ≡ mode_numbered (mode_field word) }
     {
         match word / 2 % 8 {
             0 => CountingMode::TerminalCount,
@@ -103,7 +103,7 @@ impl ByteAccess {
     /// The access of bits 5 and 4 of a control word; none for the counter latch command.
     #[tactic(auto, unfolding(device_spec::specs::Pit::access_numbered))]
     pub fn of_word(word: u8) -> Option<ByteAccess>
-        ensures access { option_map access_view result ≡ access_numbered (word / 16 % 4) }
+        ensures access { option_map access_view result ≡ access_numbered (rw_field word) }
     {
         match word / 16 % 4 {
             1 => Some(ByteAccess::LowByte),
@@ -136,7 +136,7 @@ pub enum CountNotation {
 impl CountNotation {
     /// The notation of bit 0 of a control word.
     pub fn of_word(word: u8) -> CountNotation
-        ensures notation { notation_view result ≡ notation_of_bit (is_bit word 0) }
+        ensures notation { notation_view result ≡ notation_of_bit (bcd_bit word) }
     {
         if word % 2 == 1 {
             CountNotation::Decimal

@@ -6,6 +6,9 @@ use Rattle.device_spec.specs.Ata.State.{Registers, is_lba}
 abbrev pub track_sectors : ℕ
 track_sectors = 63
 
+abbrev pub heads : ℕ
+heads = 16
+
 abbrev pub cylinder_sectors : ℕ
 cylinder_sectors = 1008
 
@@ -25,7 +28,7 @@ cylinder_of r = r.mid + 256 * r.high
 abbrev pub chs_of : Registers → Option ℕ
 chs_of r =
     if (r.low == 0) || nat_lt track_sectors r.low then None
-    else Some ((cylinder_of r * 16 + head_of r) * track_sectors + r.low - 1)
+    else Some ((cylinder_of r * heads + head_of r) * track_sectors + r.low - 1)
 
 -- the sector that the registers name, in the form that the device register says
 abbrev pub named : Registers → Option ℕ

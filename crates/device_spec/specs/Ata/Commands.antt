@@ -1,7 +1,7 @@
 -- What each command does, and what goes on as its words move.
 use Rattle.std.specs.Prelude.{ℕ, zero, suc, ◌+◌, ◌==◌, nat_lt, Bool, true, false, not, ◌&&◌, ◌||◌, if◌then◌else◌, [], Option, Some, None, Result, Ok, Err}
 use Rattle.device_spec.specs.Ata.State.{Medium, Registers, Ready, Failed, Reading, Writing, Identifying, Drive, sectors_of, is_bad, reset_drive, is_drive_one}
-use Rattle.device_spec.specs.Ata.Address.{named, naming, head_of, left_of, counted}
+use Rattle.device_spec.specs.Ata.Address.{track_sectors, named, naming, head_of, left_of, counted}
 
 -- The bits of the error register: ABRT, IDNF and UNC.
 abbrev pub aborted : ℕ
@@ -90,10 +90,10 @@ verified medium (suc left) drive = elim (readable medium (named drive.registers)
 abbrev pub diagnosed : Drive → Drive
 diagnosed drive = finished (reset_drive drive.registers)
 
--- Set geometry takes the default of 63 sectors and 16 heads alone.
+-- Set geometry takes the default alone: 63 sectors, and heads 0 to 15.
 abbrev pub geometry_set : Drive → Drive
 geometry_set drive =
-    if (drive.registers.count == 63) && (head_of drive.registers == 15) then finished drive else failed aborted drive
+    if (drive.registers.count == track_sectors) && (head_of drive.registers == 15) then finished drive else failed aborted drive
 
 -- the features that the drive takes, each with no effect
 abbrev pub is_feature : ℕ → Bool
@@ -107,18 +107,42 @@ feature_set drive = if is_feature drive.registers.features then finished drive e
 abbrev pub identifies : Drive → Drive
 identifies drive = record drive { activity = Identifying 0; request = true }
 
--- What a command does, by its code: READ SECTORS, WRITE SECTORS, READ VERIFY SECTORS, EXECUTE DEVICE
--- DIAGNOSTIC, INITIALIZE DEVICE PARAMETERS, FLUSH CACHE, IDENTIFY DEVICE and SET FEATURES.
+-- The codes of the commands.
+abbrev pub read_sectors : ℕ
+read_sectors = 0x20
+
+abbrev pub write_sectors : ℕ
+write_sectors = 0x30
+
+abbrev pub read_verify_sectors : ℕ
+read_verify_sectors = 0x40
+
+abbrev pub execute_device_diagnostic : ℕ
+execute_device_diagnostic = 0x90
+
+abbrev pub initialize_device_parameters : ℕ
+initialize_device_parameters = 0x91
+
+abbrev pub flush_cache : ℕ
+flush_cache = 0xE7
+
+abbrev pub identify_device : ℕ
+identify_device = 0xEC
+
+abbrev pub set_features : ℕ
+set_features = 0xEF
+
+-- What a command does, by its code.
 unfoldable pub obeyed : Medium → ℕ → Drive → Drive
 obeyed medium code drive =
-    if code == 0x20 then begin_read medium drive
-    else (if code == 0x30 then begin_write medium false drive
-    else (if code == 0x40 then verified medium (left_of drive.registers) drive
-    else (if code == 0x90 then diagnosed drive
-    else (if code == 0x91 then geometry_set drive
-    else (if code == 0xE7 then finished drive
-    else (if code == 0xEC then identifies drive
-    else (if code == 0xEF then feature_set drive
+    if code == read_sectors then begin_read medium drive
+    else (if code == write_sectors then begin_write medium false drive
+    else (if code == read_verify_sectors then verified medium (left_of drive.registers) drive
+    else (if code == execute_device_diagnostic then diagnosed drive
+    else (if code == initialize_device_parameters then geometry_set drive
+    else (if code == flush_cache then finished drive
+    else (if code == identify_device then identifies drive
+    else (if code == set_features then feature_set drive
     else failed aborted drive)))))))
 
 -- A command that is taken ends what was under way, its request and its error.
@@ -127,7 +151,7 @@ begun drive = record { registers = record drive.registers { error = 0x00 }; acti
 
 -- SRST keeps every command back, and drive 1, which is not there, all but the diagnosis of both drives.
 abbrev pub is_ignored : Registers → ℕ → Bool
-is_ignored r code = r.srst || (is_drive_one r && not (code == 0x90))
+is_ignored r code = r.srst || (is_drive_one r && not (code == execute_device_diagnostic))
 
 unfoldable pub commanded : Medium → ℕ → Drive → Drive
 commanded medium code drive =

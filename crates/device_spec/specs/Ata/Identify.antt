@@ -1,13 +1,14 @@
 -- The words of IDENTIFY DEVICE for a disk of n sectors.
 use Rattle.std.specs.Prelude.{ℕ, ◌+◌, ◌-◌, ◌*◌, ◌/◌, ◌%◌, ◌==◌, nat_le, ◌&&◌, ◌||◌, min, max, if◌then◌else◌, List, slice_index_or, codes}
+use Rattle.device_spec.specs.Ata.Address.{track_sectors, heads, cylinder_sectors}
 
 -- the cylinders of the default geometry of 16 heads and 63 sectors
 abbrev pub cylinders_of : ℕ → ℕ
-cylinders_of n = max 1 (n / 1008)
+cylinders_of n = max 1 (n / cylinder_sectors)
 
 -- the sectors that this geometry reaches
 abbrev pub chs_sectors : ℕ → ℕ
-chs_sectors n = min (cylinders_of n * 1008) n
+chs_sectors n = min (cylinders_of n * cylinder_sectors) n
 
 -- a word of a text that is padded with spaces: its first character is in the high byte
 abbrev pub text_word : List ℕ → ℕ → ℕ
@@ -18,8 +19,8 @@ abbrev pub number_word : ℕ → ℕ → ℕ
 number_word n k =
     if k == 0 then 0x0040
     else (if (k == 1) || (k == 54) then cylinders_of n
-    else (if (k == 3) || (k == 55) then 16
-    else (if (k == 6) || (k == 56) then 63
+    else (if (k == 3) || (k == 55) then heads
+    else (if (k == 6) || (k == 56) then track_sectors
     else (if k == 49 then 0x0200
     else (if k == 53 then 0x0001
     else (if k == 57 then chs_sectors n % 65536

@@ -1,5 +1,6 @@
 -- What an ATA disk keeps, and what its status register and its interrupt line show of it.
-use Rattle.std.specs.Prelude.{ℕ, ◌+◌, ◌*◌, ◌/◌, ◌%◌, ◌^◌, ◌==◌, Bool, true, false, not, ◌&&◌, if◌then◌else◌, List, ◌++◌, length, take, drop, replicate, slice_index, slice_index_or, slice_set, bit_or, nat_lt, nat_le}
+use Rattle.std.specs.Prelude.{ℕ, ◌+◌, ◌*◌, ◌/◌, ◌%◌, ◌==◌, Bool, true, false, not, ◌&&◌, if◌then◌else◌, List, ◌++◌, length, take, drop, replicate, slice_index, slice_index_or, slice_set, bit_or, nat_lt, nat_le}
+use Rattle.device_spec.specs.Bits.{is_bit}
 
 -- The sectors of 512 bytes: the bytes of all, with sector s from place 512 * s on, and for each
 -- sector whether it is bad.
@@ -39,10 +40,6 @@ pub record Drive : Type 0 where
 pub record Disk : Type 0 where
   pub medium : Medium
   pub drive : Drive
-
--- bit k of a byte
-abbrev pub is_bit : ℕ → ℕ → Bool
-is_bit n k = n / 2 ^ k % 2 == 1
 
 -- how many sectors there are
 abbrev pub sectors_of : Medium → ℕ
@@ -121,21 +118,35 @@ power_on bytes = record {
 }
 
 -- the status of what is under way: DRDY and DSC, with ERR after an error, or with DRQ while words are to move
-abbrev pub activity_status : Activity → ℕ
-activity_status Ready = 0x50
-activity_status Failed = 0x51
-activity_status (Reading sector word) = 0x58
-activity_status (Writing sector bytes) = 0x58
-activity_status (Identifying word) = 0x58
+abbrev pub ready_status : ℕ
+ready_status = 0x50
 
--- the status: 0 for drive 1, BSY while SRST holds the disk
+abbrev pub error_status : ℕ
+error_status = 0x51
+
+abbrev pub data_status : ℕ
+data_status = 0x58
+
+abbrev pub activity_status : Activity → ℕ
+activity_status Ready = ready_status
+activity_status Failed = error_status
+activity_status (Reading sector word) = data_status
+activity_status (Writing sector bytes) = data_status
+activity_status (Identifying word) = data_status
+
+-- BSY alone
+abbrev pub busy_status : ℕ
+busy_status = 0x80
+
+-- the status: 0 for drive 1, and busy while SRST holds the disk
 abbrev pub status_of : Drive → ℕ
 status_of drive =
-    if is_drive_one drive.registers then 0x00 else (if drive.registers.srst then 0x80 else activity_status drive.activity)
+    if is_drive_one drive.registers then 0x00
+    else (if drive.registers.srst then busy_status else activity_status drive.activity)
 
--- whether DRQ, bit 3 of the status, is 1
+-- whether DRQ of the status is 1
 abbrev pub is_drq : Drive → Bool
-is_drq drive = status_of drive == 0x58
+is_drq drive = status_of drive == data_status
 
 -- the interrupt line: a request that nIEN does not keep back and that is not drive 1's
 abbrev pub is_interrupt : Drive → Bool
