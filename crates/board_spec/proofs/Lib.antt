@@ -21,3 +21,7 @@ mod GoesOnProofs
 mod PartLemmas
 mod PartLawProofs
 mod WideDramProofs
+mod ExampleDeviceRuns
+mod ExampleDiskRuns
+mod ExampleWideRuns
+mod ExampleRomRuns
