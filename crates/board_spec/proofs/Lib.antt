@@ -1,6 +1,7 @@
 pub mod MergedLemmas
 pub mod StoreLemmas
 pub mod TableLemmas
+mod WideLemmas
 pub mod MapByteLaws
 pub mod MapWriteLaws
 mod FlatMapLaws
@@ -22,3 +23,10 @@ mod PartLawProofs
 mod WideDramProofs
 mod DeviceAlone
 mod DeviceProofs
+mod ExampleDeviceRuns
+mod ExampleDiskRuns
+mod ExampleWideRuns
+mod ExampleRomRuns
+mod PairAgain
+mod LineProofs
+mod PairProofs

@@ -37,3 +37,7 @@ pub mod Examples
 pub mod ExampleLogs
 pub mod ExampleOrders
 pub mod ExampleMaps
+pub mod ExampleDevices
+pub mod ExampleDisk
+pub mod ExampleWide
+pub mod ExampleRoms
