@@ -27,6 +27,5 @@ mod ExampleDeviceRuns
 mod ExampleDiskRuns
 mod ExampleWideRuns
 mod ExampleRomRuns
-mod PairAgain
 mod LineProofs
 mod PairProofs

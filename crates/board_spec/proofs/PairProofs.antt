@@ -6,6 +6,8 @@ use Rattle.device_spec.specs.Elcr.{Triggers}
 use Rattle.device_spec.specs.Pit.{PitState, out_of, pulses, pulse_all, reset as timer_at_reset}
 use Rattle.device_spec.specs.Pair.{Pair, pair_at_reset, pair_after_lines, levels_at_power_on}
 use Rattle.device_spec.specs.Levels.{levels_where}
+use Rattle.device_spec.specs.PicLaws.{SameLevelsAgain}
+use Rattle.device_spec.specs.PitLaws.{PulsesAddUp}
 use Rattle.board_spec.specs.declared.event.Event.{Event}
 use Rattle.board_spec.specs.declared.event.Event.TheVariants.{Memory, Wide, Port, Look as LookAt, Ack, Pulses, Time, Wire, Line, BadSector}
 use Rattle.board_spec.specs.declared.event.Reply.{Reply}
@@ -20,15 +22,9 @@ use Rattle.device_spec.specs.Ata.Steps.{after_reset as disk_after_reset}
 use Rattle.board_spec.specs.Interrupts.{routes_of, levels_with, levels_of, elcr_of, pair_pulsed, pair_stepped, pair_reset_or_after, pair_after, pair_of}
 use Rattle.board_spec.specs.DeviceLaws.{ActsOnPair, PairHasSeen, PairStays, IsOfMemory, SameDevices, MemoryLeavesDevices, SamePulses, PulsesAdd}
 use Rattle.board_spec.proofs.DeviceAlone.{triggers-alone, pair-alone, SameDrivers, levels-same}
-use Rattle.board_spec.proofs.PairAgain.{same-levels}
 use Rattle.board_spec.proofs.LineProofs.{first_levels}
 
 -- ---- pulses
-
-pulses-add : (n m : ℕ) (timer : PitState) → pulses (n + m) timer ≡ pulses m (pulses n timer)
-unfolding pulses
-pulses-add n zero timer = rw (add-zero n) refl
-pulses-add n (suc m) timer = rw (add-suc n m) (ap pulse_all (pulses-add n m timer))
 
 -- what pulses leave
 timer-pulsed : (before : List Entry) (entry : Entry) (count : ℕ) → entry.event ≡ Pulses count → timer_of (entry ∷ before) ≡ pulses count (timer_of before)
@@ -76,29 +72,29 @@ unfolding pair_of
 pair-pulsed setup before entry count is = ap (λ (event : Event). pair_stepped setup entry before event (pair_of setup before)) is
 
 pulsed-on :
-    (setup : Setup) (before : List Entry) (first : Entry) (n m : ℕ) (pair : Pair) → first.event ≡ Pulses n →
+    (add : PulsesAddUp) (setup : Setup) (before : List Entry) (first : Entry) (n m : ℕ) (pair : Pair) → first.event ≡ Pulses n →
     pair_pulsed setup (first ∷ before) m (pair_pulsed setup before n pair) ≡ pair_pulsed setup before (n + m) pair
 unfolding pair_pulsed
-pulsed-on setup before first n zero pair is = rw (add-zero n) refl
-pulsed-on setup before first n (suc m) pair is =
+pulsed-on add setup before first n zero pair is = rw (add-zero n) refl
+pulsed-on add setup before first n (suc m) pair is =
     let timer : pulses (suc m) (timer_of (first ∷ before)) ≡ pulses (n + suc m) (timer_of before) =
-        ap (pulses (suc m)) (timer-pulsed before first n is) ∙ sym (pulses-add n (suc m) (timer_of before)) in
+        ap (pulses (suc m)) (timer-pulsed before first n is) ∙ sym (add n (suc m) (timer_of before)).0 in
     let levels : levels_with setup (first ∷ before) (pulses (suc m) (timer_of (first ∷ before))) ≡ levels_with setup before (pulses (n + suc m) (timer_of before)) =
         ap (levels_with setup (first ∷ before)) timer ∙ levels-pulsed setup before first n (pulses (n + suc m) (timer_of before)) is in
     let elcr : elcr_of (first ∷ before) ≡ elcr_of before = elcr-same (first ∷ before) before (triggers-pulsed before first n is) in
     let count : n + suc m ≡ suc (n + m) = add-suc n m in
-    ap (λ (p : Pair). pair_after_lines p (levels_with setup (first ∷ before) (pulses (suc m) (timer_of (first ∷ before)))) (elcr_of (first ∷ before))) (pulsed-on setup before first n m pair is)
+    ap (λ (p : Pair). pair_after_lines p (levels_with setup (first ∷ before) (pulses (suc m) (timer_of (first ∷ before)))) (elcr_of (first ∷ before))) (pulsed-on add setup before first n m pair is)
     ∙ ap (λ (l : List Bool). pair_after_lines (pair_pulsed setup before (n + m) pair) l (elcr_of (first ∷ before))) levels
     ∙ ap (pair_after_lines (pair_pulsed setup before (n + m) pair) (levels_with setup before (pulses (n + suc m) (timer_of before)))) elcr
     ∙ ap (λ (k : ℕ). pair_after_lines (pair_pulsed setup before (n + m) pair) (levels_with setup before (pulses k (timer_of before))) (elcr_of before)) count
     ∙ sym (ap (λ (k : ℕ). pair_pulsed setup before k pair) count)
 
-pub pulses_add : PulsesAdd
-pulses_add setup before n m first second whole is_first is_second is_whole =
+pub pulses_add : PulsesAddUp → PulsesAdd
+pulses_add add setup before n m first second whole is_first is_second is_whole =
     let timer : timer_of (second ∷ first ∷ before) ≡ timer_of (whole ∷ before) =
         timer-pulsed (first ∷ before) second m is_second
         ∙ ap (pulses m) (timer-pulsed before first n is_first)
-        ∙ sym (pulses-add n m (timer_of before))
+        ∙ sym (add n m (timer_of before)).0
         ∙ sym (timer-pulsed before whole (n + m) is_whole) in
     record {
       timer = timer;
@@ -110,7 +106,7 @@ pulses_add setup before n m first second whole is_first is_second is_whole =
       pair =
           pair-pulsed setup (first ∷ before) second m is_second
           ∙ ap (pair_pulsed setup (first ∷ before) m) (pair-pulsed setup before first n is_first)
-          ∙ pulsed-on setup before first n m (pair_of setup before) is_first
+          ∙ pulsed-on add setup before first n m (pair_of setup before) is_first
           ∙ sym (pair-pulsed setup before whole (n + m) is_whole);
     }
 
@@ -119,34 +115,34 @@ pulses_add setup before n m first second whole is_first is_second is_whole =
 abbrev HasSeen : Setup → List Entry → Pair → Type 0
 HasSeen setup history pair = pair_after_lines pair (levels_of setup history) (elcr_of history) ≡ pair
 
-seen_pulsed : (setup : Setup) (before : List Entry) (entry : Entry) (count : ℕ) → entry.event ≡ Pulses count → HasSeen setup before (pair_of setup before) → HasSeen setup (entry ∷ before) (pair_pulsed setup before count (pair_of setup before))
+seen_pulsed : (again : SameLevelsAgain) (setup : Setup) (before : List Entry) (entry : Entry) (count : ℕ) → entry.event ≡ Pulses count → HasSeen setup before (pair_of setup before) → HasSeen setup (entry ∷ before) (pair_pulsed setup before count (pair_of setup before))
 unfolding pair_pulsed pulses
-seen_pulsed setup before entry zero is seen =
+seen_pulsed again setup before entry zero is seen =
     ap (λ (l : List Bool). pair_after_lines (pair_of setup before) l (elcr_of (entry ∷ before))) (levels-after setup before entry 0 is)
     ∙ ap (pair_after_lines (pair_of setup before) (levels_of setup before)) (elcr-same (entry ∷ before) before (triggers-pulsed before entry 0 is))
     ∙ seen
-seen_pulsed setup before entry (suc k) is seen =
+seen_pulsed again setup before entry (suc k) is seen =
     let pair : Pair = pair_pulsed setup before k (pair_of setup before) in
     let levels : List Bool = levels_with setup before (pulses (suc k) (timer_of before)) in
     ap (λ (l : List Bool). pair_after_lines (pair_after_lines pair levels (elcr_of before)) l (elcr_of (entry ∷ before))) (levels-after setup before entry (suc k) is)
     ∙ ap (pair_after_lines (pair_after_lines pair levels (elcr_of before)) levels) (elcr-same (entry ∷ before) before (triggers-pulsed before entry (suc k) is))
-    ∙ same-levels pair levels (elcr_of before)
+    ∙ again pair levels (elcr_of before)
 
 seen_stepped :
-    (setup : Setup) (before : List Entry) (entry : Entry) (event : Event) → entry.event ≡ event → HasSeen setup before (pair_of setup before) →
+    (again : SameLevelsAgain) (setup : Setup) (before : List Entry) (entry : Entry) (event : Event) → entry.event ≡ event → HasSeen setup before (pair_of setup before) →
     HasSeen setup (entry ∷ before) (pair_stepped setup entry before event (pair_of setup before))
-seen_stepped setup before entry (Pulses count) is seen = seen_pulsed setup before entry count is seen
-seen_stepped setup before entry event is seen =
-    same-levels (pair_reset_or_after setup entry before (pair_of setup before)) (levels_of setup (entry ∷ before)) (elcr_of (entry ∷ before))
+seen_stepped again setup before entry (Pulses count) is seen = seen_pulsed again setup before entry count is seen
+seen_stepped again setup before entry event is seen =
+    again (pair_reset_or_after setup entry before (pair_of setup before)) (levels_of setup (entry ∷ before)) (elcr_of (entry ∷ before))
 
 first_seen : pair_after_lines (pair_at_reset levels_at_power_on) levels_at_power_on (elcr_of []) ≡ pair_at_reset levels_at_power_on
 unfolding levels_where triggers_of
 first_seen = refl
 
-pub pair_has_seen : PairHasSeen
+pub pair_has_seen : SameLevelsAgain → PairHasSeen
 unfolding pair_of
-pair_has_seen setup [] = ap (λ (l : List Bool). pair_after_lines (pair_at_reset levels_at_power_on) l (elcr_of [])) (first_levels setup) ∙ first_seen
-pair_has_seen setup (entry ∷ before) = seen_stepped setup before entry entry.event refl (pair_has_seen setup before)
+pair_has_seen again setup [] = ap (λ (l : List Bool). pair_after_lines (pair_at_reset levels_at_power_on) l (elcr_of [])) (first_levels setup) ∙ first_seen
+pair_has_seen again setup (entry ∷ before) = seen_stepped again setup before entry entry.event refl (pair_has_seen again setup before)
 
 -- ---- an entry that moves no line
 
@@ -164,9 +160,9 @@ unfolding triggers_of
 triggers-stay before entry soft apart =
     cond-false (is_hard_reset before entry.event) _ _ soft ∙ triggers-other entry.event entry.reply (triggers_of before) apart
 
-pub pair_stays : PairStays
+pub pair_stays : SameLevelsAgain → PairStays
 unfolding pair_of
-pair_stays setup before entry soft apart lines =
+pair_stays again setup before entry soft apart lines =
     let pair : Pair = pair_of setup before in
     let elcr : elcr_of (entry ∷ before) ≡ elcr_of before = elcr-same (entry ∷ before) before (triggers-stay before entry soft apart) in
     stepped-other setup before entry entry.event pair apart
@@ -174,4 +170,4 @@ pair_stays setup before entry soft apart lines =
     (cond-false (is_hard_reset before entry.event) _ _ soft ∙ pair-alone entry.event entry.reply pair apart)
     ∙ ap (λ (l : List Bool). pair_after_lines pair l (elcr_of (entry ∷ before))) lines
     ∙ ap (pair_after_lines pair (levels_of setup before)) elcr
-    ∙ pair_has_seen setup before
+    ∙ pair_has_seen again setup before

@@ -2,6 +2,8 @@
 
 ghost use Rattle.board_spec.specs.DeviceLaws.{FirstLevels, LinesStay, MemoryLeavesDevices, OthersStay, PairHasSeen, PairStays, PulsesAdd, UndrivenLines};
 
+use device_spec::laws::{pulses_add_up, reserved_lines_rest, same_levels_again};
+
 /// Without a hard reset an entry changes only the device that its reply names.
 pub fn law_others_stay()
     ensures stay { OthersStay }
@@ -12,13 +14,17 @@ pub fn law_lines()
     ensures stay { LinesStay }
     ensures undriven { UndrivenLines }
     ensures first { FirstLevels }
-{}
+{
+    reserved_lines_rest();
+}
 
 /// The 8259A pair has always seen the lines as they stand, so what moves no line leaves it.
 pub fn law_pair()
     ensures seen { PairHasSeen }
     ensures stays { PairStays }
-{}
+{
+    same_levels_again();
+}
 
 /// Memory accesses and looks leave every device.
 pub fn law_memory_leaves_devices()
@@ -28,4 +34,6 @@ pub fn law_memory_leaves_devices()
 /// Pulses add up.
 pub fn law_pulses()
     ensures add { PulsesAdd }
-{}
+{
+    pulses_add_up();
+}
