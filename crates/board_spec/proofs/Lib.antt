@@ -29,3 +29,4 @@ mod ExampleWideRuns
 mod ExampleRomRuns
 mod LineProofs
 mod PairProofs
+mod MemoryProofs

@@ -4,7 +4,7 @@ use Rattle.board_base.specs.declared.target.Dev.{Dev}
 use Rattle.board_base.specs.declared.target.Dev.TheVariants.{Pic0, Pic1, Pit, System, Clock, Elcr, Ata, Wires}
 use Rattle.device_spec.specs.Pair.{levels_at_power_on, pair_after_lines}
 use Rattle.board_spec.specs.declared.event.Event.{Event}
-use Rattle.board_spec.specs.declared.event.Event.TheVariants.{Memory, Wide, Look as LookAt, Ack, Pulses}
+use Rattle.board_spec.specs.declared.event.Event.TheVariants.{Memory, Wide, Port, Look as LookAt, Ack, Pulses}
 use Rattle.board_spec.specs.declared.event.Reply.{Reply}
 use Rattle.board_spec.specs.declared.event.Entry.{Entry}
 use Rattle.board_spec.specs.Setup.{Setup}
@@ -71,7 +71,8 @@ PairHasSeen =
 abbrev pub ActsOnPair : Event → Reply → Type 0
 ActsOnPair Ack reply = Unit {0}
 ActsOnPair (Pulses count) reply = Unit {0}
-ActsOnPair event reply = Names reply Pic0 ⊎ Names reply Pic1 ⊎ Names reply Elcr
+ActsOnPair (Port access) reply = Names reply Pic0 ⊎ Names reply Pic1 ⊎ Names reply Elcr
+ActsOnPair _ reply = ⊥
 
 -- any other entry that moves no line leaves the pair
 abbrev pub PairStays : Type 0

@@ -29,7 +29,9 @@ pub fn law_pair()
 /// Memory accesses and looks leave every device.
 pub fn law_memory_leaves_devices()
     ensures same { MemoryLeavesDevices }
-{}
+{
+    same_levels_again();
+}
 
 /// Pulses add up.
 pub fn law_pulses()
