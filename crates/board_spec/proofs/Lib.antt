@@ -30,3 +30,5 @@ mod ExampleRomRuns
 mod LineProofs
 mod PairProofs
 mod MemoryProofs
+mod AreaProofs
+mod AreaLines
