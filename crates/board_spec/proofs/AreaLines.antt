@@ -1,16 +1,14 @@
 -- Each line of the memory map, and what follows where the lines before it do not hold.
-use Rattle.std.proofs.Common.{◌≡◌, ℕ, ◌<◌, Bool, true, false, not, ◌&&◌, List, [], ◌∷◌, ◌++◌, Option, Some, None, is_some, refl, sym, ◌∙◌, ap, inl, inr}
-use Rattle.std.specs.Prelude.{if◌then◌else◌, find, unwrap_or, All}
-use Rattle.std.proofs.lemmas.Bool.{cases_Bool, cond-true, cond-false, and_from, and_left, and_right, and_parts, not-true, not_from_false, false≢true}
+use Rattle.std.proofs.Common.{◌≡◌, ℕ, ◌<◌, Bool, true, false, not, ◌&&◌, List, [], ◌∷◌, ◌++◌, Option, Some, None, is_some, refl, ◌∙◌, ap, inl, inr}
+use Rattle.std.specs.Prelude.{find, unwrap_or, All}
+use Rattle.std.proofs.lemmas.Bool.{cases_Bool, cond-true, cond-false, and_from, and_left, and_right, and_parts, not-true, not_from_false}
 use Rattle.std.proofs.lemmas.List.Elements.{All-head, All-tail}
 use Rattle.board_base.specs.declared.access.Kind.{Kind}
-use Rattle.board_base.specs.declared.target.Area.{Area}
-use Rattle.board_base.specs.declared.target.Area.TheVariants.{Dram, Shadow, Smram, Rom, Card, Abort}
 use Rattle.board_spec.specs.Setup.{Setup}
 use Rattle.board_spec.specs.RegisterNames.{fdhc, smram, xbcs}
 use Rattle.board_spec.specs.Ranges.{lies_in, smram_range, shadow_range, upper_memory}
 use Rattle.board_spec.specs.Decode.{Bytes, top_of, hole_of, is_in, row_of, smram_answers, is_shadowed, is_rom_selected, Window, memory_claim, area_of}
-use Rattle.board_spec.specs.AreaLaws.{IsRow, HasRow, IsInSmram, IsInShadow, IsInDram, IsPastDram, IsPastRom, claims, windows_of, NoneClaims, WhoAnswers}
+use Rattle.board_spec.specs.AreaLaws.{IsRow, IsInSmram, IsInShadow, IsInDram, IsPastDram, claims, windows_of, NoneClaims, WhoAnswers}
 use Rattle.board_spec.proofs.AreaProofs.{row-is, row_below_top, is_some-row, table, smram_line, shadow_line, dram_line, area-table, table-is, shadow_apart, smram_in_upper, shadow_in_upper}
 
 -- ---- the lines that hold
@@ -120,10 +118,10 @@ pub who_answers : WhoAnswers
 unfolding table
 who_answers setup bytes addr kind smm =
     let past_dram : (d : Bool) (claim : Option Window) → IsPastDram bytes addr kind smm → is_rom_selected (bytes xbcs) addr ≡ d →
-        memory_claim setup bytes addr ≡ claim → area_of setup bytes addr kind smm ≡ table false false false d (unwrap_or (row_of bytes addr) 0) claim =
-        λ d claim past ed e.
-            area-is setup bytes addr kind smm false false false d (unwrap_or (row_of bytes addr) 0) claim
-            (no_smram_line bytes addr kind smm past.no_smram) (no_shadow_line bytes addr kind past.no_shadow) (no_dram_line bytes addr past.no_dram) ed refl e in
+    memory_claim setup bytes addr ≡ claim → area_of setup bytes addr kind smm ≡ table false false false d (unwrap_or (row_of bytes addr) 0) claim =
+    λ d claim past ed e.
+    area-is setup bytes addr kind smm false false false d (unwrap_or (row_of bytes addr) 0) claim
+    (no_smram_line bytes addr kind smm past.no_smram) (no_shadow_line bytes addr kind past.no_shadow) (no_dram_line bytes addr past.no_dram) ed refl e in
     record {
       in_smram = λ is. area-is setup bytes addr kind smm true _ _ _ _ _ (smram_holds bytes addr kind smm is) refl refl refl refl refl;
       in_shadow = λ row here is.

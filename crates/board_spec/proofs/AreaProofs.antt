@@ -1,17 +1,16 @@
 -- Who answers at an address of memory.
-use Rattle.std.proofs.Common.{◌≡◌, ℕ, zero, suc, ◌+◌, ◌≤◌, ◌<◌, Bool, true, false, not, ◌&&◌, List, [], ◌∷◌, ◌++◌, Option, Some, None, is_some, refl, sym, ◌∙◌, ap, subst, inl, inr, arith}
-use Rattle.std.specs.Prelude.{nat_lt, nat_le, if◌then◌else◌, find, unwrap_or, option_map, All}
-use Rattle.std.proofs.lemmas.Bool.{cases_Bool, cases_eq, cases_lt, cond-true, cond-false, lt-ltb, le-ltb, and_from, and_left, and_right, and_parts, not-true, false≢true}
+use Rattle.std.proofs.Common.{◌≡◌, ℕ, zero, suc, ◌+◌, ◌≤◌, ◌<◌, Bool, true, false, not, ◌&&◌, List, [], ◌∷◌, Option, Some, None, is_some, refl, sym, ◌∙◌, ap, subst, inl, inr, arith}
+use Rattle.std.specs.Prelude.{nat_lt, find, unwrap_or, option_map}
+use Rattle.std.proofs.lemmas.Bool.{cases_eq, cases_lt, cond-true, cond-false, lt-ltb, le-ltb, false≢true}
 use Rattle.std.proofs.lemmas.Bool.Decides.{nat_tests}
-use Rattle.std.proofs.lemmas.List.Elements.{All-head, All-tail}
 use Rattle.board_base.specs.declared.access.Kind.{Kind}
 use Rattle.board_base.specs.declared.target.Area.{Area}
-use Rattle.board_base.specs.declared.target.Area.TheVariants.{Dram, Shadow, Smram, Rom, Card, Abort}
+use Rattle.board_base.specs.declared.target.Area.TheVariants.{Dram, Shadow, Smram, Rom, Abort}
 use Rattle.board_spec.specs.Setup.{Setup}
 use Rattle.board_spec.specs.RegisterNames.{fdhc, smram, xbcs}
 use Rattle.board_spec.specs.Ranges.{lies_in, smram_range, shadow_range, upper_memory}
-use Rattle.board_spec.specs.Decode.{Bytes, first_of, line_where, boundary, top_of, row_of, hole_of, is_in, smram_answers, is_smram_range, is_shadow_range, is_shadowed, is_rom_selected, Window, card_area, memory_claim, area_of}
-use Rattle.board_spec.specs.AreaLaws.{IsRow, HasRow, RowBelowTop, IsInSmram, IsInShadow, IsInDram, IsPastDram, IsPastRom, claims, windows_of, NoneClaims, WhoAnswers}
+use Rattle.board_spec.specs.Decode.{Bytes, first_of, line_where, boundary, top_of, row_of, hole_of, is_in, smram_answers, is_smram_range, is_shadowed, is_rom_selected, Window, card_area, memory_claim, area_of}
+use Rattle.board_spec.specs.AreaLaws.{IsRow, HasRow, RowBelowTop}
 
 -- ---- the row of an address
 

@@ -1,9 +1,9 @@
 -- What an event leaves of each device, and the levels of lines whose drivers stayed.
-use Rattle.std.proofs.Common.{◌≡◌, ◌≢◌, ℕ, ◌+◌, ◌-◌, ◌*◌, ◌%◌, Bool, true, false, ◌||◌, ◌&&◌, List, [], ◌∷◌, Option, Some, None, refl, sym, ◌∙◌, ap, inl, inr}
-use Rattle.std.specs.Prelude.{◌==◌, if◌then◌else◌, map, unwrap_or, option_map}
+use Rattle.std.proofs.Common.{◌≡◌, ◌≢◌, ℕ, ◌-◌, ◌%◌, Bool, false, ◌||◌, ◌&&◌, List, [], ◌∷◌, Option, Some, None, refl, ◌∙◌, ap, inl, inr}
+use Rattle.std.specs.Prelude.{◌==◌, if◌then◌else◌, map, option_map}
 use Rattle.std.specs.List.{list_any}
 use Rattle.std.specs.Option.{option_map_or}
-use Rattle.std.proofs.lemmas.Bool.{cases_Bool, cond-false}
+use Rattle.std.proofs.lemmas.Bool.{cases_Bool}
 use Rattle.board_base.specs.declared.access.PortAccess.{PortAccess}
 use Rattle.board_base.specs.declared.target.Dev.{Dev}
 use Rattle.board_base.specs.declared.target.Dev.TheVariants.{Pic0, Pic1, Pit, System, Clock as ClockChip, Elcr, Ata, Wires}
@@ -14,14 +14,13 @@ use Rattle.device_spec.specs.Ata.State.{Disk, is_interrupt}
 use Rattle.device_spec.specs.Pair.{Pair}
 use Rattle.device_spec.specs.Routing.{is_line_driven}
 use Rattle.board_spec.specs.declared.event.Event.{Event}
-use Rattle.board_spec.specs.declared.event.Event.TheVariants.{Memory, Wide, Port, Look as LookAt, Ack, Pulses, Time, Wire, Line, BadSector}
+use Rattle.board_spec.specs.declared.event.Event.TheVariants.{Port, Ack, Pulses, Time, Wire, Line, BadSector}
 use Rattle.board_spec.specs.declared.event.Reply.{Reply}
 use Rattle.board_spec.specs.declared.event.Entry.{Entry}
 use Rattle.board_spec.specs.Setup.{Setup}
-use Rattle.board_spec.specs.Bits.{is_bit}
 use Rattle.board_spec.specs.InRange.{is_free_line}
 use Rattle.board_spec.specs.Devices.{device_reached, wire_set, line_set, wire_of, irq_of, triggers_accessed, triggers_after, SystemPort, system_accessed, system_after, timer_accessed, timer_after, clock_accessed, clock_after, clock_of, disk_accessed, disk_after, disk_with, disk_of}
-use Rattle.board_spec.specs.Interrupts.{pirq_level, pirqs, routes_of, pirq_levels, own_level, level_with, all_lines, levels_with, pair_accessed, pair_after}
+use Rattle.board_spec.specs.Interrupts.{pirq_level, pirqs, routes_of, pirq_levels, level_with, all_lines, levels_with, pair_accessed, pair_after}
 use Rattle.board_spec.specs.Answer.{IsAnswer}
 use Rattle.board_spec.specs.DeviceLaws.{Names, ActsOnPair}
 
@@ -162,17 +161,17 @@ level-same setup history other timer timer' same line =
     let out : out_of 0 timer ≡ out_of 0 timer' = same.out in
     let clock : interrupt_line (clock_of history) ≡ interrupt_line (clock_of other) = ap interrupt_line same.clock in
     let disk : option_map_or (λ disk. is_interrupt disk.drive) (disk_of setup history) false ≡ option_map_or (λ disk. is_interrupt disk.drive) (disk_of setup other) false =
-        ap (λ (disk : Option Disk). option_map_or (λ disk. is_interrupt disk.drive) disk false)
-        (disk_of-same setup.disk (λ bytes. disk_with bytes history) (λ bytes. disk_with bytes other) same.disk) in
+    ap (λ (disk : Option Disk). option_map_or (λ disk. is_interrupt disk.drive) disk false)
+    (disk_of-same setup.disk (λ bytes. disk_with bytes history) (λ bytes. disk_with bytes other) same.disk) in
     let free : (is_free_line line && irq_of history line) ≡ (is_free_line line && irq_of other line) = ap (λ (b : Bool). is_free_line line && b) (same.lines line) in
     let driven : is_line_driven (routes_of setup history) (pirq_levels history) line ≡ is_line_driven (routes_of setup other) (pirq_levels other) line =
-        ap (λ (routes : List ℕ). is_line_driven routes (pirq_levels history) line) same.routes
-        ∙ ap (λ (levels : List Bool). is_line_driven (routes_of setup other) levels line) (pirqs-same history other same.wires) in
+    ap (λ (routes : List ℕ). is_line_driven routes (pirq_levels history) line) same.routes
+    ∙ ap (λ (levels : List Bool). is_line_driven (routes_of setup other) levels line) (pirqs-same history other same.wires) in
     let whole :
-        level_made (out_of 0 timer) (interrupt_line (clock_of history)) (option_map_or (λ disk. is_interrupt disk.drive) (disk_of setup history) false)
-        (is_free_line line && irq_of history line) (is_line_driven (routes_of setup history) (pirq_levels history) line) line
-        ≡ level_made (out_of 0 timer') (interrupt_line (clock_of other)) (option_map_or (λ disk. is_interrupt disk.drive) (disk_of setup other) false)
-        (is_free_line line && irq_of other line) (is_line_driven (routes_of setup other) (pirq_levels other) line) line = cc in
+    level_made (out_of 0 timer) (interrupt_line (clock_of history)) (option_map_or (λ disk. is_interrupt disk.drive) (disk_of setup history) false)
+    (is_free_line line && irq_of history line) (is_line_driven (routes_of setup history) (pirq_levels history) line) line
+    ≡ level_made (out_of 0 timer') (interrupt_line (clock_of other)) (option_map_or (λ disk. is_interrupt disk.drive) (disk_of setup other) false)
+    (is_free_line line && irq_of other line) (is_line_driven (routes_of setup other) (pirq_levels other) line) line = cc in
     whole
 
 pub levels-same :

@@ -1,18 +1,17 @@
 -- The lines at power-on, and those that nothing drives.
-use Rattle.std.proofs.Common.{◌≡◌, ℕ, zero, suc, ◌%◌, ◌<◌, Bool, true, false, not, cond, eqb, ltb, ◌||◌, ◌&&◌, List, [], ◌∷◌, get_or, Option, Some, None, refl, sym, ◌∙◌, ap, inl, inr}
+use Rattle.std.proofs.Common.{◌≡◌, ℕ, Bool, true, false, ◌||◌, List, [], ◌∷◌, Option, Some, None, refl, ap}
 use Rattle.std.specs.Prelude.{option_map}
 use Rattle.std.specs.Option.{option_map_or}
 use Rattle.device_spec.specs.Routing.{is_line_driven}
 use Rattle.device_spec.specs.RoutingLaws.{ReservedLinesRest}
 use Rattle.device_spec.specs.Pit.{reset as timer_at_reset, out_of, programmed}
 use Rattle.device_spec.specs.Clock.{power_on as clock_at_power_on}
-use Rattle.device_spec.specs.Ata.State.{Disk, is_interrupt}
-use Rattle.board_spec.specs.declared.event.Entry.{Entry}
+use Rattle.device_spec.specs.Ata.State.{is_interrupt}
 use Rattle.board_spec.specs.Setup.{Setup}
 use Rattle.board_spec.specs.RegisterTable.{isa_bridge, reset_byte}
 use Rattle.board_spec.specs.Registers.{byte_of}
 use Rattle.board_spec.specs.Devices.{wire_of, irq_of, timer_of, clock_of, disk_with, disk_of}
-use Rattle.board_spec.specs.Interrupts.{levels_of, levels_with, routes_of, pirq_levels}
+use Rattle.board_spec.specs.Interrupts.{levels_with, routes_of, pirq_levels}
 use Rattle.board_spec.specs.DeviceLaws.{FirstLevels, UndrivenLines}
 
 -- no route reaches the lines 2 and 13, and no device drives them

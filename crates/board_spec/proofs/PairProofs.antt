@@ -1,26 +1,26 @@
 -- The pair has seen the lines as they stand.
-use Rattle.std.proofs.Common.{◌≡◌, ◌≢◌, ℕ, zero, suc, ◌+◌, ◌*◌, Bool, true, false, List, [], ◌∷◌, Option, Some, None, refl, sym, ◌∙◌, ap, add-zero, add-suc, inl, inr}
+use Rattle.std.proofs.Common.{◌≡◌, ℕ, zero, suc, ◌+◌, ◌*◌, Bool, false, List, [], ◌∷◌, refl, sym, ◌∙◌, ap, add-zero, add-suc, inr}
 use Rattle.std.specs.Prelude.{if◌then◌else◌, unwrap_or, map}
 use Rattle.std.proofs.lemmas.Bool.{cond-false}
 use Rattle.device_spec.specs.Elcr.{Triggers}
-use Rattle.device_spec.specs.Pit.{PitState, out_of, pulses, pulse_all, reset as timer_at_reset}
+use Rattle.device_spec.specs.Pit.{PitState, pulses, reset as timer_at_reset}
 use Rattle.device_spec.specs.Pair.{Pair, pair_at_reset, pair_after_lines, levels_at_power_on}
 use Rattle.device_spec.specs.Levels.{levels_where}
 use Rattle.device_spec.specs.PicLaws.{SameLevelsAgain}
 use Rattle.device_spec.specs.PitLaws.{PulsesAddUp}
 use Rattle.board_spec.specs.declared.event.Event.{Event}
-use Rattle.board_spec.specs.declared.event.Event.TheVariants.{Memory, Wide, Port, Look as LookAt, Ack, Pulses, Time, Wire, Line, BadSector}
+use Rattle.board_spec.specs.declared.event.Event.TheVariants.{Port, Pulses}
 use Rattle.board_spec.specs.declared.event.Reply.{Reply}
 use Rattle.board_spec.specs.declared.event.Entry.{Entry}
 use Rattle.board_spec.specs.Setup.{Setup}
 use Rattle.board_spec.specs.Registers.{is_hard_reset, byte_with, register_change, byte_of}
 use Rattle.board_spec.specs.RegisterNames.{pirq}
-use Rattle.board_spec.specs.Devices.{wire_set, wire_of, line_set, irq_of, triggers_of, triggers_after, system_of, system_after, timer_of, timer_after, clock_of, clock_after, disk_with, disk_after}
+use Rattle.board_spec.specs.Devices.{wire_set, wire_of, line_set, irq_of, triggers_of, triggers_after, timer_of, timer_after, clock_of, clock_after, disk_with, disk_after}
 use Rattle.device_spec.specs.Elcr.{triggers_at_reset}
 use Rattle.device_spec.specs.Clock.{after_reset as clock_after_reset}
 use Rattle.device_spec.specs.Ata.Steps.{after_reset as disk_after_reset}
-use Rattle.board_spec.specs.Interrupts.{routes_of, levels_with, levels_of, elcr_of, pair_pulsed, pair_stepped, pair_reset_or_after, pair_after, pair_of}
-use Rattle.board_spec.specs.DeviceLaws.{ActsOnPair, PairHasSeen, PairStays, IsOfMemory, SameDevices, MemoryLeavesDevices, SamePulses, PulsesAdd}
+use Rattle.board_spec.specs.Interrupts.{routes_of, levels_with, levels_of, elcr_of, pair_pulsed, pair_stepped, pair_reset_or_after, pair_of}
+use Rattle.board_spec.specs.DeviceLaws.{ActsOnPair, PairHasSeen, PairStays, PulsesAdd}
 use Rattle.board_spec.proofs.DeviceAlone.{triggers-alone, pair-alone, SameDrivers, levels-same}
 use Rattle.board_spec.proofs.LineProofs.{first_levels}
 
@@ -78,9 +78,9 @@ unfolding pair_pulsed
 pulsed-on add setup before first n zero pair is = rw (add-zero n) refl
 pulsed-on add setup before first n (suc m) pair is =
     let timer : pulses (suc m) (timer_of (first ∷ before)) ≡ pulses (n + suc m) (timer_of before) =
-        ap (pulses (suc m)) (timer-pulsed before first n is) ∙ sym (add n (suc m) (timer_of before)).0 in
+    ap (pulses (suc m)) (timer-pulsed before first n is) ∙ sym (add n (suc m) (timer_of before)).0 in
     let levels : levels_with setup (first ∷ before) (pulses (suc m) (timer_of (first ∷ before))) ≡ levels_with setup before (pulses (n + suc m) (timer_of before)) =
-        ap (levels_with setup (first ∷ before)) timer ∙ levels-pulsed setup before first n (pulses (n + suc m) (timer_of before)) is in
+    ap (levels_with setup (first ∷ before)) timer ∙ levels-pulsed setup before first n (pulses (n + suc m) (timer_of before)) is in
     let elcr : elcr_of (first ∷ before) ≡ elcr_of before = elcr-same (first ∷ before) before (triggers-pulsed before first n is) in
     let count : n + suc m ≡ suc (n + m) = add-suc n m in
     ap (λ (p : Pair). pair_after_lines p (levels_with setup (first ∷ before) (pulses (suc m) (timer_of (first ∷ before)))) (elcr_of (first ∷ before))) (pulsed-on add setup before first n m pair is)
@@ -92,10 +92,10 @@ pulsed-on add setup before first n (suc m) pair is =
 pub pulses_add : PulsesAddUp → PulsesAdd
 pulses_add add setup before n m first second whole is_first is_second is_whole =
     let timer : timer_of (second ∷ first ∷ before) ≡ timer_of (whole ∷ before) =
-        timer-pulsed (first ∷ before) second m is_second
-        ∙ ap (pulses m) (timer-pulsed before first n is_first)
-        ∙ sym (add n m (timer_of before)).0
-        ∙ sym (timer-pulsed before whole (n + m) is_whole) in
+    timer-pulsed (first ∷ before) second m is_second
+    ∙ ap (pulses m) (timer-pulsed before first n is_first)
+    ∙ sym (add n m (timer_of before)).0
+    ∙ sym (timer-pulsed before whole (n + m) is_whole) in
     record {
       timer = timer;
       levels =

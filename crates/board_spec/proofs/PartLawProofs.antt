@@ -7,14 +7,13 @@ use Rattle.std.proofs.lemmas.Nat.{pow-add}
 use Rattle.std.proofs.lemmas.List.Elements.{All-nil, All-cons}
 use Rattle.board_base.specs.declared.access.Width.{Width}
 use Rattle.board_base.specs.declared.access.Width.TheVariants.{One, Two, Four}
-use Rattle.board_base.specs.declared.access.Access.{Access}
 use Rattle.board_base.specs.declared.access.WideAccess.{WideAccess}
-use Rattle.board_base.specs.Access.{bytes_of, largest_of}
-use Rattle.board_spec.specs.InRange.{FitsAccess, FitsBytes, IsWideAccess}
-use Rattle.board_spec.specs.WideParts.{part_at, parts_of, joined}
+use Rattle.board_base.specs.Access.{bytes_of}
+use Rattle.board_spec.specs.InRange.{FitsAccess, FitsBytes}
+use Rattle.board_spec.specs.WideParts.{part_at, joined}
 use Rattle.board_spec.specs.Stored.{is_write}
 use Rattle.board_spec.specs.PartLaws.{Covers, IsPart, AreParts, CutIntoParts}
-use Rattle.board_spec.proofs.PartLemmas.{made, total, Aligned, IsCut, is_cut}
+use Rattle.board_spec.proofs.PartLemmas.{made, total, Aligned, is_cut}
 
 -- ---- places
 
@@ -84,8 +83,8 @@ joined-made access from d [] here = omega arith
 joined-made access from d (width ∷ later) here =
     let place : from - access.addr ≡ d = omega arith in
     let rest : joined (λ part. part.value) (made access (from + bytes_of width) later) ≡ access.value / 256 ^ d / 256 ^ bytes_of width % 256 ^ total later =
-        joined-made access (from + bytes_of width) (d + bytes_of width) later (omega arith)
-        ∙ ap (λ (n : ℕ). n % 256 ^ total later) (further access.value d (bytes_of width)) in
+    joined-made access (from + bytes_of width) (d + bytes_of width) later (omega arith)
+    ∙ ap (λ (n : ℕ). n % 256 ^ total later) (further access.value d (bytes_of width)) in
     ap (λ (k : ℕ). access.value / 256 ^ k % 256 ^ bytes_of width + 256 ^ bytes_of width * joined (λ part. part.value) (made access (from + bytes_of width) later)) place
     ∙ ap (λ (n : ℕ). access.value / 256 ^ d % 256 ^ bytes_of width + 256 ^ bytes_of width * n) rest
     ∙ two_digits (access.value / 256 ^ d) (bytes_of width) (total later)

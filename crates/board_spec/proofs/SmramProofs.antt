@@ -1,10 +1,10 @@
 -- The bits of the SMRAM register after a write.
-use Rattle.std.proofs.Common.{◌≡◌, ℕ, ◌+◌, ◌-◌, ◌*◌, ◌/◌, ◌%◌, ◌<◌, max, Bool, true, false, ◌||◌, eqb, cond, inl, inr, refl, arith}
+use Rattle.std.proofs.Common.{◌≡◌, ℕ, ◌+◌, ◌-◌, ◌*◌, ◌/◌, ◌%◌, ◌<◌, max, ◌||◌, eqb, cond, inl, inr, arith}
 use Rattle.std.proofs.lemmas.Bool.{cases_eq}
 use Rattle.std.proofs.lemmas.Bool.Decides.{nat_tests}
-use Rattle.board_spec.specs.Bits.{bit, is_bit}
+use Rattle.board_spec.specs.Bits.{bit}
 use Rattle.board_spec.specs.Registers.{smram_after}
-use Rattle.board_spec.specs.SmramLaw.{SmramBits, SmramByBits}
+use Rattle.board_spec.specs.SmramLaw.{SmramByBits}
 
 -- the register made of its four bits
 made : (lock opened closed enabled : ℕ) → ℕ
@@ -55,7 +55,7 @@ unfolding made
 smram_by_bits old written =
     let lock : ℕ = max (bit old 4) (bit written 4) in
     let made_of : Made lock (bit written 6) (bit written 5) (bit written 3) (smram_after old written) =
-        made-bits lock (bit written 6) (bit written 5) (bit written 3) (omega arith) (omega arith) (omega arith) (omega arith) in
+    made-bits lock (bit written 6) (bit written 5) (bit written 3) (omega arith) (omega arith) (omega arith) (omega arith) in
     record {
       reserved = made_of.reserved;
       opened = rw made_of.locked made_of.opened_is;

@@ -1,5 +1,5 @@
 -- What a byte of DRAM or of a card holds, said of whole histories.
-use Rattle.std.specs.Prelude.{ℕ, ◌≡◌, ◌+◌, ◌<◌, ◌≤◌, ◌⊎◌, true, List, [], ◌∷◌, ◌++◌, All, Option, Some, None}
+use Rattle.std.specs.Prelude.{ℕ, ◌≡◌, ◌+◌, ◌<◌, ◌≤◌, ◌⊎◌, true, List, ◌∷◌, ◌++◌, All, Option, Some, None}
 use Rattle.board_base.specs.declared.access.WideAccess.{WideAccess}
 use Rattle.board_spec.specs.declared.event.Event.TheVariants.{Wide}
 use Rattle.board_spec.specs.declared.event.Entry.{Entry}
