@@ -21,6 +21,7 @@ mod GoesOnProofs
 mod PartLemmas
 mod PartLawProofs
 mod WideDramProofs
+mod RegisterProofs
 mod DeviceAlone
 mod DeviceProofs
 mod ExampleDeviceRuns

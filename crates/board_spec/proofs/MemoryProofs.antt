@@ -86,26 +86,36 @@ byte-same : (setup : Setup) (before : List Entry) (entry : Entry) (reg : Reg) �
 unfolding byte_of
 byte-same setup before entry reg is = byte-memory setup entry.event before reg (byte_of setup before reg) is
 
+wire-same : (before : List Entry) (entry : Entry) (dev : ℕ) → IsOfMemory entry.event → wire_of (entry ∷ before) dev ≡ wire_of before dev
+unfolding wire_of
+wire-same before entry dev is = ap (λ (set : Option Bool). unwrap_or set (wire_of before dev)) (wire-memory entry.event dev is)
+
+irq-same : (before : List Entry) (entry : Entry) (line : ℕ) → IsOfMemory entry.event → irq_of (entry ∷ before) line ≡ irq_of before line
+unfolding irq_of
+irq-same before entry line is = ap (λ (set : Option Bool). unwrap_or set (irq_of before line)) (line-memory entry.event line is)
+
 lines-same : (setup : Setup) (before : List Entry) (entry : Entry) → IsOfMemory entry.event → levels_of setup (entry ∷ before) ≡ levels_of setup before
-unfolding wire_of irq_of
 lines-same setup before entry is =
     levels-same setup (entry ∷ before) before (timer_of (entry ∷ before)) (timer_of before) (record {
       out = ap (out_of 0) (timer-same before entry is);
       clock = clock-same before entry is;
       disk = λ bytes. disk-same bytes before entry is;
-      wires = λ dev. ap (λ (set : Option Bool). unwrap_or set (wire_of before dev)) (wire-memory entry.event dev is);
-      lines = λ line. ap (λ (set : Option Bool). unwrap_or set (irq_of before line)) (line-memory entry.event line is);
+      wires = λ dev. wire-same before entry dev is;
+      lines = λ line. irq-same before entry line is;
       routes = map-same _ _ pirqs (λ k. byte-same setup before entry (pirq k) is);
     })
 
 pub memory_leaves_devices : SameLevelsAgain → MemoryLeavesDevices
 unfolding system_of triggers_of
 memory_leaves_devices again setup before entry is = record {
+  registers = λ reg. byte-same setup before entry reg is;
   timer = timer-same before entry is;
   system = cond-false (is_hard_reset before entry.event) _ _ (soft-memory entry.event before is) ∙ system-memory entry.event entry.reply (system_of before) is;
   triggers = cond-false (is_hard_reset before entry.event) _ _ (soft-memory entry.event before is) ∙ triggers-memory entry.event entry.reply (triggers_of before) is;
   clock = clock-same before entry is;
   disk = λ bytes. disk-same bytes before entry is;
+  wires = λ dev. wire-same before entry dev is;
+  lines = λ line. irq-same before entry line is;
   levels = lines-same setup before entry is;
   pair = pair_stays again setup before entry (soft-memory entry.event before is) (not_of_pair entry.event entry.reply is) (lines-same setup before entry is);
 }

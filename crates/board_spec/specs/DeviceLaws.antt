@@ -1,5 +1,6 @@
 -- What leaves a device alone, and what the interrupt lines and the 8259A pair have seen.
 use Rattle.std.specs.Prelude.{ℕ, ◌≡◌, ◌+◌, ◌⊎◌, false, List, [], ◌∷◌, slice_index_or, Some}
+use Rattle.board_base.specs.declared.target.Reg.{Reg}
 use Rattle.board_base.specs.declared.target.Dev.{Dev}
 use Rattle.board_base.specs.declared.target.Dev.TheVariants.{Pic0, Pic1, Pit, System, Clock, Elcr, Ata, Wires}
 use Rattle.device_spec.specs.Pair.{levels_at_power_on, pair_after_lines}
@@ -8,7 +9,7 @@ use Rattle.board_spec.specs.declared.event.Event.TheVariants.{Memory, Wide, Port
 use Rattle.board_spec.specs.declared.event.Reply.{Reply}
 use Rattle.board_spec.specs.declared.event.Entry.{Entry}
 use Rattle.board_spec.specs.Setup.{Setup}
-use Rattle.board_spec.specs.Registers.{is_hard_reset}
+use Rattle.board_spec.specs.Registers.{is_hard_reset, byte_of}
 use Rattle.board_spec.specs.Devices.{device_reached, wire_of, irq_of, triggers_of, system_of, timer_of, clock_of, disk_with}
 use Rattle.board_spec.specs.Interrupts.{routes_of, levels_of, elcr_of, pair_of}
 use Rattle.board_spec.specs.Legal.{IsNext}
@@ -91,13 +92,16 @@ IsOfMemory (Wide access) = Unit {0}
 IsOfMemory (LookAt kind addr smm) = Unit {0}
 IsOfMemory _ = ⊥
 
--- every device, the lines and the pair are as before
+-- every register and device, the lines and the pair are as before
 pub record SameDevices (setup : Setup) (before history : List Entry) : Type 0 where
+  pub registers : (reg : Reg) → byte_of setup history reg ≡ byte_of setup before reg
   pub timer : timer_of history ≡ timer_of before
   pub system : system_of history ≡ system_of before
   pub triggers : triggers_of history ≡ triggers_of before
   pub clock : clock_of history ≡ clock_of before
   pub disk : (bytes : List ℕ) → disk_with bytes history ≡ disk_with bytes before
+  pub wires : (dev : ℕ) → wire_of history dev ≡ wire_of before dev
+  pub lines : (line : ℕ) → irq_of history line ≡ irq_of before line
   pub levels : levels_of setup history ≡ levels_of setup before
   pub pair : pair_of setup history ≡ pair_of setup before
 

@@ -31,6 +31,7 @@ pub mod PartLaws
 pub mod MapLaws
 pub mod OrderLaws
 pub mod AreaLaws
+pub mod RegisterLaws
 pub mod DeviceLaws
 pub mod ExampleWords
 pub mod Examples
