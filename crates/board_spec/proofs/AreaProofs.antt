@@ -27,7 +27,8 @@ find-row test from zero row above below here before = absurd (omega arith)
 find-row test from (suc count) row above below here before =
     elim (cases_eq from row) [
       | inl first ↦
-          cond-true (test from) (Some from) _ (subst (λ (k : ℕ). test k ≡ true) (sym first) here) ∙ ap (λ (k : ℕ). Some k) first
+          cond-true (test from) (Some from) _ (subst (λ (k : ℕ). test k ≡ true) (sym first) here)
+          ∙ ap (λ (k : ℕ). Some k) first
       | inr apart ↦
           cond-false (test from) (Some from) _ (before from (omega arith))
           ∙ find-row test (from + 1) count row (omega arith) (omega arith) here before
@@ -41,7 +42,8 @@ pub row-is : (bytes : Bytes) (addr row : ℕ) → IsRow bytes addr row → row_o
 unfolding row_of rows_from
 row-is bytes addr row is =
     cond-true (nat_lt addr (top_of bytes)) _ None (lt-ltb _ _ is.below_top)
-    ∙ find-row (λ k. nat_lt addr (boundary bytes k)) 0 8 row (omega arith) (let last : row ≤ 7 = is.last in omega arith) (lt-ltb _ _ is.ends)
+    ∙ find-row (λ k. nat_lt addr (boundary bytes k)) 0 8 row (omega arith)
+    (let last : row ≤ 7 = is.last in omega arith) (lt-ltb _ _ is.ends)
     (λ k below. le-ltb _ _ (is.first k below))
 
 row_above :
@@ -51,11 +53,19 @@ row_above bytes addr row zero below here before =
     let last : row ≡ 7 = omega arith in
     record {
       row = row;
-      is = record { below_top = below; last = omega arith; ends = subst (λ (k : ℕ). addr < boundary bytes k) (sym last) below; first = before };
+      is =
+          record {
+            below_top = below;
+            last = omega arith;
+            ends = subst (λ (k : ℕ). addr < boundary bytes k)
+                (sym last) below;
+            first = before;
+          };
     }
 row_above bytes addr row (suc left) below here before =
     elim (cases_lt addr (boundary bytes row)) [
-      | inl ends ↦ record { row = row; is = record { below_top = below; last = omega arith; ends = ends; first = before } }
+      | inl ends ↦
+          record { row = row; is = record { below_top = below; last = omega arith; ends = ends; first = before } }
       | inr past ↦
           row_above bytes addr (row + 1) left below (omega arith)
           (λ k under. elim (cases_eq k row) [
@@ -88,25 +98,29 @@ table in_smram in_shadow in_dram in_rom row claim =
     Abort
 
 abbrev pub smram_line : Bytes → ℕ → Kind → Bool → Bool
-smram_line bytes addr kind smm = is_smram_range addr && is_some (row_of bytes addr) && smram_answers (bytes smram) kind smm
+smram_line bytes addr kind smm =
+    is_smram_range addr && is_some (row_of bytes addr) && smram_answers (bytes smram) kind smm
 
 abbrev pub shadow_line : Bytes → ℕ → Kind → Bool
 shadow_line bytes addr kind = is_some (row_of bytes addr) && is_shadowed bytes addr kind
 
 abbrev pub dram_line : Bytes → ℕ → Bool
-dram_line bytes addr = not (lies_in upper_memory addr) && is_some (row_of bytes addr) && not (is_in (hole_of (bytes fdhc)) addr)
+dram_line bytes addr =
+    not (lies_in upper_memory addr) && is_some (row_of bytes addr) && not (is_in (hole_of (bytes fdhc)) addr)
 
 pub area-table :
     (setup : Setup) (bytes : Bytes) (addr : ℕ) (kind : Kind) (smm : Bool) →
     area_of setup bytes addr kind smm
-    ≡ table (smram_line bytes addr kind smm) (shadow_line bytes addr kind) (dram_line bytes addr) (is_rom_selected (bytes xbcs) addr)
+    ≡ table (smram_line bytes addr kind smm) (shadow_line bytes addr kind) (dram_line bytes addr)
+    (is_rom_selected (bytes xbcs) addr)
     (unwrap_or (row_of bytes addr) 0) (memory_claim setup bytes addr)
 unfolding area_of table
 area-table setup bytes addr kind smm = refl
 
 pub table-is :
     (a b c d : Bool) (row : ℕ) (claim : Option Window) (a' b' c' d' : Bool) (row' : ℕ) (claim' : Option Window) →
-    a ≡ a' → b ≡ b' → c ≡ c' → d ≡ d' → row ≡ row' → claim ≡ claim' → table a b c d row claim ≡ table a' b' c' d' row' claim'
+    a ≡ a' → b ≡ b' → c ≡ c' → d ≡ d' → row ≡ row' → claim ≡ claim' → table a b c d row claim
+    ≡ table a' b' c' d' row' claim'
 table-is a b c d row claim a' b' c' d' row' claim' ea eb ec ed er e = cc
 
 -- ---- the ranges

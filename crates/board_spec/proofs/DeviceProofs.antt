@@ -15,16 +15,24 @@ others_stay setup before entry next soft = record {
   timer = λ apart no_gate.
       cond-false (is_hard_reset before entry.event) _ _ soft
       ∙ timer-alone setup before entry.event entry.reply (timer_of before) next.answer apart no_gate;
-  system = λ apart. cond-false (is_hard_reset before entry.event) _ _ soft ∙ system-alone entry.event entry.reply (system_of before) apart;
-  triggers = λ apart. cond-false (is_hard_reset before entry.event) _ _ soft ∙ triggers-alone entry.event entry.reply (triggers_of before) apart;
+  system = λ apart.
+      cond-false (is_hard_reset before entry.event) _ _ soft
+      ∙ system-alone entry.event entry.reply (system_of before) apart;
+  triggers = λ apart.
+      cond-false (is_hard_reset before entry.event) _ _ soft
+      ∙ triggers-alone entry.event entry.reply (triggers_of before) apart;
   clock = λ apart.
       cond-false (is_hard_reset before entry.event) _ _ soft
       ∙ clock-alone setup before entry.event entry.reply (clock_of before) next.answer apart;
   disk = λ apart bytes.
       cond-false (is_hard_reset before entry.event) _ _ soft
       ∙ disk-alone setup before entry.event entry.reply (disk_with bytes before) next.answer apart;
-  wires = λ apart dev. ap (λ (set : Option Bool). unwrap_or set (wire_of before dev)) (wire-alone setup before entry.event entry.reply dev next.answer apart);
-  lines = λ apart line. ap (λ (set : Option Bool). unwrap_or set (irq_of before line)) (line-alone setup before entry.event entry.reply line next.answer apart);
+  wires = λ apart dev.
+      ap (λ (set : Option Bool). unwrap_or set (wire_of before dev))
+      (wire-alone setup before entry.event entry.reply dev next.answer apart);
+  lines = λ apart line.
+      ap (λ (set : Option Bool). unwrap_or set (irq_of before line))
+      (line-alone setup before entry.event entry.reply line next.answer apart);
 }
 
 out-stays :
@@ -38,7 +46,9 @@ pub lines_stay : LinesStay
 lines_stay setup before entry next soft apart routes =
     let others = others_stay setup before entry next soft in
     levels-same setup (entry ∷ before) before (timer_of (entry ∷ before)) (timer_of before) (record {
-      out = out-stays before entry soft (out-alone setup before entry.event entry.reply (timer_of before) next.answer (λ e. apart (inl e)));
+      out =
+          out-stays before entry soft
+          (out-alone setup before entry.event entry.reply (timer_of before) next.answer (λ e. apart (inl e)));
       clock = others.clock (λ e. apart (inr (inl e)));
       disk = others.disk (λ e. apart (inr (inr (inl e))));
       wires = others.wires (λ e. apart (inr (inr (inr e))));

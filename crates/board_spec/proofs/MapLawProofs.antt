@@ -16,7 +16,8 @@ use Rattle.board_spec.proofs.MapByteLaws.{map_bytes_decide}
 
 -- two states of the registers under which the same areas answer
 abbrev SameAreas : Setup → (bytes other : Bytes) → Type 0
-SameAreas setup bytes other = (addr : ℕ) (kind : Kind) (smm : Bool) → area_of setup bytes addr kind smm ≡ area_of setup other addr kind smm
+SameAreas setup bytes other =
+    (addr : ℕ) (kind : Kind) (smm : Bool) → area_of setup bytes addr kind smm ≡ area_of setup other addr kind smm
 
 same_span :
     (setup : Setup) (bytes other : Bytes) → SameAreas setup bytes other →
@@ -31,7 +32,9 @@ same_span setup bytes other same addr kind smm lo hi area span = record {
   ends = elim span.ends [ inl last ↦ inl last | inr apart ↦ inr (λ e. apart (same (hi + 1) kind smm ∙ e)) ];
 }
 
-same_six : (setup : Setup) (bytes other : Bytes) → SameAreas setup bytes other → (addr : ℕ) → six_areas setup bytes addr ≡ six_areas setup other addr
+same_six :
+    (setup : Setup) (bytes other : Bytes) → SameAreas setup bytes other → (addr : ℕ) →
+    six_areas setup bytes addr ≡ six_areas setup other addr
 same_six setup bytes other same addr =
     let a = same addr Fetch false in
     let b = same addr Read false in
@@ -46,7 +49,11 @@ same_flat_map :
     IsFlatMapOf setup bytes ranges → IsFlatMapOf setup other ranges
 same_flat_map setup bytes other same ranges map = record {
   tiles = map.tiles;
-  right = λ k d below. record { at_each = λ addr from to. sym (same_six setup bytes other same addr) ∙ (map.right k d below).at_each addr from to };
+  right = λ k d below.
+      record {
+        at_each = λ addr from to. sym (same_six setup bytes other same addr)
+            ∙ (map.right k d below).at_each addr from to;
+      };
   least = map.least;
 }
 
@@ -58,9 +65,11 @@ map_writes_decide_map setup history other cards writes =
     ∙ ap (λ (changes : List MapChange). registers_after setup changes reg) writes
     ∙ sym (map_writes_decide setup other reg is) in
     let areas : SameAreas setup (byte_of setup history) (byte_of setup other) =
-    λ addr kind smm. (map_bytes_decide setup (byte_of setup history) (byte_of setup other) cards bytes addr kind smm).0 in
+    λ addr kind smm.
+    (map_bytes_decide setup (byte_of setup history) (byte_of setup other) cards bytes addr kind smm).0 in
     record {
       map_bytes = bytes;
-      spans = λ addr kind smm lo hi area span. same_span setup (byte_of setup history) (byte_of setup other) areas addr kind smm lo hi area span;
+      spans = λ addr kind smm lo hi area span.
+          same_span setup (byte_of setup history) (byte_of setup other) areas addr kind smm lo hi area span;
       flat_map = λ ranges map. same_flat_map setup (byte_of setup history) (byte_of setup other) areas ranges map;
     }

@@ -27,24 +27,31 @@ soft-memory : (event : Event) (before : List Entry) → IsOfMemory event → is_
 soft-memory (Port access) before is = absurd is
 soft-memory event before is = refl
 
-byte-memory : (setup : Setup) (event : Event) (before : List Entry) (reg : Reg) (old : ℕ) → IsOfMemory event → byte_with setup (register_change setup before event) reg old ≡ old
+byte-memory :
+    (setup : Setup) (event : Event) (before : List Entry) (reg : Reg) (old : ℕ) → IsOfMemory event →
+    byte_with setup (register_change setup before event) reg old ≡ old
 byte-memory setup (Port access) before reg old is = absurd is
 byte-memory setup event before reg old is = refl
 
-timer-memory : (event : Event) (reply : Reply) (timer : PitState) → IsOfMemory event → timer_after event reply timer ≡ timer
+timer-memory :
+    (event : Event) (reply : Reply) (timer : PitState) → IsOfMemory event → timer_after event reply timer ≡ timer
 timer-memory (Port access) reply timer is = absurd is
 timer-memory (Pulses count) reply timer is = absurd is
 timer-memory event reply timer is = refl
 
-system-memory : (event : Event) (reply : Reply) (port : SystemPort) → IsOfMemory event → system_after event reply port ≡ port
+system-memory :
+    (event : Event) (reply : Reply) (port : SystemPort) → IsOfMemory event → system_after event reply port ≡ port
 system-memory (Port access) reply port is = absurd is
 system-memory event reply port is = refl
 
-triggers-memory : (event : Event) (reply : Reply) (triggers : Triggers) → IsOfMemory event → triggers_after event reply triggers ≡ triggers
+triggers-memory :
+    (event : Event) (reply : Reply) (triggers : Triggers) → IsOfMemory event →
+    triggers_after event reply triggers ≡ triggers
 triggers-memory (Port access) reply triggers is = absurd is
 triggers-memory event reply triggers is = refl
 
-clock-memory : (event : Event) (reply : Reply) (clock : Clock) → IsOfMemory event → clock_after event reply clock ≡ clock
+clock-memory :
+    (event : Event) (reply : Reply) (clock : Clock) → IsOfMemory event → clock_after event reply clock ≡ clock
 clock-memory (Port access) reply clock is = absurd is
 clock-memory (Time moment) reply clock is = absurd is
 clock-memory event reply clock is = refl
@@ -70,31 +77,51 @@ not_of_pair event reply is acts = acts
 
 -- ---- the devices, the lines and the pair
 
-timer-same : (before : List Entry) (entry : Entry) → IsOfMemory entry.event → timer_of (entry ∷ before) ≡ timer_of before
+timer-same :
+    (before : List Entry) (entry : Entry) → IsOfMemory entry.event → timer_of (entry ∷ before) ≡ timer_of before
 unfolding timer_of
-timer-same before entry is = cond-false (is_hard_reset before entry.event) _ _ (soft-memory entry.event before is) ∙ timer-memory entry.event entry.reply (timer_of before) is
+timer-same before entry is =
+    cond-false (is_hard_reset before entry.event) _ _ (soft-memory entry.event before is)
+    ∙ timer-memory entry.event entry.reply (timer_of before) is
 
-clock-same : (before : List Entry) (entry : Entry) → IsOfMemory entry.event → clock_of (entry ∷ before) ≡ clock_of before
+clock-same :
+    (before : List Entry) (entry : Entry) → IsOfMemory entry.event → clock_of (entry ∷ before) ≡ clock_of before
 unfolding clock_of
-clock-same before entry is = cond-false (is_hard_reset before entry.event) _ _ (soft-memory entry.event before is) ∙ clock-memory entry.event entry.reply (clock_of before) is
+clock-same before entry is =
+    cond-false (is_hard_reset before entry.event) _ _ (soft-memory entry.event before is)
+    ∙ clock-memory entry.event entry.reply (clock_of before) is
 
-disk-same : (bytes : List ℕ) (before : List Entry) (entry : Entry) → IsOfMemory entry.event → disk_with bytes (entry ∷ before) ≡ disk_with bytes before
+disk-same :
+    (bytes : List ℕ) (before : List Entry) (entry : Entry) → IsOfMemory entry.event →
+    disk_with bytes (entry ∷ before) ≡ disk_with bytes before
 unfolding disk_with
-disk-same bytes before entry is = cond-false (is_hard_reset before entry.event) _ _ (soft-memory entry.event before is) ∙ disk-memory entry.event entry.reply (disk_with bytes before) is
+disk-same bytes before entry is =
+    cond-false (is_hard_reset before entry.event) _ _ (soft-memory entry.event before is)
+    ∙ disk-memory entry.event entry.reply (disk_with bytes before) is
 
-byte-same : (setup : Setup) (before : List Entry) (entry : Entry) (reg : Reg) → IsOfMemory entry.event → byte_of setup (entry ∷ before) reg ≡ byte_of setup before reg
+byte-same :
+    (setup : Setup) (before : List Entry) (entry : Entry) (reg : Reg) → IsOfMemory entry.event →
+    byte_of setup (entry ∷ before) reg ≡ byte_of setup before reg
 unfolding byte_of
 byte-same setup before entry reg is = byte-memory setup entry.event before reg (byte_of setup before reg) is
 
-wire-same : (before : List Entry) (entry : Entry) (dev : ℕ) → IsOfMemory entry.event → wire_of (entry ∷ before) dev ≡ wire_of before dev
+wire-same :
+    (before : List Entry) (entry : Entry) (dev : ℕ) → IsOfMemory entry.event →
+    wire_of (entry ∷ before) dev ≡ wire_of before dev
 unfolding wire_of
-wire-same before entry dev is = ap (λ (set : Option Bool). unwrap_or set (wire_of before dev)) (wire-memory entry.event dev is)
+wire-same before entry dev is =
+    ap (λ (set : Option Bool). unwrap_or set (wire_of before dev)) (wire-memory entry.event dev is)
 
-irq-same : (before : List Entry) (entry : Entry) (line : ℕ) → IsOfMemory entry.event → irq_of (entry ∷ before) line ≡ irq_of before line
+irq-same :
+    (before : List Entry) (entry : Entry) (line : ℕ) → IsOfMemory entry.event →
+    irq_of (entry ∷ before) line ≡ irq_of before line
 unfolding irq_of
-irq-same before entry line is = ap (λ (set : Option Bool). unwrap_or set (irq_of before line)) (line-memory entry.event line is)
+irq-same before entry line is =
+    ap (λ (set : Option Bool). unwrap_or set (irq_of before line)) (line-memory entry.event line is)
 
-lines-same : (setup : Setup) (before : List Entry) (entry : Entry) → IsOfMemory entry.event → levels_of setup (entry ∷ before) ≡ levels_of setup before
+lines-same :
+    (setup : Setup) (before : List Entry) (entry : Entry) → IsOfMemory entry.event →
+    levels_of setup (entry ∷ before) ≡ levels_of setup before
 lines-same setup before entry is =
     levels-same setup (entry ∷ before) before (timer_of (entry ∷ before)) (timer_of before) (record {
       out = ap (out_of 0) (timer-same before entry is);
@@ -110,12 +137,18 @@ unfolding system_of triggers_of
 memory_leaves_devices again setup before entry is = record {
   registers = λ reg. byte-same setup before entry reg is;
   timer = timer-same before entry is;
-  system = cond-false (is_hard_reset before entry.event) _ _ (soft-memory entry.event before is) ∙ system-memory entry.event entry.reply (system_of before) is;
-  triggers = cond-false (is_hard_reset before entry.event) _ _ (soft-memory entry.event before is) ∙ triggers-memory entry.event entry.reply (triggers_of before) is;
+  system =
+      cond-false (is_hard_reset before entry.event) _ _ (soft-memory entry.event before is)
+      ∙ system-memory entry.event entry.reply (system_of before) is;
+  triggers =
+      cond-false (is_hard_reset before entry.event) _ _ (soft-memory entry.event before is)
+      ∙ triggers-memory entry.event entry.reply (triggers_of before) is;
   clock = clock-same before entry is;
   disk = λ bytes. disk-same bytes before entry is;
   wires = λ dev. wire-same before entry dev is;
   lines = λ line. irq-same before entry line is;
   levels = lines-same setup before entry is;
-  pair = pair_stays again setup before entry (soft-memory entry.event before is) (not_of_pair entry.event entry.reply is) (lines-same setup before entry is);
+  pair =
+      pair_stays again setup before entry (soft-memory entry.event before is)
+      (not_of_pair entry.event entry.reply is) (lines-same setup before entry is);
 }

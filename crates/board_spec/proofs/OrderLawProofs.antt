@@ -28,7 +28,9 @@ replay_is_complete setup phases history replay = subst (HasPhases phases) (sym r
 
 -- ---- begun
 
-so_far : (phases : List (List Statement)) (statements : List Statement) → HasPhases phases statements → HasPhasesSoFar phases statements
+so_far :
+    (phases : List (List Statement)) (statements : List Statement) → HasPhases phases statements →
+    HasPhasesSoFar phases statements
 so_far [] statements whole = whole
 so_far (phase ∷ later) statements whole = inr (whole.0, so_far later (drop (length phase) statements) whole.1)
 
@@ -37,12 +39,19 @@ complete_is_begun phases history complete = so_far phases (statements_of history
 
 -- ---- one statement more
 
-events-append : (actor : ℕ) (first later : List Statement) → events_by actor (first ++ later) ≡ events_by actor first ++ events_by actor later
+events-append :
+    (actor : ℕ) (first later : List Statement) →
+    events_by actor (first ++ later) ≡ events_by actor first ++ events_by actor later
 events-append actor first later =
-    ap (map (λ (statement : Statement). statement.event)) (filter-append (λ (statement : Statement). statement.actor == actor) first later)
-    ∙ map-append (λ (statement : Statement). statement.event) (filter (λ (statement : Statement). statement.actor == actor) first) (filter (λ (statement : Statement). statement.actor == actor) later)
+    ap (map (λ (statement : Statement). statement.event))
+    (filter-append (λ (statement : Statement). statement.actor == actor) first later)
+    ∙ map-append (λ (statement : Statement). statement.event)
+    (filter (λ (statement : Statement). statement.actor == actor) first)
+    (filter (λ (statement : Statement). statement.actor == actor) later)
 
-pub statements-newest : (entry : Entry) (before : List Entry) → statements_of (entry ∷ before) ≡ statements_of before ++ statement_of entry ∷ []
+pub statements-newest :
+    (entry : Entry) (before : List Entry) →
+    statements_of (entry ∷ before) ≡ statements_of before ++ statement_of entry ∷ []
 statements-newest entry before =
     ap (map statement_of) (reverse-append (entry ∷ []) before) ∙ map-append statement_of (reverse before) (entry ∷ [])
 
@@ -50,9 +59,12 @@ shorter_front : (longer first later : List Event) → BeginsWith longer (first +
 shorter_front longer first later begins =
     record { rest = later ++ begins.rest; whole = begins.whole ∙ append_assoc first later begins.rest }
 
-shorter_phase : (phase first later : List Statement) → IsFrontOfPhase phase (first ++ later) → IsFrontOfPhase phase first
+shorter_phase :
+    (phase first later : List Statement) → IsFrontOfPhase phase (first ++ later) → IsFrontOfPhase phase first
 shorter_phase phase first later front = record {
-  size = let e : length (first ++ later) ≡ length first + length later = length-append first later in let s = front.size in omega arith;
+  size =
+      let e : length (first ++ later)
+      ≡ length first + length later = length-append first later in let s = front.size in omega arith;
   each = λ actor. shorter_front (events_by actor phase) (events_by actor first) (events_by actor later)
       (subst (BeginsWith (events_by actor phase)) (events-append actor first later) (front.each actor));
 }
@@ -78,7 +90,8 @@ shorter_so_far (phase ∷ later) statements last (inr whole) =
           let added : length (statements ++ last ∷ []) ≡ length statements + 1 = length-append statements (last ∷ []) in
           let all : take (length phase) (statements ++ last ∷ []) ≡ statements ++ last ∷ [] =
           take_all (length phase) (statements ++ last ∷ []) (omega arith) in
-          inl (shorter_phase phase statements (last ∷ []) (whole_is_front phase (statements ++ last ∷ []) (subst (IsWholePhase phase) all whole.0)))
+          inl (shorter_phase phase statements (last ∷ [])
+          (whole_is_front phase (statements ++ last ∷ []) (subst (IsWholePhase phase) all whole.0)))
       | inr full ↦
           inr (
             subst (IsWholePhase phase) (take-append-le (length phase) statements (last ∷ []) full) whole.0,

@@ -39,7 +39,9 @@ near_of named reg width inside =
     }
 
 -- what a store does not reach stays
-stored_elsewhere : (setup : Setup) (named reg : Reg) (width : Width) (value old : ℕ) → ¬ IsNear named reg → byte_with setup (Some (Store named width value)) reg old ≡ old
+stored_elsewhere :
+    (setup : Setup) (named reg : Reg) (width : Width) (value old : ℕ) → ¬ IsNear named reg →
+    byte_with setup (Some (Store named width value)) reg old ≡ old
 stored_elsewhere setup named reg width value old far =
     elim (cases_Bool (covers named width reg)) [
       | inr outside ↦ cond-false (covers named width reg) _ old outside
@@ -47,45 +49,72 @@ stored_elsewhere setup named reg width value old far =
     ]
 
 -- the second line of the table of ports is the configuration ports'
-second_line : {X : Type 0} (first second : Bool) (x y otherwise : X) (later : List (Option X)) → first ≡ false → second ≡ true → first_of (line_where first x ∷ line_where second y ∷ later) otherwise ≡ y
+second_line :
+    {X : Type 0} (first second : Bool) (x y otherwise : X) (later : List (Option X)) → first ≡ false →
+    second ≡ true → first_of (line_where first x ∷ line_where second y ∷ later) otherwise ≡ y
 second_line first second x y otherwise later no_first is_second = rw (no_first, is_second) refl
 
 not_the_address : (port size : ℕ) → is_config_port port ≡ true → (port == config_address_port && size == 4) ≡ false
 not_the_address port size is = grind (arith, nat_tests)
 
-decoded-config : (setup : Setup) (bytes : Bytes) (address : ℕ) (disk : Bool) (port : ℕ) (width : Width) → is_config_port port ≡ true → port_target_of setup bytes address disk port width ≡ config_port address (config_register setup address port)
+decoded-config :
+    (setup : Setup) (bytes : Bytes) (address : ℕ) (disk : Bool) (port : ℕ) (width : Width) →
+    is_config_port port ≡ true →
+    port_target_of setup bytes address disk port width ≡ config_port address (config_register setup address port)
 unfolding port_target_of
 decoded-config setup bytes address disk port width is =
-    second_line (port == config_address_port && bytes_of width == 4) (is_config_port port) _ _ _ _ (not_the_address port (bytes_of width) is) is
+    second_line (port == config_address_port && bytes_of width == 4) (is_config_port port) _ _ _ _
+    (not_the_address port (bytes_of width) is) is
 
 -- an access to a configuration port that names a register
-answer_reaches : (setup : Setup) (before : List Entry) (access : PortAccess) (named reg : Reg) → is_config_port access.port ≡ true → config_register setup (config_address before) access.port ≡ Some named → IsNear named reg → Reaches (port_answer setup before access) reg
+answer_reaches :
+    (setup : Setup) (before : List Entry) (access : PortAccess) (named reg : Reg) →
+    is_config_port access.port ≡ true → config_register setup (config_address before) access.port ≡ Some named →
+    IsNear named reg → Reaches (port_answer setup before access) reg
 unfolding port_answer
 answer_reaches setup before access named reg is found near =
     subst (λ (decoded : Decoded). TargetReaches decoded.target reg)
-    (sym (decoded-config setup (byte_of setup before) (config_address before) (is_some setup.disk) access.port access.width is ∙ ap (config_port (config_address before)) found)) near
+    (sym (decoded-config setup (byte_of setup before) (config_address before)
+    (is_some setup.disk) access.port access.width is ∙ ap (config_port (config_address before)) found)) near
 
-store_stays : (setup : Setup) (before : List Entry) (access : PortAccess) (reg : Reg) (old : ℕ) (found : Option Reg) → is_config_port access.port ≡ true → config_register setup (config_address before) access.port ≡ found → ¬ Reaches (port_answer setup before access) reg → byte_with setup (option_map (λ at. Store at access.width access.value) found) reg old ≡ old
+store_stays :
+    (setup : Setup) (before : List Entry) (access : PortAccess) (reg : Reg) (old : ℕ) (found : Option Reg) →
+    is_config_port access.port ≡ true → config_register setup (config_address before) access.port ≡ found →
+    ¬ Reaches (port_answer setup before access) reg →
+    byte_with setup (option_map (λ at. Store at access.width access.value) found) reg old ≡ old
 store_stays setup before access reg old None is found far = refl
 store_stays setup before access reg old (Some named) is found far =
-    stored_elsewhere setup named reg access.width access.value old (λ near. far (answer_reaches setup before access named reg is found near))
+    stored_elsewhere setup named reg access.width access.value old
+    (λ near. far (answer_reaches setup before access named reg is found near))
 
-access_stays : (setup : Setup) (before : List Entry) (access : PortAccess) (reg : Reg) (old : ℕ) → ¬ Reaches (port_answer setup before access) reg → byte_with setup (config_store setup (config_address before) (Port access)) reg old ≡ old
+access_stays :
+    (setup : Setup) (before : List Entry) (access : PortAccess) (reg : Reg) (old : ℕ) →
+    ¬ Reaches (port_answer setup before access) reg →
+    byte_with setup (config_store setup (config_address before) (Port access)) reg old ≡ old
 access_stays setup before access reg old far =
     elim (cases_Bool (access.write && is_config_port access.port)) [
-      | inr not ↦ ap (λ (change : Option MapChange). byte_with setup change reg old) (cond-false (access.write && is_config_port access.port) _ None not)
+      | inr not ↦
+          ap (λ (change : Option MapChange). byte_with setup change reg old)
+          (cond-false (access.write && is_config_port access.port) _ None not)
       | inl is ↦
-          ap (λ (change : Option MapChange). byte_with setup change reg old) (cond-true (access.write && is_config_port access.port) _ None is)
-          ∙ store_stays setup before access reg old (config_register setup (config_address before) access.port) (and_parts access.write (is_config_port access.port) is).1 refl far
+          ap (λ (change : Option MapChange). byte_with setup change reg old)
+          (cond-true (access.write && is_config_port access.port) _ None is)
+          ∙ store_stays setup before access reg old (config_register setup (config_address before) access.port)
+          (and_parts access.write (is_config_port access.port) is).1 refl far
     ]
 
-event_stays : (setup : Setup) (before : List Entry) (event : Event) (reply : Reply) (reg : Reg) (old : ℕ) → IsAnswer setup before event reply → ¬ Reaches reply reg → byte_with setup (config_store setup (config_address before) event) reg old ≡ old
+event_stays :
+    (setup : Setup) (before : List Entry) (event : Event) (reply : Reply) (reg : Reg) (old : ℕ) →
+    IsAnswer setup before event reply → ¬ Reaches reply reg →
+    byte_with setup (config_store setup (config_address before) event) reg old ≡ old
 event_stays setup before (Port access) reply reg old answer far =
-    access_stays setup before access reg old (λ reaches. far (subst (λ (r : Reply). Reaches r reg) (sym answer) reaches))
+    access_stays setup before access reg old
+    (λ reaches. far (subst (λ (r : Reply). Reaches r reg) (sym answer) reaches))
 event_stays setup before event reply reg old answer far = refl
 
 pub registers_stay : RegistersStay
 unfolding byte_of
 registers_stay setup before entry reg next soft far =
-    ap (λ (change : Option MapChange). byte_with setup change reg (byte_of setup before reg)) (cond-false (is_hard_reset before entry.event) (Some Reset) _ soft)
+    ap (λ (change : Option MapChange). byte_with setup change reg (byte_of setup before reg))
+    (cond-false (is_hard_reset before entry.event) (Some Reset) _ soft)
     ∙ event_stays setup before entry.event entry.reply reg (byte_of setup before reg) next.answer far

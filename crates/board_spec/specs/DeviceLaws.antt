@@ -54,7 +54,8 @@ LinesStay =
 abbrev pub UndrivenLines : Type 0
 UndrivenLines =
     (setup : Setup) (history : List Entry) →
-    (slice_index_or (levels_of setup history) 2 false ≡ false) × (slice_index_or (levels_of setup history) 13 false ≡ false)
+    (slice_index_or (levels_of setup history) 2 false ≡ false) ×
+    (slice_index_or (levels_of setup history) 13 false ≡ false)
 
 -- a board begins with the timer's line alone at 1
 abbrev pub FirstLevels : Type 0
