@@ -211,7 +211,7 @@ all_right : (first later : List Statement) → AllAddressed (first ++ later) →
 all_right [] later all = all
 all_right (statement ∷ first) later all = all_right first later all.1
 
-none_so_far : (phases : List (List Statement)) → HasPhasesSoFar phases []
+pub none_so_far : (phases : List (List Statement)) → HasPhasesSoFar phases []
 none_so_far [] = refl
 none_so_far (phase ∷ later) =
     inl (record { size = omega arith; each = λ actor. record { rest = events_by actor phase; whole = refl } })
@@ -249,7 +249,7 @@ past_phase phase later statements full whole more = record {
 }
 
 -- a front of the first phase that is as long as it is the whole of it, and nothing follows
-whole_front :
+pub whole_front :
     (phase statements : List Statement) → IsFrontOfPhase phase statements → length phase ≤ length statements →
     IsWholePhase phase (take (length phase) statements)
 whole_front phase statements front full =
@@ -257,7 +257,7 @@ whole_front phase statements front full =
     subst (IsWholePhase phase) (sym (take_all (length phase) statements (omega arith)))
     (record { size = size; each = full_front statements phase front.each size })
 
-nothing_left :
+pub nothing_left :
     (phase statements : List Statement) → IsFrontOfPhase phase statements → length phase ≤ length statements →
     drop (length phase) statements ≡ []
 nothing_left phase statements front full = drop_of_length-le statements front.size

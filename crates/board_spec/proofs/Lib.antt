@@ -18,6 +18,7 @@ mod SmramProofs
 mod MapLawProofs
 mod OrderLawProofs
 mod GoesOnProofs
+mod OrderLengths
 mod PartLemmas
 mod PartLawProofs
 mod WideDramProofs
