@@ -10,39 +10,20 @@ use Rattle.board_spec.specs.Setup.{Setup}
 use Rattle.board_spec.specs.RegisterNames.{fdhc, smram, xbcs}
 use Rattle.board_spec.specs.Ranges.{lies_in, smram_range, shadow_range, upper_memory}
 use Rattle.board_spec.specs.Decode.{Bytes, first_of, line_where, boundary, top_of, row_of, hole_of, is_in, smram_answers, is_smram_range, is_shadowed, is_rom_selected, Window, card_area, memory_claim, area_of}
+use Rattle.board_spec.proofs.Numbers.{numbers_from, find-number}
 use Rattle.board_spec.specs.AreaLaws.{IsRow, HasRow, RowBelowTop}
 
 -- ---- the row of an address
-
--- the numbers from one on, so many
-rows_from : (from count : ℕ) → List ℕ
-rows_from from zero = []
-rows_from from (suc count) = from ∷ rows_from (from + 1) count
-
-find-row :
-    (test : ℕ → Bool) (from count row : ℕ) → from ≤ row → row < from + count → test row ≡ true →
-    ((k : ℕ) → k < row → test k ≡ false) → find test (rows_from from count) ≡ Some row
-unfolding rows_from
-find-row test from zero row above below here before = absurd (omega arith)
-find-row test from (suc count) row above below here before =
-    elim (cases_eq from row) [
-      | inl first ↦
-          cond-true (test from) (Some from) _ (subst (λ (k : ℕ). test k ≡ true) (sym first) here)
-          ∙ ap (λ (k : ℕ). Some k) first
-      | inr apart ↦
-          cond-false (test from) (Some from) _ (before from (omega arith))
-          ∙ find-row test (from + 1) count row (omega arith) (omega arith) here before
-    ]
 
 row-none : (bytes : Bytes) (addr : ℕ) → top_of bytes ≤ addr → row_of bytes addr ≡ None
 unfolding row_of
 row-none bytes addr past = cond-false (nat_lt addr (top_of bytes)) _ None (le-ltb _ _ past)
 
 pub row-is : (bytes : Bytes) (addr row : ℕ) → IsRow bytes addr row → row_of bytes addr ≡ Some row
-unfolding row_of rows_from
+unfolding row_of numbers_from
 row-is bytes addr row is =
     cond-true (nat_lt addr (top_of bytes)) _ None (lt-ltb _ _ is.below_top)
-    ∙ find-row (λ k. nat_lt addr (boundary bytes k)) 0 8 row (omega arith)
+    ∙ find-number (λ k. nat_lt addr (boundary bytes k)) 0 8 row (omega arith)
     (let last : row ≤ 7 = is.last in omega arith) (lt-ltb _ _ is.ends)
     (λ k below. le-ltb _ _ (is.first k below))
 

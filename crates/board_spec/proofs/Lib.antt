@@ -30,7 +30,9 @@ mod ExampleDiskRuns
 mod ExampleWideRuns
 mod ExampleRomRuns
 mod LineProofs
+mod WireProofs
 mod PairProofs
 mod MemoryProofs
+mod Numbers
 mod AreaProofs
 mod AreaLines

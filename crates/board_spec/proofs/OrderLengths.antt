@@ -15,9 +15,9 @@ cut_length :
 cut_length phase statements whole =
     let size : length (take (length phase) statements) ≡ length phase = whole.size in
     let taken : length (take (length phase) statements) ≡ min (length phase) (length statements) =
-        length-take (length phase) statements in
+    length-take (length phase) statements in
     let left : length (drop (length phase) statements) ≡ length statements - length phase =
-        length-drop (length phase) statements in
+    length-drop (length phase) statements in
     omega arith
 
 all_length : (phase later : List Statement) → length (phase ++ later) ≡ length phase + length later
@@ -29,16 +29,16 @@ bounded :
 bounded [] statements nothing = let none : length statements ≡ 0 = ap length nothing in omega arith
 bounded (phase ∷ later) statements (inl front) =
     let all : length (in_file_order (phase ∷ later)) ≡ length phase + length (in_file_order later) =
-        all_length phase (in_file_order later) in
+    all_length phase (in_file_order later) in
     let size : length statements ≤ length phase = front.size in
     omega arith
 bounded (phase ∷ later) statements (inr whole) =
     let all : length (in_file_order (phase ∷ later)) ≡ length phase + length (in_file_order later) =
-        all_length phase (in_file_order later) in
+    all_length phase (in_file_order later) in
     let here : length statements ≡ length phase + length (drop (length phase) statements) =
-        cut_length phase statements whole.0 in
+    cut_length phase statements whole.0 in
     let rest : length (drop (length phase) statements) ≤ length (in_file_order later) =
-        bounded later (drop (length phase) statements) whole.1 in
+    bounded later (drop (length phase) statements) whole.1 in
     omega arith
 
 complete_when_full :
@@ -47,17 +47,19 @@ complete_when_full :
 complete_when_full [] statements nothing full = nothing
 complete_when_full (phase ∷ later) statements (inl front) full =
     let all : length (in_file_order (phase ∷ later)) ≡ length phase + length (in_file_order later) =
-        all_length phase (in_file_order later) in
+    all_length phase (in_file_order later) in
     let size : length statements ≤ length phase = front.size in
     let long : length phase ≤ length statements = omega arith in
-    let rest : 0 ≡ length (in_file_order later) = omega arith in
-    (whole_front phase statements front long,
-    subst (HasPhases later) (sym (nothing_left phase statements front long)) (complete_when_full later [] (none_so_far later) rest))
+    let rest : 0 ≡ length (in_file_order later) = omega arith in (
+      whole_front phase statements front long,
+      subst (HasPhases later) (sym (nothing_left phase statements front long))
+          (complete_when_full later [] (none_so_far later) rest),
+    )
 complete_when_full (phase ∷ later) statements (inr whole) full =
     let all : length (in_file_order (phase ∷ later)) ≡ length phase + length (in_file_order later) =
-        all_length phase (in_file_order later) in
+    all_length phase (in_file_order later) in
     let here : length statements ≡ length phase + length (drop (length phase) statements) =
-        cut_length phase statements whole.0 in
+    cut_length phase statements whole.0 in
     (whole.0, complete_when_full later (drop (length phase) statements) whole.1 (omega arith))
 
 full_when_complete :
@@ -66,11 +68,11 @@ full_when_complete :
 full_when_complete [] statements nothing = ap length nothing
 full_when_complete (phase ∷ later) statements whole =
     let all : length (in_file_order (phase ∷ later)) ≡ length phase + length (in_file_order later) =
-        all_length phase (in_file_order later) in
+    all_length phase (in_file_order later) in
     let here : length statements ≡ length phase + length (drop (length phase) statements) =
-        cut_length phase statements whole.0 in
+    cut_length phase statements whole.0 in
     let rest : length (drop (length phase) statements) ≡ length (in_file_order later) =
-        full_when_complete later (drop (length phase) statements) whole.1 in
+    full_when_complete later (drop (length phase) statements) whole.1 in
     omega arith
 
 -- a history states as much as it has entries

@@ -1,6 +1,6 @@
 //! Laws of the devices, the interrupt lines and the 8259A pair after a history.
 
-ghost use Rattle.board_spec.specs.DeviceLaws.{FirstLevels, LinesStay, MemoryLeavesDevices, OthersStay, PairHasSeen, PairStays, PulsesAdd, UndrivenLines};
+ghost use Rattle.board_spec.specs.DeviceLaws.{FirstLevels, LineHasDriver, LinesStay, MemoryLeavesDevices, OthersStay, PairHasSeen, PairStays, PulsesAdd, UndrivenLines, WireReachesLine};
 
 use device_spec::laws::{pulses_add_up, reserved_lines_rest, same_levels_again};
 
@@ -17,6 +17,12 @@ pub fn law_lines()
 {
     reserved_lines_rest();
 }
+
+/// A line is at 1 where a card's INTA# is that is routed to it, and else only by the device of the line.
+pub fn law_wires()
+    ensures reaches { WireReachesLine }
+    ensures driver { LineHasDriver }
+{}
 
 /// The 8259A pair has always seen the lines as they stand, so what moves no line leaves it.
 pub fn law_pair()
