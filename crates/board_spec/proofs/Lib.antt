@@ -29,6 +29,7 @@ mod ExampleDeviceRuns
 mod ExampleDiskRuns
 mod ExampleWideRuns
 mod ExampleRomRuns
+mod ResetProofs
 mod LineProofs
 mod WireProofs
 mod PairProofs

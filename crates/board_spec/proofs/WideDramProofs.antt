@@ -229,8 +229,12 @@ byte-part access from addr width start above below =
 abbrev Lands : Setup → List Entry → Access → Type 0
 Lands setup before part = first_cell (memory_target setup before part) part.addr ≡ Some (DramCell part.addr)
 
+-- what the parts put in a cell, each by its answer
+abbrev put_by_parts : Setup → List Entry → List Access → Cell → Option ℕ
+put_by_parts setup before parts cell = parts_put parts (map (part_answer setup before) parts) cell
+
 abbrev put_of : Setup → List Entry → List Access → ℕ → Option ℕ
-put_of setup before parts addr = parts_put parts (map (part_answer setup before) parts) (DramCell addr)
+put_of setup before parts addr = put_by_parts setup before parts (DramCell addr)
 
 put-outside :
     (setup : Setup) (before : List Entry) (access : WideAccess) (from addr : ℕ) (widths : List Width) →
@@ -276,15 +280,34 @@ put-within setup before access from addr (width ∷ later) writes lands start ab
           (omega arith))
     ]
 
--- what the reply to a wide access puts in a cell of DRAM
+-- the bytes of a card are none of these
+put-cards :
+    (setup : Setup) (before : List Entry) (access : WideAccess) (from dev base off : ℕ) (widths : List Width) →
+    is_write access.kind ≡ true → All (Lands setup before) (made access from widths) →
+    put_by_parts setup before (made access from widths) (CardCell dev base off) ≡ None
+unfolding made parts_put part_answer
+put-cards setup before access from dev base off [] writes lands = refl
+put-cards setup before access from dev base off (width ∷ later) writes lands =
+    let part : Access = part_at access from width in
+    let rest : List Access = made access (from + bytes_of width) later in
+    let cell : Cell = CardCell dev base off in
+    ap (λ (put : Option ℕ). option_or put (memory_put part (memory_target setup before part) cell))
+    (put-cards setup before access (from + bytes_of width) dev base off later writes
+    (All-tail (Lands setup before) part rest lands))
+    ∙ cond-true (is_write part.kind) _ None writes
+    ∙ ap (λ (first : Option Cell). option_and_then
+    (λ k. if nat_lt k (bytes_of part.width) then Some (byte part.value k) else None)
+    (option_and_then (λ it. distance it cell) first)) (All-head (Lands setup before) part rest lands)
+
+-- what the reply to a wide access puts in a cell
 put-answered :
-    (setup : Setup) (before : List Entry) (access : WideAccess) (reply : Reply) (addr : ℕ) →
+    (setup : Setup) (before : List Entry) (access : WideAccess) (reply : Reply) (cell : Cell) →
     IsAnswer setup before (Wide access) reply →
-    entry_put (Wide access) reply (DramCell addr) ≡ put_of setup before (parts_of access) addr
-put-answered setup before access (Bus value target denial) addr answer = absurd answer
-put-answered setup before access (Saw look) addr answer = absurd answer
-put-answered setup before access (Parts value parts) addr answer =
-    ap (λ (replies : List Part). parts_put (parts_of access) replies (DramCell addr)) answer.each
+    entry_put (Wide access) reply cell ≡ put_by_parts setup before (parts_of access) cell
+put-answered setup before access (Bus value target denial) cell answer = absurd answer
+put-answered setup before access (Saw look) cell answer = absurd answer
+put-answered setup before access (Parts value parts) cell answer =
+    ap (λ (replies : List Part). parts_put (parts_of access) replies cell) answer.each
 
 pub wide_stored : WideStored
 wide_stored setup before entry access next is legal writes lands =
@@ -293,23 +316,27 @@ wide_stored setup before entry access next is legal writes lands =
     subst (λ (event : Event). IsAnswer setup before event entry.reply) is next.answer in
     let landed : All (Lands setup before) (made access access.addr cut.widths) =
     subst (All (Lands setup before)) cut.parts lands in
-    let put : (addr : ℕ) → entry_put entry.event entry.reply (DramCell addr)
-    ≡ put_of setup before (made access access.addr cut.widths) addr =
-    λ addr.
-    ap (λ (event : Event). entry_put event entry.reply (DramCell addr)) is
-    ∙ put-answered setup before access entry.reply addr answer
-    ∙ ap (λ (parts : List Access). put_of setup before parts addr) cut.parts in
+    let put : (cell : Cell) → entry_put entry.event entry.reply cell
+    ≡ put_by_parts setup before (made access access.addr cut.widths) cell =
+    λ cell.
+    ap (λ (event : Event). entry_put event entry.reply cell) is
+    ∙ put-answered setup before access entry.reply cell answer
+    ∙ ap (λ (parts : List Access). put_by_parts setup before parts cell) cut.parts in
     let size : total cut.widths ≡ access.bytes = cut.total_is in
     record {
       within = λ k below.
           let place : access.addr + k - access.addr ≡ k = omega arith in
           stored-put entry before (DramCell (access.addr + k)) (byte access.value k)
-          (put (access.addr + k)
+          (put (DramCell (access.addr + k))
           ∙ put-within setup before access access.addr (access.addr + k) cut.widths writes landed (omega arith)
           (omega arith) (omega arith)
           ∙ ap (λ (j : ℕ). Some (byte access.value j)) place);
       outside = λ addr apart.
           stored-left entry before (DramCell addr)
-          (put addr ∙ put-outside setup before access access.addr addr cut.widths writes landed
+          (put (DramCell addr) ∙ put-outside setup before access access.addr addr cut.widths writes landed
           (elim apart [ inl below ↦ inl below | inr past ↦ inr (omega arith) ]));
+      cards = λ dev base off.
+          stored-left entry before (CardCell dev base off)
+          (put (CardCell dev base off)
+          ∙ put-cards setup before access access.addr dev base off cut.widths writes landed);
     }

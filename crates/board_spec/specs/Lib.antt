@@ -33,6 +33,7 @@ pub mod OrderLaws
 pub mod AreaLaws
 pub mod RegisterLaws
 pub mod DeviceLaws
+pub mod ResetLaws
 pub mod ExampleWords
 pub mod Examples
 pub mod ExampleLogs

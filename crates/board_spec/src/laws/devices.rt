@@ -1,6 +1,7 @@
 //! Laws of the devices, the interrupt lines and the 8259A pair after a history.
 
 ghost use Rattle.board_spec.specs.DeviceLaws.{FirstLevels, LineHasDriver, LinesStay, MemoryLeavesDevices, OthersStay, PairHasSeen, PairStays, PulsesAdd, UndrivenLines, WireReachesLine};
+ghost use Rattle.board_spec.specs.ResetLaws.{HardResetKeeps, HardResetResets};
 
 use device_spec::laws::{pulses_add_up, reserved_lines_rest, same_levels_again};
 
@@ -45,3 +46,10 @@ pub fn law_pulses()
 {
     pulses_add_up();
 }
+
+/// A hard reset puts every register and device in its reset state, and keeps DRAM, the cards' bytes and the
+/// levels from outside.
+pub fn law_hard_reset()
+    ensures resets { HardResetResets }
+    ensures keeps { HardResetKeeps }
+{}
