@@ -1,18 +1,15 @@
 -- A hard reset puts registers and devices in their reset state, and keeps what is stored.
-use Rattle.std.proofs.Common.{◌≡◌, ℕ, ◌+◌, ◌*◌, ◌%◌, ◌/◌, Bool, true, false, not, ◌||◌, ◌&&◌, List, [], ◌∷◌, Option, Some, None, is_some, take, drop, refl, sym, ◌∙◌, ap, subst, inl, inr}
-use Rattle.std.specs.Prelude.{◌==◌, if◌then◌else◌, unwrap_or}
+use Rattle.std.proofs.Common.{◌≡◌, ℕ, ◌+◌, ◌*◌, Bool, true, false, not, ◌||◌, ◌&&◌, List, ◌∷◌, Option, Some, None, is_some, take, drop, refl, sym, ◌∙◌, ap, inl, inr}
+use Rattle.std.specs.Prelude.{◌==◌, unwrap_or}
 use Rattle.std.proofs.lemmas.Bool.{cases_Bool, cond-true, cond-false, and_parts, eqb-true, false≢true}
-use Rattle.std.proofs.lemmas.Bool.Decides.{nat_tests}
 use Rattle.board_base.specs.declared.access.Width.{Width}
 use Rattle.board_base.specs.declared.access.PortAccess.{PortAccess}
-use Rattle.board_base.specs.declared.target.Reg.{Reg}
-use Rattle.board_base.specs.declared.target.Dev.{Dev}
 use Rattle.board_base.specs.declared.target.Dev.TheVariants.{Reset as ResetPort}
 use Rattle.board_base.specs.declared.target.Target.{Target}
 use Rattle.board_base.specs.declared.target.Target.TheVariants.{Device}
 use Rattle.board_base.specs.Access.{bytes_of}
 use Rattle.device_spec.specs.Elcr.{Triggers, triggers_at_reset}
-use Rattle.device_spec.specs.Levels.{Levels, has, no_levels, levels_where, with_level, without_level}
+use Rattle.device_spec.specs.Levels.{Levels, has, no_levels, levels_where}
 use Rattle.device_spec.specs.Pic.{Chip, chip_at_reset, chip_after_inputs, latches_after}
 use Rattle.device_spec.specs.Pair.{Pair, pair_at_reset, master_inputs, pair_after_lines}
 use Rattle.device_spec.proofs.Levels.{levels_where-same, has-levels_where}
@@ -25,7 +22,7 @@ use Rattle.board_spec.specs.declared.map_change.MapChange.TheVariants.{Reset}
 use Rattle.board_spec.specs.Setup.{Setup}
 use Rattle.board_spec.specs.PortNames.{reset_control_port}
 use Rattle.board_spec.specs.Registers.{control_written, is_hard_value, resets_hard, control_after, is_hard_reset, reset_control, config_address, byte_with, byte_of}
-use Rattle.board_spec.specs.Stored.{Cell, port_put, entry_put, stored_of}
+use Rattle.board_spec.specs.Stored.{Cell, port_put, entry_put}
 use Rattle.board_spec.specs.Decode.{Bytes}
 use Rattle.board_spec.specs.Ports.{Decoded, device, port_target_of}
 use Rattle.board_spec.specs.Devices.{wire_set, line_set, wire_of, irq_of, triggers_of, system_of, timer_of, clock_of, disk_with}
@@ -154,7 +151,10 @@ no_put :
     port_put access target cell ≡ None
 no_put access target cell is =
     ap (λ (t : Target). port_put access t cell) is
-    ∙ elim (cases_Bool access.write) [ inl writes ↦ cond-true access.write _ None writes | inr reads ↦ cond-false access.write _ None reads ]
+    ∙ elim (cases_Bool access.write) [
+      | inl writes ↦ cond-true access.write _ None writes
+      | inr reads ↦ cond-false access.write _ None reads
+    ]
 
 nothing_put :
     (setup : Setup) (before : List Entry) (event : Event) (reply : Reply) (cell : Cell) →
