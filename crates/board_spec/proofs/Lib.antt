@@ -22,6 +22,7 @@ mod OrderLengths
 mod PartLemmas
 mod PartLawProofs
 mod WideDramProofs
+mod DenialProofs
 mod RegisterProofs
 mod DeviceAlone
 mod DeviceProofs

@@ -32,6 +32,7 @@ pub mod MapLaws
 pub mod OrderLaws
 pub mod AreaLaws
 pub mod RegisterLaws
+pub mod DenialLaws
 pub mod DeviceLaws
 pub mod ResetLaws
 pub mod ExampleWords

@@ -2,6 +2,7 @@
 
 ghost use Rattle.board_spec.specs.Laws.{LegalKeepsLock, MapBytesDecide, MapWritesDecide, OneAnswer, OneFlatMap, OneReplay, OneSpan, SomeAnswer, SomeReplay, SomeSpan};
 ghost use Rattle.board_spec.specs.AreaLaws.{RowBelowTop, WhoAnswers};
+ghost use Rattle.board_spec.specs.DenialLaws.{DeniedInParts, DeniedOnBus};
 ghost use Rattle.board_spec.specs.MapLaws.{MapWritesDecideMap};
 ghost use Rattle.board_spec.specs.MergedBits.{MergedBits};
 ghost use Rattle.board_spec.specs.PartLaws.{CutIntoParts, WideReads};
@@ -97,4 +98,10 @@ pub fn law_areas()
 /// Without a hard reset only an entry whose reply names a register changes registers, and only near it.
 pub fn law_registers_stay()
     ensures stay { RegistersStay }
+{}
+
+/// An access is denied exactly where nobody answers it, or where it writes to the ROM.
+pub fn law_denials()
+    ensures bus { DeniedOnBus }
+    ensures parts { DeniedInParts }
 {}
