@@ -5,8 +5,10 @@ mod PairLaws
 mod PicLaws
 mod PicPlaces
 mod PitBytes
+mod PitCounts
 mod PitLatches
 mod PitPeriods
 mod PitPulses
 mod PitReadBacks
+mod PitWaiting
 mod RoutingLaws
