@@ -1,6 +1,7 @@
 pub mod Levels
 pub mod Priorities
 mod ClockLaws
+mod ExamplePair
 mod PairLaws
 mod PicLaws
 mod PicPlaces

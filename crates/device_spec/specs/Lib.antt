@@ -3,6 +3,8 @@ pub mod Bits
 pub mod Clock
 pub mod ClockLaws
 pub mod Elcr
+pub mod ExamplePair
+pub mod ExampleWords
 pub mod Levels
 pub mod Pair
 pub mod Pic

@@ -1,0 +1,102 @@
+//! Worked examples of the machines, each computed from the definitions alone. Each function does nothing:
+//! its clause is the example.
+
+ghost use Rattle.device_spec.specs.ExamplePair.{NobodyIsReady, SpuriousAnswers, ALevelStays, AnEdgeIsKept, TheHigherEndsFirst, ANewBeginning, AShortSequence, SpecialMask, ChosenRegisters, Polls, PollsOfOne, ResetAtLevels, EachCommand, AutomaticEnd, FullyNested, Cascaded};
+
+// The 8259A pair
+
+/// A chip that was never initialised holds INT at 0.
+#[tactic(auto, using(crate::proofs::ExamplePair::nobody_is_ready))]
+pub fn nobody_is_ready()
+    ensures example { NobodyIsReady }
+{}
+
+/// Spurious answers come from both chips, and leave alone the chip that gives them.
+#[tactic(auto, using(crate::proofs::ExamplePair::spurious_answers))]
+pub fn spurious_answers()
+    ensures example { SpuriousAnswers }
+{}
+
+/// A level triggered line of the slave is pending until it falls.
+#[tactic(auto, using(crate::proofs::ExamplePair::a_level_stays))]
+pub fn a_level_stays()
+    ensures example { ALevelStays }
+{}
+
+/// A rise is latched whatever ELCR says.
+#[tactic(auto, using(crate::proofs::ExamplePair::an_edge_is_kept))]
+pub fn an_edge_is_kept()
+    ensures example { AnEdgeIsKept }
+{}
+
+/// A higher level interrupts a lower one, and is the first to end.
+#[tactic(auto, using(crate::proofs::ExamplePair::the_higher_ends_first))]
+pub fn the_higher_ends_first()
+    ensures example { TheHigherEndsFirst }
+{}
+
+/// What ICW1 clears.
+#[tactic(auto, using(crate::proofs::ExamplePair::a_new_beginning))]
+pub fn a_new_beginning()
+    ensures example { ANewBeginning }
+{}
+
+/// A sequence without ICW3.
+#[tactic(auto, using(crate::proofs::ExamplePair::a_short_sequence))]
+pub fn a_short_sequence()
+    ensures example { AShortSequence }
+{}
+
+/// Special mask mode.
+#[tactic(auto, using(crate::proofs::ExamplePair::special_mask))]
+pub fn special_mask()
+    ensures example { SpecialMask }
+{}
+
+/// Reads of the pending levels, of those in service and of the mask.
+#[tactic(auto, using(crate::proofs::ExamplePair::chosen_registers))]
+pub fn chosen_registers()
+    ensures example { ChosenRegisters }
+{}
+
+/// A poll of the master.
+#[tactic(auto, using(crate::proofs::ExamplePair::polls))]
+pub fn polls()
+    ensures example { Polls }
+{}
+
+/// A poll of one chip, and what the other still has.
+#[tactic(auto, using(crate::proofs::ExamplePair::polls_of_one))]
+pub fn polls_of_one()
+    ensures example { PollsOfOne }
+{}
+
+/// A reset with lines at 1.
+#[tactic(auto, using(crate::proofs::ExamplePair::reset_at_levels))]
+pub fn reset_at_levels()
+    ensures example { ResetAtLevels }
+{}
+
+/// The eight commands of OCW2.
+#[tactic(auto, using(crate::proofs::ExamplePair::each_command))]
+pub fn each_command()
+    ensures example { EachCommand }
+{}
+
+/// Automatic end of interrupt.
+#[tactic(auto, using(crate::proofs::ExamplePair::automatic_end))]
+pub fn automatic_end()
+    ensures example { AutomaticEnd }
+{}
+
+/// Special fully nested mode.
+#[tactic(auto, using(crate::proofs::ExamplePair::fully_nested))]
+pub fn fully_nested()
+    ensures example { FullyNested }
+{}
+
+/// The slave's lines, and line 2.
+#[tactic(auto, using(crate::proofs::ExamplePair::cascaded))]
+pub fn cascaded()
+    ensures example { Cascaded }
+{}
