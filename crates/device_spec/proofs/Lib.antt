@@ -2,6 +2,7 @@ pub mod Levels
 pub mod Priorities
 mod ClockLaws
 mod ExamplePair
+mod ExampleTimer
 mod PairLaws
 mod PicLaws
 mod PicPlaces

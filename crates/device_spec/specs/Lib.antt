@@ -4,6 +4,7 @@ pub mod Clock
 pub mod ClockLaws
 pub mod Elcr
 pub mod ExamplePair
+pub mod ExampleTimer
 pub mod ExampleWords
 pub mod Levels
 pub mod Pair

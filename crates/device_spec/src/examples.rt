@@ -2,6 +2,7 @@
 //! its clause is the example.
 
 ghost use Rattle.device_spec.specs.ExamplePair.{NobodyIsReady, SpuriousAnswers, ALevelStays, AnEdgeIsKept, TheHigherEndsFirst, ANewBeginning, AShortSequence, SpecialMask, ChosenRegisters, Polls, PollsOfOne, ResetAtLevels, EachCommand, AutomaticEnd, FullyNested, Cascaded};
+ghost use Rattle.device_spec.specs.ExampleTimer.{AfterReset, ReadBackOf0, Counters1And2, OnePeriod, EachMode, EachCount, EachGate, BytesAndLatches};
 
 // The 8259A pair
 
@@ -99,4 +100,54 @@ pub fn fully_nested()
 #[tactic(auto, using(crate::proofs::ExamplePair::cascaded))]
 pub fn cascaded()
     ensures example { Cascaded }
+{}
+
+// The 8254
+
+/// The outputs and the status of each counter after a reset.
+#[tactic(auto, using(crate::proofs::ExampleTimer::after_reset))]
+pub fn after_reset()
+    ensures example { AfterReset }
+{}
+
+/// A square wave of five, read back.
+#[tactic(auto, using(crate::proofs::ExampleTimer::read_back_of_0))]
+pub fn read_back_of_0()
+    ensures example { ReadBackOf0 }
+{}
+
+/// Ports, outputs and control words of the other counters.
+#[tactic(auto, using(crate::proofs::ExampleTimer::counters_1_and_2))]
+pub fn counters_1_and_2()
+    ensures example { Counters1And2 }
+{}
+
+/// One period of a square wave of five, and the rises of OUT 0.
+#[tactic(auto, using(crate::proofs::ExampleTimer::one_period))]
+pub fn one_period()
+    ensures example { OnePeriod }
+{}
+
+/// The counting element and OUT in each mode.
+#[tactic(auto, using(crate::proofs::ExampleTimer::each_mode))]
+pub fn each_mode()
+    ensures example { EachMode }
+{}
+
+/// The least counts, the greatest, and decimal ones.
+#[tactic(auto, using(crate::proofs::ExampleTimer::each_count))]
+pub fn each_count()
+    ensures example { EachCount }
+{}
+
+/// What the gate does in each mode.
+#[tactic(auto, using(crate::proofs::ExampleTimer::each_gate))]
+pub fn each_gate()
+    ensures example { EachGate }
+{}
+
+/// The bytes of counts and latches, in their order.
+#[tactic(auto, using(crate::proofs::ExampleTimer::bytes_and_latches))]
+pub fn bytes_and_latches()
+    ensures example { BytesAndLatches }
 {}
