@@ -1,7 +1,9 @@
 pub mod Levels
 pub mod Priorities
 mod ClockLaws
+mod ExampleClock
 mod ExamplePair
+mod ExampleRouting
 mod ExampleTimer
 mod PairLaws
 mod PicLaws

@@ -3,7 +3,9 @@ pub mod Bits
 pub mod Clock
 pub mod ClockLaws
 pub mod Elcr
+pub mod ExampleClock
 pub mod ExamplePair
+pub mod ExampleRouting
 pub mod ExampleTimer
 pub mod ExampleWords
 pub mod Levels

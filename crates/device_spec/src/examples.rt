@@ -3,6 +3,8 @@
 
 ghost use Rattle.device_spec.specs.ExamplePair.{NobodyIsReady, SpuriousAnswers, ALevelStays, AnEdgeIsKept, TheHigherEndsFirst, ANewBeginning, AShortSequence, SpecialMask, ChosenRegisters, Polls, PollsOfOne, ResetAtLevels, EachCommand, AutomaticEnd, FullyNested, Cascaded};
 ghost use Rattle.device_spec.specs.ExampleTimer.{AfterReset, ReadBackOf0, Counters1And2, OnePeriod, EachMode, EachCount, EachGate, BytesAndLatches};
+ghost use Rattle.device_spec.specs.ExampleClock.{AnAlarmStays, AHardReset, AMoment, HourForms, Alarms, Interrupts, EachByte};
+ghost use Rattle.device_spec.specs.ExampleRouting.{RouteBytes, LinesDriven, TriggerBytes};
 
 // The 8259A pair
 
@@ -150,4 +152,68 @@ pub fn each_gate()
 #[tactic(auto, using(crate::proofs::ExampleTimer::bytes_and_latches))]
 pub fn bytes_and_latches()
     ensures example { BytesAndLatches }
+{}
+
+// The clock
+
+/// An alarm that rang, until register C is read.
+#[tactic(auto, using(crate::proofs::ExampleClock::an_alarm_stays))]
+pub fn an_alarm_stays()
+    ensures example { AnAlarmStays }
+{}
+
+/// A hard reset clears the index, the flags and the interrupts.
+#[tactic(auto, using(crate::proofs::ExampleClock::a_hard_reset))]
+pub fn a_hard_reset()
+    ensures example { AHardReset }
+{}
+
+/// The bytes of a moment.
+#[tactic(auto, using(crate::proofs::ExampleClock::a_moment))]
+pub fn a_moment()
+    ensures example { AMoment }
+{}
+
+/// Hours in the four forms.
+#[tactic(auto, using(crate::proofs::ExampleClock::hour_forms))]
+pub fn hour_forms()
+    ensures example { HourForms }
+{}
+
+/// When an alarm rings.
+#[tactic(auto, using(crate::proofs::ExampleClock::alarms))]
+pub fn alarms()
+    ensures example { Alarms }
+{}
+
+/// What raises the interrupt line.
+#[tactic(auto, using(crate::proofs::ExampleClock::interrupts))]
+pub fn interrupts()
+    ensures example { Interrupts }
+{}
+
+/// What a write and a hard reset leave of each byte.
+#[tactic(auto, using(crate::proofs::ExampleClock::each_byte))]
+pub fn each_byte()
+    ensures example { EachByte }
+{}
+
+// The routing
+
+/// The bytes of the route control registers.
+#[tactic(auto, using(crate::proofs::ExampleRouting::route_bytes))]
+pub fn route_bytes()
+    ensures example { RouteBytes }
+{}
+
+/// The lines that routed pins hold at 1.
+#[tactic(auto, using(crate::proofs::ExampleRouting::lines_driven))]
+pub fn lines_driven()
+    ensures example { LinesDriven }
+{}
+
+/// The bytes of the edge/level control registers.
+#[tactic(auto, using(crate::proofs::ExampleRouting::trigger_bytes))]
+pub fn trigger_bytes()
+    ensures example { TriggerBytes }
 {}
