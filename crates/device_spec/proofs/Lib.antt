@@ -2,6 +2,7 @@ pub mod Levels
 pub mod Priorities
 mod ClockLaws
 mod ExampleClock
+mod ExampleDisk
 mod ExamplePair
 mod ExampleRouting
 mod ExampleTimer

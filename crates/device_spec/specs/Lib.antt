@@ -4,6 +4,7 @@ pub mod Clock
 pub mod ClockLaws
 pub mod Elcr
 pub mod ExampleClock
+pub mod ExampleDisk
 pub mod ExamplePair
 pub mod ExampleRouting
 pub mod ExampleTimer

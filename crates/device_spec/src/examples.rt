@@ -5,6 +5,7 @@ ghost use Rattle.device_spec.specs.ExamplePair.{NobodyIsReady, SpuriousAnswers, 
 ghost use Rattle.device_spec.specs.ExampleTimer.{AfterReset, ReadBackOf0, Counters1And2, OnePeriod, EachMode, EachCount, EachGate, BytesAndLatches};
 ghost use Rattle.device_spec.specs.ExampleClock.{AnAlarmStays, AHardReset, AMoment, HourForms, Alarms, Interrupts, EachByte};
 ghost use Rattle.device_spec.specs.ExampleRouting.{RouteBytes, LinesDriven, TriggerBytes};
+ghost use Rattle.device_spec.specs.ExampleDisk.{PastTheEnd, BadInTheMiddle, ReadToItsEnd, BadIsWritten, WrittenIsGood, WordsOfSector3, LowByteFirst, CommandEnds, Writes, Resets, Commands, Addresses, Identify, Lengths};
 
 // The 8259A pair
 
@@ -216,4 +217,90 @@ pub fn lines_driven()
 #[tactic(auto, using(crate::proofs::ExampleRouting::trigger_bytes))]
 pub fn trigger_bytes()
     ensures example { TriggerBytes }
+{}
+
+// The disk
+
+/// A read past the end of the disk.
+#[tactic(auto, using(crate::proofs::ExampleDisk::past_the_end))]
+pub fn past_the_end()
+    ensures example { PastTheEnd }
+{}
+
+/// A read that meets a bad sector.
+#[tactic(auto, using(crate::proofs::ExampleDisk::bad_in_the_middle))]
+pub fn bad_in_the_middle()
+    ensures example { BadInTheMiddle }
+{}
+
+/// A read of two sectors.
+#[tactic(auto, using(crate::proofs::ExampleDisk::read_to_its_end))]
+pub fn read_to_its_end()
+    ensures example { ReadToItsEnd }
+{}
+
+/// A write over a bad sector begins.
+#[tactic(auto, using(crate::proofs::ExampleDisk::bad_is_written))]
+pub fn bad_is_written()
+    ensures example { BadIsWritten }
+{}
+
+/// A bad sector that was written is read back.
+#[tactic(auto, using(crate::proofs::ExampleDisk::written_is_good))]
+pub fn written_is_good()
+    ensures example { WrittenIsGood }
+{}
+
+/// The words of a sector.
+#[tactic(auto, using(crate::proofs::ExampleDisk::words_of_sector_3))]
+pub fn words_of_sector_3()
+    ensures example { WordsOfSector3 }
+{}
+
+/// The order of bytes and words.
+#[tactic(auto, using(crate::proofs::ExampleDisk::low_byte_first))]
+pub fn low_byte_first()
+    ensures example { LowByteFirst }
+{}
+
+/// A command that ends a transfer.
+#[tactic(auto, using(crate::proofs::ExampleDisk::command_ends))]
+pub fn command_ends()
+    ensures example { CommandEnds }
+{}
+
+/// Writes past the end and to their end.
+#[tactic(auto, using(crate::proofs::ExampleDisk::writes))]
+pub fn writes()
+    ensures example { Writes }
+{}
+
+/// SRST, and drive 1.
+#[tactic(auto, using(crate::proofs::ExampleDisk::resets))]
+pub fn resets()
+    ensures example { Resets }
+{}
+
+/// The other commands, the registers and a hard reset.
+#[tactic(auto, using(crate::proofs::ExampleDisk::commands))]
+pub fn commands()
+    ensures example { Commands }
+{}
+
+/// Cylinders, heads and sectors.
+#[tactic(auto, using(crate::proofs::ExampleDisk::addresses))]
+pub fn addresses()
+    ensures example { Addresses }
+{}
+
+/// The words of IDENTIFY DEVICE.
+#[tactic(auto, using(crate::proofs::ExampleDisk::identify))]
+pub fn identify()
+    ensures example { Identify }
+{}
+
+/// Which disks there are.
+#[tactic(auto, using(crate::proofs::ExampleDisk::lengths))]
+pub fn lengths()
+    ensures example { Lengths }
 {}
