@@ -4,7 +4,7 @@ use Rattle.device_spec.specs.ExampleWords.{given, told, after_lines}
 use Rattle.device_spec.specs.Levels.{levels_where, byte_of_levels}
 use Rattle.device_spec.specs.Pic.{pending, first_selectable, request, chip_after_write, byte_read, chip_after_read, first_blocking}
 use Rattle.device_spec.specs.Pair.{answer_of, pair_after_acknowledge}
-use Rattle.device_spec.specs.ExamplePair.{initialised, NobodyIsReady, SpuriousAnswers, ALevelStays, AnEdgeIsKept, TheHigherEndsFirst, ANewBeginning, AShortSequence, SpecialMask, ChosenRegisters, Polls, PollsOfOne, ResetAtLevels, EachCommand, AutomaticEnd, FullyNested, Cascaded}
+use Rattle.device_spec.specs.ExamplePair.{initialised, NobodyIsReady, SpuriousAnswers, ALevelStays, AnEdgeIsKept, TheHigherEndsFirst, ANewBeginning, AShortSequence, SpecialMask, ChosenRegisters, Polls, PollsOfOne, ResetAtLevels, EachCommand, AutomaticEnd, ModesEnd, FullyNested, Cascaded}
 
 pub nobody_is_ready : NobodyIsReady
 unfolding NobodyIsReady initialised given told after_lines levels_where byte_of_levels pending first_selectable request chip_after_write byte_read chip_after_read first_blocking answer_of pair_after_acknowledge
@@ -60,7 +60,7 @@ each_command = record { non_specific_end = refl; specific_end = refl; rotating_e
 
 pub automatic_end : AutomaticEnd
 unfolding initialised given told after_lines levels_where byte_of_levels pending first_selectable request chip_after_write byte_read chip_after_read first_blocking answer_of pair_after_acknowledge
-automatic_end = record { rotating = refl; fixed = refl }
+automatic_end = record { rotating = refl; fixed = refl; rotation_only = refl; of_slave = refl }
 
 pub fully_nested : FullyNested
 unfolding initialised given told after_lines levels_where byte_of_levels pending first_selectable request chip_after_write byte_read chip_after_read first_blocking answer_of pair_after_acknowledge
@@ -69,3 +69,7 @@ fully_nested = record { special = refl; plain = refl; slave = refl }
 pub cascaded : Cascaded
 unfolding initialised given told after_lines levels_where byte_of_levels pending first_selectable request chip_after_write byte_read chip_after_read first_blocking answer_of pair_after_acknowledge
 cascaded = record { slave = refl; no_line = refl }
+
+pub modes_end : ModesEnd
+unfolding initialised given told after_lines levels_where byte_of_levels pending first_selectable request chip_after_write byte_read chip_after_read first_blocking answer_of pair_after_acknowledge
+modes_end = record { order = refl; rotation = refl; special_mask = refl; nesting = refl }

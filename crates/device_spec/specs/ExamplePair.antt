@@ -178,12 +178,40 @@ abbrev pub polls_of_one : List Line
 polls_of_one =
     Lines (0 ∷ 10 ∷ []) 0 ∷ Out 0xA0 0x0C ∷ In 0xA0 0x82 ∷ Out 0xA0 0x0B ∷ In 0xA1 0x00 ∷ In 0xA0 0x04
     ∷ Ack 0x2F 1 true ∷ Out 0x20 0x20 ∷ Lines (0 ∷ 9 ∷ []) 0 ∷ Out 0x20 0x0C ∷ In 0x20 0x82
-    ∷ Out 0x20 0x20 ∷ Ack 0x29 1 false ∷ []
+    ∷ In 0x20 0x04 ∷ Out 0x20 0x20 ∷ Ack 0x29 1 false ∷ []
 
 unfoldable pub PollsOfOne : Type 0
 PollsOfOne = Answers polls_of_one
 
--- automatic end of interrupt, with rotation and without
+-- ICW1 without ICW4 ends automatic end of interrupt, its rotation and the order that it left
+abbrev pub order_ends : List Line
+order_ends =
+    Out 0x20 0x13 ∷ Out 0x21 0x20 ∷ Out 0x21 0x03 ∷ Out 0x20 0x80 ∷ Lines (0 ∷ 3 ∷ []) 0 ∷ Ack 0x23 0 false
+    ∷ Out 0x20 0x12 ∷ Out 0x21 0x20 ∷ Lines (0 ∷ 1 ∷ 4 ∷ []) 0 ∷ Ack 0x21 0 false ∷ Out 0x20 0x0B ∷ In 0x20 0x02 ∷ []
+
+abbrev pub rotation_ends : List Line
+rotation_ends =
+    Out 0x20 0x80 ∷ Out 0x20 0x13 ∷ Out 0x21 0x20 ∷ Out 0x21 0x03 ∷ Lines (0 ∷ 1 ∷ 4 ∷ []) 0 ∷ Ack 0x21 0 false
+    ∷ Ack 0x24 0 false ∷ Lines (0 ∷ []) 0 ∷ Lines (0 ∷ 1 ∷ 5 ∷ []) 0 ∷ Ack 0x21 0 false ∷ []
+
+-- and special mask mode and special fully nested mode
+abbrev pub special_mask_ends : List Line
+special_mask_ends =
+    Out 0x20 0x68 ∷ Out 0x20 0x12 ∷ Out 0x21 0x20 ∷ Lines (0 ∷ 3 ∷ []) 0 ∷ Ack 0x23 0 false ∷ Out 0x21 0x08
+    ∷ Lines (0 ∷ 3 ∷ 5 ∷ []) 0 ∷ Ack 0x27 0 true ∷ []
+
+abbrev pub nesting_ends : List Line
+nesting_ends =
+    Out 0x20 0x11 ∷ Out 0x21 0x20 ∷ Out 0x21 0x04 ∷ Out 0x21 0x11 ∷ Out 0x20 0x10 ∷ Out 0x21 0x20 ∷ Out 0x21 0x04
+    ∷ Lines (0 ∷ 12 ∷ []) 0 ∷ Ack 0x2C 1 false ∷ Lines (0 ∷ 10 ∷ 12 ∷ []) 0 ∷ Ack 0x27 0 true ∷ []
+
+pub record ModesEnd : Type 0 where
+  pub order : Answers order_ends
+  pub rotation : Answers rotation_ends
+  pub special_mask : Answers special_mask_ends
+  pub nesting : Answers nesting_ends
+
+-- automatic end of interrupt, with rotation and without, and rotation alone, which then does nothing
 abbrev pub automatic_end : List Line
 automatic_end =
     Out 0x20 0x13 ∷ Out 0x21 0x20 ∷ Out 0x21 0x03 ∷ Out 0x20 0x80
@@ -196,9 +224,21 @@ without_rotation =
     ∷ Lines (0 ∷ 3 ∷ 5 ∷ []) 0 ∷ Ack 0x23 0 false ∷ Lines (0 ∷ 1 ∷ 3 ∷ 5 ∷ []) 0 ∷ Ack 0x21 0 false
     ∷ Ack 0x25 0 false ∷ []
 
+abbrev pub rotation_alone : List Line
+rotation_alone =
+    Out 0x20 0x80 ∷ Lines (0 ∷ 3 ∷ []) 0 ∷ Ack 0x23 0 false ∷ Out 0x20 0x20 ∷ Lines (0 ∷ 1 ∷ 4 ∷ []) 0 ∷ Ack 0x21 0 false ∷ []
+
+-- of the slave, whose next request is then at once at input 2
+abbrev pub automatic_end_of_slave : List Line
+automatic_end_of_slave =
+    Out 0xA0 0x11 ∷ Out 0xA1 0x28 ∷ Out 0xA1 0x02 ∷ Out 0xA1 0x03 ∷ Lines (0 ∷ 10 ∷ 12 ∷ []) 0 ∷ Ack 0x2A 1 false
+    ∷ In 0x20 0x04 ∷ In 0xA0 0x10 ∷ Out 0x20 0x20 ∷ Ack 0x2C 1 false ∷ In 0x20 0x00 ∷ []
+
 pub record AutomaticEnd : Type 0 where
   pub rotating : Answers automatic_end
   pub fixed : Answers without_rotation
+  pub rotation_only : Answers rotation_alone
+  pub of_slave : Answers automatic_end_of_slave
 
 -- ICW4 of the master, and the answer to a higher line of the slave while a lower one is served
 abbrev pub nested : (mode vector chip : ℕ) → (is_spurious : Bool) → List Line

@@ -1,7 +1,7 @@
 //! Worked examples of the machines, each computed from the definitions alone. Each function does nothing:
 //! its clause is the example.
 
-ghost use Rattle.device_spec.specs.ExamplePair.{NobodyIsReady, SpuriousAnswers, ALevelStays, AnEdgeIsKept, TheHigherEndsFirst, ANewBeginning, AShortSequence, SpecialMask, ChosenRegisters, Polls, PollsOfOne, ResetAtLevels, EachCommand, AutomaticEnd, FullyNested, Cascaded};
+ghost use Rattle.device_spec.specs.ExamplePair.{NobodyIsReady, SpuriousAnswers, ALevelStays, AnEdgeIsKept, TheHigherEndsFirst, ANewBeginning, AShortSequence, SpecialMask, ChosenRegisters, Polls, PollsOfOne, ResetAtLevels, EachCommand, AutomaticEnd, ModesEnd, FullyNested, Cascaded};
 ghost use Rattle.device_spec.specs.ExampleTimer.{AfterReset, ReadBackOf0, Counters1And2, OnePeriod, EachMode, EachCount, EachGate, BytesAndLatches};
 ghost use Rattle.device_spec.specs.ExampleClock.{AnAlarmStays, AHardReset, AMoment, HourForms, Alarms, Interrupts, EachByte};
 ghost use Rattle.device_spec.specs.ExampleRouting.{RouteBytes, LinesDriven, TriggerBytes};
@@ -103,6 +103,12 @@ pub fn fully_nested()
 #[tactic(auto, using(crate::proofs::ExamplePair::cascaded))]
 pub fn cascaded()
     ensures example { Cascaded }
+{}
+
+/// ICW1 ends each mode.
+#[tactic(auto, using(crate::proofs::ExamplePair::modes_end))]
+pub fn modes_end()
+    ensures example { ModesEnd }
 {}
 
 // The 8254
