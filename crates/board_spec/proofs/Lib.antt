@@ -23,7 +23,7 @@ mod PartLemmas
 mod PartLawProofs
 mod WideDramProofs
 mod RegisterProofs
-mod DeviceAlone
+pub mod DeviceAlone
 mod DeviceProofs
 mod ExampleDeviceRuns
 mod ExampleDiskRuns
