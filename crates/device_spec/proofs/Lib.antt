@@ -1,7 +1,9 @@
 pub mod Levels
 pub mod Priorities
 mod ClockLaws
+mod PairLaws
 mod PicLaws
+mod PicPlaces
 mod PitBytes
 mod PitLatches
 mod PitPeriods

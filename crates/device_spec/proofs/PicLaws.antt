@@ -71,7 +71,7 @@ found-first chip (x ∷ xs) level e =
           ]
     ]
 
-interrupt-request : (chip : Chip) (level : ℕ) → interrupt chip ≡ Some level → request chip ≡ Some level
+pub interrupt-request : (chip : Chip) (level : ℕ) → interrupt chip ≡ Some level → request chip ≡ Some level
 interrupt-request chip level e =
     elim (cases_Bool chip.is_ready) [
       | inl ready ↦ sym (ap (λ b. cond b (request chip) None) ready) ∙ e
@@ -96,7 +96,7 @@ requested-small chip level asks =
       | inr past ↦ absurd (both_ways (has (pending chip) level) (get_or_past (pending chip) level false past) (and_parts (has (pending chip) level) (not (has chip.masked level)) asks).0)
     ]
 
-interrupt-small : (chip : Chip) (level : ℕ) → interrupt chip ≡ Some level → level < 8
+pub interrupt-small : (chip : Chip) (level : ℕ) → interrupt chip ≡ Some level → level < 8
 interrupt-small chip level e = let first = interrupt-first chip level e in requested-small chip level first.asks
 
 -- ---- acknowledge
@@ -192,13 +192,16 @@ specific-end : (chip : Chip) (byte : ℕ) → is_bit byte 4 ≡ false → is_bit
 unfolding chip_after_write
 specific-end chip byte b4 b3 command = rw (b4, b3, command) refl
 
+-- a set without a level, in the place of the set in service
+pub without-one : (chip : Chip) (level : ℕ) → level < 8 → EndsOne chip (record chip { in_service = without_level chip.in_service level }) level
+without-one chip level small = record {
+  ended = has-levels_where (λ l. not (eqb l level) && has chip.in_service l) level small ∙ ap (λ b. not b && has chip.in_service level) (eq-eqb level level refl);
+  others = λ other inside apart. has-levels_where (λ l. not (eqb l level) && has chip.in_service l) other inside ∙ ap (λ b. not b && has chip.in_service other) (ne_eqb other level apart);
+  rest = refl;
+}
+
 pub specific-end-one : (chip : Chip) (byte : ℕ) → is_bit byte 4 ≡ false → is_bit byte 3 ≡ false → byte / 32 ≡ 3 → EndsOne chip (chip_after_write chip false byte) (byte % 8)
-specific-end-one chip byte b4 b3 command =
-    rw (specific-end chip byte b4 b3 command) (record {
-      ended = has-levels_where (λ l. not (eqb l (byte % 8)) && has chip.in_service l) (byte % 8) (omega arith) ∙ ap (λ b. not b && has chip.in_service (byte % 8)) (eq-eqb (byte % 8) (byte % 8) refl);
-      others = λ other small apart. has-levels_where (λ l. not (eqb l (byte % 8)) && has chip.in_service l) other small ∙ ap (λ b. not b && has chip.in_service other) (ne_eqb other (byte % 8) apart);
-      rest = refl;
-    })
+specific-end-one chip byte b4 b3 command = rw (specific-end chip byte b4 b3 command) (without-one chip (byte % 8) (omega arith))
 
 -- ---- the slave's request
 

@@ -1,6 +1,6 @@
 //! Laws of the machines. Each function does nothing: its clauses are the laws.
 ghost use Rattle.device_spec.specs.ClockLaws.{MemoryKeeps, ReadingQuiets, ResetKeepsTheTime, RingsAtItsTime, ShowsTheMoment, StaysSound};
-ghost use Rattle.device_spec.specs.PicLaws.{PrioritiesGoRound, InterruptIsFirst, MaskedLevelsWait, AcknowledgedIsInService, AcknowledgedSlaveIsInService, SpecificEndEndsOne, SpuriousLeavesAlone, SlaveIsLatched};
+ghost use Rattle.device_spec.specs.PicLaws.{PrioritiesGoRound, InterruptIsFirst, MaskedLevelsWait, InterruptIsSelected, SelectedInterrupts, NonSpecificEndEndsFirst, NonSpecificEndOfNone, SameLevelsAgain, ReadsLeaveTheOther, AcknowledgedIsInService, AcknowledgedSlaveIsInService, SpecificEndEndsOne, SpuriousLeavesAlone, SlaveIsLatched};
 ghost use Rattle.device_spec.specs.PitLaws.{LatchedCountStays, LatchedCountIsRead, ReadBackIsOneByOne, ReadBackIsLatch, ReadBackOfBoth, PulsesAddUp, CountersAreApart, CountReadsAsWritten};
 ghost use Rattle.device_spec.specs.PitPeriods.{RateRepeats, SquareRepeats};
 ghost use Rattle.device_spec.specs.RoutingLaws.{ReservedLinesRest, RoutesOneLine};
@@ -29,6 +29,12 @@ pub fn interrupt_is_first()
     ensures { InterruptIsFirst }
 {}
 
+/// INT of a chip is 1 exactly where it is ready and some level can be selected, and stands for the first of these.
+pub fn interrupt_is_selected()
+    ensures only { InterruptIsSelected }
+    ensures wherever { SelectedInterrupts }
+{}
+
 /// A masked level is never acknowledged.
 pub fn masked_levels_wait()
     ensures { MaskedLevelsWait }
@@ -45,6 +51,12 @@ pub fn specific_end_ends_one()
     ensures { SpecificEndEndsOne }
 {}
 
+/// A non-specific end of interrupt ends the first level that is served, and only that.
+pub fn non_specific_end_ends_first()
+    ensures first { NonSpecificEndEndsFirst }
+    ensures none { NonSpecificEndOfNone }
+{}
+
 /// A spurious answer leaves the chip that gives it alone.
 pub fn spurious_leaves_alone()
     ensures { SpuriousLeavesAlone }
@@ -53,6 +65,16 @@ pub fn spurious_leaves_alone()
 /// Whenever the slave asks, its request is latched at input 2 of the master.
 pub fn slave_is_latched()
     ensures { SlaveIsLatched }
+{}
+
+/// The same levels again change nothing of the pair.
+pub fn same_levels_again()
+    ensures { SameLevelsAgain }
+{}
+
+/// A read of one chip, which may poll it, leaves the other chip alone.
+pub fn reads_leave_the_other()
+    ensures { ReadsLeaveTheOther }
 {}
 
 // The 8254
