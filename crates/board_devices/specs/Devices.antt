@@ -27,6 +27,11 @@ abbrev pub AreWiresOf : List Entry → List Bool → Type 0
 AreWiresOf history wires =
     (dev : ℕ) → 2 ≤ dev → dev ≤ 9 → slice_index_or wires dev false ≡ wire_of history dev
 
+-- the levels that were set from outside are those after a history, for the lines that can be set so
+abbrev pub AreIrqsOf : List Entry → List Bool → Type 0
+AreIrqsOf history irqs =
+    (line : ℕ) → line < 16 → slice_index_or irqs line false ≡ (is_free_line line && irq_of history line)
+
 -- all but the pair are those after a history
 pub record AreAfter (setup : Setup) (history : List Entry) (devices : DevicesValue) : Type 0 where
   pub timer : devices.timer ≡ timer_of history
@@ -35,8 +40,7 @@ pub record AreAfter (setup : Setup) (history : List Entry) (devices : DevicesVal
   pub triggers : devices.triggers ≡ triggers_of history
   pub system : devices.system ≡ system_of history
   pub wires : AreWiresOf history devices.wires
-  pub irqs : (line : ℕ) → line < 16 →
-      slice_index_or devices.irqs line false ≡ (is_free_line line && irq_of history line)
+  pub irqs : AreIrqsOf history devices.irqs
 
 -- and so is the pair, which has seen the lines
 pub record AreDevicesOf (setup : Setup) (history : List Entry) (devices : DevicesValue) : Type 0 where

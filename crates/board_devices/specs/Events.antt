@@ -1,5 +1,5 @@
 -- What an entry asks of the devices.
-use Rattle.std.specs.Prelude.{ℕ, ◌≡◌, ◌==◌, ◌||◌, Bool, true, false, List, Option, Some, None}
+use Rattle.std.specs.Prelude.{ℕ, ◌≡◌, ◌==◌, ◌&&◌, Bool, true, false, List, Option, Some, None}
 use Rattle.board_base.specs.declared.access.Width.{Width}
 use Rattle.board_base.specs.declared.access.PortAccess.{PortAccess}
 use Rattle.board_base.specs.declared.target.Dev.{Dev}
@@ -16,12 +16,12 @@ use Rattle.board_spec.specs.Devices.{device_reached}
 
 -- the ports of a device, each for accesses of its widths
 abbrev pub is_port_of : Dev → (port bytes : ℕ) → Bool
-is_port_of Pic0 port bytes = lies_in master_ports port
-is_port_of Pic1 port bytes = lies_in slave_ports port
-is_port_of Pit port bytes = lies_in timer_ports port
-is_port_of System port bytes = port == system_port
-is_port_of Clock port bytes = lies_in clock_ports port
-is_port_of Elcr port bytes = lies_in elcr_ports port
+is_port_of Pic0 port bytes = lies_in master_ports port && bytes == 1
+is_port_of Pic1 port bytes = lies_in slave_ports port && bytes == 1
+is_port_of Pit port bytes = lies_in timer_ports port && bytes == 1
+is_port_of System port bytes = port == system_port && bytes == 1
+is_port_of Clock port bytes = lies_in clock_ports port && bytes == 1
+is_port_of Elcr port bytes = lies_in elcr_ports port && bytes == 1
 is_port_of Ata port bytes = is_ata_port port bytes
 is_port_of _ port bytes = false
 

@@ -8,6 +8,7 @@ ghost use Rattle.board_spec.specs.Interrupts.{device_value, vector_of, acknowled
 ghost use Rattle.board_spec.specs.declared.event.Event.TheVariants.{Ack as AckEvent};
 ghost use Rattle.std.specs.Prelude.{◌%◌, option_map};
 ghost use Rattle.std.specs.Option.{option_map_or};
+ghost use Rattle.device_spec.specs.Pair.{answer_of, pair_after_acknowledge};
 ghost use Rattle.device_spec.specs.Pit.{set_gate2};
 ghost use Rattle.device_spec.specs.Ata.Steps.{read_of, after_read as disk_after_read, after_write as disk_after_write};
 ghost use Rattle.board_spec.specs.Bits.{is_bit};
@@ -66,9 +67,17 @@ impl Devices {
             → Asks history entry AckEvent → AreRoutesOf setup (entry ∷ history) routes.now
             → AreDevicesOf setup (entry ∷ history) self.new }
     {
-        let ack = self.pair.acknowledge();
+        let ack = self.answer();
         self.settle(routes);
         (ack.vector, who_answered(&ack))
+    }
+
+    /// The pair's answer to an acknowledge.
+    fn answer(&mut self) -> Ack
+        ensures answer { answer_shown result ≡ answer_of self.old.pair }
+        ensures after { self.new ≡ record self.old { pair = pair_after_acknowledge self.old.pair } }
+    {
+        self.pair.acknowledge()
     }
 
     /// Reads a port of a device.

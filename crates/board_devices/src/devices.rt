@@ -4,6 +4,12 @@ ghost use Rattle.std.specs.Prelude.{◌≡◌, ◌↔◌, ◌∷◌, List, [], E
 ghost use Rattle.board_spec.specs.declared.event.Entry.{Entry};
 ghost use Rattle.board_spec.specs.Setup.{Setup, IsDisk};
 ghost use Rattle.board_spec.specs.Registers.{is_hard_reset};
+ghost use Rattle.device_spec.specs.Pit.{reset as timer_at_reset};
+ghost use Rattle.device_spec.specs.Pair.{pair_at_reset};
+ghost use Rattle.device_spec.specs.Clock.{after_reset as clock_after_reset};
+ghost use Rattle.device_spec.specs.Elcr.{triggers_at_reset};
+ghost use Rattle.device_spec.specs.Ata.Steps.{after_reset as disk_after_reset};
+ghost use Rattle.board_spec.specs.Devices.{system_at_reset, disk_of};
 ghost use Rattle.board_devices.specs.Devices.{AreDevicesOf, AreRoutesOf};
 
 use crate::system::SystemPort;
@@ -60,11 +66,15 @@ impl Devices {
             → AreDevicesOf setup [] devices) }
         ensures bad { (result ≡ Err AtaOpen.BadLength) ↔ ¬ IsDisk (option_map (λ bytes. bytes.now) disk.entry) }
     {
-        let disk = match disk {
-            Some(bytes) => Some(Ata::open(alloc, bytes)?),
-            None => None,
-        };
-        Ok(Devices {
+        let disk = open_disk(alloc, disk)?;
+        Ok(Devices::at_power_on(disk))
+    }
+
+    /// The devices at power-on with this disk.
+    fn at_power_on(disk: Option<Ata>) -> Devices
+        ensures fresh { (setup : Setup) → disk ≡ disk_of setup [] → AreDevicesOf setup [] result }
+    {
+        Devices {
             pair: PicPair::new(),
             timer: Pit::new(),
             clock: Cmos::new(),
@@ -73,7 +83,7 @@ impl Devices {
             system: SystemPort::new(),
             wires: [false; DEVICE_COUNT],
             irqs: [false; LINE_COUNT],
-        })
+        }
     }
 
     /// A hard reset: each device takes its reset state, and then the pair with the levels of that moment. The levels
@@ -83,15 +93,57 @@ impl Devices {
             → is_hard_reset history entry.event ≡ true → AreRoutesOf setup (entry ∷ history) routes.now
             → AreDevicesOf setup (entry ∷ history) self.new }
     {
+        self.reset_machines();
+        let levels = self.levels(routes);
+        self.reset_pair(levels);
+        self.settle(routes);
+    }
+
+    /// Each machine but the pair takes its reset state.
+    fn reset_machines(&mut self)
+        ensures after { self.new ≡ record self.old {
+          timer = timer_at_reset;
+          clock = clock_after_reset self.old.clock;
+          disk = option_map (λ disk. disk_after_reset disk) self.old.disk;
+          triggers = triggers_at_reset;
+          system = system_at_reset;
+        } }
+    {
         self.timer.reset();
         self.clock.reset();
+        self.reset_disk();
+        self.triggers.reset();
+        self.system = SystemPort::new();
+    }
+
+    /// Resets the disk, where one is fitted.
+    fn reset_disk(&mut self)
+        ensures after { self.new ≡ record self.old { disk = option_map (λ disk. disk_after_reset disk) self.old.disk } }
+    {
         if let Some(disk) = &mut self.disk {
             disk.reset();
         }
-        self.triggers.reset();
-        self.system = SystemPort::new();
-        let levels = self.levels(routes);
+    }
+
+    /// Resets the pair with its lines at these levels.
+    fn reset_pair(&mut self, levels: [bool; LINE_COUNT])
+        ensures after { self.new ≡ record self.old { pair = pair_at_reset levels } }
+    {
         self.pair.reset(levels);
-        self.settle(routes);
+    }
+}
+
+/// The disk of these bytes at power-on, where one is fitted.
+fn open_disk(alloc: Global, disk: Option<&[u8]>) -> Result<Option<Ata>, AtaOpen>
+    ensures fresh { IfOk result (λ opened. (setup : Setup) → setup.disk ≡ option_map (λ bytes. bytes.now) disk.entry
+        → opened ≡ disk_of setup []) }
+    ensures bad { (result ≡ Err AtaOpen.BadLength) ↔ ¬ IsDisk (option_map (λ bytes. bytes.now) disk.entry) }
+{
+    match disk {
+        Some(bytes) => match Ata::open(alloc, bytes) {
+            Ok(disk) => Ok(Some(disk)),
+            Err(fault) => Err(fault),
+        },
+        None => Ok(None),
     }
 }

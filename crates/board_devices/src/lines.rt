@@ -1,10 +1,13 @@
 //! The sixteen interrupt lines.
 
-ghost use Rattle.std.specs.Prelude.{◌≡◌, ◌+◌, ◌*◌, ◌∷◌, List};
+ghost use Rattle.std.specs.Prelude.{◌≡◌, ◌+◌, ◌*◌, ◌<◌, ◌∷◌, ◌||◌, List, slice_index_or, false};
+ghost use Rattle.std.specs.Option.{option_map_or};
+ghost use Rattle.device_spec.specs.Ata.State.{is_interrupt};
 ghost use Rattle.device_spec.specs.Pair.{pair_after_lines};
+ghost use Rattle.board_spec.specs.Devices.{timer_of};
 ghost use Rattle.board_spec.specs.declared.event.Entry.{Entry};
 ghost use Rattle.board_spec.specs.Setup.{Setup};
-ghost use Rattle.board_spec.specs.Interrupts.{pirq_levels, levels_of, elcr_of};
+ghost use Rattle.board_spec.specs.Interrupts.{pirq_levels, own_level, levels_of, elcr_of};
 ghost use Rattle.board_devices.specs.Devices.{AreWiresOf, AreAfter, AreDevicesOf, AreRoutesOf};
 ghost use Rattle.board_devices.specs.Events.{Leaves};
 ghost use Rattle.board_devices.specs.Laws.{LeavesDevices};
@@ -33,19 +36,40 @@ impl Devices {
         ]
     }
 
+    /// The level of a line, where the PCI interrupts hold these at 1.
+    fn level(&self, routed: &[bool; LINE_COUNT], line: usize) -> bool
+        requires line { line < 16 }
+        ensures level { (setup : Setup) (history : List Entry) → AreAfter setup history self.now
+            → result ≡ (own_level setup history (timer_of history) line || slice_index_or routed.now line false) }
+    {
+        let own = match line {
+            TIMER_LINE => self.timer.out(0),
+            CLOCK_LINE => self.clock.irq(),
+            DISK_LINE => self.disk_irq(),
+            _ => self.irqs[line],
+        };
+        own | routed[line]
+    }
+
+    /// The level of the disk's line, which is 0 without a disk.
+    fn disk_irq(&self) -> bool
+        ensures level { result ≡ option_map_or (λ disk. is_interrupt disk.drive) self.now.disk false }
+    {
+        match &self.disk {
+            Some(disk) => disk.irq(),
+            None => false,
+        }
+    }
+
     /// The levels of the lines, with the PCI interrupts routed so.
     pub(crate) fn levels(&self, routes: &Pirq) -> [bool; LINE_COUNT]
         ensures levels { (setup : Setup) (history : List Entry) → AreAfter setup history self.now
             → AreRoutesOf setup history routes.now → result ≡ levels_of setup history }
     {
-        let mut levels = routes.route(self.pins());
+        let routed = routes.route(self.pins());
+        let mut levels = [false; LINE_COUNT];
         for line in 0..LINE_COUNT {
-            levels[line] |= self.irqs[line];
-        }
-        levels[TIMER_LINE] |= self.timer.out(0);
-        levels[CLOCK_LINE] |= self.clock.irq();
-        if let Some(disk) = &self.disk {
-            levels[DISK_LINE] |= disk.irq();
+            levels[line] = self.level(&routed, line);
         }
         levels
     }
