@@ -1,31 +1,39 @@
 -- What an entry leaves of each device.
 use Rattle.std.proofs.Common.{◌≡◌, ℕ, zero, suc, ◌+◌, ◌-◌, ◌<◌, ◌≤◌, Bool, true, false, ◌||◌, ◌&&◌, List, [], ◌∷◌, Option, Some, None, length, get_or, refl, sym, ◌∙◌, ap, subst, arith, inl, inr}
-use Rattle.std.proofs.Common.{eq-eqb, ne_eqb, get_or-set_same, get_or-set_other}
-use Rattle.std.proofs.lemmas.Bool.{cases_eq}
-use Rattle.std.proofs.lemmas.List.{ext_get_or, length-map, get_or-map}
+use Rattle.std.proofs.Math.Bool.{or-false, and-false}
+use Rattle.std.proofs.Common.{◌*◌, ◌/◌, ◌%◌, add-one, replicate, eq-eqb, ne_eqb, get_or-set_same, get_or-set_other}
+use Rattle.std.proofs.lemmas.Bool.Decides.{nat_tests}
+use Rattle.std.proofs.lemmas.Bool.{cases_eq, cases_Bool, lt-ltb, le-leb}
+use Rattle.std.proofs.lemmas.List.{get_or-replicate, ext_get_or, length-map, get_or-map}
 use Rattle.board_spec.proofs.TableLemmas.{each_below}
-use Rattle.std.specs.Prelude.{◌==◌, unwrap_or, map, option_map, slice_index_or, slice_set, if◌then◌else◌}
+use Rattle.ata_pio.specs.declared.ata.AtaOpen.{AtaOpen}
+use Rattle.std.specs.Prelude.{◌↔◌, Result, Err, ◌==◌, unwrap_or, map, option_map, slice_index_or, slice_set, if◌then◌else◌}
 use Rattle.std.specs.Option.{option_map_or}
 use Rattle.board_base.specs.declared.access.PortAccess.{PortAccess}
 use Rattle.board_base.specs.declared.moment.Moment.{Moment}
 use Rattle.board_base.specs.declared.target.Dev.{Dev}
 use Rattle.board_base.specs.declared.target.Dev.TheVariants.{Confadd, Reset, Pic0, Pic1, Pit, System, Keyboard, Clock, Elcr, Ata, Wires, Vector, Spurious}
 use Rattle.board_base.specs.Access.{bytes_of}
-use Rattle.device_spec.specs.Pair.{Pair, port_byte, pair_after_lines, pair_at_reset, pair_after_acknowledge}
+use Rattle.device_spec.specs.Pit.{PitState, out_of, pulses, reset as timer_at_reset}
+use Rattle.device_spec.specs.Clock.{Clock as ClockState, power_on as clock_at_power_on, after_reset as clock_after_reset}
+use Rattle.device_spec.specs.Elcr.{Triggers, triggers_at_reset}
+use Rattle.device_spec.specs.Ata.Steps.{after_reset as disk_after_reset}
+use Rattle.device_spec.proofs.RoutingLaws.{reserved-rest}
+use Rattle.device_spec.specs.Pair.{Pair, levels_at_power_on, port_byte, pair_after_lines, pair_at_reset, pair_after_acknowledge}
 use Rattle.device_spec.specs.Pit.{port_read}
 use Rattle.device_spec.specs.Clock.{read_value}
 use Rattle.device_spec.specs.Elcr.{trigger_byte}
-use Rattle.device_spec.specs.Ata.State.{Disk}
+use Rattle.device_spec.specs.Ata.State.{Disk, is_disk_length, power_on as disk_at_power_on}
 use Rattle.device_spec.specs.Ata.Steps.{after_bad}
 use Rattle.board_spec.specs.declared.event.Event.{Event}
 use Rattle.board_spec.specs.declared.event.Event.TheVariants.{Memory, Wide, Port, Look as LookAt, Ack, Pulses, Time, Wire, Line, BadSector}
 use Rattle.board_spec.specs.declared.event.Reply.{Reply}
 use Rattle.board_spec.specs.declared.event.Entry.{Entry}
-use Rattle.board_spec.specs.Setup.{Setup}
+use Rattle.board_spec.specs.Setup.{Setup, IsDiskSize}
 use Rattle.board_spec.specs.InRange.{is_free_line}
-use Rattle.board_spec.specs.Registers.{is_hard_reset}
-use Rattle.board_spec.specs.Devices.{device_reached, wire_set, wire_of, line_set, irq_of, triggers_accessed, triggers_after, triggers_of, system_accessed, system_after, system_of, timer_accessed, timer_after, timer_of, clock_accessed, clock_after, clock_of, disk_accessed, disk_after, disk_with, disk_of}
-use Rattle.board_spec.specs.Interrupts.{level_with, all_lines, levels_with, levels_of, elcr_of, device_value, pair_accessed, pair_after, pair_reset_or_after, pair_stepped, pair_of}
+use Rattle.board_spec.specs.Registers.{reset_control, control_written, resets_hard, is_hard_reset}
+use Rattle.board_spec.specs.Devices.{SystemPort, system_at_reset, device_reached, wire_set, wire_of, line_set, irq_of, triggers_accessed, triggers_after, triggers_of, system_accessed, system_after, system_of, timer_accessed, timer_after, timer_of, clock_accessed, clock_after, clock_of, disk_accessed, disk_after, disk_with, disk_of}
+use Rattle.board_spec.specs.Interrupts.{routes_of, pirq_levels, pair_pulsed, level_with, all_lines, levels_with, levels_of, elcr_of, device_value, pair_accessed, pair_after, pair_reset_or_after, pair_stepped, pair_of}
 use Rattle.board_devices.specs.Devices.{DevicesValue, AreWiresOf, AreIrqsOf, AreAfter, AreDevicesOf}
 use Rattle.board_devices.specs.Events.{is_port_of, Reaches, Asks, is_chip, PassesBy, Leaves}
 use Rattle.board_devices.specs.Steps.{value_read, after_read, after_write}
@@ -353,6 +361,10 @@ level_set levels at n on below =
       | inr other ↦ rw (ne_eqb at n other) (get_or-set_other levels at n on false (λ e. other (sym e)))
     ]
 
+-- the lines that can be set are below 16
+pub free_low : (line : ℕ) → is_free_line line ≡ true → line < 16
+free_low line free = grind (arith, nat_tests)
+
 -- a free line that was set
 pub free_set : (history : List Entry) (irqs : List Bool) (at line : ℕ) (on : Bool) → is_free_line at ≡ true → length irqs ≡ 16 → at < 16 → AreIrqsOf history irqs → line < 16 →
     slice_index_or (slice_set irqs at on) line false ≡ (is_free_line line && unwrap_or (if at == line then Some on else None) (irq_of history line))
@@ -403,3 +415,293 @@ settled_as setup history before after are others lined pair = record {
   others = subst (λ (d : DevicesValue). AreAfter setup history d) (sym others) (with_pair setup history before after.pair are);
   pair = lined ∙ sym pair;
 }
+
+-- ---- events that ask nothing of the devices
+
+-- what an access makes of each machine, where it reached none of them
+record Untouched (reached : Option Dev) (access : PortAccess) : Type 0 where
+  pub timer : (t : PitState) → timer_accessed reached access t ≡ t
+  pub clock : (t : ClockState) → clock_accessed reached access t ≡ t
+  pub system : (t : SystemPort) → system_accessed reached access t ≡ t
+  pub triggers : (t : Triggers) → triggers_accessed reached access t ≡ t
+  pub disk : (t : Disk) → disk_accessed reached access t ≡ t
+  pub pair : (t : Pair) → pair_accessed reached access t ≡ t
+
+untouched : (reached : Option Dev) (access : PortAccess) → is_chip reached ≡ false → Untouched reached access
+untouched None access none = record { timer = λ t. refl; clock = λ t. refl; system = λ t. refl; triggers = λ t. refl; disk = λ t. refl; pair = λ t. refl }
+untouched (Some Confadd) access none = record { timer = λ t. refl; clock = λ t. refl; system = λ t. refl; triggers = λ t. refl; disk = λ t. refl; pair = λ t. refl }
+untouched (Some Reset) access none = record { timer = λ t. refl; clock = λ t. refl; system = λ t. refl; triggers = λ t. refl; disk = λ t. refl; pair = λ t. refl }
+untouched (Some Keyboard) access none = record { timer = λ t. refl; clock = λ t. refl; system = λ t. refl; triggers = λ t. refl; disk = λ t. refl; pair = λ t. refl }
+untouched (Some Wires) access none = record { timer = λ t. refl; clock = λ t. refl; system = λ t. refl; triggers = λ t. refl; disk = λ t. refl; pair = λ t. refl }
+untouched (Some (Vector chip)) access none = record { timer = λ t. refl; clock = λ t. refl; system = λ t. refl; triggers = λ t. refl; disk = λ t. refl; pair = λ t. refl }
+untouched (Some (Spurious chip)) access none = record { timer = λ t. refl; clock = λ t. refl; system = λ t. refl; triggers = λ t. refl; disk = λ t. refl; pair = λ t. refl }
+untouched (Some Pic0) access none = cc
+untouched (Some Pic1) access none = cc
+untouched (Some Pit) access none = cc
+untouched (Some System) access none = cc
+untouched (Some Clock) access none = cc
+untouched (Some Elcr) access none = cc
+untouched (Some Ata) access none = cc
+
+-- what an event makes of each, where it passes by
+record Passed (event : Event) (reply : Reply) : Type 0 where
+  pub timer : (t : PitState) → timer_after event reply t ≡ t
+  pub clock : (t : ClockState) → clock_after event reply t ≡ t
+  pub system : (t : SystemPort) → system_after event reply t ≡ t
+  pub triggers : (t : Triggers) → triggers_after event reply t ≡ t
+  pub disk : (t : Disk) → disk_after event reply t ≡ t
+  pub pair : (t : Pair) → pair_after event reply t ≡ t
+  pub wire : (dev : ℕ) → wire_set dev event ≡ None
+  pub line : (line : ℕ) → line_set line event ≡ None
+  pub still : NotPulses event
+
+passed : (event : Event) (reply : Reply) → PassesBy event (device_reached reply) → Passed event reply
+passed (Memory access) reply by = record { timer = λ t. refl; clock = λ t. refl; system = λ t. refl; triggers = λ t. refl; disk = λ t. refl; pair = λ t. refl; wire = λ n. refl; line = λ n. refl; still = tt }
+passed (Wide access) reply by = record { timer = λ t. refl; clock = λ t. refl; system = λ t. refl; triggers = λ t. refl; disk = λ t. refl; pair = λ t. refl; wire = λ n. refl; line = λ n. refl; still = tt }
+passed (LookAt kind addr smm) reply by = record { timer = λ t. refl; clock = λ t. refl; system = λ t. refl; triggers = λ t. refl; disk = λ t. refl; pair = λ t. refl; wire = λ n. refl; line = λ n. refl; still = tt }
+passed (Port access) reply by =
+    let none = untouched (device_reached reply) access by in
+    record { timer = none.timer; clock = none.clock; system = none.system; triggers = none.triggers; disk = none.disk; pair = none.pair; wire = λ n. refl; line = λ n. refl; still = tt }
+passed Ack reply by = absurd by
+passed (Pulses count) reply by = absurd by
+passed (Time moment) reply by = absurd by
+passed (Wire dev on) reply by = absurd by
+passed (Line irq on) reply by = absurd by
+passed (BadSector sector) reply by = absurd by
+
+each_disk : (disk : Option Disk) (f : Disk → Disk) → ((d : Disk) → f d ≡ d) → option_map f disk ≡ disk
+each_disk None f same = refl
+each_disk (Some disk) f same = ap (λ (d : Disk). Some d) (same disk)
+
+module _ (setup : Setup) (history : List Entry) (entry : Entry) (leaves : Leaves history entry) where
+  by : Passed entry.event entry.reply
+  by = passed entry.event entry.reply leaves.passes
+
+  pub left_after : (devices : DevicesValue) → AreAfter setup history devices → AreAfter setup (entry ∷ history) devices
+  left_after devices are = record {
+    timer = are.timer ∙ sym (timer_soft setup history entry leaves.soft ∙ by.timer (timer_of history));
+    clock = are.clock ∙ sym (clock_soft setup history entry leaves.soft ∙ by.clock (clock_of history));
+    disk = are.disk ∙ sym (disk_soft setup history entry leaves.soft ∙ each_disk (disk_of setup history) (λ disk. disk_after entry.event entry.reply disk) by.disk);
+    triggers = are.triggers ∙ sym (triggers_soft setup history entry leaves.soft ∙ by.triggers (triggers_of history));
+    system = are.system ∙ sym (system_soft setup history entry leaves.soft ∙ by.system (system_of history));
+    wires = λ dev low high. are.wires dev low high ∙ sym (wire_step setup history entry leaves.soft dev (by.wire dev));
+    irqs = λ line below. are.irqs line below ∙ ap (λ (on : Bool). is_free_line line && on) (sym (irq_step setup history entry leaves.soft line (by.line line)));
+  }
+
+  pub left_pair : pair_of setup (entry ∷ history)
+      ≡ pair_after_lines (pair_of setup history) (levels_of setup (entry ∷ history)) (elcr_of (entry ∷ history))
+  left_pair =
+      pair_soft setup history entry leaves.soft by.still
+      ∙ ap (λ (pair : Pair). pair_after_lines pair (levels_of setup (entry ∷ history)) (elcr_of (entry ∷ history))) (by.pair (pair_of setup history))
+
+-- ---- a hard reset
+
+record SetsNoLevel (event : Event) : Type 0 where
+  pub wire : (dev : ℕ) → wire_set dev event ≡ None
+  pub line : (line : ℕ) → line_set line event ≡ None
+  pub still : NotPulses event
+
+module _ (setup : Setup) (history : List Entry) (entry : Entry) (hard : is_hard_reset history entry.event ≡ true) where
+  disk_with_hard : (bytes : List ℕ) → disk_with bytes (entry ∷ history) ≡ disk_after_reset (disk_with bytes history)
+  unfolding disk_with
+  disk_with_hard bytes = rw hard refl
+
+  disk_hard : (fitted : Option (List ℕ)) →
+      option_map (λ bytes. disk_with bytes (entry ∷ history)) fitted
+      ≡ option_map (λ disk. disk_after_reset disk) (option_map (λ bytes. disk_with bytes history) fitted)
+  disk_hard None = refl
+  disk_hard (Some bytes) = ap (λ (disk : Disk). Some disk) (disk_with_hard bytes)
+
+  -- an event that resets is an access at a port, which sets no level
+  resets_by_port : (event : Event) → resets_hard (reset_control history) (control_written event) ≡ true → SetsNoLevel event
+  resets_by_port (Port access) is = record { wire = λ n. refl; line = λ n. refl; still = tt }
+  resets_by_port (Memory access) is = cc
+  resets_by_port (Wide access) is = cc
+  resets_by_port (LookAt kind addr smm) is = cc
+  resets_by_port Ack is = cc
+  resets_by_port (Pulses count) is = cc
+  resets_by_port (Time moment) is = cc
+  resets_by_port (Wire dev on) is = cc
+  resets_by_port (Line irq on) is = cc
+  resets_by_port (BadSector sector) is = cc
+
+  no_level : SetsNoLevel entry.event
+  no_level = resets_by_port entry.event hard
+
+  wires_stay : (wires : List Bool) → AreWiresOf history wires → AreWiresOf (entry ∷ history) wires
+  unfolding wire_of
+  wires_stay wires are dev low high = are dev low high ∙ rw (no_level.wire dev) refl
+
+  irqs_kept : (irqs : List Bool) → AreIrqsOf history irqs → AreIrqsOf (entry ∷ history) irqs
+  unfolding irq_of
+  irqs_kept irqs are line below = are line below ∙ rw (no_level.line line) refl
+
+  pub reset_after : (devices after : DevicesValue) → AreAfter setup history devices →
+      after ≡ record devices {
+        timer = timer_at_reset;
+        clock = clock_after_reset devices.clock;
+        disk = option_map (λ disk. disk_after_reset disk) devices.disk;
+        triggers = triggers_at_reset;
+        system = system_at_reset;
+      } → AreAfter setup (entry ∷ history) after
+  unfolding timer_of clock_of triggers_of system_of
+  reset_after devices after are is =
+      subst (λ (d : DevicesValue). AreAfter setup (entry ∷ history) d) (sym is)
+      (record {
+        timer = rw hard refl;
+        clock = rw hard (ap (λ t. clock_after_reset t) are.clock);
+        disk = ap (λ (d : Option Disk). option_map (λ disk. disk_after_reset disk) d) are.disk ∙ sym (disk_hard setup.disk);
+        triggers = rw hard refl;
+        system = rw hard refl;
+        wires = wires_stay devices.wires are.wires;
+        irqs = irqs_kept devices.irqs are.irqs;
+      })
+
+  pub reset_pair : pair_of setup (entry ∷ history)
+      ≡ pair_after_lines (pair_at_reset (levels_of setup (entry ∷ history))) (levels_of setup (entry ∷ history)) (elcr_of (entry ∷ history))
+  reset_pair =
+      let chosen : pair_reset_or_after setup entry history (pair_of setup history) ≡ pair_at_reset (levels_of setup (entry ∷ history)) =
+      rw hard refl in
+      pair_lined setup history entry no_level.still
+      ∙ ap (λ (pair : Pair). pair_after_lines pair (levels_of setup (entry ∷ history)) (elcr_of (entry ∷ history))) chosen
+
+-- ---- power-on
+
+pub at_power_on : (setup : Setup) (devices : DevicesValue) → devices.timer ≡ timer_at_reset → devices.clock ≡ clock_at_power_on →
+    devices.triggers ≡ triggers_at_reset → devices.system ≡ system_at_reset → devices.disk ≡ disk_of setup [] →
+    devices.wires ≡ replicate 10 false → devices.irqs ≡ replicate 16 false → devices.pair ≡ pair_at_reset levels_at_power_on →
+    AreDevicesOf setup [] devices
+unfolding timer_of clock_of triggers_of system_of wire_of irq_of pair_of
+at_power_on setup devices timer clock triggers system disk wires irqs pair = record {
+  others = record {
+    timer = timer;
+    clock = clock;
+    disk = disk;
+    triggers = triggers;
+    system = system;
+    wires = λ dev low high. rw wires (get_or-replicate 10 dev false false (omega (arith, high)));
+    irqs = λ line below. rw irqs (get_or-replicate 16 line false false below ∙ sym (and-false (is_free_line line)));
+  };
+  pair = pair;
+}
+
+-- ---- pulses
+
+-- line 0 is the timer's alone: nothing is routed to it
+timer_line : (setup : Setup) (history : List Entry) (timer : PitState) → level_with setup history timer 0 ≡ out_of 0 timer
+timer_line setup history timer =
+    ap (λ (b : Bool). out_of 0 timer || b) (reserved-rest (routes_of setup history) (pirq_levels history) 0 refl) ∙ or-false (out_of 0 timer)
+
+-- with another state of the timer line 0 alone has another level
+pub levels_pulsed : (setup : Setup) (history : List Entry) (timer later : PitState) →
+    levels_with setup history later ≡ slice_set (levels_with setup history timer) 0 (out_of 0 later)
+unfolding levels_with
+levels_pulsed setup history timer later = rw (timer_line setup history later) refl
+
+pub one_pulse : (k : ℕ) (timer : PitState) → pulses 1 (pulses k timer) ≡ pulses (k + 1) timer
+unfolding pulses
+one_pulse k timer = rw (add-one k) refl
+
+-- the devices after so many pulses of an event
+pub record Pulsed (setup : Setup) (history : List Entry) (old devices : DevicesValue) (levels : List Bool) (elcr k : ℕ) : Type 0 where
+  pub timer : devices.timer ≡ pulses k (timer_of history)
+  pub pair : devices.pair ≡ pair_pulsed setup history k (pair_of setup history)
+  pub others : devices ≡ record old { timer = devices.timer; pair = devices.pair }
+  pub levels_are : levels ≡ levels_with setup history (pulses k (timer_of history))
+  pub elcr_is : elcr ≡ elcr_of history
+
+pub no_pulses : (setup : Setup) (history : List Entry) (devices : DevicesValue) (levels : List Bool) (elcr : ℕ) → AreDevicesOf setup history devices →
+    levels ≡ levels_of setup history → elcr ≡ devices.triggers.low + 0x100 * devices.triggers.high → Pulsed setup history devices devices levels elcr 0
+unfolding pulses pair_pulsed
+no_pulses setup history devices levels elcr are lines bits = record {
+  timer = are.others.timer;
+  pair = are.pair;
+  others = refl;
+  levels_are = lines;
+  elcr_is = bits ∙ ap (λ (t : Triggers). t.low + 0x100 * t.high) are.others.triggers;
+}
+
+other_pair : (old devices : DevicesValue) (timer : PitState) (pair : Pair) → devices ≡ record old { timer = timer; pair = pair } →
+    devices ≡ record old { timer = devices.timer; pair = devices.pair }
+other_pair old devices timer pair is = rw is refl
+
+pub more_pulses : (setup : Setup) (history : List Entry) (old before after : DevicesValue) (levels : List Bool) (elcr k : ℕ) →
+    Pulsed setup history old before levels elcr k →
+    after ≡ record before {
+      timer = pulses 1 before.timer;
+      pair = pair_after_lines before.pair (slice_set levels 0 (out_of 0 (pulses 1 before.timer))) elcr;
+    } →
+    Pulsed setup history old after (slice_set levels 0 (out_of 0 (pulses 1 before.timer))) elcr (k + 1)
+unfolding pair_pulsed
+more_pulses setup history old before after levels elcr k so is =
+    let timer : pulses 1 before.timer ≡ pulses (k + 1) (timer_of history) =
+    ap (λ (t : PitState). pulses 1 t) so.timer ∙ one_pulse k (timer_of history) in
+    let lines : slice_set levels 0 (out_of 0 (pulses 1 before.timer)) ≡ levels_with setup history (pulses (k + 1) (timer_of history)) =
+    rw (so.levels_are, timer) (sym (levels_pulsed setup history (pulses k (timer_of history)) (pulses (k + 1) (timer_of history)))) in
+    record {
+      timer = ap (λ (d : DevicesValue). d.timer) is ∙ timer;
+      pair =
+          ap (λ (d : DevicesValue). d.pair) is
+          ∙ rw (lines, so.pair, so.elcr_is, add-one k) refl;
+      others =
+          other_pair old after _ _
+          (is
+          ∙ ap (λ (d : DevicesValue). record d {
+            timer = pulses 1 before.timer;
+            pair = pair_after_lines before.pair (slice_set levels 0 (out_of 0 (pulses 1 before.timer))) elcr;
+          }) so.others);
+      levels_are = lines;
+      elcr_is = so.elcr_is;
+    }
+
+-- after all of them the devices are those of the history with the event
+pub all_pulses : (setup : Setup) (history : List Entry) (entry : Entry) (old devices : DevicesValue) (levels : List Bool) (elcr count : ℕ) →
+    AreDevicesOf setup history old → Asks history entry (Pulses count) → Pulsed setup history old devices levels elcr count →
+    AreDevicesOf setup (entry ∷ history) devices
+unfolding pair_of
+all_pulses setup history entry old devices levels elcr count are asks so =
+    let timer : pulses count (timer_of history) ≡ pulses count old.timer = ap (λ (t : PitState). pulses count t) (sym are.others.timer) in
+    record {
+      others =
+          subst (λ (d : DevicesValue). AreAfter setup (entry ∷ history) d) (sym so.others)
+          (all_asked setup history entry (Pulses count) asks old (record old { timer = devices.timer; pair = devices.pair }) are.others
+          (so.timer ∙ timer) refl refl refl (same_disk old.disk) (λ dev low high. refl) (λ line below. irqs_stay history old.irqs line are.others.irqs below));
+      pair = so.pair ∙ sym (rw asks.event_is refl);
+    }
+
+-- ---- the disk
+
+whole_sectors : (size : ℕ) → is_disk_length size ≡ true → IsDiskSize size
+whole_sectors size is =
+    let whole : size % 512 ≡ 0 = grind (arith, nat_tests) in
+    let some : 0 < size = grind (arith, nat_tests) in
+    let few : size ≤ 512 * 65536 = grind (arith, nat_tests) in
+    (size / 512, omega (arith, whole, some), omega (arith, few), omega (arith, whole))
+
+counted_sectors : (size sectors : ℕ) → 1 ≤ sectors → sectors ≤ 0x1_0000 → size ≡ sectors * 512 → is_disk_length size ≡ true
+counted_sectors size sectors some few is =
+    let whole : size % 512 ≡ 0 = omega (arith, is) in
+    let more : 0 < size = omega (arith, is, some) in
+    let fits : size ≤ 512 * 65536 = omega (arith, is, few) in
+    rw (eq-eqb (size % 512) 0 whole, lt-ltb 0 size more) (le-leb size (512 * 65536) fits)
+
+-- a length is refused where it is not that of a disk
+pub refused_length : (size : ℕ) → is_disk_length size ≡ false → ¬ IsDiskSize size
+refused_length size refused disk =
+    let is : is_disk_length size ≡ true = counted_sectors size disk.0 disk.1 disk.2 disk.3 in cc
+
+pub length_refused : (size : ℕ) → ¬ IsDiskSize size → is_disk_length size ≡ false
+length_refused size none =
+    elim (cases_Bool (is_disk_length size)) [ inl is ↦ absurd (none (whole_sectors size is)) | inr refused ↦ refused ]
+
+pub opened_disk : (setup : Setup) (bytes : List ℕ) (disk : Disk) → setup.disk ≡ Some bytes → disk ≡ disk_at_power_on bytes → Some disk ≡ disk_of setup []
+unfolding disk_with
+opened_disk setup bytes disk fitted is = rw (fitted, is) refl
+
+-- a refusal names the length exactly where it is not that of a disk
+pub fault_named : (result : Result Disk AtaOpen) (fault : AtaOpen) (size : ℕ) → (result ≡ Err AtaOpen.BadLength) ↔ (is_disk_length size ≡ false) → result ≡ Err fault →
+    (fault ≡ AtaOpen.BadLength → ¬ IsDiskSize size) × (¬ IsDiskSize size → fault ≡ AtaOpen.BadLength)
+fault_named result fault size exact is = (
+  λ bad. refused_length size (exact.0 (is ∙ ap (λ (f : AtaOpen). Err f) bad)),
+  λ none. let named : result ≡ Err AtaOpen.BadLength = exact.1 (length_refused size none) in cc,
+)

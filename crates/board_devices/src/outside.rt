@@ -81,6 +81,7 @@ impl Devices {
 
 impl Devices {
     /// One pulse, after which the lines with these levels reach the pair, line 0 with the level of OUT 0, which is told.
+    #[tactic(auto, unfolding(device_spec::specs::Pit::out_of))]
     fn pulse(&mut self, levels: [bool; LINE_COUNT], elcr: u16) -> bool
         ensures out { result ≡ out_of 0 (pulses 1 self.old.timer) }
         ensures after { self.new ≡ record self.old {

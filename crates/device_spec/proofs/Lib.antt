@@ -9,4 +9,4 @@ mod PitLatches
 mod PitPeriods
 mod PitPulses
 mod PitReadBacks
-mod RoutingLaws
+pub mod RoutingLaws

@@ -4,7 +4,7 @@ use Rattle.board_spec.specs.declared.event.Event.TheVariants.{Ack, Time, Wire, L
 use Rattle.board_spec.specs.Interrupts.{levels_of, elcr_of}
 use Rattle.board_devices.specs.Devices.{DevicesValue, AreAfter}
 use Rattle.std.specs.Prelude.{slice_set}
-use Rattle.board_devices.proofs.DeviceLemmas.{all_asked, pair_asked, irqs_stay, same_disk, level_set, free_set, settled_as}
+use Rattle.board_devices.proofs.DeviceLemmas.{free_low, all_asked, pair_asked, irqs_stay, same_disk, level_set, free_set, settled_as}
 use Rattle.board_devices.proofs.devices.Devices.set_line.Goals as goal
 
 pub returns : goal.returns
@@ -16,7 +16,7 @@ returns c = record {
       let after = c.put_line.ensures.after in
       let others : AreAfter setup now between =
       subst (λ (d : DevicesValue). AreAfter setup now d) (sym after)
-      (all_asked setup history entry (Line c.args.irq c.args.on) asks old (record old { irqs = slice_set old.irqs c.args.irq c.args.on }) is.others refl refl refl refl (same_disk old.disk) (λ dev low high. refl) (λ line below. free_set history old.irqs c.args.irq line c.args.on c.requires.free c.put_line.ensures.room ? is.others.irqs below)) in
+      (all_asked setup history entry (Line c.args.irq c.args.on) asks old (record old { irqs = slice_set old.irqs c.args.irq c.args.on }) is.others refl refl refl refl (same_disk old.disk) (λ dev low high. refl) (λ line below. free_set history old.irqs c.args.irq line c.args.on c.requires.free c.put_line.ensures.room (free_low c.args.irq c.requires.free) is.others.irqs below)) in
       settled_as setup now between c.settle.new.self others c.settle.ensures.others
       (c.settle.ensures.pair setup now others routes)
       (pair_asked setup history entry (Line c.args.irq c.args.on) asks tt
