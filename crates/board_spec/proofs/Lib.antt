@@ -24,7 +24,7 @@ mod PartLawProofs
 mod WideDramProofs
 mod DenialProofs
 mod RegisterProofs
-mod DeviceAlone
+pub mod DeviceAlone
 mod DeviceProofs
 mod ExampleDeviceRuns
 mod ExampleDiskRuns
