@@ -15,26 +15,26 @@ mod ExampleOrderRuns
 mod ExampleMapRuns
 pub mod StoredLaws
 mod SmramProofs
-mod MapLawProofs
-mod OrderLawProofs
-mod GoesOnProofs
-mod OrderLengths
-mod PartLemmas
-mod PartLawProofs
-mod WideDramProofs
-mod DenialProofs
-mod RegisterProofs
+pub mod MapLawProofs
+pub mod OrderLawProofs
+pub mod GoesOnProofs
+pub mod OrderLengths
+pub mod PartLemmas
+pub mod PartLawProofs
+pub mod WideDramProofs
+pub mod DenialProofs
+pub mod RegisterProofs
 pub mod DeviceAlone
-mod DeviceProofs
+pub mod DeviceProofs
 mod ExampleDeviceRuns
 mod ExampleDiskRuns
 mod ExampleWideRuns
 mod ExampleRomRuns
-mod ResetProofs
-mod LineProofs
-mod WireProofs
-mod PairProofs
-mod MemoryProofs
+pub mod ResetProofs
+pub mod LineProofs
+pub mod WireProofs
+pub mod PairProofs
+pub mod MemoryProofs
 mod Numbers
-mod AreaProofs
-mod AreaLines
+pub mod AreaProofs
+pub mod AreaLines
