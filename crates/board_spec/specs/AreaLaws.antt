@@ -47,11 +47,12 @@ windows_of setup bytes = flat_map (memory_windows bytes) setup.cards
 abbrev pub NoneClaims : Bytes → ℕ → List Window → Type 0
 NoneClaims bytes addr windows = All (λ window. claims bytes addr window ≡ false) windows
 
--- the ROM takes the address, or the first card does that claims it, or nobody
+-- nor does the ROM
 pub record IsPastRom (bytes : Bytes) (addr : ℕ) (kind : Kind) (smm : Bool) : Type 0 where
   pub past : IsPastDram bytes addr kind smm
   pub no_rom : is_rom_selected (bytes xbcs) addr ≡ false
 
+-- the area of an address: DRAM's by SMRAM, shadow window and row, else the ROM's, else the first card's that claims it
 pub record Answers (setup : Setup) (bytes : Bytes) (addr : ℕ) (kind : Kind) (smm : Bool) : Type 0 where
   pub in_smram : IsInSmram bytes addr kind smm → area_of setup bytes addr kind smm ≡ Smram
   pub in_shadow :
