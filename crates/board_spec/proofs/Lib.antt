@@ -18,10 +18,22 @@ mod SmramProofs
 mod MapLawProofs
 mod OrderLawProofs
 mod GoesOnProofs
+mod OrderLengths
 mod PartLemmas
 mod PartLawProofs
 mod WideDramProofs
+mod RegisterProofs
+pub mod DeviceAlone
+mod DeviceProofs
 mod ExampleDeviceRuns
 mod ExampleDiskRuns
 mod ExampleWideRuns
 mod ExampleRomRuns
+mod ResetProofs
+mod LineProofs
+mod WireProofs
+mod PairProofs
+mod MemoryProofs
+mod Numbers
+mod AreaProofs
+mod AreaLines
