@@ -3,8 +3,8 @@ use Rattle.std.specs.Prelude.{refl}
 use Rattle.device_spec.specs.Levels.{levels_where, byte_of_levels}
 use Rattle.device_spec.specs.Pic.{pending, first_selectable, request as pic_request, first_blocking, chip_after_write, byte_read, chip_after_read}
 use Rattle.device_spec.specs.Pair.{answer_of, pair_after_acknowledge}
-use Rattle.device_spec.specs.Routing.{drives_among}
-use Rattle.device_spec.specs.Pit.{low_byte, high_byte, count_of_number, mode_numbered, access_numbered, programmed, element_bytes, status_byte, latch_count, latch_status, control as counter_control, read_back, read_live, read as counter_read, asks_for_load, complete as count_complete, take_low, take_byte, write as counter_write, set_gate, load as counter_load, count_down, count_to_end, count_to_reload, count_half, count_to_strobe, pulse_by_mode, pulse as counter_pulse, reset as timer_reset, port_read, read_back_chosen, write_control, port_write, set_gate2, out_of, pulse_all, pulses as timer_pulses}
+use Rattle.device_spec.specs.Routing.{is_line_driven}
+use Rattle.device_spec.specs.Pit.{low_byte, high_byte, count_of_number, mode_numbered, access_numbered, programmed, element_bytes, status_byte, latch_count, latch_status, control as counter_control, read_back, read_live, read as counter_read, asks_for_load, complete as count_complete, take_low, take_byte, write as counter_write, gate_rises, gate_falls, load as counter_load, count_down, count_to_end, count_to_reload, count_half, count_to_strobe, pulse_by_mode, pulse as counter_pulse, reset as timer_reset, port_read, read_back_chosen, write_control, port_write, set_gate2, out_of, pulse_all, pulses as timer_pulses, rises}
 use Rattle.device_spec.specs.Clock.{power_on as clock_power_on}
 use Rattle.board_spec.specs.RegisterTable.{reset_byte, writable_bits, isa_bridge}
 use Rattle.board_spec.specs.Registers.{byte_of, config_address, reset_control}
@@ -15,7 +15,7 @@ use Rattle.board_spec.specs.Interrupts.{levels_with, pair_pulsed, pair_of, devic
 use Rattle.board_spec.specs.ExampleDevices.{TimerLatched, SystemPort, FallenLine, NestedInterrupts, RoutedWire, ClockTold}
 
 pub timer_latched : TimerLatched
-unfolding TimerLatched reset_byte writable_bits isa_bridge byte_of config_address reset_control port_target_of port_answer wire_of irq_of triggers_of system_of timer_of clock_of levels_with pair_pulsed pair_of device_value levels_where byte_of_levels pending first_selectable pic_request first_blocking chip_after_write byte_read chip_after_read answer_of pair_after_acknowledge drives_among low_byte high_byte count_of_number mode_numbered access_numbered programmed element_bytes status_byte latch_count latch_status counter_control read_back read_live counter_read asks_for_load count_complete take_low take_byte counter_write set_gate counter_load count_down count_to_end count_to_reload count_half count_to_strobe pulse_by_mode counter_pulse timer_reset port_read read_back_chosen write_control port_write set_gate2 out_of pulse_all timer_pulses clock_power_on
+unfolding TimerLatched reset_byte writable_bits isa_bridge byte_of config_address reset_control port_target_of port_answer wire_of irq_of triggers_of system_of timer_of clock_of levels_with pair_pulsed pair_of device_value levels_where byte_of_levels pending first_selectable pic_request first_blocking chip_after_write byte_read chip_after_read answer_of pair_after_acknowledge is_line_driven low_byte high_byte count_of_number mode_numbered access_numbered programmed element_bytes status_byte latch_count latch_status counter_control read_back read_live counter_read asks_for_load count_complete take_low take_byte counter_write gate_rises gate_falls counter_load count_down count_to_end count_to_reload count_half count_to_strobe pulse_by_mode counter_pulse timer_reset port_read read_back_chosen write_control port_write set_gate2 out_of pulse_all timer_pulses rises clock_power_on
 timer_latched = 
     (record { number = refl; answer = refl },
     (record { number = refl; answer = refl },
@@ -37,7 +37,7 @@ timer_latched =
     tt)))))))))))))))))
 
 pub system_port : SystemPort
-unfolding SystemPort reset_byte writable_bits isa_bridge byte_of config_address reset_control port_target_of port_answer wire_of irq_of triggers_of system_of timer_of clock_of levels_with pair_pulsed pair_of device_value levels_where byte_of_levels pending first_selectable pic_request first_blocking chip_after_write byte_read chip_after_read answer_of pair_after_acknowledge drives_among low_byte high_byte count_of_number mode_numbered access_numbered programmed element_bytes status_byte latch_count latch_status counter_control read_back read_live counter_read asks_for_load count_complete take_low take_byte counter_write set_gate counter_load count_down count_to_end count_to_reload count_half count_to_strobe pulse_by_mode counter_pulse timer_reset port_read read_back_chosen write_control port_write set_gate2 out_of pulse_all timer_pulses clock_power_on
+unfolding SystemPort reset_byte writable_bits isa_bridge byte_of config_address reset_control port_target_of port_answer wire_of irq_of triggers_of system_of timer_of clock_of levels_with pair_pulsed pair_of device_value levels_where byte_of_levels pending first_selectable pic_request first_blocking chip_after_write byte_read chip_after_read answer_of pair_after_acknowledge is_line_driven low_byte high_byte count_of_number mode_numbered access_numbered programmed element_bytes status_byte latch_count latch_status counter_control read_back read_live counter_read asks_for_load count_complete take_low take_byte counter_write gate_rises gate_falls counter_load count_down count_to_end count_to_reload count_half count_to_strobe pulse_by_mode counter_pulse timer_reset port_read read_back_chosen write_control port_write set_gate2 out_of pulse_all timer_pulses rises clock_power_on
 system_port = 
     (record { number = refl; answer = refl },
     (record { number = refl; answer = refl },
@@ -46,7 +46,7 @@ system_port =
     tt))))
 
 pub fallen_line : FallenLine
-unfolding FallenLine reset_byte writable_bits isa_bridge byte_of config_address reset_control port_target_of port_answer wire_of irq_of triggers_of system_of timer_of clock_of levels_with pair_pulsed pair_of device_value levels_where byte_of_levels pending first_selectable pic_request first_blocking chip_after_write byte_read chip_after_read answer_of pair_after_acknowledge drives_among low_byte high_byte count_of_number mode_numbered access_numbered programmed element_bytes status_byte latch_count latch_status counter_control read_back read_live counter_read asks_for_load count_complete take_low take_byte counter_write set_gate counter_load count_down count_to_end count_to_reload count_half count_to_strobe pulse_by_mode counter_pulse timer_reset port_read read_back_chosen write_control port_write set_gate2 out_of pulse_all timer_pulses clock_power_on
+unfolding FallenLine reset_byte writable_bits isa_bridge byte_of config_address reset_control port_target_of port_answer wire_of irq_of triggers_of system_of timer_of clock_of levels_with pair_pulsed pair_of device_value levels_where byte_of_levels pending first_selectable pic_request first_blocking chip_after_write byte_read chip_after_read answer_of pair_after_acknowledge is_line_driven low_byte high_byte count_of_number mode_numbered access_numbered programmed element_bytes status_byte latch_count latch_status counter_control read_back read_live counter_read asks_for_load count_complete take_low take_byte counter_write gate_rises gate_falls counter_load count_down count_to_end count_to_reload count_half count_to_strobe pulse_by_mode counter_pulse timer_reset port_read read_back_chosen write_control port_write set_gate2 out_of pulse_all timer_pulses rises clock_power_on
 fallen_line = 
     (record { number = refl; answer = refl },
     (record { number = refl; answer = refl },
@@ -70,7 +70,7 @@ fallen_line =
     tt)))))))))))))))))))
 
 pub nested_interrupts : NestedInterrupts
-unfolding NestedInterrupts reset_byte writable_bits isa_bridge byte_of config_address reset_control port_target_of port_answer wire_of irq_of triggers_of system_of timer_of clock_of levels_with pair_pulsed pair_of device_value levels_where byte_of_levels pending first_selectable pic_request first_blocking chip_after_write byte_read chip_after_read answer_of pair_after_acknowledge drives_among low_byte high_byte count_of_number mode_numbered access_numbered programmed element_bytes status_byte latch_count latch_status counter_control read_back read_live counter_read asks_for_load count_complete take_low take_byte counter_write set_gate counter_load count_down count_to_end count_to_reload count_half count_to_strobe pulse_by_mode counter_pulse timer_reset port_read read_back_chosen write_control port_write set_gate2 out_of pulse_all timer_pulses clock_power_on
+unfolding NestedInterrupts reset_byte writable_bits isa_bridge byte_of config_address reset_control port_target_of port_answer wire_of irq_of triggers_of system_of timer_of clock_of levels_with pair_pulsed pair_of device_value levels_where byte_of_levels pending first_selectable pic_request first_blocking chip_after_write byte_read chip_after_read answer_of pair_after_acknowledge is_line_driven low_byte high_byte count_of_number mode_numbered access_numbered programmed element_bytes status_byte latch_count latch_status counter_control read_back read_live counter_read asks_for_load count_complete take_low take_byte counter_write gate_rises gate_falls counter_load count_down count_to_end count_to_reload count_half count_to_strobe pulse_by_mode counter_pulse timer_reset port_read read_back_chosen write_control port_write set_gate2 out_of pulse_all timer_pulses rises clock_power_on
 nested_interrupts = 
     (record { number = refl; answer = refl },
     (record { number = refl; answer = refl },
@@ -90,7 +90,7 @@ nested_interrupts =
     tt)))))))))))))))
 
 pub routed_wire : RoutedWire
-unfolding RoutedWire reset_byte writable_bits isa_bridge byte_of config_address reset_control port_target_of port_answer wire_of irq_of triggers_of system_of timer_of clock_of levels_with pair_pulsed pair_of device_value levels_where byte_of_levels pending first_selectable pic_request first_blocking chip_after_write byte_read chip_after_read answer_of pair_after_acknowledge drives_among low_byte high_byte count_of_number mode_numbered access_numbered programmed element_bytes status_byte latch_count latch_status counter_control read_back read_live counter_read asks_for_load count_complete take_low take_byte counter_write set_gate counter_load count_down count_to_end count_to_reload count_half count_to_strobe pulse_by_mode counter_pulse timer_reset port_read read_back_chosen write_control port_write set_gate2 out_of pulse_all timer_pulses clock_power_on
+unfolding RoutedWire reset_byte writable_bits isa_bridge byte_of config_address reset_control port_target_of port_answer wire_of irq_of triggers_of system_of timer_of clock_of levels_with pair_pulsed pair_of device_value levels_where byte_of_levels pending first_selectable pic_request first_blocking chip_after_write byte_read chip_after_read answer_of pair_after_acknowledge is_line_driven low_byte high_byte count_of_number mode_numbered access_numbered programmed element_bytes status_byte latch_count latch_status counter_control read_back read_live counter_read asks_for_load count_complete take_low take_byte counter_write gate_rises gate_falls counter_load count_down count_to_end count_to_reload count_half count_to_strobe pulse_by_mode counter_pulse timer_reset port_read read_back_chosen write_control port_write set_gate2 out_of pulse_all timer_pulses rises clock_power_on
 routed_wire = 
     (record { number = refl; answer = refl },
     (record { number = refl; answer = refl },
@@ -112,7 +112,7 @@ routed_wire =
     tt)))))))))))))))))
 
 pub clock_told : ClockTold
-unfolding ClockTold reset_byte writable_bits isa_bridge byte_of config_address reset_control port_target_of port_answer wire_of irq_of triggers_of system_of timer_of clock_of levels_with pair_pulsed pair_of device_value levels_where byte_of_levels pending first_selectable pic_request first_blocking chip_after_write byte_read chip_after_read answer_of pair_after_acknowledge drives_among low_byte high_byte count_of_number mode_numbered access_numbered programmed element_bytes status_byte latch_count latch_status counter_control read_back read_live counter_read asks_for_load count_complete take_low take_byte counter_write set_gate counter_load count_down count_to_end count_to_reload count_half count_to_strobe pulse_by_mode counter_pulse timer_reset port_read read_back_chosen write_control port_write set_gate2 out_of pulse_all timer_pulses clock_power_on
+unfolding ClockTold reset_byte writable_bits isa_bridge byte_of config_address reset_control port_target_of port_answer wire_of irq_of triggers_of system_of timer_of clock_of levels_with pair_pulsed pair_of device_value levels_where byte_of_levels pending first_selectable pic_request first_blocking chip_after_write byte_read chip_after_read answer_of pair_after_acknowledge is_line_driven low_byte high_byte count_of_number mode_numbered access_numbered programmed element_bytes status_byte latch_count latch_status counter_control read_back read_live counter_read asks_for_load count_complete take_low take_byte counter_write gate_rises gate_falls counter_load count_down count_to_end count_to_reload count_half count_to_strobe pulse_by_mode counter_pulse timer_reset port_read read_back_chosen write_control port_write set_gate2 out_of pulse_all timer_pulses rises clock_power_on
 clock_told = 
     (record { number = refl; answer = refl },
     (record { number = refl; answer = refl },

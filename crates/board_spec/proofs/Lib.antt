@@ -16,3 +16,4 @@ mod ExampleDeviceRuns
 mod ExampleDiskRuns
 mod ExampleWideRuns
 mod ExampleRomRuns
+mod ExampleStoryRuns

@@ -34,3 +34,4 @@ pub mod ExampleDevices
 pub mod ExampleDisk
 pub mod ExampleWide
 pub mod ExampleRoms
+pub mod ExampleStories

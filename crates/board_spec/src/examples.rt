@@ -4,6 +4,7 @@
 pub mod devices;
 pub mod disk;
 pub mod roms;
+pub mod stories;
 pub mod wide;
 
 ghost use Rattle.board_spec.specs.Examples.{ShadowingTheBios, OneWindowForWrites, MemoryAfterReset, ConfigurationPorts, SmramLockedUntilReset, VgaBesideSmram, NoRowOfDram, CardInTheHole, HoleAt512Kib, TwoCardsAtOneAddress, XbcsOverASoftReset, RomAfterReset, CardMovedUnderTheRom};
