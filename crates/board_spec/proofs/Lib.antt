@@ -17,3 +17,4 @@ mod ExampleDiskRuns
 mod ExampleWideRuns
 mod ExampleRomRuns
 mod ExampleStoryRuns
+mod ExampleMaskRuns

@@ -35,3 +35,4 @@ pub mod ExampleDisk
 pub mod ExampleWide
 pub mod ExampleRoms
 pub mod ExampleStories
+pub mod ExampleMasks

@@ -3,6 +3,7 @@
 
 pub mod devices;
 pub mod disk;
+pub mod masks;
 pub mod roms;
 pub mod stories;
 pub mod wide;
