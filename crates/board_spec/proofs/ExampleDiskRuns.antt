@@ -13,7 +13,7 @@ use Rattle.board_spec.specs.Devices.{disk_with}
 use Rattle.board_spec.specs.Interrupts.{device_value}
 use Rattle.board_spec.specs.ExampleDisk.{four_sectors, SectorRead, PastTheEnd, BadSector, DisabledDisk, NoDisk}
 
-sectors : length four_sectors ≡ 2048
+pub sectors : length four_sectors ≡ 2048
 unfolding four_sectors
 sectors = length-map-range_with_len (λ place. place / 512 + 1) 0 2048
 

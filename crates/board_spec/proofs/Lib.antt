@@ -18,3 +18,4 @@ mod ExampleWideRuns
 mod ExampleRomRuns
 mod ExampleStoryRuns
 mod ExampleMaskRuns
+mod ExampleInterruptRuns

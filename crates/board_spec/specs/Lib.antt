@@ -36,3 +36,4 @@ pub mod ExampleWide
 pub mod ExampleRoms
 pub mod ExampleStories
 pub mod ExampleMasks
+pub mod ExampleInterrupts
