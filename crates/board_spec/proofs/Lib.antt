@@ -19,3 +19,5 @@ mod ExampleRomRuns
 mod ExampleStoryRuns
 mod ExampleMaskRuns
 mod ExampleInterruptRuns
+mod ExampleVersionRuns
+mod ExampleTargetTexts

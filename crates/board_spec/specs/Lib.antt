@@ -37,3 +37,5 @@ pub mod ExampleRoms
 pub mod ExampleStories
 pub mod ExampleMasks
 pub mod ExampleInterrupts
+pub mod ExampleVersions
+pub mod ExampleTargets

@@ -7,6 +7,8 @@ pub mod interrupts;
 pub mod masks;
 pub mod roms;
 pub mod stories;
+pub mod texts;
+pub mod versions;
 pub mod wide;
 
 ghost use Rattle.board_spec.specs.Examples.{ShadowingTheBios, OneWindowForWrites, MemoryAfterReset, ConfigurationPorts, SmramLockedUntilReset, VgaBesideSmram, NoRowOfDram, CardInTheHole, HoleAt512Kib, TwoCardsAtOneAddress, XbcsOverASoftReset, RomAfterReset, CardMovedUnderTheRom};
