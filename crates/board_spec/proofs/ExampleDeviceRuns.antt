@@ -16,120 +16,294 @@ use Rattle.board_spec.specs.ExampleDevices.{TimerLatched, SystemPort, FallenLine
 
 pub timer_latched : TimerLatched
 unfolding TimerLatched reset_byte writable_bits isa_bridge byte_of config_address reset_control port_target_of port_answer wire_of irq_of triggers_of system_of timer_of clock_of levels_with pair_pulsed pair_of device_value levels_where byte_of_levels pending first_selectable pic_request first_blocking chip_after_write byte_read chip_after_read answer_of pair_after_acknowledge is_line_driven low_byte high_byte count_of_number mode_numbered access_numbered programmed element_bytes status_byte latch_count latch_status counter_control read_back read_live counter_read asks_for_load count_complete take_low take_byte counter_write gate_rises gate_falls counter_load count_down count_to_end count_to_reload count_half count_to_strobe pulse_by_mode counter_pulse timer_reset port_read read_back_chosen write_control port_write set_gate2 out_of pulse_all timer_pulses rises clock_power_on
-timer_latched = 
-    (record { number = refl; answer = refl },
-    (record { number = refl; answer = refl },
-    (record { number = refl; answer = refl },
-    (record { number = refl; answer = refl },
-    (record { number = refl; answer = refl },
-    (record { number = refl; answer = refl },
-    (record { number = refl; answer = refl },
-    (record { number = refl; answer = refl },
-    (record { number = refl; answer = refl },
-    (record { number = refl; answer = refl },
-    (record { number = refl; answer = refl },
-    (record { number = refl; answer = refl },
-    (record { number = refl; answer = refl },
-    (record { number = refl; answer = refl },
-    (record { number = refl; answer = refl },
-    (record { number = refl; answer = refl },
-    (record { number = refl; answer = refl },
-    tt)))))))))))))))))
+timer_latched = (
+  record { number = refl; answer = refl },
+  (
+    record { number = refl; answer = refl },
+    (
+      record { number = refl; answer = refl },
+      (
+        record { number = refl; answer = refl },
+        (
+          record { number = refl; answer = refl },
+          (
+            record { number = refl; answer = refl },
+            (
+              record { number = refl; answer = refl },
+              (
+                record { number = refl; answer = refl },
+                (
+                  record { number = refl; answer = refl },
+                  (
+                    record { number = refl; answer = refl },
+                    (
+                      record { number = refl; answer = refl },
+                      (
+                        record { number = refl; answer = refl },
+                        (
+                          record { number = refl; answer = refl },
+                          (
+                            record { number = refl; answer = refl },
+                            (
+                              record { number = refl; answer = refl },
+                              (
+                                record { number = refl; answer = refl },
+                                (
+                                  record { number = refl; answer = refl },
+                                  tt,
+                                ),
+                              ),
+                            ),
+                          ),
+                        ),
+                      ),
+                    ),
+                  ),
+                ),
+              ),
+            ),
+          ),
+        ),
+      ),
+    ),
+  ),
+)
 
 pub system_port : SystemPort
 unfolding SystemPort reset_byte writable_bits isa_bridge byte_of config_address reset_control port_target_of port_answer wire_of irq_of triggers_of system_of timer_of clock_of levels_with pair_pulsed pair_of device_value levels_where byte_of_levels pending first_selectable pic_request first_blocking chip_after_write byte_read chip_after_read answer_of pair_after_acknowledge is_line_driven low_byte high_byte count_of_number mode_numbered access_numbered programmed element_bytes status_byte latch_count latch_status counter_control read_back read_live counter_read asks_for_load count_complete take_low take_byte counter_write gate_rises gate_falls counter_load count_down count_to_end count_to_reload count_half count_to_strobe pulse_by_mode counter_pulse timer_reset port_read read_back_chosen write_control port_write set_gate2 out_of pulse_all timer_pulses rises clock_power_on
-system_port = 
-    (record { number = refl; answer = refl },
-    (record { number = refl; answer = refl },
-    (record { number = refl; answer = refl },
-    (record { number = refl; answer = refl },
-    tt))))
+system_port = (
+  record { number = refl; answer = refl },
+  (
+    record { number = refl; answer = refl },
+    (
+      record { number = refl; answer = refl },
+      (
+        record { number = refl; answer = refl },
+        tt,
+      ),
+    ),
+  ),
+)
 
 pub fallen_line : FallenLine
 unfolding FallenLine reset_byte writable_bits isa_bridge byte_of config_address reset_control port_target_of port_answer wire_of irq_of triggers_of system_of timer_of clock_of levels_with pair_pulsed pair_of device_value levels_where byte_of_levels pending first_selectable pic_request first_blocking chip_after_write byte_read chip_after_read answer_of pair_after_acknowledge is_line_driven low_byte high_byte count_of_number mode_numbered access_numbered programmed element_bytes status_byte latch_count latch_status counter_control read_back read_live counter_read asks_for_load count_complete take_low take_byte counter_write gate_rises gate_falls counter_load count_down count_to_end count_to_reload count_half count_to_strobe pulse_by_mode counter_pulse timer_reset port_read read_back_chosen write_control port_write set_gate2 out_of pulse_all timer_pulses rises clock_power_on
-fallen_line = 
-    (record { number = refl; answer = refl },
-    (record { number = refl; answer = refl },
-    (record { number = refl; answer = refl },
-    (record { number = refl; answer = refl },
-    (record { number = refl; answer = refl },
-    (record { number = refl; answer = refl },
-    (record { number = refl; answer = refl },
-    (record { number = refl; answer = refl },
-    (record { number = refl; answer = refl },
-    (record { number = refl; answer = refl },
-    (record { number = refl; answer = refl },
-    (record { number = refl; answer = refl },
-    (record { number = refl; answer = refl },
-    (record { number = refl; answer = refl },
-    (record { number = refl; answer = refl },
-    (record { number = refl; answer = refl },
-    (record { number = refl; answer = refl },
-    (record { number = refl; answer = refl },
-    (record { number = refl; answer = refl },
-    tt)))))))))))))))))))
+fallen_line = (
+  record { number = refl; answer = refl },
+  (
+    record { number = refl; answer = refl },
+    (
+      record { number = refl; answer = refl },
+      (
+        record { number = refl; answer = refl },
+        (
+          record { number = refl; answer = refl },
+          (
+            record { number = refl; answer = refl },
+            (
+              record { number = refl; answer = refl },
+              (
+                record { number = refl; answer = refl },
+                (
+                  record { number = refl; answer = refl },
+                  (
+                    record { number = refl; answer = refl },
+                    (
+                      record { number = refl; answer = refl },
+                      (
+                        record { number = refl; answer = refl },
+                        (
+                          record { number = refl; answer = refl },
+                          (
+                            record { number = refl; answer = refl },
+                            (
+                              record { number = refl; answer = refl },
+                              (
+                                record { number = refl; answer = refl },
+                                (
+                                  record { number = refl; answer = refl },
+                                  (
+                                    record { number = refl; answer = refl },
+                                    (
+                                      record { number = refl; answer = refl },
+                                      tt,
+                                    ),
+                                  ),
+                                ),
+                              ),
+                            ),
+                          ),
+                        ),
+                      ),
+                    ),
+                  ),
+                ),
+              ),
+            ),
+          ),
+        ),
+      ),
+    ),
+  ),
+)
 
 pub nested_interrupts : NestedInterrupts
 unfolding NestedInterrupts reset_byte writable_bits isa_bridge byte_of config_address reset_control port_target_of port_answer wire_of irq_of triggers_of system_of timer_of clock_of levels_with pair_pulsed pair_of device_value levels_where byte_of_levels pending first_selectable pic_request first_blocking chip_after_write byte_read chip_after_read answer_of pair_after_acknowledge is_line_driven low_byte high_byte count_of_number mode_numbered access_numbered programmed element_bytes status_byte latch_count latch_status counter_control read_back read_live counter_read asks_for_load count_complete take_low take_byte counter_write gate_rises gate_falls counter_load count_down count_to_end count_to_reload count_half count_to_strobe pulse_by_mode counter_pulse timer_reset port_read read_back_chosen write_control port_write set_gate2 out_of pulse_all timer_pulses rises clock_power_on
-nested_interrupts = 
-    (record { number = refl; answer = refl },
-    (record { number = refl; answer = refl },
-    (record { number = refl; answer = refl },
-    (record { number = refl; answer = refl },
-    (record { number = refl; answer = refl },
-    (record { number = refl; answer = refl },
-    (record { number = refl; answer = refl },
-    (record { number = refl; answer = refl },
-    (record { number = refl; answer = refl },
-    (record { number = refl; answer = refl },
-    (record { number = refl; answer = refl },
-    (record { number = refl; answer = refl },
-    (record { number = refl; answer = refl },
-    (record { number = refl; answer = refl },
-    (record { number = refl; answer = refl },
-    tt)))))))))))))))
+nested_interrupts = (
+  record { number = refl; answer = refl },
+  (
+    record { number = refl; answer = refl },
+    (
+      record { number = refl; answer = refl },
+      (
+        record { number = refl; answer = refl },
+        (
+          record { number = refl; answer = refl },
+          (
+            record { number = refl; answer = refl },
+            (
+              record { number = refl; answer = refl },
+              (
+                record { number = refl; answer = refl },
+                (
+                  record { number = refl; answer = refl },
+                  (
+                    record { number = refl; answer = refl },
+                    (
+                      record { number = refl; answer = refl },
+                      (
+                        record { number = refl; answer = refl },
+                        (
+                          record { number = refl; answer = refl },
+                          (
+                            record { number = refl; answer = refl },
+                            (
+                              record { number = refl; answer = refl },
+                              tt,
+                            ),
+                          ),
+                        ),
+                      ),
+                    ),
+                  ),
+                ),
+              ),
+            ),
+          ),
+        ),
+      ),
+    ),
+  ),
+)
 
 pub routed_wire : RoutedWire
 unfolding RoutedWire reset_byte writable_bits isa_bridge byte_of config_address reset_control port_target_of port_answer wire_of irq_of triggers_of system_of timer_of clock_of levels_with pair_pulsed pair_of device_value levels_where byte_of_levels pending first_selectable pic_request first_blocking chip_after_write byte_read chip_after_read answer_of pair_after_acknowledge is_line_driven low_byte high_byte count_of_number mode_numbered access_numbered programmed element_bytes status_byte latch_count latch_status counter_control read_back read_live counter_read asks_for_load count_complete take_low take_byte counter_write gate_rises gate_falls counter_load count_down count_to_end count_to_reload count_half count_to_strobe pulse_by_mode counter_pulse timer_reset port_read read_back_chosen write_control port_write set_gate2 out_of pulse_all timer_pulses rises clock_power_on
-routed_wire = 
-    (record { number = refl; answer = refl },
-    (record { number = refl; answer = refl },
-    (record { number = refl; answer = refl },
-    (record { number = refl; answer = refl },
-    (record { number = refl; answer = refl },
-    (record { number = refl; answer = refl },
-    (record { number = refl; answer = refl },
-    (record { number = refl; answer = refl },
-    (record { number = refl; answer = refl },
-    (record { number = refl; answer = refl },
-    (record { number = refl; answer = refl },
-    (record { number = refl; answer = refl },
-    (record { number = refl; answer = refl },
-    (record { number = refl; answer = refl },
-    (record { number = refl; answer = refl },
-    (record { number = refl; answer = refl },
-    (record { number = refl; answer = refl },
-    tt)))))))))))))))))
+routed_wire = (
+  record { number = refl; answer = refl },
+  (
+    record { number = refl; answer = refl },
+    (
+      record { number = refl; answer = refl },
+      (
+        record { number = refl; answer = refl },
+        (
+          record { number = refl; answer = refl },
+          (
+            record { number = refl; answer = refl },
+            (
+              record { number = refl; answer = refl },
+              (
+                record { number = refl; answer = refl },
+                (
+                  record { number = refl; answer = refl },
+                  (
+                    record { number = refl; answer = refl },
+                    (
+                      record { number = refl; answer = refl },
+                      (
+                        record { number = refl; answer = refl },
+                        (
+                          record { number = refl; answer = refl },
+                          (
+                            record { number = refl; answer = refl },
+                            (
+                              record { number = refl; answer = refl },
+                              (
+                                record { number = refl; answer = refl },
+                                (
+                                  record { number = refl; answer = refl },
+                                  tt,
+                                ),
+                              ),
+                            ),
+                          ),
+                        ),
+                      ),
+                    ),
+                  ),
+                ),
+              ),
+            ),
+          ),
+        ),
+      ),
+    ),
+  ),
+)
 
 pub clock_told : ClockTold
 unfolding ClockTold reset_byte writable_bits isa_bridge byte_of config_address reset_control port_target_of port_answer wire_of irq_of triggers_of system_of timer_of clock_of levels_with pair_pulsed pair_of device_value levels_where byte_of_levels pending first_selectable pic_request first_blocking chip_after_write byte_read chip_after_read answer_of pair_after_acknowledge is_line_driven low_byte high_byte count_of_number mode_numbered access_numbered programmed element_bytes status_byte latch_count latch_status counter_control read_back read_live counter_read asks_for_load count_complete take_low take_byte counter_write gate_rises gate_falls counter_load count_down count_to_end count_to_reload count_half count_to_strobe pulse_by_mode counter_pulse timer_reset port_read read_back_chosen write_control port_write set_gate2 out_of pulse_all timer_pulses rises clock_power_on
-clock_told = 
-    (record { number = refl; answer = refl },
-    (record { number = refl; answer = refl },
-    (record { number = refl; answer = refl },
-    (record { number = refl; answer = refl },
-    (record { number = refl; answer = refl },
-    (record { number = refl; answer = refl },
-    (record { number = refl; answer = refl },
-    (record { number = refl; answer = refl },
-    (record { number = refl; answer = refl },
-    (record { number = refl; answer = refl },
-    (record { number = refl; answer = refl },
-    (record { number = refl; answer = refl },
-    (record { number = refl; answer = refl },
-    (record { number = refl; answer = refl },
-    (record { number = refl; answer = refl },
-    (record { number = refl; answer = refl },
-    (record { number = refl; answer = refl },
-    (record { number = refl; answer = refl },
-    tt))))))))))))))))))
+clock_told = (
+  record { number = refl; answer = refl },
+  (
+    record { number = refl; answer = refl },
+    (
+      record { number = refl; answer = refl },
+      (
+        record { number = refl; answer = refl },
+        (
+          record { number = refl; answer = refl },
+          (
+            record { number = refl; answer = refl },
+            (
+              record { number = refl; answer = refl },
+              (
+                record { number = refl; answer = refl },
+                (
+                  record { number = refl; answer = refl },
+                  (
+                    record { number = refl; answer = refl },
+                    (
+                      record { number = refl; answer = refl },
+                      (
+                        record { number = refl; answer = refl },
+                        (
+                          record { number = refl; answer = refl },
+                          (
+                            record { number = refl; answer = refl },
+                            (
+                              record { number = refl; answer = refl },
+                              (
+                                record { number = refl; answer = refl },
+                                (
+                                  record { number = refl; answer = refl },
+                                  (
+                                    record { number = refl; answer = refl },
+                                    tt,
+                                  ),
+                                ),
+                              ),
+                            ),
+                          ),
+                        ),
+                      ),
+                    ),
+                  ),
+                ),
+              ),
+            ),
+          ),
+        ),
+      ),
+    ),
+  ),
+)

@@ -23,87 +23,206 @@ byte_at place inside = get_or-map-range_with_len (λ at. at / 512 + 1) 0 2048 pl
 
 pub sector_read : SectorRead
 unfolding SectorRead reset_byte writable_bits ide_function byte_of config_address reset_control io_claim io_shut port_target_of port_answer disk_with device_value begin_read sector_was_read begin_write sector_written verified obeyed commanded after_word word_written register_written disk_control_written
-sector_read = 
-    (record { number = refl; answer = rw (sectors, byte_at 1540 (omega arith), byte_at 1541 (omega arith)) refl },
-    (record { number = refl; answer = rw (sectors, byte_at 1536 (omega arith), byte_at 1537 (omega arith), byte_at 1538 (omega arith), byte_at 1539 (omega arith)) refl },
-    (record { number = refl; answer = rw sectors refl },
-    (record { number = refl; answer = refl },
-    (record { number = refl; answer = refl },
-    (record { number = refl; answer = refl },
-    (record { number = refl; answer = refl },
-    (record { number = refl; answer = refl },
-    (record { number = refl; answer = refl },
-    (record { number = refl; answer = refl },
-    (record { number = refl; answer = refl },
-    (record { number = refl; answer = refl },
-    (record { number = refl; answer = refl },
-    tt)))))))))))))
+sector_read = (
+  record { number = refl; answer = rw (sectors, byte_at 1540 (omega arith), byte_at 1541 (omega arith)) refl },
+  (
+    record { number = refl; answer = rw (sectors, byte_at 1536 (omega arith), byte_at 1537 (omega arith), byte_at 1538 (omega arith), byte_at 1539 (omega arith)) refl },
+    (
+      record { number = refl; answer = rw sectors refl },
+      (
+        record { number = refl; answer = refl },
+        (
+          record { number = refl; answer = refl },
+          (
+            record { number = refl; answer = refl },
+            (
+              record { number = refl; answer = refl },
+              (
+                record { number = refl; answer = refl },
+                (
+                  record { number = refl; answer = refl },
+                  (
+                    record { number = refl; answer = refl },
+                    (
+                      record { number = refl; answer = refl },
+                      (
+                        record { number = refl; answer = refl },
+                        (
+                          record { number = refl; answer = refl },
+                          tt,
+                        ),
+                      ),
+                    ),
+                  ),
+                ),
+              ),
+            ),
+          ),
+        ),
+      ),
+    ),
+  ),
+)
 
 pub past_the_end : PastTheEnd
 unfolding PastTheEnd reset_byte writable_bits ide_function byte_of config_address reset_control io_claim io_shut port_target_of port_answer disk_with device_value begin_read sector_was_read begin_write sector_written verified obeyed commanded after_word word_written register_written disk_control_written
-past_the_end = 
-    (record { number = refl; answer = rw sectors refl },
-    (record { number = refl; answer = rw sectors refl },
-    (record { number = refl; answer = rw sectors refl },
-    (record { number = refl; answer = rw sectors refl },
-    (record { number = refl; answer = refl },
-    (record { number = refl; answer = refl },
-    (record { number = refl; answer = refl },
-    (record { number = refl; answer = refl },
-    (record { number = refl; answer = refl },
-    (record { number = refl; answer = refl },
-    (record { number = refl; answer = refl },
-    (record { number = refl; answer = refl },
-    (record { number = refl; answer = refl },
-    (record { number = refl; answer = refl },
-    tt))))))))))))))
+past_the_end = (
+  record { number = refl; answer = rw sectors refl },
+  (
+    record { number = refl; answer = rw sectors refl },
+    (
+      record { number = refl; answer = rw sectors refl },
+      (
+        record { number = refl; answer = rw sectors refl },
+        (
+          record { number = refl; answer = refl },
+          (
+            record { number = refl; answer = refl },
+            (
+              record { number = refl; answer = refl },
+              (
+                record { number = refl; answer = refl },
+                (
+                  record { number = refl; answer = refl },
+                  (
+                    record { number = refl; answer = refl },
+                    (
+                      record { number = refl; answer = refl },
+                      (
+                        record { number = refl; answer = refl },
+                        (
+                          record { number = refl; answer = refl },
+                          (
+                            record { number = refl; answer = refl },
+                            tt,
+                          ),
+                        ),
+                      ),
+                    ),
+                  ),
+                ),
+              ),
+            ),
+          ),
+        ),
+      ),
+    ),
+  ),
+)
 
 pub bad_sector : BadSector
 unfolding BadSector reset_byte writable_bits ide_function byte_of config_address reset_control io_claim io_shut port_target_of port_answer disk_with device_value begin_read sector_was_read begin_write sector_written verified obeyed commanded after_word word_written register_written disk_control_written
-bad_sector = 
-    (record { number = refl; answer = rw sectors refl },
-    (record { number = refl; answer = refl },
-    (record { number = refl; answer = rw sectors refl },
-    (record { number = refl; answer = refl },
-    (record { number = refl; answer = rw sectors refl },
-    (record { number = refl; answer = rw sectors refl },
-    (record { number = refl; answer = rw sectors refl },
-    (record { number = refl; answer = refl },
-    (record { number = refl; answer = refl },
-    (record { number = refl; answer = refl },
-    (record { number = refl; answer = refl },
-    (record { number = refl; answer = refl },
-    (record { number = refl; answer = refl },
-    (record { number = refl; answer = refl },
-    (record { number = refl; answer = refl },
-    (record { number = refl; answer = refl },
-    (record { number = refl; answer = refl },
-    (record { number = refl; answer = refl },
-    tt))))))))))))))))))
+bad_sector = (
+  record { number = refl; answer = rw sectors refl },
+  (
+    record { number = refl; answer = refl },
+    (
+      record { number = refl; answer = rw sectors refl },
+      (
+        record { number = refl; answer = refl },
+        (
+          record { number = refl; answer = rw sectors refl },
+          (
+            record { number = refl; answer = rw sectors refl },
+            (
+              record { number = refl; answer = rw sectors refl },
+              (
+                record { number = refl; answer = refl },
+                (
+                  record { number = refl; answer = refl },
+                  (
+                    record { number = refl; answer = refl },
+                    (
+                      record { number = refl; answer = refl },
+                      (
+                        record { number = refl; answer = refl },
+                        (
+                          record { number = refl; answer = refl },
+                          (
+                            record { number = refl; answer = refl },
+                            (
+                              record { number = refl; answer = refl },
+                              (
+                                record { number = refl; answer = refl },
+                                (
+                                  record { number = refl; answer = refl },
+                                  (
+                                    record { number = refl; answer = refl },
+                                    tt,
+                                  ),
+                                ),
+                              ),
+                            ),
+                          ),
+                        ),
+                      ),
+                    ),
+                  ),
+                ),
+              ),
+            ),
+          ),
+        ),
+      ),
+    ),
+  ),
+)
 
 pub disabled_disk : DisabledDisk
 unfolding DisabledDisk reset_byte writable_bits ide_function byte_of config_address reset_control io_claim io_shut port_target_of port_answer disk_with device_value begin_read sector_was_read begin_write sector_written verified obeyed commanded after_word word_written register_written disk_control_written
-disabled_disk = 
-    (record { number = refl; answer = refl },
-    (record { number = refl; answer = refl },
-    (record { number = refl; answer = refl },
-    (record { number = refl; answer = refl },
-    (record { number = refl; answer = refl },
-    (record { number = refl; answer = refl },
-    (record { number = refl; answer = refl },
-    (record { number = refl; answer = refl },
-    (record { number = refl; answer = refl },
-    (record { number = refl; answer = refl },
-    (record { number = refl; answer = refl },
-    (record { number = refl; answer = refl },
-    tt))))))))))))
+disabled_disk = (
+  record { number = refl; answer = refl },
+  (
+    record { number = refl; answer = refl },
+    (
+      record { number = refl; answer = refl },
+      (
+        record { number = refl; answer = refl },
+        (
+          record { number = refl; answer = refl },
+          (
+            record { number = refl; answer = refl },
+            (
+              record { number = refl; answer = refl },
+              (
+                record { number = refl; answer = refl },
+                (
+                  record { number = refl; answer = refl },
+                  (
+                    record { number = refl; answer = refl },
+                    (
+                      record { number = refl; answer = refl },
+                      (
+                        record { number = refl; answer = refl },
+                        tt,
+                      ),
+                    ),
+                  ),
+                ),
+              ),
+            ),
+          ),
+        ),
+      ),
+    ),
+  ),
+)
 
 pub no_disk : NoDisk
 unfolding NoDisk reset_byte writable_bits ide_function byte_of config_address reset_control io_claim io_shut port_target_of port_answer disk_with device_value begin_read sector_was_read begin_write sector_written verified obeyed commanded after_word word_written register_written disk_control_written
-no_disk = 
-    (record { number = refl; answer = refl },
-    (record { number = refl; answer = refl },
-    (record { number = refl; answer = refl },
-    (record { number = refl; answer = refl },
-    (record { number = refl; answer = refl },
-    tt)))))
+no_disk = (
+  record { number = refl; answer = refl },
+  (
+    record { number = refl; answer = refl },
+    (
+      record { number = refl; answer = refl },
+      (
+        record { number = refl; answer = refl },
+        (
+          record { number = refl; answer = refl },
+          tt,
+        ),
+      ),
+    ),
+  ),
+)

@@ -16,167 +16,417 @@ use Rattle.board_spec.specs.Devices.{wire_of, irq_of, triggers_of, system_of, ti
 use Rattle.board_spec.specs.Interrupts.{levels_with, pair_pulsed, pair_of, device_value}
 use Rattle.board_spec.specs.ExampleInterrupts.{EachPulse, GatedCounter, ClockInterrupts, DiskInterrupts, SharedWires, DevicesOverReset, DiskOverReset}
 
-
 pub pulses_one_by_one : EachPulse
 unfolding EachPulse byte_of config_address reset_control reset_byte writable_bits isa_bridge port_answer port_target_of wire_of irq_of triggers_of system_of timer_of clock_of levels_with pair_pulsed pair_of device_value levels_where byte_of_levels pending first_selectable pic_request first_blocking chip_after_write byte_read chip_after_read answer_of pair_after_acknowledge is_line_driven low_byte high_byte count_of_number mode_numbered access_numbered programmed element_bytes status_byte latch_count latch_status counter_control read_back read_live counter_read asks_for_load count_complete take_low take_byte counter_write gate_rises gate_falls counter_load count_down count_to_end count_to_reload count_half count_to_strobe pulse_by_mode counter_pulse timer_reset port_read read_back_chosen write_control port_write set_gate2 out_of pulse_all timer_pulses rises clock_power_on
-pulses_one_by_one = 
-    (record { number = refl; answer = refl },
-    (record { number = refl; answer = refl },
-    (record { number = refl; answer = refl },
-    (record { number = refl; answer = refl },
-    (record { number = refl; answer = refl },
-    (record { number = refl; answer = refl },
-    (record { number = refl; answer = refl },
-    (record { number = refl; answer = refl },
-    (record { number = refl; answer = refl },
-    (record { number = refl; answer = refl },
-    (record { number = refl; answer = refl },
-    (record { number = refl; answer = refl },
-    (record { number = refl; answer = refl },
-    (record { number = refl; answer = refl },
-    (record { number = refl; answer = refl },
-    (record { number = refl; answer = refl },
-    (record { number = refl; answer = refl },
-    (record { number = refl; answer = refl },
-    tt))))))))))))))))))
+pulses_one_by_one = (
+  record { number = refl; answer = refl },
+  (
+    record { number = refl; answer = refl },
+    (
+      record { number = refl; answer = refl },
+      (
+        record { number = refl; answer = refl },
+        (
+          record { number = refl; answer = refl },
+          (
+            record { number = refl; answer = refl },
+            (
+              record { number = refl; answer = refl },
+              (
+                record { number = refl; answer = refl },
+                (
+                  record { number = refl; answer = refl },
+                  (
+                    record { number = refl; answer = refl },
+                    (
+                      record { number = refl; answer = refl },
+                      (
+                        record { number = refl; answer = refl },
+                        (
+                          record { number = refl; answer = refl },
+                          (
+                            record { number = refl; answer = refl },
+                            (
+                              record { number = refl; answer = refl },
+                              (
+                                record { number = refl; answer = refl },
+                                (
+                                  record { number = refl; answer = refl },
+                                  (
+                                    record { number = refl; answer = refl },
+                                    tt,
+                                  ),
+                                ),
+                              ),
+                            ),
+                          ),
+                        ),
+                      ),
+                    ),
+                  ),
+                ),
+              ),
+            ),
+          ),
+        ),
+      ),
+    ),
+  ),
+)
 
 pub counter_2_by_its_gate : GatedCounter
 unfolding GatedCounter byte_of config_address reset_control reset_byte writable_bits isa_bridge port_answer port_target_of wire_of irq_of triggers_of system_of timer_of clock_of levels_with pair_pulsed pair_of device_value levels_where byte_of_levels pending first_selectable pic_request first_blocking chip_after_write byte_read chip_after_read answer_of pair_after_acknowledge is_line_driven low_byte high_byte count_of_number mode_numbered access_numbered programmed element_bytes status_byte latch_count latch_status counter_control read_back read_live counter_read asks_for_load count_complete take_low take_byte counter_write gate_rises gate_falls counter_load count_down count_to_end count_to_reload count_half count_to_strobe pulse_by_mode counter_pulse timer_reset port_read read_back_chosen write_control port_write set_gate2 out_of pulse_all timer_pulses rises clock_power_on
-counter_2_by_its_gate = 
-    (record { number = refl; answer = refl },
-    (record { number = refl; answer = refl },
-    (record { number = refl; answer = refl },
-    (record { number = refl; answer = refl },
-    (record { number = refl; answer = refl },
-    (record { number = refl; answer = refl },
-    (record { number = refl; answer = refl },
-    (record { number = refl; answer = refl },
-    (record { number = refl; answer = refl },
-    (record { number = refl; answer = refl },
-    (record { number = refl; answer = refl },
-    tt)))))))))))
+counter_2_by_its_gate = (
+  record { number = refl; answer = refl },
+  (
+    record { number = refl; answer = refl },
+    (
+      record { number = refl; answer = refl },
+      (
+        record { number = refl; answer = refl },
+        (
+          record { number = refl; answer = refl },
+          (
+            record { number = refl; answer = refl },
+            (
+              record { number = refl; answer = refl },
+              (
+                record { number = refl; answer = refl },
+                (
+                  record { number = refl; answer = refl },
+                  (
+                    record { number = refl; answer = refl },
+                    (
+                      record { number = refl; answer = refl },
+                      tt,
+                    ),
+                  ),
+                ),
+              ),
+            ),
+          ),
+        ),
+      ),
+    ),
+  ),
+)
 
 pub interrupts_of_the_clock : ClockInterrupts
 unfolding ClockInterrupts byte_of config_address reset_control reset_byte writable_bits isa_bridge port_answer port_target_of wire_of irq_of triggers_of system_of timer_of clock_of levels_with pair_pulsed pair_of device_value levels_where byte_of_levels pending first_selectable pic_request first_blocking chip_after_write byte_read chip_after_read answer_of pair_after_acknowledge is_line_driven low_byte high_byte count_of_number mode_numbered access_numbered programmed element_bytes status_byte latch_count latch_status counter_control read_back read_live counter_read asks_for_load count_complete take_low take_byte counter_write gate_rises gate_falls counter_load count_down count_to_end count_to_reload count_half count_to_strobe pulse_by_mode counter_pulse timer_reset port_read read_back_chosen write_control port_write set_gate2 out_of pulse_all timer_pulses rises clock_power_on
-interrupts_of_the_clock = 
-    (record { number = refl; answer = refl },
-    (record { number = refl; answer = refl },
-    (record { number = refl; answer = refl },
-    (record { number = refl; answer = refl },
-    (record { number = refl; answer = refl },
-    (record { number = refl; answer = refl },
-    (record { number = refl; answer = refl },
-    (record { number = refl; answer = refl },
-    (record { number = refl; answer = refl },
-    (record { number = refl; answer = refl },
-    (record { number = refl; answer = refl },
-    (record { number = refl; answer = refl },
-    (record { number = refl; answer = refl },
-    (record { number = refl; answer = refl },
-    (record { number = refl; answer = refl },
-    (record { number = refl; answer = refl },
-    (record { number = refl; answer = refl },
-    (record { number = refl; answer = refl },
-    (record { number = refl; answer = refl },
-    (record { number = refl; answer = refl },
-    tt))))))))))))))))))))
+interrupts_of_the_clock = (
+  record { number = refl; answer = refl },
+  (
+    record { number = refl; answer = refl },
+    (
+      record { number = refl; answer = refl },
+      (
+        record { number = refl; answer = refl },
+        (
+          record { number = refl; answer = refl },
+          (
+            record { number = refl; answer = refl },
+            (
+              record { number = refl; answer = refl },
+              (
+                record { number = refl; answer = refl },
+                (
+                  record { number = refl; answer = refl },
+                  (
+                    record { number = refl; answer = refl },
+                    (
+                      record { number = refl; answer = refl },
+                      (
+                        record { number = refl; answer = refl },
+                        (
+                          record { number = refl; answer = refl },
+                          (
+                            record { number = refl; answer = refl },
+                            (
+                              record { number = refl; answer = refl },
+                              (
+                                record { number = refl; answer = refl },
+                                (
+                                  record { number = refl; answer = refl },
+                                  (
+                                    record { number = refl; answer = refl },
+                                    (
+                                      record { number = refl; answer = refl },
+                                      (
+                                        record { number = refl; answer = refl },
+                                        tt,
+                                      ),
+                                    ),
+                                  ),
+                                ),
+                              ),
+                            ),
+                          ),
+                        ),
+                      ),
+                    ),
+                  ),
+                ),
+              ),
+            ),
+          ),
+        ),
+      ),
+    ),
+  ),
+)
 
 pub interrupts_of_the_disk : DiskInterrupts
 unfolding DiskInterrupts byte_of config_address reset_control reset_byte writable_bits isa_bridge ide_function port_answer port_target_of wire_of irq_of triggers_of system_of timer_of clock_of disk_with levels_with pair_pulsed pair_of device_value levels_where byte_of_levels pending first_selectable pic_request first_blocking chip_after_write byte_read chip_after_read answer_of pair_after_acknowledge is_line_driven low_byte high_byte count_of_number mode_numbered access_numbered programmed element_bytes status_byte latch_count latch_status counter_control read_back read_live counter_read asks_for_load count_complete take_low take_byte counter_write gate_rises gate_falls counter_load count_down count_to_end count_to_reload count_half count_to_strobe pulse_by_mode counter_pulse timer_reset port_read read_back_chosen write_control port_write set_gate2 out_of pulse_all timer_pulses rises clock_power_on begin_read sector_was_read begin_write sector_written verified obeyed commanded after_word word_written register_written disk_control_written
-interrupts_of_the_disk = 
-    (record { number = refl; answer = refl },
-    (record { number = refl; answer = refl },
-    (record { number = refl; answer = refl },
-    (record { number = refl; answer = refl },
-    (record { number = refl; answer = refl },
-    (record { number = refl; answer = refl },
-    (record { number = refl; answer = refl },
-    (record { number = refl; answer = refl },
-    (record { number = refl; answer = refl },
-    (record { number = refl; answer = refl },
-    (record { number = refl; answer = refl },
-    (record { number = refl; answer = refl },
-    (record { number = refl; answer = refl },
-    tt)))))))))))))
+interrupts_of_the_disk = (
+  record { number = refl; answer = refl },
+  (
+    record { number = refl; answer = refl },
+    (
+      record { number = refl; answer = refl },
+      (
+        record { number = refl; answer = refl },
+        (
+          record { number = refl; answer = refl },
+          (
+            record { number = refl; answer = refl },
+            (
+              record { number = refl; answer = refl },
+              (
+                record { number = refl; answer = refl },
+                (
+                  record { number = refl; answer = refl },
+                  (
+                    record { number = refl; answer = refl },
+                    (
+                      record { number = refl; answer = refl },
+                      (
+                        record { number = refl; answer = refl },
+                        (
+                          record { number = refl; answer = refl },
+                          tt,
+                        ),
+                      ),
+                    ),
+                  ),
+                ),
+              ),
+            ),
+          ),
+        ),
+      ),
+    ),
+  ),
+)
 
 pub wires_by_their_routes : SharedWires
 unfolding SharedWires byte_of config_address reset_control reset_byte writable_bits isa_bridge port_answer port_target_of wire_of irq_of triggers_of system_of timer_of clock_of levels_with pair_pulsed pair_of device_value levels_where byte_of_levels pending first_selectable pic_request first_blocking chip_after_write byte_read chip_after_read answer_of pair_after_acknowledge is_line_driven low_byte high_byte count_of_number mode_numbered access_numbered programmed element_bytes status_byte latch_count latch_status counter_control read_back read_live counter_read asks_for_load count_complete take_low take_byte counter_write gate_rises gate_falls counter_load count_down count_to_end count_to_reload count_half count_to_strobe pulse_by_mode counter_pulse timer_reset port_read read_back_chosen write_control port_write set_gate2 out_of pulse_all timer_pulses rises clock_power_on
-wires_by_their_routes = 
-    (record { number = refl; answer = refl },
-    (record { number = refl; answer = refl },
-    (record { number = refl; answer = refl },
-    (record { number = refl; answer = refl },
-    (record { number = refl; answer = refl },
-    (record { number = refl; answer = refl },
-    (record { number = refl; answer = refl },
-    (record { number = refl; answer = refl },
-    (record { number = refl; answer = refl },
-    (record { number = refl; answer = refl },
-    (record { number = refl; answer = refl },
-    (record { number = refl; answer = refl },
-    (record { number = refl; answer = refl },
-    (record { number = refl; answer = refl },
-    (record { number = refl; answer = refl },
-    (record { number = refl; answer = refl },
-    (record { number = refl; answer = refl },
-    (record { number = refl; answer = refl },
-    (record { number = refl; answer = refl },
-    (record { number = refl; answer = refl },
-    (record { number = refl; answer = refl },
-    tt)))))))))))))))))))))
+wires_by_their_routes = (
+  record { number = refl; answer = refl },
+  (
+    record { number = refl; answer = refl },
+    (
+      record { number = refl; answer = refl },
+      (
+        record { number = refl; answer = refl },
+        (
+          record { number = refl; answer = refl },
+          (
+            record { number = refl; answer = refl },
+            (
+              record { number = refl; answer = refl },
+              (
+                record { number = refl; answer = refl },
+                (
+                  record { number = refl; answer = refl },
+                  (
+                    record { number = refl; answer = refl },
+                    (
+                      record { number = refl; answer = refl },
+                      (
+                        record { number = refl; answer = refl },
+                        (
+                          record { number = refl; answer = refl },
+                          (
+                            record { number = refl; answer = refl },
+                            (
+                              record { number = refl; answer = refl },
+                              (
+                                record { number = refl; answer = refl },
+                                (
+                                  record { number = refl; answer = refl },
+                                  (
+                                    record { number = refl; answer = refl },
+                                    (
+                                      record { number = refl; answer = refl },
+                                      (
+                                        record { number = refl; answer = refl },
+                                        (
+                                          record { number = refl; answer = refl },
+                                          tt,
+                                        ),
+                                      ),
+                                    ),
+                                  ),
+                                ),
+                              ),
+                            ),
+                          ),
+                        ),
+                      ),
+                    ),
+                  ),
+                ),
+              ),
+            ),
+          ),
+        ),
+      ),
+    ),
+  ),
+)
 
 pub reset_of_the_devices : DevicesOverReset
 unfolding DevicesOverReset byte_of config_address reset_control reset_byte writable_bits isa_bridge port_answer port_target_of wire_of irq_of triggers_of system_of timer_of clock_of levels_with pair_pulsed pair_of device_value levels_where byte_of_levels pending first_selectable pic_request first_blocking chip_after_write byte_read chip_after_read answer_of pair_after_acknowledge is_line_driven low_byte high_byte count_of_number mode_numbered access_numbered programmed element_bytes status_byte latch_count latch_status counter_control read_back read_live counter_read asks_for_load count_complete take_low take_byte counter_write gate_rises gate_falls counter_load count_down count_to_end count_to_reload count_half count_to_strobe pulse_by_mode counter_pulse timer_reset port_read read_back_chosen write_control port_write set_gate2 out_of pulse_all timer_pulses rises clock_power_on
-reset_of_the_devices = 
-    (record { number = refl; answer = refl },
-    (record { number = refl; answer = refl },
-    (record { number = refl; answer = refl },
-    (record { number = refl; answer = refl },
-    (record { number = refl; answer = refl },
-    (record { number = refl; answer = refl },
-    (record { number = refl; answer = refl },
-    (record { number = refl; answer = refl },
-    (record { number = refl; answer = refl },
-    (record { number = refl; answer = refl },
-    (record { number = refl; answer = refl },
-    (record { number = refl; answer = refl },
-    (record { number = refl; answer = refl },
-    (record { number = refl; answer = refl },
-    (record { number = refl; answer = refl },
-    (record { number = refl; answer = refl },
-    (record { number = refl; answer = refl },
-    (record { number = refl; answer = refl },
-    (record { number = refl; answer = refl },
-    (record { number = refl; answer = refl },
-    (record { number = refl; answer = refl },
-    (record { number = refl; answer = refl },
-    (record { number = refl; answer = refl },
-    (record { number = refl; answer = refl },
-    (record { number = refl; answer = refl },
-    (record { number = refl; answer = refl },
-    (record { number = refl; answer = refl },
-    tt)))))))))))))))))))))))))))
+reset_of_the_devices = (
+  record { number = refl; answer = refl },
+  (
+    record { number = refl; answer = refl },
+    (
+      record { number = refl; answer = refl },
+      (
+        record { number = refl; answer = refl },
+        (
+          record { number = refl; answer = refl },
+          (
+            record { number = refl; answer = refl },
+            (
+              record { number = refl; answer = refl },
+              (
+                record { number = refl; answer = refl },
+                (
+                  record { number = refl; answer = refl },
+                  (
+                    record { number = refl; answer = refl },
+                    (
+                      record { number = refl; answer = refl },
+                      (
+                        record { number = refl; answer = refl },
+                        (
+                          record { number = refl; answer = refl },
+                          (
+                            record { number = refl; answer = refl },
+                            (
+                              record { number = refl; answer = refl },
+                              (
+                                record { number = refl; answer = refl },
+                                (
+                                  record { number = refl; answer = refl },
+                                  (
+                                    record { number = refl; answer = refl },
+                                    (
+                                      record { number = refl; answer = refl },
+                                      (
+                                        record { number = refl; answer = refl },
+                                        (
+                                          record { number = refl; answer = refl },
+                                          (
+                                            record { number = refl; answer = refl },
+                                            (
+                                              record { number = refl; answer = refl },
+                                              (
+                                                record { number = refl; answer = refl },
+                                                (
+                                                  record { number = refl; answer = refl },
+                                                  (
+                                                    record { number = refl; answer = refl },
+                                                    (
+                                                      record { number = refl; answer = refl },
+                                                      tt,
+                                                    ),
+                                                  ),
+                                                ),
+                                              ),
+                                            ),
+                                          ),
+                                        ),
+                                      ),
+                                    ),
+                                  ),
+                                ),
+                              ),
+                            ),
+                          ),
+                        ),
+                      ),
+                    ),
+                  ),
+                ),
+              ),
+            ),
+          ),
+        ),
+      ),
+    ),
+  ),
+)
 
 pub reset_of_the_disk : DiskOverReset
 unfolding DiskOverReset byte_of config_address reset_control reset_byte writable_bits isa_bridge ide_function port_answer port_target_of wire_of irq_of triggers_of system_of timer_of clock_of disk_with levels_with pair_pulsed pair_of device_value levels_where byte_of_levels pending first_selectable pic_request first_blocking chip_after_write byte_read chip_after_read answer_of pair_after_acknowledge is_line_driven low_byte high_byte count_of_number mode_numbered access_numbered programmed element_bytes status_byte latch_count latch_status counter_control read_back read_live counter_read asks_for_load count_complete take_low take_byte counter_write gate_rises gate_falls counter_load count_down count_to_end count_to_reload count_half count_to_strobe pulse_by_mode counter_pulse timer_reset port_read read_back_chosen write_control port_write set_gate2 out_of pulse_all timer_pulses rises clock_power_on begin_read sector_was_read begin_write sector_written verified obeyed commanded after_word word_written register_written disk_control_written
-reset_of_the_disk = 
-    (record { number = refl; answer = refl },
-    (record { number = refl; answer = refl },
-    (record { number = refl; answer = refl },
-    (record { number = refl; answer = refl },
-    (record { number = refl; answer = refl },
-    (record { number = refl; answer = refl },
-    (record { number = refl; answer = refl },
-    (record { number = refl; answer = refl },
-    (record { number = refl; answer = refl },
-    (record { number = refl; answer = refl },
-    (record { number = refl; answer = refl },
-    (record { number = refl; answer = refl },
-    (record { number = refl; answer = refl },
-    (record { number = refl; answer = refl },
-    (record { number = refl; answer = refl },
-    (record { number = refl; answer = refl },
-    (record { number = refl; answer = refl },
-    (record { number = refl; answer = refl },
-    (record { number = refl; answer = refl },
-    tt)))))))))))))))))))
+reset_of_the_disk = (
+  record { number = refl; answer = refl },
+  (
+    record { number = refl; answer = refl },
+    (
+      record { number = refl; answer = refl },
+      (
+        record { number = refl; answer = refl },
+        (
+          record { number = refl; answer = refl },
+          (
+            record { number = refl; answer = refl },
+            (
+              record { number = refl; answer = refl },
+              (
+                record { number = refl; answer = refl },
+                (
+                  record { number = refl; answer = refl },
+                  (
+                    record { number = refl; answer = refl },
+                    (
+                      record { number = refl; answer = refl },
+                      (
+                        record { number = refl; answer = refl },
+                        (
+                          record { number = refl; answer = refl },
+                          (
+                            record { number = refl; answer = refl },
+                            (
+                              record { number = refl; answer = refl },
+                              (
+                                record { number = refl; answer = refl },
+                                (
+                                  record { number = refl; answer = refl },
+                                  (
+                                    record { number = refl; answer = refl },
+                                    (
+                                      record { number = refl; answer = refl },
+                                      tt,
+                                    ),
+                                  ),
+                                ),
+                              ),
+                            ),
+                          ),
+                        ),
+                      ),
+                    ),
+                  ),
+                ),
+              ),
+            ),
+          ),
+        ),
+      ),
+    ),
+  ),
+)

@@ -8,195 +8,519 @@ use Rattle.board_spec.specs.ExampleMasks.{HostWritten, IsaWritten, IdeWritten, C
 
 pub host_read_back : HostWritten
 unfolding HostWritten byte_of config_address reset_control reset_byte writable_bits host_bridge port_answer port_target_of
-host_read_back = 
-    (record { number = refl; answer = refl },
-    (record { number = refl; answer = refl },
-    (record { number = refl; answer = refl },
-    (record { number = refl; answer = refl },
-    (record { number = refl; answer = refl },
-    (record { number = refl; answer = refl },
-    (record { number = refl; answer = refl },
-    (record { number = refl; answer = refl },
-    (record { number = refl; answer = refl },
-    (record { number = refl; answer = refl },
-    (record { number = refl; answer = refl },
-    (record { number = refl; answer = refl },
-    (record { number = refl; answer = refl },
-    (record { number = refl; answer = refl },
-    (record { number = refl; answer = refl },
-    (record { number = refl; answer = refl },
-    (record { number = refl; answer = refl },
-    (record { number = refl; answer = refl },
-    (record { number = refl; answer = refl },
-    (record { number = refl; answer = refl },
-    (record { number = refl; answer = refl },
-    (record { number = refl; answer = refl },
-    (record { number = refl; answer = refl },
-    (record { number = refl; answer = refl },
-    (record { number = refl; answer = refl },
-    (record { number = refl; answer = refl },
-    (record { number = refl; answer = refl },
-    (record { number = refl; answer = refl },
-    (record { number = refl; answer = refl },
-    (record { number = refl; answer = refl },
-    (record { number = refl; answer = refl },
-    (record { number = refl; answer = refl },
-    (record { number = refl; answer = refl },
-    (record { number = refl; answer = refl },
-    (record { number = refl; answer = refl },
-    (record { number = refl; answer = refl },
-    (record { number = refl; answer = refl },
-    (record { number = refl; answer = refl },
-    (record { number = refl; answer = refl },
-    (record { number = refl; answer = refl },
-    (record { number = refl; answer = refl },
-    (record { number = refl; answer = refl },
-    tt))))))))))))))))))))))))))))))))))))))))))
+host_read_back = (
+  record { number = refl; answer = refl },
+  (
+    record { number = refl; answer = refl },
+    (
+      record { number = refl; answer = refl },
+      (
+        record { number = refl; answer = refl },
+        (
+          record { number = refl; answer = refl },
+          (
+            record { number = refl; answer = refl },
+            (
+              record { number = refl; answer = refl },
+              (
+                record { number = refl; answer = refl },
+                (
+                  record { number = refl; answer = refl },
+                  (
+                    record { number = refl; answer = refl },
+                    (
+                      record { number = refl; answer = refl },
+                      (
+                        record { number = refl; answer = refl },
+                        (
+                          record { number = refl; answer = refl },
+                          (
+                            record { number = refl; answer = refl },
+                            (
+                              record { number = refl; answer = refl },
+                              (
+                                record { number = refl; answer = refl },
+                                (
+                                  record { number = refl; answer = refl },
+                                  (
+                                    record { number = refl; answer = refl },
+                                    (
+                                      record { number = refl; answer = refl },
+                                      (
+                                        record { number = refl; answer = refl },
+                                        (
+                                          record { number = refl; answer = refl },
+                                          (
+                                            record { number = refl; answer = refl },
+                                            (
+                                              record { number = refl; answer = refl },
+                                              (
+                                                record { number = refl; answer = refl },
+                                                (
+                                                  record { number = refl; answer = refl },
+                                                  (
+                                                    record { number = refl; answer = refl },
+                                                    (
+                                                      record { number = refl; answer = refl },
+                                                      (
+                                                        record { number = refl; answer = refl },
+                                                        (
+                                                          record { number = refl; answer = refl },
+                                                          (
+                                                            record { number = refl; answer = refl },
+                                                            (
+                                                              record { number = refl; answer = refl },
+                                                              (
+                                                                record { number = refl; answer = refl },
+                                                                (
+                                                                  record { number = refl; answer = refl },
+                                                                  (
+                                                                    record { number = refl; answer = refl },
+                                                                    (
+                                                                      record { number = refl; answer = refl },
+                                                                      (
+                                                                        record { number = refl; answer = refl },
+                                                                        (
+                                                                          record { number = refl; answer = refl },
+                                                                          (
+                                                                            record { number = refl; answer = refl },
+                                                                            (
+                                                                              record { number = refl; answer = refl },
+                                                                              (
+                                                                                record { number = refl; answer = refl },
+                                                                                (
+                                                                                  record { number = refl; answer = refl },
+                                                                                  (
+                                                                                    record { number = refl; answer = refl },
+                                                                                    tt,
+                                                                                  ),
+                                                                                ),
+                                                                              ),
+                                                                            ),
+                                                                          ),
+                                                                        ),
+                                                                      ),
+                                                                    ),
+                                                                  ),
+                                                                ),
+                                                              ),
+                                                            ),
+                                                          ),
+                                                        ),
+                                                      ),
+                                                    ),
+                                                  ),
+                                                ),
+                                              ),
+                                            ),
+                                          ),
+                                        ),
+                                      ),
+                                    ),
+                                  ),
+                                ),
+                              ),
+                            ),
+                          ),
+                        ),
+                      ),
+                    ),
+                  ),
+                ),
+              ),
+            ),
+          ),
+        ),
+      ),
+    ),
+  ),
+)
 
 pub isa_read_back : IsaWritten
 unfolding IsaWritten byte_of config_address reset_control reset_byte writable_bits isa_bridge port_answer port_target_of
-isa_read_back = 
-    (record { number = refl; answer = refl },
-    (record { number = refl; answer = refl },
-    (record { number = refl; answer = refl },
-    (record { number = refl; answer = refl },
-    (record { number = refl; answer = refl },
-    (record { number = refl; answer = refl },
-    (record { number = refl; answer = refl },
-    (record { number = refl; answer = refl },
-    (record { number = refl; answer = refl },
-    (record { number = refl; answer = refl },
-    (record { number = refl; answer = refl },
-    (record { number = refl; answer = refl },
-    (record { number = refl; answer = refl },
-    (record { number = refl; answer = refl },
-    (record { number = refl; answer = refl },
-    (record { number = refl; answer = refl },
-    (record { number = refl; answer = refl },
-    (record { number = refl; answer = refl },
-    (record { number = refl; answer = refl },
-    (record { number = refl; answer = refl },
-    (record { number = refl; answer = refl },
-    (record { number = refl; answer = refl },
-    (record { number = refl; answer = refl },
-    (record { number = refl; answer = refl },
-    (record { number = refl; answer = refl },
-    (record { number = refl; answer = refl },
-    (record { number = refl; answer = refl },
-    tt)))))))))))))))))))))))))))
+isa_read_back = (
+  record { number = refl; answer = refl },
+  (
+    record { number = refl; answer = refl },
+    (
+      record { number = refl; answer = refl },
+      (
+        record { number = refl; answer = refl },
+        (
+          record { number = refl; answer = refl },
+          (
+            record { number = refl; answer = refl },
+            (
+              record { number = refl; answer = refl },
+              (
+                record { number = refl; answer = refl },
+                (
+                  record { number = refl; answer = refl },
+                  (
+                    record { number = refl; answer = refl },
+                    (
+                      record { number = refl; answer = refl },
+                      (
+                        record { number = refl; answer = refl },
+                        (
+                          record { number = refl; answer = refl },
+                          (
+                            record { number = refl; answer = refl },
+                            (
+                              record { number = refl; answer = refl },
+                              (
+                                record { number = refl; answer = refl },
+                                (
+                                  record { number = refl; answer = refl },
+                                  (
+                                    record { number = refl; answer = refl },
+                                    (
+                                      record { number = refl; answer = refl },
+                                      (
+                                        record { number = refl; answer = refl },
+                                        (
+                                          record { number = refl; answer = refl },
+                                          (
+                                            record { number = refl; answer = refl },
+                                            (
+                                              record { number = refl; answer = refl },
+                                              (
+                                                record { number = refl; answer = refl },
+                                                (
+                                                  record { number = refl; answer = refl },
+                                                  (
+                                                    record { number = refl; answer = refl },
+                                                    (
+                                                      record { number = refl; answer = refl },
+                                                      tt,
+                                                    ),
+                                                  ),
+                                                ),
+                                              ),
+                                            ),
+                                          ),
+                                        ),
+                                      ),
+                                    ),
+                                  ),
+                                ),
+                              ),
+                            ),
+                          ),
+                        ),
+                      ),
+                    ),
+                  ),
+                ),
+              ),
+            ),
+          ),
+        ),
+      ),
+    ),
+  ),
+)
 
 pub ide_read_back : IdeWritten
 unfolding IdeWritten byte_of config_address reset_control reset_byte writable_bits ide_function port_answer port_target_of
-ide_read_back = 
-    (record { number = refl; answer = refl },
-    (record { number = refl; answer = refl },
-    (record { number = refl; answer = refl },
-    (record { number = refl; answer = refl },
-    (record { number = refl; answer = refl },
-    (record { number = refl; answer = refl },
-    (record { number = refl; answer = refl },
-    (record { number = refl; answer = refl },
-    (record { number = refl; answer = refl },
-    (record { number = refl; answer = refl },
-    (record { number = refl; answer = refl },
-    (record { number = refl; answer = refl },
-    (record { number = refl; answer = refl },
-    (record { number = refl; answer = refl },
-    (record { number = refl; answer = refl },
-    (record { number = refl; answer = refl },
-    (record { number = refl; answer = refl },
-    (record { number = refl; answer = refl },
-    (record { number = refl; answer = refl },
-    (record { number = refl; answer = refl },
-    (record { number = refl; answer = refl },
-    (record { number = refl; answer = refl },
-    (record { number = refl; answer = refl },
-    (record { number = refl; answer = refl },
-    tt))))))))))))))))))))))))
+ide_read_back = (
+  record { number = refl; answer = refl },
+  (
+    record { number = refl; answer = refl },
+    (
+      record { number = refl; answer = refl },
+      (
+        record { number = refl; answer = refl },
+        (
+          record { number = refl; answer = refl },
+          (
+            record { number = refl; answer = refl },
+            (
+              record { number = refl; answer = refl },
+              (
+                record { number = refl; answer = refl },
+                (
+                  record { number = refl; answer = refl },
+                  (
+                    record { number = refl; answer = refl },
+                    (
+                      record { number = refl; answer = refl },
+                      (
+                        record { number = refl; answer = refl },
+                        (
+                          record { number = refl; answer = refl },
+                          (
+                            record { number = refl; answer = refl },
+                            (
+                              record { number = refl; answer = refl },
+                              (
+                                record { number = refl; answer = refl },
+                                (
+                                  record { number = refl; answer = refl },
+                                  (
+                                    record { number = refl; answer = refl },
+                                    (
+                                      record { number = refl; answer = refl },
+                                      (
+                                        record { number = refl; answer = refl },
+                                        (
+                                          record { number = refl; answer = refl },
+                                          (
+                                            record { number = refl; answer = refl },
+                                            (
+                                              record { number = refl; answer = refl },
+                                              (
+                                                record { number = refl; answer = refl },
+                                                tt,
+                                              ),
+                                            ),
+                                          ),
+                                        ),
+                                      ),
+                                    ),
+                                  ),
+                                ),
+                              ),
+                            ),
+                          ),
+                        ),
+                      ),
+                    ),
+                  ),
+                ),
+              ),
+            ),
+          ),
+        ),
+      ),
+    ),
+  ),
+)
 
 pub card_read_back : CardWritten
 unfolding CardWritten byte_of config_address reset_control reset_byte writable_bits card_function port_answer port_target_of
-card_read_back = 
-    (record { number = refl; answer = refl },
-    (record { number = refl; answer = refl },
-    (record { number = refl; answer = refl },
-    (record { number = refl; answer = refl },
-    (record { number = refl; answer = refl },
-    (record { number = refl; answer = refl },
-    (record { number = refl; answer = refl },
-    (record { number = refl; answer = refl },
-    (record { number = refl; answer = refl },
-    (record { number = refl; answer = refl },
-    (record { number = refl; answer = refl },
-    (record { number = refl; answer = refl },
-    (record { number = refl; answer = refl },
-    (record { number = refl; answer = refl },
-    (record { number = refl; answer = refl },
-    (record { number = refl; answer = refl },
-    (record { number = refl; answer = refl },
-    (record { number = refl; answer = refl },
-    (record { number = refl; answer = refl },
-    (record { number = refl; answer = refl },
-    (record { number = refl; answer = refl },
-    (record { number = refl; answer = refl },
-    (record { number = refl; answer = refl },
-    (record { number = refl; answer = refl },
-    (record { number = refl; answer = refl },
-    (record { number = refl; answer = refl },
-    (record { number = refl; answer = refl },
-    (record { number = refl; answer = refl },
-    (record { number = refl; answer = refl },
-    (record { number = refl; answer = refl },
-    (record { number = refl; answer = refl },
-    (record { number = refl; answer = refl },
-    (record { number = refl; answer = refl },
-    (record { number = refl; answer = refl },
-    (record { number = refl; answer = refl },
-    (record { number = refl; answer = refl },
-    tt))))))))))))))))))))))))))))))))))))
+card_read_back = (
+  record { number = refl; answer = refl },
+  (
+    record { number = refl; answer = refl },
+    (
+      record { number = refl; answer = refl },
+      (
+        record { number = refl; answer = refl },
+        (
+          record { number = refl; answer = refl },
+          (
+            record { number = refl; answer = refl },
+            (
+              record { number = refl; answer = refl },
+              (
+                record { number = refl; answer = refl },
+                (
+                  record { number = refl; answer = refl },
+                  (
+                    record { number = refl; answer = refl },
+                    (
+                      record { number = refl; answer = refl },
+                      (
+                        record { number = refl; answer = refl },
+                        (
+                          record { number = refl; answer = refl },
+                          (
+                            record { number = refl; answer = refl },
+                            (
+                              record { number = refl; answer = refl },
+                              (
+                                record { number = refl; answer = refl },
+                                (
+                                  record { number = refl; answer = refl },
+                                  (
+                                    record { number = refl; answer = refl },
+                                    (
+                                      record { number = refl; answer = refl },
+                                      (
+                                        record { number = refl; answer = refl },
+                                        (
+                                          record { number = refl; answer = refl },
+                                          (
+                                            record { number = refl; answer = refl },
+                                            (
+                                              record { number = refl; answer = refl },
+                                              (
+                                                record { number = refl; answer = refl },
+                                                (
+                                                  record { number = refl; answer = refl },
+                                                  (
+                                                    record { number = refl; answer = refl },
+                                                    (
+                                                      record { number = refl; answer = refl },
+                                                      (
+                                                        record { number = refl; answer = refl },
+                                                        (
+                                                          record { number = refl; answer = refl },
+                                                          (
+                                                            record { number = refl; answer = refl },
+                                                            (
+                                                              record { number = refl; answer = refl },
+                                                              (
+                                                                record { number = refl; answer = refl },
+                                                                (
+                                                                  record { number = refl; answer = refl },
+                                                                  (
+                                                                    record { number = refl; answer = refl },
+                                                                    (
+                                                                      record { number = refl; answer = refl },
+                                                                      (
+                                                                        record { number = refl; answer = refl },
+                                                                        tt,
+                                                                      ),
+                                                                    ),
+                                                                  ),
+                                                                ),
+                                                              ),
+                                                            ),
+                                                          ),
+                                                        ),
+                                                      ),
+                                                    ),
+                                                  ),
+                                                ),
+                                              ),
+                                            ),
+                                          ),
+                                        ),
+                                      ),
+                                    ),
+                                  ),
+                                ),
+                              ),
+                            ),
+                          ),
+                        ),
+                      ),
+                    ),
+                  ),
+                ),
+              ),
+            ),
+          ),
+        ),
+      ),
+    ),
+  ),
+)
 
 pub vga_read_back : VgaWritten
 unfolding VgaWritten byte_of config_address reset_control reset_byte writable_bits card_function port_answer port_target_of
-vga_read_back = 
-    (record { number = refl; answer = refl },
-    (record { number = refl; answer = refl },
-    (record { number = refl; answer = refl },
-    (record { number = refl; answer = refl },
-    (record { number = refl; answer = refl },
-    (record { number = refl; answer = refl },
-    (record { number = refl; answer = refl },
-    (record { number = refl; answer = refl },
-    (record { number = refl; answer = refl },
-    (record { number = refl; answer = refl },
-    (record { number = refl; answer = refl },
-    (record { number = refl; answer = refl },
-    (record { number = refl; answer = refl },
-    (record { number = refl; answer = refl },
-    (record { number = refl; answer = refl },
-    tt)))))))))))))))
+vga_read_back = (
+  record { number = refl; answer = refl },
+  (
+    record { number = refl; answer = refl },
+    (
+      record { number = refl; answer = refl },
+      (
+        record { number = refl; answer = refl },
+        (
+          record { number = refl; answer = refl },
+          (
+            record { number = refl; answer = refl },
+            (
+              record { number = refl; answer = refl },
+              (
+                record { number = refl; answer = refl },
+                (
+                  record { number = refl; answer = refl },
+                  (
+                    record { number = refl; answer = refl },
+                    (
+                      record { number = refl; answer = refl },
+                      (
+                        record { number = refl; answer = refl },
+                        (
+                          record { number = refl; answer = refl },
+                          (
+                            record { number = refl; answer = refl },
+                            (
+                              record { number = refl; answer = refl },
+                              tt,
+                            ),
+                          ),
+                        ),
+                      ),
+                    ),
+                  ),
+                ),
+              ),
+            ),
+          ),
+        ),
+      ),
+    ),
+  ),
+)
 
 pub functions_apart : FunctionsToldApart
 unfolding FunctionsToldApart byte_of config_address reset_control reset_byte writable_bits host_bridge port_answer port_target_of
-functions_apart = 
-    (record { number = refl; answer = refl },
-    (record { number = refl; answer = refl },
-    (record { number = refl; answer = refl },
-    (record { number = refl; answer = refl },
-    (record { number = refl; answer = refl },
-    (record { number = refl; answer = refl },
-    (record { number = refl; answer = refl },
-    (record { number = refl; answer = refl },
-    (record { number = refl; answer = refl },
-    (record { number = refl; answer = refl },
-    (record { number = refl; answer = refl },
-    (record { number = refl; answer = refl },
-    (record { number = refl; answer = refl },
-    (record { number = refl; answer = refl },
-    (record { number = refl; answer = refl },
-    (record { number = refl; answer = refl },
-    (record { number = refl; answer = refl },
-    (record { number = refl; answer = refl },
-    (record { number = refl; answer = refl },
-    (record { number = refl; answer = refl },
-    (record { number = refl; answer = refl },
-    tt)))))))))))))))))))))
+functions_apart = (
+  record { number = refl; answer = refl },
+  (
+    record { number = refl; answer = refl },
+    (
+      record { number = refl; answer = refl },
+      (
+        record { number = refl; answer = refl },
+        (
+          record { number = refl; answer = refl },
+          (
+            record { number = refl; answer = refl },
+            (
+              record { number = refl; answer = refl },
+              (
+                record { number = refl; answer = refl },
+                (
+                  record { number = refl; answer = refl },
+                  (
+                    record { number = refl; answer = refl },
+                    (
+                      record { number = refl; answer = refl },
+                      (
+                        record { number = refl; answer = refl },
+                        (
+                          record { number = refl; answer = refl },
+                          (
+                            record { number = refl; answer = refl },
+                            (
+                              record { number = refl; answer = refl },
+                              (
+                                record { number = refl; answer = refl },
+                                (
+                                  record { number = refl; answer = refl },
+                                  (
+                                    record { number = refl; answer = refl },
+                                    (
+                                      record { number = refl; answer = refl },
+                                      (
+                                        record { number = refl; answer = refl },
+                                        (
+                                          record { number = refl; answer = refl },
+                                          tt,
+                                        ),
+                                      ),
+                                    ),
+                                  ),
+                                ),
+                              ),
+                            ),
+                          ),
+                        ),
+                      ),
+                    ),
+                  ),
+                ),
+              ),
+            ),
+          ),
+        ),
+      ),
+    ),
+  ),
+)

@@ -24,193 +24,480 @@ rom_byte off inside = get_or-map-range_with_len (λ off. off / 0x400) 0 0x4_0000
 
 pub bios_ranges_read : BiosRanges
 unfolding BiosRanges byte_of config_address reset_control reset_byte writable_bits host_bridge isa_bridge card_function row_of area_of denial_of memory_claim memory_shut rom_unselected stored_of memory_answer port_answer port_target_of
-bios_ranges_read = 
-    (record { number = refl; answer = rw (rom_size, rom_byte 0x3_FFFF (omega arith)) refl },
-    (record { number = refl; answer = rw (rom_size, rom_byte 0x2_FFFF (omega arith)) refl },
-    (record { number = refl; answer = rw (rom_size, rom_byte 0x2_0000 (omega arith)) refl },
-    (record { number = refl; answer = refl },
-    (record { number = refl; answer = rw (rom_size, rom_byte 0x2_0000 (omega arith)) refl },
-    (record { number = refl; answer = refl },
-    (record { number = refl; answer = refl },
-    (record { number = refl; answer = refl },
-    (record { number = refl; answer = refl },
-    (record { number = refl; answer = rw (rom_size, rom_byte 0x3_0000 (omega arith)) refl },
-    (record { number = refl; answer = refl },
-    (record { number = refl; answer = refl },
-    (record { number = refl; answer = rw (rom_size, rom_byte 0x1_FFFF (omega arith)) refl },
-    (record { number = refl; answer = rw (rom_size, rom_byte 0x0 (omega arith)) refl },
-    (record { number = refl; answer = refl },
-    (record { number = refl; answer = refl },
-    (record { number = refl; answer = refl },
-    tt)))))))))))))))))
+bios_ranges_read = (
+  record { number = refl; answer = rw (rom_size, rom_byte 0x3_FFFF (omega arith)) refl },
+  (
+    record { number = refl; answer = rw (rom_size, rom_byte 0x2_FFFF (omega arith)) refl },
+    (
+      record { number = refl; answer = rw (rom_size, rom_byte 0x2_0000 (omega arith)) refl },
+      (
+        record { number = refl; answer = refl },
+        (
+          record { number = refl; answer = rw (rom_size, rom_byte 0x2_0000 (omega arith)) refl },
+          (
+            record { number = refl; answer = refl },
+            (
+              record { number = refl; answer = refl },
+              (
+                record { number = refl; answer = refl },
+                (
+                  record { number = refl; answer = refl },
+                  (
+                    record { number = refl; answer = rw (rom_size, rom_byte 0x3_0000 (omega arith)) refl },
+                    (
+                      record { number = refl; answer = refl },
+                      (
+                        record { number = refl; answer = refl },
+                        (
+                          record { number = refl; answer = rw (rom_size, rom_byte 0x1_FFFF (omega arith)) refl },
+                          (
+                            record { number = refl; answer = rw (rom_size, rom_byte 0x0 (omega arith)) refl },
+                            (
+                              record { number = refl; answer = refl },
+                              (
+                                record { number = refl; answer = refl },
+                                (
+                                  record { number = refl; answer = refl },
+                                  tt,
+                                ),
+                              ),
+                            ),
+                          ),
+                        ),
+                      ),
+                    ),
+                  ),
+                ),
+              ),
+            ),
+          ),
+        ),
+      ),
+    ),
+  ),
+)
 
 pub hole_borders_read : HoleBorders
 unfolding HoleBorders byte_of config_address reset_control reset_byte writable_bits host_bridge isa_bridge card_function row_of area_of denial_of memory_claim memory_shut rom_unselected stored_of memory_answer port_answer port_target_of
-hole_borders_read = 
-    (record { number = refl; answer = refl },
-    (record { number = refl; answer = refl },
-    (record { number = refl; answer = refl },
-    (record { number = refl; answer = refl },
-    (record { number = refl; answer = refl },
-    (record { number = refl; answer = refl },
-    (record { number = refl; answer = refl },
-    (record { number = refl; answer = refl },
-    (record { number = refl; answer = refl },
-    (record { number = refl; answer = refl },
-    (record { number = refl; answer = refl },
-    (record { number = refl; answer = refl },
-    (record { number = refl; answer = refl },
-    (record { number = refl; answer = refl },
-    (record { number = refl; answer = refl },
-    tt)))))))))))))))
+hole_borders_read = (
+  record { number = refl; answer = refl },
+  (
+    record { number = refl; answer = refl },
+    (
+      record { number = refl; answer = refl },
+      (
+        record { number = refl; answer = refl },
+        (
+          record { number = refl; answer = refl },
+          (
+            record { number = refl; answer = refl },
+            (
+              record { number = refl; answer = refl },
+              (
+                record { number = refl; answer = refl },
+                (
+                  record { number = refl; answer = refl },
+                  (
+                    record { number = refl; answer = refl },
+                    (
+                      record { number = refl; answer = refl },
+                      (
+                        record { number = refl; answer = refl },
+                        (
+                          record { number = refl; answer = refl },
+                          (
+                            record { number = refl; answer = refl },
+                            (
+                              record { number = refl; answer = refl },
+                              tt,
+                            ),
+                          ),
+                        ),
+                      ),
+                    ),
+                  ),
+                ),
+              ),
+            ),
+          ),
+        ),
+      ),
+    ),
+  ),
+)
 
 pub row_borders_read : RowBorders
 unfolding RowBorders byte_of config_address reset_control reset_byte writable_bits host_bridge isa_bridge card_function row_of area_of denial_of memory_claim memory_shut rom_unselected stored_of memory_answer port_answer port_target_of
-row_borders_read = 
-    (record { number = refl; answer = refl },
-    (record { number = refl; answer = refl },
-    (record { number = refl; answer = refl },
-    (record { number = refl; answer = refl },
-    (record { number = refl; answer = refl },
-    (record { number = refl; answer = refl },
-    (record { number = refl; answer = refl },
-    (record { number = refl; answer = refl },
-    (record { number = refl; answer = refl },
-    (record { number = refl; answer = refl },
-    (record { number = refl; answer = refl },
-    (record { number = refl; answer = refl },
-    (record { number = refl; answer = refl },
-    tt)))))))))))))
+row_borders_read = (
+  record { number = refl; answer = refl },
+  (
+    record { number = refl; answer = refl },
+    (
+      record { number = refl; answer = refl },
+      (
+        record { number = refl; answer = refl },
+        (
+          record { number = refl; answer = refl },
+          (
+            record { number = refl; answer = refl },
+            (
+              record { number = refl; answer = refl },
+              (
+                record { number = refl; answer = refl },
+                (
+                  record { number = refl; answer = refl },
+                  (
+                    record { number = refl; answer = refl },
+                    (
+                      record { number = refl; answer = refl },
+                      (
+                        record { number = refl; answer = refl },
+                        (
+                          record { number = refl; answer = refl },
+                          tt,
+                        ),
+                      ),
+                    ),
+                  ),
+                ),
+              ),
+            ),
+          ),
+        ),
+      ),
+    ),
+  ),
+)
 
 pub smram_open_and_closed : OpenAndClosed
 unfolding OpenAndClosed byte_of config_address reset_control reset_byte writable_bits host_bridge isa_bridge card_function row_of area_of denial_of memory_claim memory_shut rom_unselected stored_of memory_answer port_answer port_target_of
-smram_open_and_closed = 
-    (record { number = refl; answer = refl },
-    (record { number = refl; answer = refl },
-    (record { number = refl; answer = refl },
-    (record { number = refl; answer = refl },
-    (record { number = refl; answer = refl },
-    (record { number = refl; answer = refl },
-    (record { number = refl; answer = refl },
-    (record { number = refl; answer = refl },
-    (record { number = refl; answer = refl },
-    (record { number = refl; answer = refl },
-    (record { number = refl; answer = refl },
-    (record { number = refl; answer = refl },
-    (record { number = refl; answer = refl },
-    (record { number = refl; answer = refl },
-    (record { number = refl; answer = refl },
-    (record { number = refl; answer = refl },
-    (record { number = refl; answer = refl },
-    (record { number = refl; answer = refl },
-    tt))))))))))))))))))
+smram_open_and_closed = (
+  record { number = refl; answer = refl },
+  (
+    record { number = refl; answer = refl },
+    (
+      record { number = refl; answer = refl },
+      (
+        record { number = refl; answer = refl },
+        (
+          record { number = refl; answer = refl },
+          (
+            record { number = refl; answer = refl },
+            (
+              record { number = refl; answer = refl },
+              (
+                record { number = refl; answer = refl },
+                (
+                  record { number = refl; answer = refl },
+                  (
+                    record { number = refl; answer = refl },
+                    (
+                      record { number = refl; answer = refl },
+                      (
+                        record { number = refl; answer = refl },
+                        (
+                          record { number = refl; answer = refl },
+                          (
+                            record { number = refl; answer = refl },
+                            (
+                              record { number = refl; answer = refl },
+                              (
+                                record { number = refl; answer = refl },
+                                (
+                                  record { number = refl; answer = refl },
+                                  (
+                                    record { number = refl; answer = refl },
+                                    tt,
+                                  ),
+                                ),
+                              ),
+                            ),
+                          ),
+                        ),
+                      ),
+                    ),
+                  ),
+                ),
+              ),
+            ),
+          ),
+        ),
+      ),
+    ),
+  ),
+)
 
 pub resets_by_control : ResetControlWritten
 unfolding ResetControlWritten config_address reset_control port_answer port_target_of
-resets_by_control = 
-    (record { number = refl; answer = refl },
-    (record { number = refl; answer = refl },
-    (record { number = refl; answer = refl },
-    (record { number = refl; answer = refl },
-    (record { number = refl; answer = refl },
-    (record { number = refl; answer = refl },
-    (record { number = refl; answer = refl },
-    (record { number = refl; answer = refl },
-    (record { number = refl; answer = refl },
-    (record { number = refl; answer = refl },
-    (record { number = refl; answer = refl },
-    (record { number = refl; answer = refl },
-    (record { number = refl; answer = refl },
-    (record { number = refl; answer = refl },
-    (record { number = refl; answer = refl },
-    (record { number = refl; answer = refl },
-    (record { number = refl; answer = refl },
-    (record { number = refl; answer = refl },
-    (record { number = refl; answer = refl },
-    tt)))))))))))))))))))
+resets_by_control = (
+  record { number = refl; answer = refl },
+  (
+    record { number = refl; answer = refl },
+    (
+      record { number = refl; answer = refl },
+      (
+        record { number = refl; answer = refl },
+        (
+          record { number = refl; answer = refl },
+          (
+            record { number = refl; answer = refl },
+            (
+              record { number = refl; answer = refl },
+              (
+                record { number = refl; answer = refl },
+                (
+                  record { number = refl; answer = refl },
+                  (
+                    record { number = refl; answer = refl },
+                    (
+                      record { number = refl; answer = refl },
+                      (
+                        record { number = refl; answer = refl },
+                        (
+                          record { number = refl; answer = refl },
+                          (
+                            record { number = refl; answer = refl },
+                            (
+                              record { number = refl; answer = refl },
+                              (
+                                record { number = refl; answer = refl },
+                                (
+                                  record { number = refl; answer = refl },
+                                  (
+                                    record { number = refl; answer = refl },
+                                    (
+                                      record { number = refl; answer = refl },
+                                      tt,
+                                    ),
+                                  ),
+                                ),
+                              ),
+                            ),
+                          ),
+                        ),
+                      ),
+                    ),
+                  ),
+                ),
+              ),
+            ),
+          ),
+        ),
+      ),
+    ),
+  ),
+)
 
 pub words_of_the_address : AddressInWords
 unfolding AddressInWords byte_of config_address reset_control port_answer port_target_of io_claim io_shut
-words_of_the_address = 
-    (record { number = refl; answer = refl },
-    (record { number = refl; answer = refl },
-    (record { number = refl; answer = refl },
-    (record { number = refl; answer = refl },
-    (record { number = refl; answer = refl },
-    tt)))))
+words_of_the_address = (
+  record { number = refl; answer = refl },
+  (
+    record { number = refl; answer = refl },
+    (
+      record { number = refl; answer = refl },
+      (
+        record { number = refl; answer = refl },
+        (
+          record { number = refl; answer = refl },
+          tt,
+        ),
+      ),
+    ),
+  ),
+)
 
 pub ports_of_a_card : CardPorts
 unfolding CardPorts byte_of config_address reset_control reset_byte writable_bits isa_bridge card_function io_claim io_shut stored_of port_answer port_target_of
-ports_of_a_card = 
-    (record { number = refl; answer = refl },
-    (record { number = refl; answer = refl },
-    (record { number = refl; answer = refl },
-    (record { number = refl; answer = refl },
-    (record { number = refl; answer = refl },
-    (record { number = refl; answer = refl },
-    (record { number = refl; answer = refl },
-    (record { number = refl; answer = refl },
-    (record { number = refl; answer = refl },
-    (record { number = refl; answer = refl },
-    (record { number = refl; answer = refl },
-    (record { number = refl; answer = refl },
-    (record { number = refl; answer = refl },
-    (record { number = refl; answer = refl },
-    (record { number = refl; answer = refl },
-    (record { number = refl; answer = refl },
-    (record { number = refl; answer = refl },
-    (record { number = refl; answer = refl },
-    (record { number = refl; answer = refl },
-    (record { number = refl; answer = refl },
-    (record { number = refl; answer = refl },
-    tt)))))))))))))))))))))
+ports_of_a_card = (
+  record { number = refl; answer = refl },
+  (
+    record { number = refl; answer = refl },
+    (
+      record { number = refl; answer = refl },
+      (
+        record { number = refl; answer = refl },
+        (
+          record { number = refl; answer = refl },
+          (
+            record { number = refl; answer = refl },
+            (
+              record { number = refl; answer = refl },
+              (
+                record { number = refl; answer = refl },
+                (
+                  record { number = refl; answer = refl },
+                  (
+                    record { number = refl; answer = refl },
+                    (
+                      record { number = refl; answer = refl },
+                      (
+                        record { number = refl; answer = refl },
+                        (
+                          record { number = refl; answer = refl },
+                          (
+                            record { number = refl; answer = refl },
+                            (
+                              record { number = refl; answer = refl },
+                              (
+                                record { number = refl; answer = refl },
+                                (
+                                  record { number = refl; answer = refl },
+                                  (
+                                    record { number = refl; answer = refl },
+                                    (
+                                      record { number = refl; answer = refl },
+                                      (
+                                        record { number = refl; answer = refl },
+                                        (
+                                          record { number = refl; answer = refl },
+                                          tt,
+                                        ),
+                                      ),
+                                    ),
+                                  ),
+                                ),
+                              ),
+                            ),
+                          ),
+                        ),
+                      ),
+                    ),
+                  ),
+                ),
+              ),
+            ),
+          ),
+        ),
+      ),
+    ),
+  ),
+)
 
 pub ports_by_xbcs : PortsUnderXbcs
 unfolding PortsUnderXbcs byte_of config_address reset_control reset_byte writable_bits isa_bridge card_function io_claim io_shut stored_of port_answer port_target_of device_value system_of timer_of clock_of timer_reset programmed out_of clock_power_on
-ports_by_xbcs = 
-    (record { number = refl; answer = refl },
-    (record { number = refl; answer = refl },
-    (record { number = refl; answer = refl },
-    (record { number = refl; answer = refl },
-    (record { number = refl; answer = refl },
-    (record { number = refl; answer = refl },
-    (record { number = refl; answer = refl },
-    (record { number = refl; answer = refl },
-    (record { number = refl; answer = refl },
-    (record { number = refl; answer = refl },
-    (record { number = refl; answer = refl },
-    (record { number = refl; answer = refl },
-    (record { number = refl; answer = refl },
-    (record { number = refl; answer = refl },
-    (record { number = refl; answer = refl },
-    (record { number = refl; answer = refl },
-    (record { number = refl; answer = refl },
-    (record { number = refl; answer = refl },
-    (record { number = refl; answer = refl },
-    (record { number = refl; answer = refl },
-    (record { number = refl; answer = refl },
-    (record { number = refl; answer = refl },
-    (record { number = refl; answer = refl },
-    tt)))))))))))))))))))))))
+ports_by_xbcs = (
+  record { number = refl; answer = refl },
+  (
+    record { number = refl; answer = refl },
+    (
+      record { number = refl; answer = refl },
+      (
+        record { number = refl; answer = refl },
+        (
+          record { number = refl; answer = refl },
+          (
+            record { number = refl; answer = refl },
+            (
+              record { number = refl; answer = refl },
+              (
+                record { number = refl; answer = refl },
+                (
+                  record { number = refl; answer = refl },
+                  (
+                    record { number = refl; answer = refl },
+                    (
+                      record { number = refl; answer = refl },
+                      (
+                        record { number = refl; answer = refl },
+                        (
+                          record { number = refl; answer = refl },
+                          (
+                            record { number = refl; answer = refl },
+                            (
+                              record { number = refl; answer = refl },
+                              (
+                                record { number = refl; answer = refl },
+                                (
+                                  record { number = refl; answer = refl },
+                                  (
+                                    record { number = refl; answer = refl },
+                                    (
+                                      record { number = refl; answer = refl },
+                                      (
+                                        record { number = refl; answer = refl },
+                                        (
+                                          record { number = refl; answer = refl },
+                                          (
+                                            record { number = refl; answer = refl },
+                                            (
+                                              record { number = refl; answer = refl },
+                                              tt,
+                                            ),
+                                          ),
+                                        ),
+                                      ),
+                                    ),
+                                  ),
+                                ),
+                              ),
+                            ),
+                          ),
+                        ),
+                      ),
+                    ),
+                  ),
+                ),
+              ),
+            ),
+          ),
+        ),
+      ),
+    ),
+  ),
+)
 
 pub bases_by_number : BasesInOrder
 unfolding BasesInOrder byte_of config_address reset_control reset_byte writable_bits host_bridge isa_bridge card_function row_of area_of denial_of memory_claim memory_shut rom_unselected stored_of memory_answer port_answer port_target_of
-bases_by_number = 
-    (record { number = refl; answer = refl },
-    (record { number = refl; answer = refl },
-    (record { number = refl; answer = refl },
-    (record { number = refl; answer = refl },
-    (record { number = refl; answer = refl },
-    (record { number = refl; answer = refl },
-    (record { number = refl; answer = refl },
-    (record { number = refl; answer = refl },
-    (record { number = refl; answer = refl },
-    (record { number = refl; answer = refl },
-    (record { number = refl; answer = refl },
-    (record { number = refl; answer = refl },
-    (record { number = refl; answer = refl },
-    (record { number = refl; answer = refl },
-    (record { number = refl; answer = refl },
-    (record { number = refl; answer = refl },
-    (record { number = refl; answer = refl },
-    tt)))))))))))))))))
+bases_by_number = (
+  record { number = refl; answer = refl },
+  (
+    record { number = refl; answer = refl },
+    (
+      record { number = refl; answer = refl },
+      (
+        record { number = refl; answer = refl },
+        (
+          record { number = refl; answer = refl },
+          (
+            record { number = refl; answer = refl },
+            (
+              record { number = refl; answer = refl },
+              (
+                record { number = refl; answer = refl },
+                (
+                  record { number = refl; answer = refl },
+                  (
+                    record { number = refl; answer = refl },
+                    (
+                      record { number = refl; answer = refl },
+                      (
+                        record { number = refl; answer = refl },
+                        (
+                          record { number = refl; answer = refl },
+                          (
+                            record { number = refl; answer = refl },
+                            (
+                              record { number = refl; answer = refl },
+                              (
+                                record { number = refl; answer = refl },
+                                (
+                                  record { number = refl; answer = refl },
+                                  tt,
+                                ),
+                              ),
+                            ),
+                          ),
+                        ),
+                      ),
+                    ),
+                  ),
+                ),
+              ),
+            ),
+          ),
+        ),
+      ),
+    ),
+  ),
+)
