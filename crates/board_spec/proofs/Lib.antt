@@ -1,6 +1,7 @@
 pub mod MergedLemmas
 pub mod StoreLemmas
 pub mod TableLemmas
+mod WideLemmas
 pub mod MapByteLaws
 pub mod MapWriteLaws
 mod FlatMapLaws
@@ -12,6 +13,14 @@ mod ExampleRuns
 mod ExampleTexts
 mod ExampleOrderRuns
 mod ExampleMapRuns
+pub mod StoredLaws
+mod SmramProofs
+mod MapLawProofs
+mod OrderLawProofs
+mod GoesOnProofs
+mod PartLemmas
+mod PartLawProofs
+mod WideDramProofs
 mod ExampleDeviceRuns
 mod ExampleDiskRuns
 mod ExampleWideRuns

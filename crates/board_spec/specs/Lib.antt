@@ -25,6 +25,13 @@ pub mod Text
 pub mod LogText
 pub mod MapText
 pub mod Laws
+pub mod StoreLaws
+pub mod SmramLaw
+pub mod PartLaws
+pub mod MapLaws
+pub mod OrderLaws
+pub mod AreaLaws
+pub mod DeviceLaws
 pub mod ExampleWords
 pub mod Examples
 pub mod ExampleLogs

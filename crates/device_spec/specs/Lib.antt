@@ -1,10 +1,15 @@
 pub mod Ata
 pub mod Bits
 pub mod Clock
+pub mod ClockLaws
 pub mod Elcr
 pub mod Levels
 pub mod Pair
 pub mod Pic
+pub mod PicLaws
 pub mod Pit
+pub mod PitLaws
+pub mod PitPeriods
 pub mod Routing
+pub mod RoutingLaws
 pub mod Told

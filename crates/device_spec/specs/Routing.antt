@@ -1,6 +1,6 @@
 -- The routing of the four PCI interrupt pins to the sixteen interrupt lines: the PIRQ route control
 -- registers of the PIIX3 (PIRQRC[A:D], offsets 60h to 63h of its function 0).
-use Rattle.std.specs.Prelude.{◌≡◌, ℕ, Bool, true, false, Option, Some, None, List, [], ◌∷◌, ◌-◌, ◌%◌, ◌==◌, ◌&&◌, ◌||◌, not, nat_lt, nat_le, if◌then◌else◌, slice_index, slice_index_or, slice_set}
+use Rattle.std.specs.Prelude.{ℕ, Bool, false, Option, Some, None, List, [], ◌∷◌, ◌-◌, ◌%◌, ◌==◌, ◌&&◌, ◌||◌, not, nat_lt, nat_le, if◌then◌else◌, slice_index, slice_index_or, slice_set}
 use Rattle.std.specs.List.{list_any}
 use Rattle.device_spec.specs.Bits.{merged}
 
@@ -54,9 +54,3 @@ all_pins = 0 ∷ 1 ∷ 2 ∷ 3 ∷ []
 unfoldable pub is_line_driven : Routes → List Bool → ℕ → Bool
 is_line_driven routes pins line =
     list_any (λ pin. drives (line_of_route (slice_index routes pin)) (slice_index_or pins pin false) line) all_pins
-
--- the law that no route reaches a reserved line
-abbrev pub ReservedLinesRest : Type 0
-ReservedLinesRest =
-    (routes : Routes) (pins : List Bool) (line : ℕ) → is_reserved_line line ≡ true
-    → is_line_driven routes pins line ≡ false

@@ -1,3 +1,1 @@
-pub mod PitLaws
-pub mod PitPeriods
 pub mod View

@@ -8,7 +8,6 @@ ghost use Rattle.device_spec.specs.Pit.{IsTimerPort, reset, port_read, port_writ
 
 mod counting;
 mod latch;
-pub mod laws;
 mod word;
 
 use counting::Counter;

@@ -55,11 +55,7 @@ naming r sector =
       device = with_head r.device (sector / track_sectors);
     }
 
--- how many sectors a command is to move: a count of 0 is 256
-abbrev pub count_of : Registers → ℕ
-count_of r = if r.count == 0 then 256 else r.count
-
--- how many sectors are left once one more was moved: the count is modulo 256
+-- how many sectors are left once one more was moved: the count is modulo 256, so that 0 asks for 256
 abbrev pub left_of : Registers → ℕ
 left_of r = (r.count + 255) % 256
 

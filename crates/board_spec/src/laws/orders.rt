@@ -1,0 +1,19 @@
+//! Laws of the orders in which a script may run.
+
+ghost use Rattle.board_spec.specs.OrderLaws.{BegunGoesOn, CompleteIsBegun, FrontIsBegun, ReplayIsComplete};
+
+/// The replay of a script is one of its complete histories.
+pub fn law_replay_is_complete()
+    ensures complete { ReplayIsComplete }
+{}
+
+/// A history is begun where it is complete, and where a longer one is begun.
+pub fn law_begun()
+    ensures complete { CompleteIsBegun }
+    ensures front { FrontIsBegun }
+{}
+
+/// A legal history that is begun and not complete goes on.
+pub fn law_goes_on()
+    ensures goes_on { BegunGoesOn }
+{}

@@ -1,0 +1,36 @@
+-- Whole periods of the 8254's rate generator and square wave.
+use Rattle.std.specs.Prelude.{◌≡◌, ℕ, ◌+◌, ◌-◌, ◌/◌, ◌<◌, ◌≤◌, true, false, Some}
+use Rattle.device_spec.specs.Pit.{Mode, RateGenerator, SquareWave, CounterState, first_element}
+use Rattle.device_spec.specs.PitLaws.{pulses_of}
+
+-- the counter stands directly after a load of n that left OUT at 1, and n is the count written last
+pub record IsAtLoad (of_mode : Mode) (n : ℕ) (c : CounterState) : Type 0 where
+  pub least : 2 ≤ n
+  pub mode : c.mode ≡ of_mode
+  pub element : c.element ≡ first_element of_mode n
+  pub count : c.count ≡ Some n
+  pub in_use : c.in_use ≡ n
+  pub out : c.out ≡ true
+  pub null_count : c.null_count ≡ false
+  pub load_asked : c.load_asked ≡ false
+  pub trigger : c.trigger ≡ false
+  pub started : c.started ≡ true
+  pub expired : c.expired ≡ false
+
+-- with the gate at 1, n pulses are a period: OUT is 0 for the last of them
+pub record HasRatePeriod (n : ℕ) (c : CounterState) : Type 0 where
+  pub high : (k : ℕ) → k + 1 < n → (pulses_of true k c).out ≡ true
+  pub low : (pulses_of true (n - 1) c).out ≡ false
+  pub again : pulses_of true n c ≡ c
+
+-- with the gate at 1, n pulses are a period: OUT is 1 for half of them, the larger half of an odd n, and then 0
+pub record HasSquarePeriod (n : ℕ) (c : CounterState) : Type 0 where
+  pub high : (k : ℕ) → k < n - n / 2 → (pulses_of true k c).out ≡ true
+  pub low : (k : ℕ) → n - n / 2 ≤ k → k < n → (pulses_of true k c).out ≡ false
+  pub again : pulses_of true n c ≡ c
+
+abbrev pub RateRepeats : Type 0
+RateRepeats = (n : ℕ) (c : CounterState) → IsAtLoad RateGenerator n c → HasRatePeriod n c
+
+abbrev pub SquareRepeats : Type 0
+SquareRepeats = (n : ℕ) (c : CounterState) → IsAtLoad SquareWave n c → HasSquarePeriod n c
