@@ -21,6 +21,7 @@ mod GoesOnProofs
 mod PartLemmas
 mod PartLawProofs
 mod WideDramProofs
+mod ExampleLines
 mod ExampleDeviceRuns
 mod ExampleDiskRuns
 mod ExampleWideRuns

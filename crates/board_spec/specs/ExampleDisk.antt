@@ -1,6 +1,5 @@
 -- Worked examples of the disk: a board of 8 MiB with four sectors.
-use Rattle.std.specs.Prelude.{ℕ, ◌+◌, ◌/◌, List, [], ◌∷◌, ◌++◌, map, Some}
-use Rattle.std.specs.List.{range_with_len}
+use Rattle.std.specs.Prelude.{ℕ, List, [], ◌∷◌, ◌++◌, replicate, Some}
 use Rattle.board_base.specs.declared.access.Width.TheVariants.{One, Two, Four}
 use Rattle.board_base.specs.declared.target.Dev.TheVariants.{Ata, Vector}
 use Rattle.board_base.specs.declared.target.Target.TheVariants.{Device}
@@ -12,7 +11,7 @@ use Rattle.board_spec.specs.Examples.{small_board}
 
 -- four sectors, each byte of sector s is s + 1
 unfoldable pub four_sectors : List ℕ
-four_sectors = map (λ place. place / 512 + 1) (range_with_len 0 2048)
+four_sectors = replicate 512 0x01 ++ replicate 512 0x02 ++ replicate 512 0x03 ++ replicate 512 0x04
 
 abbrev pub disk_board : Setup
 disk_board = record small_board { disk = Some four_sectors }

@@ -20,30 +20,39 @@ large_rom = map (λ off. off / 0x400) (range_with_len 0 0x4_0000)
 abbrev pub large_rom_board : Setup
 large_rom_board = record small_board { rom = large_rom }
 
--- XBCS bit 7 selects the extended range alone, bit 6 the two lower ones, and both stop at their borders
-abbrev pub bios_ranges : List Said
-bios_ranges =
+-- XBCS bit 7 selects the extended range alone
+abbrev pub extended_bios : List Said
+extended_bios =
     selects 0x8000_084C
     ∷ outputs One 0xCFE 0x83 (goes_to (register 1 0 0x4E))
     ∷ reads One 0xFFF7_FFFF (floats 0xFF NoRegister)
-    ∷ reads One 0xFFF8_0000 (gives 0x00 (Rom 0x0))
-    ∷ reads One 0xFFFD_FFFF (gives 0x7F (Rom 0x1_FFFF))
     ∷ reads One 0xFFFE_0000 (floats 0xFF (denied_by 1 0 0x4E))
     ∷ reads One 0xFFFE_FFFF (floats 0xFF (denied_by 1 0 0x4E))
-    ∷ reads One 0xFFFF_0000 (gives 0xC0 (Rom 0x3_0000))
     ∷ reads One 0xE_0000 (floats 0xFF (denied_by_host 0x5E))
+    ∷ reads One 0xFFF8_0000 (gives 0x00 (Rom 0x0))
+    ∷ reads One 0xFFFD_FFFF (gives 0x7F (Rom 0x1_FFFF))
+    ∷ reads One 0xFFFF_0000 (gives 0xC0 (Rom 0x3_0000))
+    ∷ []
+
+unfoldable pub ExtendedBios : Type 0
+ExtendedBios = IsLegal large_rom_board (from_reset extended_bios)
+
+-- XBCS bit 6 selects the two lower ranges alone
+abbrev pub lower_bios : List Said
+lower_bios =
+    selects 0x8000_084C
     ∷ outputs One 0xCFE 0x43 (goes_to (register 1 0 0x4E))
     ∷ reads One 0xFFF8_0000 (floats 0xFF (denied_by 1 0 0x4E))
     ∷ reads One 0xFFFD_FFFF (floats 0xFF (denied_by 1 0 0x4E))
-    ∷ reads One 0xFFFE_0000 (gives 0x80 (Rom 0x2_0000))
     ∷ reads One 0xD_FFFF (floats 0xFF (denied_by_host 0x5D))
+    ∷ reads One 0xFFFE_0000 (gives 0x80 (Rom 0x2_0000))
     ∷ reads One 0xE_0000 (gives 0x80 (Rom 0x2_0000))
     ∷ reads One 0xE_FFFF (gives 0xBF (Rom 0x2_FFFF))
     ∷ reads One 0xF_FFFF (gives 0xFF (Rom 0x3_FFFF))
     ∷ []
 
-unfoldable pub BiosRanges : Type 0
-BiosRanges = IsLegal large_rom_board (from_reset bios_ranges)
+unfoldable pub LowerBios : Type 0
+LowerBios = IsLegal large_rom_board (from_reset lower_bios)
 
 -- ---- holes and rows of DRAM
 

@@ -3,7 +3,7 @@
 ghost use Rattle.board_spec.specs.ExampleRoms.{ExpansionRom, ExpansionRomLogged};
 
 /// An expansion ROM answers where both of its enables are set.
-#[tactic(auto, using(crate::proofs::ExampleRomRuns::expansion_rom_read, crate::proofs::ExampleRomRuns::expansion_rom_logged))]
+#[tactic(auto, using(crate::proofs::ExampleRomRuns::expansion_rom_runs, crate::proofs::ExampleRomRuns::expansion_rom_logged))]
 pub fn expansion_rom()
     ensures history { ExpansionRom }
     ensures log { ExpansionRomLogged }
