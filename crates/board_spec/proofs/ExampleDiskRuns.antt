@@ -11,16 +11,12 @@ use Rattle.board_spec.specs.Devices.{disk_with}
 use Rattle.board_spec.specs.Interrupts.{device_value}
 use Rattle.board_spec.specs.ExampleWords.{from_reset}
 use Rattle.board_spec.specs.Examples.{small_board}
-use Rattle.board_spec.specs.ExampleDisk.{four_sectors, disk_board, sector_read as reads_a_sector, past_the_end, bad_sector, disabled_disk, no_disk, SectorRead, PastTheEnd, BadSector, DisabledDisk, NoDisk}
+use Rattle.board_spec.specs.ExampleDisk.{four_sectors, disk_board, sector_read as reads_a_sector, bad_sector, disabled_disk, no_disk, SectorRead, BadSector, DisabledDisk, NoDisk}
 use Rattle.board_spec.proofs.ExampleLines.{legal}
 
 pub sector_read_runs : SectorRead
 unfolding SectorRead reset_byte writable_bits ide_function byte_of config_address reset_control io_claim io_shut port_target_of port_answer disk_with device_value begin_read sector_was_read begin_write sector_written verified obeyed commanded after_word word_written register_written disk_control_written four_sectors
 sector_read_runs = legal disk_board (from_reset reads_a_sector) refl
-
-pub past_the_end_runs : PastTheEnd
-unfolding PastTheEnd reset_byte writable_bits ide_function byte_of config_address reset_control io_claim io_shut port_target_of port_answer disk_with device_value begin_read sector_was_read begin_write sector_written verified obeyed commanded after_word word_written register_written disk_control_written four_sectors
-past_the_end_runs = legal disk_board (from_reset past_the_end) refl
 
 pub bad_sector_runs : BadSector
 unfolding BadSector reset_byte writable_bits ide_function byte_of config_address reset_control io_claim io_shut port_target_of port_answer disk_with device_value begin_read sector_was_read begin_write sector_written verified obeyed commanded after_word word_written register_written disk_control_written four_sectors

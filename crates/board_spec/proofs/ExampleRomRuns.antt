@@ -61,13 +61,22 @@ gap_span = record {
 
 pub expansion_rom_runs : ExpansionRom
 unfolding ExpansionRom reset_byte writable_bits host_bridge isa_bridge card_function byte_of config_address reset_control row_of area_of denial_of memory_claim memory_shut rom_unselected port_target_of stored_of port_answer memory_answer map_change_of map_writes_of
-expansion_rom_runs = 
-    (record { number = refl; answer = record { version = refl; span = gap_span } },
-    (record { number = refl; answer = refl },
-    (record { number = refl; answer = refl },
-    (record { number = refl; answer = refl },
-    (record { number = refl; answer = record { version = refl; span = rom_span } },
-    legal rom_card_board (from_reset (take 11 expansion_rom)) refl)))))
+expansion_rom_runs = (
+  record { number = refl; answer = record { version = refl; span = gap_span } },
+  (
+    record { number = refl; answer = refl },
+    (
+      record { number = refl; answer = refl },
+      (
+        record { number = refl; answer = refl },
+        (
+          record { number = refl; answer = record { version = refl; span = rom_span } },
+          legal rom_card_board (from_reset (take 11 expansion_rom)) refl,
+        ),
+      ),
+    ),
+  ),
+)
 
 pub expansion_rom_logged : ExpansionRomLogged
 unfolding ExpansionRomLogged digits event_text reply_text line_text lines_text

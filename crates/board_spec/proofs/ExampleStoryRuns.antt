@@ -27,20 +27,32 @@ rom_byte off inside = get_or-map-range_with_len (λ off. off / 0x400) 0 0x4_0000
 
 pub extended_bios_runs : ExtendedBios
 unfolding ExtendedBios byte_of config_address reset_control reset_byte writable_bits host_bridge isa_bridge card_function row_of area_of denial_of memory_claim memory_shut rom_unselected stored_of memory_answer port_answer port_target_of
-extended_bios_runs = 
-    (record { number = refl; answer = rw (rom_size, rom_byte 0x3_0000 (omega arith)) refl },
-    (record { number = refl; answer = rw (rom_size, rom_byte 0x1_FFFF (omega arith)) refl },
-    (record { number = refl; answer = rw (rom_size, rom_byte 0x0 (omega arith)) refl },
-    legal large_rom_board (from_reset (take 6 extended_bios)) refl)))
+extended_bios_runs = (
+  record { number = refl; answer = rw (rom_size, rom_byte 0x3_0000 (omega arith)) refl },
+  (
+    record { number = refl; answer = rw (rom_size, rom_byte 0x1_FFFF (omega arith)) refl },
+    (
+      record { number = refl; answer = rw (rom_size, rom_byte 0x0 (omega arith)) refl },
+      legal large_rom_board (from_reset (take 6 extended_bios)) refl,
+    ),
+  ),
+)
 
 pub lower_bios_runs : LowerBios
 unfolding LowerBios byte_of config_address reset_control reset_byte writable_bits host_bridge isa_bridge card_function row_of area_of denial_of memory_claim memory_shut rom_unselected stored_of memory_answer port_answer port_target_of
-lower_bios_runs = 
-    (record { number = refl; answer = rw (rom_size, rom_byte 0x3_FFFF (omega arith)) refl },
-    (record { number = refl; answer = rw (rom_size, rom_byte 0x2_FFFF (omega arith)) refl },
-    (record { number = refl; answer = rw (rom_size, rom_byte 0x2_0000 (omega arith)) refl },
-    (record { number = refl; answer = rw (rom_size, rom_byte 0x2_0000 (omega arith)) refl },
-    legal large_rom_board (from_reset (take 5 lower_bios)) refl))))
+lower_bios_runs = (
+  record { number = refl; answer = rw (rom_size, rom_byte 0x3_FFFF (omega arith)) refl },
+  (
+    record { number = refl; answer = rw (rom_size, rom_byte 0x2_FFFF (omega arith)) refl },
+    (
+      record { number = refl; answer = rw (rom_size, rom_byte 0x2_0000 (omega arith)) refl },
+      (
+        record { number = refl; answer = rw (rom_size, rom_byte 0x2_0000 (omega arith)) refl },
+        legal large_rom_board (from_reset (take 5 lower_bios)) refl,
+      ),
+    ),
+  ),
+)
 
 pub hole_borders_runs : HoleBorders
 unfolding HoleBorders byte_of config_address reset_control reset_byte writable_bits host_bridge isa_bridge card_function row_of area_of denial_of memory_claim memory_shut rom_unselected stored_of memory_answer port_answer port_target_of

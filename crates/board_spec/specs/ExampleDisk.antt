@@ -36,34 +36,23 @@ commands count sector code =
     ∷ puts Ata 0x1F7 code
     ∷ []
 
--- the last sector is read, four bytes at a time
+-- the last sector is read, four bytes at a time, and then there is no sector 4: 255 of 256 are left
 abbrev pub sector_read : List Said
 sector_read =
     enabled
     ++ commands 0x00 0x03 0x20
     ++ gets Ata 0x1F7 0x58
-    ∷ inputs Four 0x1F0 (gives 0x0404_0404 (Device Ata))
-    ∷ inputs Two 0x1F0 (gives 0x0404 (Device Ata))
-    ∷ []
-
-unfoldable pub SectorRead : Type 0
-SectorRead = IsLegal disk_board (from_reset sector_read)
-
--- a verify of 256 sectors ends after the last one: there is no sector 4, and 255 are left
-abbrev pub past_the_end : List Said
-past_the_end =
-    enabled
-    ++ commands 0x00 0x03 0x40
+    ∷ (replicate 128 (inputs Four 0x1F0 (gives 0x0404_0404 (Device Ata)))
     ++ gets Ata 0x1F7 0x51
     ∷ gets Ata 0x1F1 0x10
     ∷ gets Ata 0x1F2 0xFF
     ∷ gets Ata 0x1F3 0x04
-    ∷ []
+    ∷ [])
 
-unfoldable pub PastTheEnd : Type 0
-PastTheEnd = IsLegal disk_board (from_reset past_the_end)
+unfoldable pub SectorRead : Type 0
+SectorRead = IsLegal disk_board (from_reset sector_read)
 
--- a bad sector is not read, and a write of it begins
+-- a bad sector is not read. A write of it makes it good again, and its words are read back
 abbrev pub bad_sector : List Said
 bad_sector =
     enabled
@@ -74,9 +63,13 @@ bad_sector =
     ∷ gets Ata 0x1F2 0x01
     ∷ puts Ata 0x1F7 0x30
     ∷ gets Ata 0x1F7 0x58
-    ∷ outputs Four 0x1F0 0x0707_0707 (goes_to (Device Ata))
-    ∷ gets Ata 0x1F7 0x58
-    ∷ [])
+    ∷ (replicate 128 (outputs Four 0x1F0 0x0707_0707 (goes_to (Device Ata)))
+    ++ gets Ata 0x1F7 0x50
+    ∷ puts Ata 0x1F2 0x01
+    ∷ puts Ata 0x1F3 0x01
+    ∷ puts Ata 0x1F7 0x20
+    ∷ inputs Four 0x1F0 (gives 0x0707_0707 (Device Ata))
+    ∷ []))
 
 unfoldable pub BadSector : Type 0
 BadSector = IsLegal disk_board (from_reset bad_sector)

@@ -1,20 +1,14 @@
 //! The disk and who denies it.
 
-ghost use Rattle.board_spec.specs.ExampleDisk.{SectorRead, PastTheEnd, BadSector, DisabledDisk, NoDisk};
+ghost use Rattle.board_spec.specs.ExampleDisk.{SectorRead, BadSector, DisabledDisk, NoDisk};
 
-/// Words of the last sector.
+/// The last sector is read whole, and there is none after it.
 #[tactic(auto, using(crate::proofs::ExampleDiskRuns::sector_read_runs))]
 pub fn sector_read()
     ensures history { SectorRead }
 {}
 
-/// A command that goes past the last sector.
-#[tactic(auto, using(crate::proofs::ExampleDiskRuns::past_the_end_runs))]
-pub fn past_the_end()
-    ensures history { PastTheEnd }
-{}
-
-/// A bad sector is read, and then written.
+/// A bad sector is written whole, and read again.
 #[tactic(auto, using(crate::proofs::ExampleDiskRuns::bad_sector_runs))]
 pub fn bad_sector()
     ensures history { BadSector }
