@@ -87,9 +87,9 @@ begins_left phase part first taken begins actor =
       | inl own ↦
           let here = begins actor in
           let mine : events_by actor phase ≡ first.event ∷ events_by actor taken.rest =
-          subst (λ (a : ℕ). events_by a phase ≡ first.event ∷ events_by a taken.rest) own taken.own in
+              subst (λ (a : ℕ). events_by a phase ≡ first.event ∷ events_by a taken.rest) own taken.own in
           let whole : first.event ∷ events_by actor taken.rest ≡ first.event ∷ (events_by actor part ++ here.rest) =
-          sym mine ∙ here.whole ∙ ap (λ (events : List Event). events ++ here.rest) (events-own actor first part own) in
+              sym mine ∙ here.whole ∙ ap (λ (events : List Event). events ++ here.rest) (events-own actor first part own) in
           record { rest = here.rest; whole = cc }
       | inr other ↦
           let here = begins actor in
@@ -107,7 +107,7 @@ begins_again phase part first taken begins actor =
     elim (cases_eq first.actor actor) [
       | inl own ↦
           let mine : events_by actor phase ≡ first.event ∷ events_by actor taken.rest =
-          subst (λ (a : ℕ). events_by a phase ≡ first.event ∷ events_by a taken.rest) own taken.own in
+              subst (λ (a : ℕ). events_by a phase ≡ first.event ∷ events_by a taken.rest) own taken.own in
           record {
             rest = here.rest;
             whole =
@@ -167,7 +167,7 @@ full_front (first ∷ part) phase begins same actor =
     elim (cases_eq first.actor actor) [
       | inl own ↦
           let mine : events_by actor phase ≡ first.event ∷ events_by actor taken.rest =
-          subst (λ (a : ℕ). events_by a phase ≡ first.event ∷ events_by a taken.rest) own taken.own in
+              subst (λ (a : ℕ). events_by a phase ≡ first.event ∷ events_by a taken.rest) own taken.own in
           events-own actor first part own ∙ ap (λ (events : List Event). first.event ∷ events) rest ∙ sym mine
       | inr other ↦ events-other actor first part other ∙ rest ∙ sym (taken.others actor other)
     ]
@@ -205,10 +205,8 @@ past_phase : (phase : List Statement) (later : List (List Statement)) (statement
 past_phase phase later statements full whole more = record {
   statement = more.statement;
   addressed = more.addressed;
-  begun = inr (
-    subst (IsWholePhase phase) (sym (take-append-le (length phase) statements (more.statement ∷ []) full)) whole,
-    subst (HasPhasesSoFar later) (sym (drop-append-le (length phase) statements (more.statement ∷ []) full)) more.begun,
-  );
+  begun = inr (subst (IsWholePhase phase) (sym (take-append-le (length phase) statements (more.statement ∷ []) full)) whole,
+      subst (HasPhasesSoFar later) (sym (drop-append-le (length phase) statements (more.statement ∷ []) full)) more.begun);
 }
 
 -- a front of the first phase that is as long as it is the whole of it, and nothing follows
@@ -249,7 +247,7 @@ pub begun_goes_on : BegunGoesOn
 unfolding entry_made
 begun_goes_on setup phases history addressed legal begun open_still =
     let next = next_so_far phases (statements_of history)
-    (recursion_from_All (λ (statement : Statement). IsAddressed statement.event) (in_file_order phases) addressed) begun open_still in
+        (recursion_from_All (λ (statement : Statement). IsAddressed statement.event) (in_file_order phases) addressed) begun open_still in
     let answered = some_answer setup history next.statement.event next.addressed in
     let entry : Entry = entry_made next.statement.actor (length (entries_by next.statement.actor history) + 1) next.statement.event answered.reply in
     record {

@@ -54,12 +54,12 @@ same_flat_map setup bytes other same ranges map = record {
 pub map_writes_decide_map : MapWritesDecideMap
 map_writes_decide_map setup history other cards writes =
     let bytes : SameMapBytes setup (byte_of setup history) (byte_of setup other) =
-    λ reg is.
-    map_writes_decide setup history reg is
-    ∙ ap (λ (changes : List MapChange). registers_after setup changes reg) writes
-    ∙ sym (map_writes_decide setup other reg is) in
+        λ reg is.
+            map_writes_decide setup history reg is
+            ∙ ap (λ (changes : List MapChange). registers_after setup changes reg) writes
+            ∙ sym (map_writes_decide setup other reg is) in
     let areas : SameAreas setup (byte_of setup history) (byte_of setup other) =
-    λ addr kind smm. (map_bytes_decide setup (byte_of setup history) (byte_of setup other) cards bytes addr kind smm).0 in
+        λ addr kind smm. (map_bytes_decide setup (byte_of setup history) (byte_of setup other) cards bytes addr kind smm).0 in
     record {
       map_bytes = bytes;
       spans = λ addr kind smm lo hi area span. same_span setup (byte_of setup history) (byte_of setup other) areas addr kind smm lo hi area span;

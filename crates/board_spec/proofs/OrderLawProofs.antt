@@ -21,10 +21,9 @@ same_whole phase part same = record { size = ap length same; each = λ actor. ap
 
 file_order : (phases : List (List Statement)) → HasPhases phases (in_file_order phases)
 file_order [] = refl
-file_order (phase ∷ later) = (
-  same_whole phase (take (length phase) (phase ++ in_file_order later)) (take-append_seam phase (in_file_order later)),
-  subst (HasPhases later) (sym (drop-append_seam phase (in_file_order later))) (file_order later),
-)
+file_order (phase ∷ later) =
+    (same_whole phase (take (length phase) (phase ++ in_file_order later)) (take-append_seam phase (in_file_order later)),
+    subst (HasPhases later) (sym (drop-append_seam phase (in_file_order later))) (file_order later))
 
 pub replay_is_complete : ReplayIsComplete
 replay_is_complete setup phases history replay = subst (HasPhases phases) (sym replay.same) (file_order phases)
@@ -80,14 +79,12 @@ shorter_so_far (phase ∷ later) statements last (inr whole) =
       | inl short ↦
           let added : length (statements ++ last ∷ []) ≡ length statements + 1 = length-append statements (last ∷ []) in
           let all : take (length phase) (statements ++ last ∷ []) ≡ statements ++ last ∷ [] =
-          take_all (length phase) (statements ++ last ∷ []) (omega arith) in
+              take_all (length phase) (statements ++ last ∷ []) (omega arith) in
           inl (shorter_phase phase statements (last ∷ []) (whole_is_front phase (statements ++ last ∷ []) (subst (IsWholePhase phase) all whole.0)))
       | inr full ↦
-          inr (
-            subst (IsWholePhase phase) (take-append-le (length phase) statements (last ∷ []) full) whole.0,
-            shorter_so_far later (drop (length phase) statements) last
-                (subst (HasPhasesSoFar later) (drop-append-le (length phase) statements (last ∷ []) full) whole.1),
-          )
+          inr (subst (IsWholePhase phase) (take-append-le (length phase) statements (last ∷ []) full) whole.0,
+          shorter_so_far later (drop (length phase) statements) last
+          (subst (HasPhasesSoFar later) (drop-append-le (length phase) statements (last ∷ []) full) whole.1))
     ]
 
 pub front_is_begun : FrontIsBegun

@@ -84,8 +84,8 @@ joined-made access from d [] here = omega arith
 joined-made access from d (width ∷ later) here =
     let place : from - access.addr ≡ d = omega arith in
     let rest : joined (λ part. part.value) (made access (from + bytes_of width) later) ≡ access.value / 256 ^ d / 256 ^ bytes_of width % 256 ^ total later =
-    joined-made access (from + bytes_of width) (d + bytes_of width) later (omega arith)
-    ∙ ap (λ (n : ℕ). n % 256 ^ total later) (further access.value d (bytes_of width)) in
+        joined-made access (from + bytes_of width) (d + bytes_of width) later (omega arith)
+        ∙ ap (λ (n : ℕ). n % 256 ^ total later) (further access.value d (bytes_of width)) in
     ap (λ (k : ℕ). access.value / 256 ^ k % 256 ^ bytes_of width + 256 ^ bytes_of width * joined (λ part. part.value) (made access (from + bytes_of width) later)) place
     ∙ ap (λ (n : ℕ). access.value / 256 ^ d % 256 ^ bytes_of width + 256 ^ bytes_of width * n) rest
     ∙ two_digits (access.value / 256 ^ d) (bytes_of width) (total later)

@@ -55,7 +55,7 @@ unfolding made
 smram_by_bits old written =
     let lock : ℕ = max (bit old 4) (bit written 4) in
     let made_of : Made lock (bit written 6) (bit written 5) (bit written 3) (smram_after old written) =
-    made-bits lock (bit written 6) (bit written 5) (bit written 3) (omega arith) (omega arith) (omega arith) (omega arith) in
+        made-bits lock (bit written 6) (bit written 5) (bit written 3) (omega arith) (omega arith) (omega arith) (omega arith) in
     record {
       reserved = made_of.reserved;
       opened = rw made_of.locked made_of.opened_is;

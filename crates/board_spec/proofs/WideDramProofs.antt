@@ -61,7 +61,7 @@ low-two byte_at from count =
     let place : from + 1 + 1 ≡ from + 2 = omega arith in
     let first : low_first byte_at from (2 + count) ≡ byte_at from + 0x100 * low_first byte_at (from + 1) (1 + count) = ap (low_first byte_at from) e ∙ low-one byte_at from (1 + count) in
     let second : low_first byte_at (from + 1) (1 + count) ≡ byte_at (from + 1) + 0x100 * low_first byte_at (from + 2) count =
-    low-one byte_at (from + 1) count ∙ ap (λ (n : ℕ). byte_at (from + 1) + 0x100 * low_first byte_at n count) place in
+        low-one byte_at (from + 1) count ∙ ap (λ (n : ℕ). byte_at (from + 1) + 0x100 * low_first byte_at n count) place in
     omega arith
 
 low-four : (byte_at : ℕ → ℕ) (from count : ℕ) → low_first byte_at from (4 + count) ≡ wide byte_at from Four + 0x1_0000_0000 * low_first byte_at (from + 4) count
@@ -70,11 +70,11 @@ low-four byte_at from count =
     let third : from + 2 + 1 ≡ from + 3 = omega arith in
     let place : from + 2 + 2 ≡ from + 4 = omega arith in
     let first : low_first byte_at from (4 + count) ≡ byte_at from + 0x100 * byte_at (from + 1) + 0x1_0000 * low_first byte_at (from + 2) (2 + count) =
-    ap (low_first byte_at from) e ∙ low-two byte_at from (2 + count) in
+        ap (low_first byte_at from) e ∙ low-two byte_at from (2 + count) in
     let second : low_first byte_at (from + 2) (2 + count) ≡ byte_at (from + 2) + 0x100 * byte_at (from + 3) + 0x1_0000 * low_first byte_at (from + 4) count =
-    low-two byte_at (from + 2) count
-    ∙ ap (λ (n : ℕ). byte_at (from + 2) + 0x100 * byte_at n + 0x1_0000 * low_first byte_at (from + 2 + 2) count) third
-    ∙ ap (λ (n : ℕ). byte_at (from + 2) + 0x100 * byte_at (from + 3) + 0x1_0000 * low_first byte_at n count) place in
+        low-two byte_at (from + 2) count
+        ∙ ap (λ (n : ℕ). byte_at (from + 2) + 0x100 * byte_at n + 0x1_0000 * low_first byte_at (from + 2 + 2) count) third
+        ∙ ap (λ (n : ℕ). byte_at (from + 2) + 0x100 * byte_at (from + 3) + 0x1_0000 * low_first byte_at n count) place in
     omega arith
 
 low-part : (byte_at : ℕ → ℕ) (from : ℕ) (width : Width) (count : ℕ) → wide byte_at from width + 256 ^ bytes_of width * low_first byte_at (from + bytes_of width) count ≡ low_first byte_at from (bytes_of width + count)
@@ -96,11 +96,11 @@ unfolding wide_value
 wide_reads setup before access legal reads lands =
     let cut = is_cut access legal in
     let each : joined (λ part. value_at setup before (memory_target setup before part) part.addr part.width) (parts_of access)
-    ≡ joined (λ part. wide (dram_byte setup before) part.addr part.width) (parts_of access) =
-    joined-same
-    (λ part. value_at setup before (memory_target setup before part) part.addr part.width)
-    (λ part. wide (dram_byte setup before) part.addr part.width) (parts_of access)
-    (λ k d below. value_at-dram setup before _ _ _ (lands k d below)) in
+        ≡ joined (λ part. wide (dram_byte setup before) part.addr part.width) (parts_of access) =
+        joined-same
+        (λ part. value_at setup before (memory_target setup before part) part.addr part.width)
+        (λ part. wide (dram_byte setup before) part.addr part.width) (parts_of access)
+        (λ k d below. value_at-dram setup before _ _ _ (lands k d below)) in
     cond-false (is_write access.kind) None _ reads
     ∙ ap (λ (n : ℕ). Some n)
     (each
@@ -242,10 +242,10 @@ wide_stored setup before entry access next is legal writes lands =
     let answer : IsAnswer setup before (Wide access) entry.reply = subst (λ (event : Event). IsAnswer setup before event entry.reply) is next.answer in
     let landed : All (Lands setup before) (made access access.addr cut.widths) = subst (All (Lands setup before)) cut.parts lands in
     let put : (addr : ℕ) → entry_put entry.event entry.reply (DramCell addr) ≡ put_of setup before (made access access.addr cut.widths) addr =
-    λ addr.
-    ap (λ (event : Event). entry_put event entry.reply (DramCell addr)) is
-    ∙ put-answered setup before access entry.reply addr answer
-    ∙ ap (λ (parts : List Access). put_of setup before parts addr) cut.parts in
+        λ addr.
+            ap (λ (event : Event). entry_put event entry.reply (DramCell addr)) is
+            ∙ put-answered setup before access entry.reply addr answer
+            ∙ ap (λ (parts : List Access). put_of setup before parts addr) cut.parts in
     let size : total cut.widths ≡ access.bytes = cut.total_is in
     record {
       within = λ k below.
