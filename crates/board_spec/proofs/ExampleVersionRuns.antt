@@ -27,4 +27,4 @@ look_breaks_lock law = law.locked [] [] _ _ _ refl (refl, refl) tt refl refl
 
 pub word_breaks_lock : WordBreaksLock
 unfolding WordBreaksLock config_address reset_control
-word_breaks_lock law = law.locked [] (_ ∷ _ ∷ []) _ _ _ refl (refl, refl) (refl, (refl, tt)) refl refl
+word_breaks_lock law = law.locked [] (_ ∷ _ ∷ _ ∷ []) _ _ _ refl (refl, refl) (refl, (refl, (refl, tt))) refl refl

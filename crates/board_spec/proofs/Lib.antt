@@ -30,4 +30,5 @@ mod ExampleStoryRuns
 mod ExampleMaskRuns
 mod ExampleInterruptRuns
 mod ExampleVersionRuns
+mod ExampleWindowRuns
 mod ExampleTargetTexts

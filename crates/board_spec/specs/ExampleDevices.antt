@@ -99,6 +99,21 @@ nested_interrupts =
 unfoldable pub NestedInterrupts : Type 0
 NestedInterrupts = IsLegal small_board (from_reset nested_interrupts)
 
+-- a read that polls acknowledges the level, and the next read polls no more
+abbrev pub polled : List Said
+polled =
+    initialised
+    ++ line 5 true
+    ∷ puts Pic0 0x20 0x0C
+    ∷ gets Pic0 0x20 0x85
+    ∷ gets Pic0 0x20 0x00
+    ∷ puts Pic0 0x20 0x0B
+    ∷ gets Pic0 0x20 0x20
+    ∷ []
+
+unfoldable pub Polled : Type 0
+Polled = IsLegal small_board (from_reset polled)
+
 -- ---- a card's wire
 
 -- INTA# of card 4 goes to PIRQD, which is routed to line 11, level triggered

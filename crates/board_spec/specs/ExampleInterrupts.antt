@@ -129,6 +129,31 @@ shared_wires =
 unfoldable pub SharedWires : Type 0
 SharedWires = IsLegal wired_board (from_reset shared_wires)
 
+-- the lines that are set from outside, and their levels
+abbrev pub free_lines : List Said
+free_lines =
+    line 1 true
+    ∷ line 3 true
+    ∷ line 4 true
+    ∷ line 5 true
+    ∷ line 6 true
+    ∷ line 7 true
+    ∷ line 9 true
+    ∷ line 10 true
+    ∷ line 11 true
+    ∷ line 12 true
+    ∷ line 15 true
+    ∷ gets Pic0 0x20 0xFA
+    ∷ gets Pic1 0xA0 0x9E
+    ∷ line 7 false
+    ∷ line 12 false
+    ∷ gets Pic0 0x20 0x7A
+    ∷ gets Pic1 0xA0 0x8E
+    ∷ []
+
+unfoldable pub FreeLines : Type 0
+FreeLines = IsLegal small_board (from_reset free_lines)
+
 -- ---- a hard reset
 
 -- the devices take their reset states, and then the pair with the levels of that moment: no line is latched. The
@@ -146,6 +171,8 @@ devices_over_reset =
     ∷ puts System 0x61 0x03
     ∷ gets System 0x61 0x33
     ∷ gets System 0x61 0x23
+    ∷ puts Clock 0x70 0x40
+    ∷ puts Clock 0x71 0x5A
     ∷ puts Clock 0x70 0x0B
     ∷ puts Clock 0x71 0x7A
     ∷ gets Clock 0x71 0x7A
@@ -157,7 +184,15 @@ devices_over_reset =
     ∷ gets Clock 0x71 0x00
     ∷ puts Clock 0x70 0x0B
     ∷ gets Clock 0x71 0x02
+    ∷ puts Clock 0x70 0x40
+    ∷ gets Clock 0x71 0x5A
+    ∷ puts Pit 0x43 0xE2
+    ∷ gets Pit 0x40 0xF6
     ∷ line 5 true
+    ∷ gets Pic0 0x20 0x00
+    ∷ puts Elcr 0x4D0 0x20
+    ∷ gets Pic0 0x20 0x20
+    ∷ puts Elcr 0x4D0 0x00
     ∷ gets Pic0 0x20 0x00
     ∷ line 5 false
     ∷ line 5 true

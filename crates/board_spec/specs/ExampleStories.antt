@@ -165,6 +165,7 @@ address_in_words =
     ∷ inputs Two 0xCF8 (floats 0xFFFF NoRegister)
     ∷ outputs One 0xCF8 0x55 (lost NoRegister)
     ∷ inputs Four 0xCF8 (gives 0x8000_0058 (Device AddressPort))
+    ∷ inputs Four 0xCF8 (gives 0x8000_0058 (Device AddressPort))
     ∷ []
 
 unfoldable pub AddressInWords : Type 0

@@ -104,12 +104,14 @@ PartBreaksLock = IsBroken (locked ++ reads_wide 2 0x9_FFFF (gives_parts 0x0000 (
 unfoldable pub LookBreaksLock : Type 0
 LookBreaksLock = IsBroken (locked ++ looks Read 0xA_0000 (sees 2 0xA_0000 0xB_FFFF SmramArea) ∷ [])
 
--- a write of two bytes locks by its second, and a write that unlocks nothing stands between
+-- a write of four bytes locks by its third; a write that unlocks nothing, a soft reset, and a write to reset
+-- control that resets nothing stand between
 unfoldable pub WordBreaksLock : Type 0
 WordBreaksLock = IsBroken
     (selects 0x8000_0070
     ∷ outputs Four 0xCFC 0x0010_0000 (goes_to (host 0x70))
     ∷ outputs One 0xCFE 0x00 (goes_to (host 0x72))
     ∷ puts Reset 0xCF9 0x04
+    ∷ puts Reset 0xCF9 0x06
     ∷ reads One 0xA_0000 (gives 0x00 Smram)
     ∷ [])

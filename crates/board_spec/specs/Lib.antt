@@ -45,4 +45,5 @@ pub mod ExampleStories
 pub mod ExampleMasks
 pub mod ExampleInterrupts
 pub mod ExampleVersions
+pub mod ExampleWindows
 pub mod ExampleTargets

@@ -10,6 +10,7 @@ pub mod stories;
 pub mod texts;
 pub mod versions;
 pub mod wide;
+pub mod windows;
 
 ghost use Rattle.board_spec.specs.Examples.{ShadowingTheBios, OneWindowForWrites, MemoryAfterReset, ConfigurationPorts, SmramLockedUntilReset, VgaBesideSmram, NoRowOfDram, CardInTheHole, HoleAt512Kib, TwoCardsAtOneAddress, XbcsOverASoftReset, RomAfterReset, CardMovedUnderTheRom};
 ghost use Rattle.board_spec.specs.ExampleLogs.{VgaBesideSmramLogged, ConfigurationPortsLogged, TwoCardsLogged, XbcsLogged, OutsideLogged};

@@ -1,6 +1,6 @@
 //! The 8259A pair, the 8254, port 61h and the clock.
 
-ghost use Rattle.board_spec.specs.ExampleDevices.{TimerLatched, SystemPort, FallenLine, NestedInterrupts, RoutedWire, ClockTold};
+ghost use Rattle.board_spec.specs.ExampleDevices.{TimerLatched, SystemPort, FallenLine, NestedInterrupts, Polled, RoutedWire, ClockTold};
 
 /// Status and count of a counter are latched and read, and the counter goes on.
 #[tactic(auto, using(crate::proofs::ExampleDeviceRuns::timer_runs))]
@@ -24,6 +24,12 @@ pub fn fallen_line()
 #[tactic(auto, using(crate::proofs::ExampleDeviceRuns::nested_runs))]
 pub fn nested_interrupts()
     ensures history { NestedInterrupts }
+{}
+
+/// A read that polls.
+#[tactic(auto, using(crate::proofs::ExampleDeviceRuns::polled_runs))]
+pub fn polled()
+    ensures history { Polled }
 {}
 
 /// A card's wire is routed to a line that is level triggered.

@@ -1,6 +1,6 @@
 //! The interrupt lines, and what a hard reset leaves of the devices.
 
-ghost use Rattle.board_spec.specs.ExampleInterrupts.{EachPulse, GatedCounter, ClockInterrupts, DiskInterrupts, SharedWires, DevicesOverReset, DiskOverReset};
+ghost use Rattle.board_spec.specs.ExampleInterrupts.{EachPulse, GatedCounter, ClockInterrupts, DiskInterrupts, SharedWires, FreeLines, DevicesOverReset, DiskOverReset};
 
 /// The levels after each single pulse reach the pair.
 #[tactic(auto, using(crate::proofs::ExampleInterruptRuns::each_pulse_runs))]
@@ -30,6 +30,12 @@ pub fn disk_interrupts()
 #[tactic(auto, using(crate::proofs::ExampleInterruptRuns::shared_wires_runs))]
 pub fn shared_wires()
     ensures history { SharedWires }
+{}
+
+/// Each line that `irq` sets.
+#[tactic(auto, using(crate::proofs::ExampleInterruptRuns::free_lines_runs))]
+pub fn free_lines()
+    ensures history { FreeLines }
 {}
 
 /// A hard reset of the devices.
