@@ -19,7 +19,6 @@ use Rattle.board_spec.specs.Examples.{small_board}
 use Rattle.board_spec.specs.ExampleInterrupts.{sector_board, wired_board, each_pulse, gated_counter, clock_interrupts, disk_interrupts, shared_wires, free_lines, devices_over_reset, disk_over_reset, EachPulse, GatedCounter, ClockInterrupts, DiskInterrupts, SharedWires, FreeLines, DevicesOverReset, DiskOverReset}
 use Rattle.board_spec.proofs.ExampleLines.{legal}
 
-
 pub each_pulse_runs : EachPulse
 unfolding EachPulse byte_of config_address reset_control reset_byte writable_bits isa_bridge port_answer port_target_of wire_of irq_of triggers_of system_of timer_of clock_of levels_with pair_pulsed pair_of device_value levels_where byte_of_levels pending first_selectable pic_request first_blocking chip_after_write byte_read chip_after_read answer_of pair_after_acknowledge is_line_driven low_byte high_byte count_of_number mode_numbered access_numbered programmed element_bytes status_byte latch_count latch_status counter_control read_back read_live counter_read asks_for_load count_complete take_low take_byte counter_write gate_rises gate_falls counter_load count_down count_to_end count_to_reload count_half count_to_strobe pulse_by_mode counter_pulse timer_reset port_read read_back_chosen write_control port_write set_gate2 out_of pulse_all timer_pulses rises clock_power_on
 each_pulse_runs = legal small_board (from_reset each_pulse) refl

@@ -31,4 +31,5 @@ mod ExampleMaskRuns
 mod ExampleInterruptRuns
 mod ExampleVersionRuns
 mod ExampleWindowRuns
+mod ExampleEventRuns
 mod ExampleTargetTexts

@@ -46,4 +46,5 @@ pub mod ExampleMasks
 pub mod ExampleInterrupts
 pub mod ExampleVersions
 pub mod ExampleWindows
+pub mod ExampleEvents
 pub mod ExampleTargets
