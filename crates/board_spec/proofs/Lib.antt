@@ -18,10 +18,14 @@ mod SmramProofs
 mod MapLawProofs
 mod OrderLawProofs
 mod GoesOnProofs
+mod OrderLengths
 mod PartLemmas
 mod PartLawProofs
 mod WideDramProofs
 mod ExampleLines
+mod RegisterProofs
+pub mod DeviceAlone
+mod DeviceProofs
 mod ExampleDeviceRuns
 mod ExampleDiskRuns
 mod ExampleWideRuns
@@ -33,3 +37,11 @@ mod ExampleVersionRuns
 mod ExampleWindowRuns
 mod ExampleEventRuns
 mod ExampleTargetTexts
+mod ResetProofs
+mod LineProofs
+mod WireProofs
+mod PairProofs
+mod MemoryProofs
+mod Numbers
+mod AreaProofs
+mod AreaLines

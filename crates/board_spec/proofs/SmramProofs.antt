@@ -1,10 +1,10 @@
 -- The bits of the SMRAM register after a write.
-use Rattle.std.proofs.Common.{◌≡◌, ℕ, ◌+◌, ◌-◌, ◌*◌, ◌/◌, ◌%◌, ◌<◌, max, Bool, true, false, ◌||◌, eqb, cond, inl, inr, refl, arith}
+use Rattle.std.proofs.Common.{◌≡◌, ℕ, ◌+◌, ◌-◌, ◌*◌, ◌/◌, ◌%◌, ◌<◌, max, ◌||◌, eqb, cond, inl, inr, arith}
 use Rattle.std.proofs.lemmas.Bool.{cases_eq}
 use Rattle.std.proofs.lemmas.Bool.Decides.{nat_tests}
-use Rattle.board_spec.specs.Bits.{bit, is_bit}
+use Rattle.board_spec.specs.Bits.{bit}
 use Rattle.board_spec.specs.Registers.{smram_after}
-use Rattle.board_spec.specs.SmramLaw.{SmramBits, SmramByBits}
+use Rattle.board_spec.specs.SmramLaw.{SmramByBits}
 
 -- the register made of its four bits
 made : (lock opened closed enabled : ℕ) → ℕ
@@ -18,7 +18,9 @@ record Made (lock opened closed enabled after : ℕ) : Type 0 where
   pub enabled_is : after / 8 % 2 ≡ enabled
   pub base : after % 8 ≡ 2
 
-made-unlocked : (opened closed enabled : ℕ) → opened < 2 → closed < 2 → enabled < 2 → Made 0 opened closed enabled (made 0 opened closed enabled)
+made-unlocked :
+    (opened closed enabled : ℕ) → opened < 2 → closed < 2 → enabled < 2 →
+    Made 0 opened closed enabled (made 0 opened closed enabled)
 unfolding made
 made-unlocked opened closed enabled o c e = record {
   reserved = omega arith;
@@ -29,7 +31,9 @@ made-unlocked opened closed enabled o c e = record {
   base = omega arith;
 }
 
-made-locked : (opened closed enabled : ℕ) → opened < 2 → closed < 2 → enabled < 2 → Made 1 opened closed enabled (made 1 opened closed enabled)
+made-locked :
+    (opened closed enabled : ℕ) → opened < 2 → closed < 2 → enabled < 2 →
+    Made 1 opened closed enabled (made 1 opened closed enabled)
 unfolding made
 made-locked opened closed enabled o c e = record {
   reserved = omega arith;
@@ -40,7 +44,9 @@ made-locked opened closed enabled o c e = record {
   base = omega arith;
 }
 
-made-bits : (lock opened closed enabled : ℕ) → lock < 2 → opened < 2 → closed < 2 → enabled < 2 → Made lock opened closed enabled (made lock opened closed enabled)
+made-bits :
+    (lock opened closed enabled : ℕ) → lock < 2 → opened < 2 → closed < 2 → enabled < 2 →
+    Made lock opened closed enabled (made lock opened closed enabled)
 made-bits lock opened closed enabled l o c e =
     elim (cases_eq lock 0) [
       | inl none ↦ rw none (made-unlocked opened closed enabled o c e)
@@ -55,7 +61,8 @@ unfolding made
 smram_by_bits old written =
     let lock : ℕ = max (bit old 4) (bit written 4) in
     let made_of : Made lock (bit written 6) (bit written 5) (bit written 3) (smram_after old written) =
-        made-bits lock (bit written 6) (bit written 5) (bit written 3) (omega arith) (omega arith) (omega arith) (omega arith) in
+    made-bits lock (bit written 6) (bit written 5) (bit written 3) (omega arith) (omega arith) (omega arith)
+    (omega arith) in
     record {
       reserved = made_of.reserved;
       opened = rw made_of.locked made_of.opened_is;

@@ -1,5 +1,5 @@
 -- A cell holds the byte of the last entry that put one there.
-use Rattle.std.proofs.Common.{◌≡◌, ℕ, List, [], ◌∷◌, ◌++◌, Option, Some, None, refl, ◌∙◌, ap}
+use Rattle.std.proofs.Common.{◌≡◌, ℕ, List, [], ◌∷◌, ◌++◌, Some, None, refl, ◌∙◌, ap}
 use Rattle.std.specs.Prelude.{unwrap_or}
 use Rattle.std.proofs.lemmas.List.Elements.{All-head, All-tail}
 use Rattle.board_spec.specs.declared.event.Entry.{Entry}
@@ -7,11 +7,15 @@ use Rattle.board_spec.specs.Stored.{Cell, stored_of}
 use Rattle.board_spec.specs.StoreLaws.{put_by, LastStays, NothingStored}
 
 -- an entry that puts a byte in a cell, and one that does not
-pub stored-put : (entry : Entry) (before : List Entry) (cell : Cell) (written : ℕ) → put_by cell entry ≡ Some written → stored_of (entry ∷ before) cell ≡ written
+pub stored-put :
+    (entry : Entry) (before : List Entry) (cell : Cell) (written : ℕ) → put_by cell entry ≡ Some written →
+    stored_of (entry ∷ before) cell ≡ written
 unfolding stored_of
 stored-put entry before cell written put = ap (λ it. unwrap_or it (stored_of before cell)) put
 
-pub stored-left : (entry : Entry) (before : List Entry) (cell : Cell) → put_by cell entry ≡ None → stored_of (entry ∷ before) cell ≡ stored_of before cell
+pub stored-left :
+    (entry : Entry) (before : List Entry) (cell : Cell) → put_by cell entry ≡ None →
+    stored_of (entry ∷ before) cell ≡ stored_of before cell
 unfolding stored_of
 stored-left entry before cell left = ap (λ it. unwrap_or it (stored_of before cell)) left
 

@@ -1,16 +1,19 @@
 -- What leaves a device alone, and what the interrupt lines and the 8259A pair have seen.
-use Rattle.std.specs.Prelude.{ℕ, ◌≡◌, ◌≢◌, ◌+◌, ◌⊎◌, Bool, false, List, [], ◌∷◌, slice_index_or, Option, Some}
+use Rattle.std.specs.Prelude.{ℕ, ◌≡◌, ◌+◌, ◌-◌, ◌%◌, ◌<◌, ◌≤◌, ◌⊎◌, true, false, List, [], ◌∷◌, slice_index_or, Some}
+use Rattle.board_base.specs.declared.target.Reg.{Reg}
 use Rattle.board_base.specs.declared.target.Dev.{Dev}
 use Rattle.board_base.specs.declared.target.Dev.TheVariants.{Pic0, Pic1, Pit, System, Clock, Elcr, Ata, Wires}
 use Rattle.device_spec.specs.Pair.{levels_at_power_on, pair_after_lines}
+use Rattle.device_spec.specs.Routing.{line_of_route}
 use Rattle.board_spec.specs.declared.event.Event.{Event}
-use Rattle.board_spec.specs.declared.event.Event.TheVariants.{Memory, Wide, Look as LookAt, Ack, Pulses}
+use Rattle.board_spec.specs.declared.event.Event.TheVariants.{Memory, Wide, Port, Look as LookAt, Ack, Pulses}
 use Rattle.board_spec.specs.declared.event.Reply.{Reply}
 use Rattle.board_spec.specs.declared.event.Entry.{Entry}
 use Rattle.board_spec.specs.Setup.{Setup}
-use Rattle.board_spec.specs.Registers.{is_hard_reset}
+use Rattle.board_spec.specs.RegisterNames.{pirq}
+use Rattle.board_spec.specs.Registers.{is_hard_reset, byte_of}
 use Rattle.board_spec.specs.Devices.{device_reached, wire_of, irq_of, triggers_of, system_of, timer_of, clock_of, disk_with}
-use Rattle.board_spec.specs.Interrupts.{routes_of, levels_of, elcr_of, pair_of}
+use Rattle.board_spec.specs.Interrupts.{own_level, routes_of, levels_of, elcr_of, pair_of}
 use Rattle.board_spec.specs.Legal.{IsNext}
 
 -- ---- one device
@@ -53,7 +56,32 @@ LinesStay =
 abbrev pub UndrivenLines : Type 0
 UndrivenLines =
     (setup : Setup) (history : List Entry) →
-    (slice_index_or (levels_of setup history) 2 false ≡ false) × (slice_index_or (levels_of setup history) 13 false ≡ false)
+    (slice_index_or (levels_of setup history) 2 false ≡ false) ×
+    (slice_index_or (levels_of setup history) 13 false ≡ false)
+
+-- INTA# of a card is at 1, and the route of its PIRQ leads to a line
+pub record WireDrives (setup : Setup) (history : List Entry) (line dev : ℕ) : Type 0 where
+  pub first : 2 ≤ dev
+  pub last : dev ≤ 9
+  pub high : wire_of history dev ≡ true
+  pub routed : line_of_route (byte_of setup history (pirq ((dev - 1) % 4))) ≡ Some line
+
+-- a card drives the line to which it is routed
+abbrev pub WireReachesLine : Type 0
+WireReachesLine =
+    (setup : Setup) (history : List Entry) (line dev : ℕ) → line < 16 → WireDrives setup history line dev →
+    slice_index_or (levels_of setup history) line false ≡ true
+
+-- and each line at 1 is driven by its own device or by such a card
+pub record SomeWire (setup : Setup) (history : List Entry) (line : ℕ) : Type 0 where
+  pub dev : ℕ
+  pub drives : WireDrives setup history line dev
+
+abbrev pub LineHasDriver : Type 0
+LineHasDriver =
+    (setup : Setup) (history : List Entry) (line : ℕ) → line < 16 →
+    slice_index_or (levels_of setup history) line false ≡ true →
+    (own_level setup history (timer_of history) line ≡ true) ⊎ SomeWire setup history line
 
 -- a board begins with the timer's line alone at 1
 abbrev pub FirstLevels : Type 0
@@ -71,7 +99,8 @@ PairHasSeen =
 abbrev pub ActsOnPair : Event → Reply → Type 0
 ActsOnPair Ack reply = Unit {0}
 ActsOnPair (Pulses count) reply = Unit {0}
-ActsOnPair event reply = Names reply Pic0 ⊎ Names reply Pic1 ⊎ Names reply Elcr
+ActsOnPair (Port access) reply = Names reply Pic0 ⊎ Names reply Pic1 ⊎ Names reply Elcr
+ActsOnPair _ reply = ⊥
 
 -- any other entry that moves no line leaves the pair
 abbrev pub PairStays : Type 0
@@ -90,13 +119,16 @@ IsOfMemory (Wide access) = Unit {0}
 IsOfMemory (LookAt kind addr smm) = Unit {0}
 IsOfMemory _ = ⊥
 
--- every device, the lines and the pair are as before
+-- every register and device, the lines and the pair are as before
 pub record SameDevices (setup : Setup) (before history : List Entry) : Type 0 where
+  pub registers : (reg : Reg) → byte_of setup history reg ≡ byte_of setup before reg
   pub timer : timer_of history ≡ timer_of before
   pub system : system_of history ≡ system_of before
   pub triggers : triggers_of history ≡ triggers_of before
   pub clock : clock_of history ≡ clock_of before
   pub disk : (bytes : List ℕ) → disk_with bytes history ≡ disk_with bytes before
+  pub wires : (dev : ℕ) → wire_of history dev ≡ wire_of before dev
+  pub lines : (line : ℕ) → irq_of history line ≡ irq_of before line
   pub levels : levels_of setup history ≡ levels_of setup before
   pub pair : pair_of setup history ≡ pair_of setup before
 

@@ -31,7 +31,9 @@ pub mod PartLaws
 pub mod MapLaws
 pub mod OrderLaws
 pub mod AreaLaws
+pub mod RegisterLaws
 pub mod DeviceLaws
+pub mod ResetLaws
 pub mod ExampleWords
 pub mod Examples
 pub mod ExampleLogs

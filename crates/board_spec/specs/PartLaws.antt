@@ -1,11 +1,10 @@
 -- The parts of a wide access: how they cut it, and that nothing shows where it was cut.
-use Rattle.std.specs.Prelude.{ℕ, zero, suc, ◌≡◌, ◌+◌, ◌*◌, ◌≤◌, Bool, false, List, [], ◌∷◌, length, All, Some}
+use Rattle.std.specs.Prelude.{ℕ, zero, suc, ◌≡◌, ◌+◌, ◌*◌, ◌≤◌, false, List, [], ◌∷◌, length, All, Some}
 use Rattle.board_base.specs.declared.access.Access.{Access}
 use Rattle.board_base.specs.declared.access.WideAccess.{WideAccess}
 use Rattle.board_base.specs.Access.{bytes_of}
 use Rattle.board_spec.specs.declared.event.Entry.{Entry}
 use Rattle.board_spec.specs.Setup.{Setup}
-use Rattle.board_spec.specs.Bits.{wide}
 use Rattle.board_spec.specs.InRange.{IsBusAccess, IsWideAccess}
 use Rattle.board_spec.specs.WideParts.{parts_of, joined}
 use Rattle.board_spec.specs.Stored.{is_write, dram_byte}

@@ -1,5 +1,5 @@
 -- What a byte of DRAM or of a card holds, said of whole histories.
-use Rattle.std.specs.Prelude.{ℕ, ◌≡◌, ◌+◌, ◌<◌, ◌≤◌, ◌⊎◌, true, List, [], ◌∷◌, ◌++◌, All, Option, Some, None}
+use Rattle.std.specs.Prelude.{ℕ, ◌≡◌, ◌+◌, ◌<◌, ◌≤◌, ◌⊎◌, true, List, ◌∷◌, ◌++◌, All, Option, Some, None}
 use Rattle.board_base.specs.declared.access.WideAccess.{WideAccess}
 use Rattle.board_spec.specs.declared.event.Event.TheVariants.{Wide}
 use Rattle.board_spec.specs.declared.event.Entry.{Entry}
@@ -7,7 +7,7 @@ use Rattle.board_spec.specs.Setup.{Setup}
 use Rattle.board_spec.specs.Bits.{byte}
 use Rattle.board_spec.specs.InRange.{IsWideAccess}
 use Rattle.board_spec.specs.WideParts.{parts_of}
-use Rattle.board_spec.specs.Stored.{Cell, DramCell, first_cell, entry_put, is_write, stored_of}
+use Rattle.board_spec.specs.Stored.{Cell, DramCell, CardCell, first_cell, entry_put, is_write, stored_of}
 use Rattle.board_spec.specs.Answer.{memory_target}
 use Rattle.board_spec.specs.Legal.{IsNext}
 
@@ -40,6 +40,7 @@ pub record IsStoredWide (before history : List Entry) (access : WideAccess) : Ty
   pub outside :
       (addr : ℕ) → (addr < access.addr) ⊎ (access.addr + access.bytes ≤ addr) →
       stored_of history (DramCell addr) ≡ stored_of before (DramCell addr)
+  pub cards : (dev base off : ℕ) → stored_of history (CardCell dev base off) ≡ stored_of before (CardCell dev base off)
 
 abbrev pub WideStored : Type 0
 WideStored =

@@ -5,6 +5,7 @@ ghost use Rattle.board_spec.specs.AreaLaws.{RowBelowTop, WhoAnswers};
 ghost use Rattle.board_spec.specs.MapLaws.{MapWritesDecideMap};
 ghost use Rattle.board_spec.specs.MergedBits.{MergedBits};
 ghost use Rattle.board_spec.specs.PartLaws.{CutIntoParts, WideReads};
+ghost use Rattle.board_spec.specs.RegisterLaws.{RegistersStay};
 ghost use Rattle.board_spec.specs.SmramLaw.{SmramByBits};
 ghost use Rattle.board_spec.specs.StoreLaws.{LastStays, NothingStored, WideStored};
 ghost use Rattle.board_spec.specs.WideStores.{ByteByByte};
@@ -91,4 +92,9 @@ pub fn law_map_writes()
 pub fn law_areas()
     ensures row { RowBelowTop }
     ensures answers { WhoAnswers }
+{}
+
+/// Without a hard reset only an entry whose reply names a register changes registers, and only near it.
+pub fn law_registers_stay()
+    ensures stay { RegistersStay }
 {}

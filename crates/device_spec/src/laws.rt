@@ -2,7 +2,7 @@
 ghost use Rattle.device_spec.specs.ClockLaws.{MemoryKeeps, ReadingQuiets, ResetKeepsTheTime, RingsAtItsTime, ShowsTheMoment, StaysSound};
 ghost use Rattle.device_spec.specs.PicLaws.{PrioritiesGoRound, InterruptIsFirst, MaskedLevelsWait, InterruptIsSelected, SelectedInterrupts, NonSpecificEndEndsFirst, NonSpecificEndOfNone, SameLevelsAgain, ReadsLeaveTheOther, AcknowledgedIsInService, AcknowledgedSlaveIsInService, SpecificEndEndsOne, SpuriousLeavesAlone, SlaveIsLatched};
 ghost use Rattle.device_spec.specs.PitLaws.{LatchedCountStays, LatchedCountIsRead, ReadBackIsOneByOne, ReadBackIsLatch, ReadBackOfBoth, PulsesAddUp, CountersAreApart, CountReadsAsWritten};
-ghost use Rattle.device_spec.specs.PitPeriods.{RateRepeats, SquareRepeats};
+ghost use Rattle.device_spec.specs.PitPeriods.{CountIsTaken, CountWaits, CountsEndOnce, CountsStrobeOnce, PulseLoads, RateRepeats, SquareRepeats};
 ghost use Rattle.device_spec.specs.RoutingLaws.{ReservedLinesRest, RoutesOneLine};
 
 // The routing
@@ -105,6 +105,27 @@ pub fn counters_are_apart()
 /// A count that is written low byte and high byte is read as these bytes.
 pub fn count_reads_as_written()
     ensures bytes { CountReadsAsWritten }
+{}
+
+/// The pulse after a count was written, or after a rise of the gate, loads the count: by the mode, whatever the gate.
+pub fn pulse_loads()
+    ensures { PulseLoads }
+{}
+
+/// In modes 0 and 1 OUT rises once, at the end of the count, and stays.
+pub fn counts_end_once()
+    ensures { CountsEndOnce }
+{}
+
+/// In modes 4 and 5 OUT is 0 for one pulse, at the end of the count, and never again without a load.
+pub fn counts_strobe_once()
+    ensures { CountsStrobeOnce }
+{}
+
+/// In modes 2 and 3 a count that is written waits for the next load, and is in use from then on.
+pub fn count_waits()
+    ensures waits { CountWaits }
+    ensures taken { CountIsTaken }
 {}
 
 /// In modes 2 and 3 a count of `n` gives a period of `n` pulses, of which OUT is 0 for the last one,

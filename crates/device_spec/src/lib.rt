@@ -2,4 +2,5 @@
 //! crates of the devices prove their code to be. `laws` proves what shows the machines right.
 #![tactic(auto)]
 
+pub mod examples;
 pub mod laws;
