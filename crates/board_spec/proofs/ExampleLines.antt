@@ -1,6 +1,6 @@
 -- A history without looks is legal where the numbers and the replies of its lines are those that the definitions
 -- compute: one equation of two lists.
-use Rattle.std.specs.Prelude.{ℕ, suc, ◌≡◌, ◌+◌, List, [], ◌∷◌, length, map, Option, Some, None, refl}
+use Rattle.std.specs.Prelude.{ℕ, ◌≡◌, ◌+◌, List, [], ◌∷◌, length, map, Option, Some, None}
 use Rattle.std.proofs.Common.{ap, sym, subst}
 use Rattle.board_base.specs.declared.target.Dev.TheVariants.{Pit, Clock, Ata, Wires}
 use Rattle.board_base.specs.declared.target.Target.TheVariants.{Device}

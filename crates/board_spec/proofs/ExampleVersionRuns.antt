@@ -1,5 +1,5 @@
 -- The versions are computed from the definitions, and so is what the lock law says of a history that breaks it.
-use Rattle.std.specs.Prelude.{ℕ, List, [], ◌∷◌, ◌++◌, refl}
+use Rattle.std.specs.Prelude.{[], ◌∷◌, refl}
 use Rattle.std.proofs.Common.{inl, inr}
 use Rattle.board_spec.specs.Registers.{config_address, reset_control}
 use Rattle.board_spec.specs.MapWrites.{map_change_of, map_writes_of}

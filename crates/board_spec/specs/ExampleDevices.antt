@@ -1,5 +1,5 @@
 -- Worked examples of the 8259A pair, the 8254, port 61h and the clock, each as a legal history of its board.
-use Rattle.std.specs.Prelude.{ℕ, List, [], ◌∷◌, ◌++◌, true, false, None}
+use Rattle.std.specs.Prelude.{List, [], ◌∷◌, ◌++◌, true, false, None}
 use Rattle.board_base.specs.declared.access.Width.TheVariants.{One}
 use Rattle.board_base.specs.declared.moment.Moment.{Moment}
 use Rattle.board_base.specs.declared.target.Dev.TheVariants.{Pic0, Pic1, Pit, System, Clock, Elcr, Vector, Spurious}

@@ -1,7 +1,7 @@
 -- Worked examples of the disk: a board of 8 MiB with four sectors.
 use Rattle.std.specs.Prelude.{ℕ, List, [], ◌∷◌, ◌++◌, replicate, Some}
 use Rattle.board_base.specs.declared.access.Width.TheVariants.{One, Two, Four}
-use Rattle.board_base.specs.declared.target.Dev.TheVariants.{Ata, Vector}
+use Rattle.board_base.specs.declared.target.Dev.TheVariants.{Ata}
 use Rattle.board_base.specs.declared.target.Target.TheVariants.{Device}
 use Rattle.board_base.specs.declared.target.Denial.TheVariants.{NoRegister}
 use Rattle.board_spec.specs.Setup.{Setup}

@@ -1,12 +1,11 @@
 -- Worked examples of the interrupt lines: what raises them, when their levels reach the 8259A pair, and what a
 -- hard reset leaves.
 use Rattle.std.specs.Prelude.{ℕ, List, [], ◌∷◌, ◌++◌, true, false, None, Some, replicate}
-use Rattle.board_base.specs.declared.access.Width.TheVariants.{One, Two, Four}
+use Rattle.board_base.specs.declared.access.Width.TheVariants.{Four}
 use Rattle.board_base.specs.declared.target.Dev.TheVariants.{Reset, Pic0, Pic1, Pit, System, Clock, Elcr, Ata, Vector, Spurious}
-use Rattle.board_base.specs.declared.target.Denial.TheVariants.{Confadd}
 use Rattle.board_spec.specs.Setup.{FittedCard, Setup}
 use Rattle.board_spec.specs.Legal.{IsLegal}
-use Rattle.board_spec.specs.ExampleWords.{Said, from_reset, selects, inputs, outputs, gives, goes_to, floats, register, puts, gets, acknowledges, pulses, wire, line, tells, spoils}
+use Rattle.board_spec.specs.ExampleWords.{Said, from_reset, selects, outputs, goes_to, register, puts, gets, acknowledges, pulses, wire, line, tells, spoils}
 use Rattle.board_spec.specs.Examples.{board_of, small_board}
 use Rattle.board_spec.specs.ExampleDevices.{initialised, leap_day}
 use Rattle.board_spec.specs.ExampleDisk.{enabled, commands}

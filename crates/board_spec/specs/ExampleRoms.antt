@@ -1,13 +1,13 @@
 -- Worked examples of expansion ROMs and of I/O bases: who answers, and who denies.
-use Rattle.std.specs.Prelude.{List, [], ◌∷◌, codes, false, None, Some}
-use Rattle.board_base.specs.declared.access.Width.TheVariants.{One, Two, Four}
+use Rattle.std.specs.Prelude.{List, [], ◌∷◌, codes, false, Some}
+use Rattle.board_base.specs.declared.access.Width.TheVariants.{One, Four}
 use Rattle.board_base.specs.declared.access.Kind.TheVariants.{Read}
 use Rattle.board_base.specs.declared.target.Area.TheVariants.{Card as CardArea, Abort as AbortArea}
 use Rattle.board_base.specs.declared.target.Target.TheVariants.{Card}
 use Rattle.board_base.specs.declared.target.Denial.TheVariants.{NoRegister}
-use Rattle.board_spec.specs.Setup.{Setup, FittedCard, IoBase}
+use Rattle.board_spec.specs.Setup.{Setup, FittedCard}
 use Rattle.board_spec.specs.Legal.{IsLegal}
-use Rattle.board_spec.specs.ExampleWords.{Said, from_reset, selects, inputs, outputs, reads, writes, looks, sees, gives, goes_to, floats, lost, register, denied_by}
+use Rattle.board_spec.specs.ExampleWords.{Said, from_reset, selects, inputs, outputs, reads, writes, looks, sees, gives, goes_to, floats, register, denied_by}
 use Rattle.board_spec.specs.Examples.{board_of}
 use Rattle.board_spec.specs.ExampleWide.{IsLoggedWide}
 

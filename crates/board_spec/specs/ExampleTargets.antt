@@ -1,5 +1,5 @@
 -- The log's text of every kind of target, denial, width and event. These entries are no history of a board.
-use Rattle.std.specs.Prelude.{ℕ, ◌≡◌, List, [], ◌∷◌, codes, true, false}
+use Rattle.std.specs.Prelude.{List, [], ◌∷◌, codes, true, false}
 use Rattle.board_base.specs.declared.access.Width.TheVariants.{One, Two, Four}
 use Rattle.board_base.specs.declared.access.Kind.TheVariants.{Fetch, Read, Write}
 use Rattle.board_base.specs.declared.target.Area.TheVariants.{Dram as DramArea, Shadow as ShadowArea, Smram as SmramArea, Rom as RomArea}
@@ -8,7 +8,7 @@ use Rattle.board_base.specs.declared.target.Target.TheVariants.{Dram, Shadow, Sm
 use Rattle.board_base.specs.declared.target.Denial.TheVariants.{Confadd, NoRegister}
 use Rattle.board_spec.specs.declared.event.Event.TheVariants.{Look as LookAt}
 use Rattle.board_spec.specs.declared.event.Parts.TheVariants.{Two as TwoParts, Three as ThreeParts}
-use Rattle.board_spec.specs.ExampleWords.{Said, inputs, outputs, reads, fetches, writes, fetches_in_smm, writes_in_smm, looks, sees, gives, goes_to, floats, lost, lost_in, register, denied_by, wide_access, reads_wide, part, denied_part, gives_parts, goes_in_parts, puts, gets, wire, line, tells}
+use Rattle.board_spec.specs.ExampleWords.{Said, inputs, reads, fetches, writes, fetches_in_smm, writes_in_smm, looks, sees, gives, goes_to, floats, lost_in, register, denied_by, wide_access, reads_wide, part, denied_part, gives_parts, goes_in_parts, puts, gets, wire, line, tells}
 use Rattle.board_spec.specs.ExampleWide.{IsLoggedWide}
 
 abbrev pub device_lines : List Said
