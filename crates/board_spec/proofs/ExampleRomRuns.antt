@@ -16,7 +16,7 @@ use Rattle.board_spec.specs.Decode.{Window, is_covered}
 use Rattle.board_spec.specs.FlatMap.{IsSpan}
 use Rattle.board_spec.specs.LogText.{event_text, reply_text, line_text, lines_text}
 use Rattle.board_spec.specs.ExampleWords.{from_reset}
-use Rattle.board_spec.specs.ExampleRoms.{rom_card_board, expansion_rom, ExpansionRom, ExpansionRomLogged}
+use Rattle.board_spec.specs.ExampleRoms.{rom_card_board, shut_board, expansion_rom, shut_before_unselected, ExpansionRom, ExpansionRomLogged, ShutBeforeUnselected}
 use Rattle.board_spec.proofs.ExampleSpans.{above, no_rom, covers-yes}
 use Rattle.board_spec.proofs.ExampleLines.{legal}
 
@@ -81,3 +81,7 @@ expansion_rom_runs = (
 pub expansion_rom_logged : ExpansionRomLogged
 unfolding ExpansionRomLogged digits event_text reply_text line_text lines_text
 expansion_rom_logged = refl
+
+pub shut_before_unselected_runs : ShutBeforeUnselected
+unfolding ShutBeforeUnselected reset_byte writable_bits host_bridge isa_bridge card_function byte_of config_address reset_control row_of area_of denial_of memory_claim memory_shut rom_unselected port_target_of stored_of port_answer memory_answer
+shut_before_unselected_runs = legal shut_board (from_reset shut_before_unselected) refl

@@ -1,6 +1,6 @@
 -- Stories of whole boards: the BIOS ranges, the borders of the holes and of the rows, SMRAM with every bit set,
 -- reset control, and the ports of a card.
-use Rattle.std.specs.Prelude.{ℕ, ◌/◌, List, [], ◌∷◌, map, true, false, None}
+use Rattle.std.specs.Prelude.{ℕ, ◌/◌, List, [], ◌∷◌, map, true, false, None, Some}
 use Rattle.std.specs.List.{range_with_len}
 use Rattle.board_base.specs.declared.access.Width.TheVariants.{One, Two, Four}
 use Rattle.board_base.specs.declared.target.Dev.TheVariants.{Confadd as AddressPort, Reset, System, Keyboard, Clock}
@@ -242,9 +242,10 @@ PortsUnderXbcs = IsLegal port_card_board (from_reset ports_under_xbcs)
 -- ---- who claims an address first
 
 abbrev pub two_bases : FittedCard
-two_bases = record { dev = 2; vga = true; bases = MemoryBase 12 ∷ MemoryBase 17 ∷ []; rom = None }
+two_bases = record { dev = 2; vga = true; bases = MemoryBase 12 ∷ MemoryBase 17 ∷ []; rom = Some 17 }
 
--- of one card the lower base answers, then the VGA window; a shut card denies where DRAM left a gap
+-- of one card the lower base answers, then the expansion ROM, then the VGA window. A shut card denies where DRAM
+-- left a gap
 abbrev pub bases_in_order : List Said
 bases_in_order =
     selects 0x8000_0064
@@ -259,6 +260,9 @@ bases_in_order =
     ∷ writes One 0xFFF 0x11 (goes_to (Card 2 0 0xFFF))
     ∷ reads One 0x1000 (gives 0x00 (Card 2 1 0x1000))
     ∷ writes One 0xA_0FFF 0x22 (goes_to (Card 2 7 0xFFF))
+    ∷ selects 0x8000_1030
+    ∷ outputs Four 0xCFC 0x000A_0001 (goes_to (register 2 0 0x30))
+    ∷ reads One 0xA_0FFF (gives 0x01 (Card 2 6 0xFFF))
     ∷ selects 0x8000_1014
     ∷ outputs Four 0xCFC 0x000A_0000 (goes_to (register 2 0 0x14))
     ∷ reads One 0xA_0FFF (gives 0x00 (Card 2 1 0xFFF))
