@@ -13,7 +13,7 @@ use Rattle.board_spec.specs.declared.event.Entry.{Entry}
 use Rattle.board_spec.specs.Setup.{FittedCard, Setup}
 use Rattle.board_spec.specs.Bits.{byte}
 use Rattle.board_spec.specs.Stored.{CardCell, byte_put, entry_put, stored_of}
-use Rattle.pci_bars.specs.Contents.{IsBaseNumber, slot_number, held, held_byte, window_size, LiesIn, IsContentsOf}
+use Rattle.pci_bars.specs.Contents.{IsBaseNumber, slot_number, held, held_byte, kept_size, LiesIn, IsContentsOf}
 
 -- ---- bytes put into a list
 
@@ -173,7 +173,7 @@ stored_written setup history entry place contents dev base off width value new l
 
 -- zeros, of the size of a base
 abbrev pub zeros_at : List FittedCard → ℕ → List ℕ
-zeros_at cards slot = replicate (window_size (find (λ card. card.dev == 2 + slot / 8) cards) (slot % 8)) 0
+zeros_at cards slot = replicate (kept_size (find (λ card. card.dev == 2 + slot / 8) cards) (slot % 8)) 0
 
 pub record IsFilled (cards : List FittedCard) (count : ℕ) (contents : List (List ℕ)) : Type 0 where
   pub long : length contents ≡ count
@@ -207,21 +207,21 @@ zeros_held cards contents is dev base off =
     let slot = slot_number dev base in
     let long = is.long in
     elim (cases_lt slot 64) [
-      | inl within ↦ ap (λ bytes. slice_index bytes off) (is.each slot within) ∙ zero_byte (window_size (find (λ card. card.dev == 2 + slot / 8) cards) (slot % 8)) off
+      | inl within ↦ ap (λ bytes. slice_index bytes off) (is.each slot within) ∙ zero_byte (kept_size (find (λ card. card.dev == 2 + slot / 8) cards) (slot % 8)) off
       | inr past ↦ ap (λ bytes. slice_index bytes off) (get_or_past contents slot [] (omega arith))
     ]
 
 pub size_held :
     (cards : List FittedCard) (contents : List (List ℕ)) → IsFilled cards 64 contents → (dev base : ℕ) → IsBaseNumber dev base →
-    length (held contents dev base) ≡ window_size (find (λ card. card.dev == dev) cards) base
+    length (held contents dev base) ≡ kept_size (find (λ card. card.dev == dev) cards) base
 size_held cards contents is dev base number =
     let first = number.first in let last = number.last in let below = number.below in
     let device : 2 + slot_number dev base / 8 ≡ dev = omega arith in
     let in_device : slot_number dev base % 8 ≡ base = omega arith in
     ap length (is.each (slot_number dev base) (omega arith))
-    ∙ length-replicate (window_size (find (λ card. card.dev == 2 + slot_number dev base / 8) cards) (slot_number dev base % 8)) 0
-    ∙ ap (λ d. window_size (find (λ card. card.dev == d) cards) (slot_number dev base % 8)) device
-    ∙ ap (window_size (find (λ card. card.dev == dev) cards)) in_device
+    ∙ length-replicate (kept_size (find (λ card. card.dev == 2 + slot_number dev base / 8) cards) (slot_number dev base % 8)) 0
+    ∙ ap (λ d. kept_size (find (λ card. card.dev == d) cards) (slot_number dev base % 8)) device
+    ∙ ap (kept_size (find (λ card. card.dev == dev) cards)) in_device
 
 pub stored_at_first :
     (setup : Setup) (cards : List FittedCard) (contents : List (List ℕ)) → IsFilled cards 64 contents → setup.cards ≡ cards →
@@ -229,7 +229,7 @@ pub stored_at_first :
 unfolding stored_of
 stored_at_first setup cards contents is same =
     record {
-      sizes = λ dev base number. size_held cards contents is dev base number ∙ ap (λ fitted. window_size (find (λ card. card.dev == dev) fitted) base) (sym same);
+      sizes = λ dev base number. size_held cards contents is dev base number ∙ ap (λ fitted. kept_size (find (λ card. card.dev == dev) fitted) base) (sym same);
       bytes = λ dev base off _ _. zeros_held cards contents is dev base off;
     }
 
