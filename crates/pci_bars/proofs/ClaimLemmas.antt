@@ -1,5 +1,5 @@
 -- Claims of the cards' registers are those of the windows that a board's registers make.
-use Rattle.std.proofs.Common.{◌≡◌, ℕ, ◌+◌, ◌*◌, ◌<◌, ◌≤◌, Bool, true, false, not, List, [], ◌∷◌, ◌++◌, length, Option, Some, None, inl, inr, ◌∙◌, refl, sym, ap, arith, lit<}
+use Rattle.std.proofs.Common.{◌≡◌, ℕ, ◌+◌, ◌<◌, ◌≤◌, Bool, true, false, not, List, [], ◌∷◌, ◌++◌, length, Option, Some, None, inl, inr, ◌∙◌, refl, sym, ap, arith, lit<}
 use Rattle.std.specs.Prelude.{◌==◌, ◌&&◌, All, flat_map, option_map, if◌then◌else◌, slice_index}
 use Rattle.std.specs.List.{enumerate_from}
 use Rattle.std.specs.Option.{option_or}
@@ -9,7 +9,7 @@ use Rattle.std.proofs.lemmas.List.Elements.{All-head, All-tail}
 use Rattle.std.proofs.lemmas.List.Folds.{find-append}
 use Rattle.board_spec.specs.Setup.{Base, MemoryBase, IoBase, FittedCard, Setup, IsCard}
 use Rattle.board_spec.specs.Bits.{byte, is_bit}
-use Rattle.board_spec.specs.Decode.{Bytes, Window, is_covered, base_value, rom_value, memory_window, io_window, rom_window, rom_window_of, is_rom_on, vga_window, memory_windows, unselected_windows, io_windows, is_enabled_for, first_window, memory_claim, memory_shut, rom_unselected, io_claim, io_shut}
+use Rattle.board_spec.specs.Decode.{Bytes, Window, is_covered, base_value, rom_value, memory_window, io_window, rom_window, rom_window_of, is_rom_on, vga_window, unselected_windows, io_windows, is_enabled_for, first_window, memory_claim, memory_shut, rom_unselected, io_claim, io_shut}
 use Rattle.pci_bars.specs.declared.claims.Gate.{Gate}
 use Rattle.pci_bars.specs.declared.claims.Gate.TheVariants.{Open, Shut}
 use Rattle.pci_bars.specs.declared.claims.Windows.{Windows}
@@ -108,12 +108,25 @@ vga_windows Ports card = []
 lowest_bit : (n : ℕ) → is_bit (byte n 0) 0 ≡ is_bit n 0
 lowest_bit n = ap (λ (b : ℕ). b == 1) (omega arith)
 
+-- a card without a ROM claims nothing by it
+none_there : (dev : ℕ) (b : Bool) → None ≡ of_dev dev (if b && false then Some 6 else None)
+none_there dev true = refl
+none_there dev false = refl
+
 pick_rom_of :
     (counts : ℕ → Bool) (windows : Windows) (bytes : Bytes) (card : FittedCard) (register place : ℕ) → counts card.dev ≡ true →
     (rom : Option ℕ) → card.rom ≡ rom → HoldsRom bytes card.dev register rom →
     pick counts place (rom_windows windows bytes card) ≡ of_dev card.dev (rom_claim windows card.rom register place)
-pick_rom_of counts Memory bytes card register place on None none held = rw none (elim (cases_Bool (is_rom_on bytes card.dev)) [ inl selected ↦ rw selected refl | inr not ↦ rw not refl ])
-pick_rom_of counts UnselectedRom bytes card register place on None none held = rw none (elim (cases_Bool (is_rom_on bytes card.dev)) [ inl selected ↦ rw selected refl | inr not ↦ rw not refl ])
+pick_rom_of counts Memory bytes card register place on None none held =
+    rw none (elim (cases_Bool (is_rom_on bytes card.dev)) [
+      | inl selected ↦ rw selected (none_there card.dev (is_bit register 0))
+      | inr unselected ↦ rw unselected (none_there card.dev (is_bit register 0))
+    ])
+pick_rom_of counts UnselectedRom bytes card register place on None none held =
+    rw none (elim (cases_Bool (is_rom_on bytes card.dev)) [
+      | inl selected ↦ rw selected (none_there card.dev (not (is_bit register 0)))
+      | inr unselected ↦ rw unselected (none_there card.dev (not (is_bit register 0)))
+    ])
 pick_rom_of counts Ports bytes card register place on rom is held = refl
 pick_rom_of counts Memory bytes card register place on (Some bits) some held =
     let selects : is_rom_on bytes card.dev ≡ is_bit register 0 = ap (λ n. is_bit n 0) (held.each 0 (lit< tt)) ∙ lowest_bit register in
@@ -137,9 +150,9 @@ pick_no_rom :
     (counts : ℕ → Bool) (windows : Windows) (bytes : Bytes) (card : FittedCard) (place : ℕ) → counts card.dev ≡ false →
     pick counts place (rom_windows windows bytes card) ≡ None
 pick_no_rom counts Memory bytes card place off =
-    elim (cases_Bool (is_rom_on bytes card.dev)) [ inl selected ↦ rw selected (pick_no_rom_of counts bytes card.dev place off card.rom) | inr not ↦ rw not refl ]
+    elim (cases_Bool (is_rom_on bytes card.dev)) [ inl selected ↦ rw selected (pick_no_rom_of counts bytes card.dev place off card.rom) | inr unselected ↦ rw unselected refl ]
 pick_no_rom counts UnselectedRom bytes card place off =
-    elim (cases_Bool (is_rom_on bytes card.dev)) [ inl selected ↦ rw selected refl | inr not ↦ rw not (pick_no_rom_of counts bytes card.dev place off card.rom) ]
+    elim (cases_Bool (is_rom_on bytes card.dev)) [ inl selected ↦ rw selected refl | inr unselected ↦ rw unselected (pick_no_rom_of counts bytes card.dev place off card.rom) ]
 pick_no_rom counts Ports bytes card place off = refl
 
 pick_vga :
@@ -164,7 +177,7 @@ pick_no_vga counts Ports card place off = refl
 
 -- its windows of such a kind, by their base numbers
 abbrev pub windows_in : Windows → Bytes → FittedCard → List Window
-windows_in windows bytes card = base_windows windows bytes card.dev 0 card.bases ++ (rom_windows windows bytes card ++ vga_windows windows card)
+windows_in windows bytes card = (base_windows windows bytes card.dev 0 card.bases ++ rom_windows windows bytes card) ++ vga_windows windows card
 
 of_dev_or : (dev : ℕ) (a b : Option ℕ) → option_or (of_dev dev a) (of_dev dev b) ≡ of_dev dev (option_or a b)
 of_dev_or dev None b = refl
@@ -179,19 +192,19 @@ pick_card counts windows setup bytes place card on fit is =
     pick_bases counts windows bytes card.card.dev place card.bases on (λ k below. (is.bases k below).number) 0 card.card.bases (let few = fit.count in omega arith) in
     let rom : pick counts place (rom_windows windows bytes card.card) ≡ of_dev card.card.dev (rom_claim windows card.card.rom card.rom place) =
     pick_rom_of counts windows bytes card.card card.rom place on card.card.rom refl is.rom in
-    pick-append counts place (base_windows windows bytes card.card.dev 0 card.card.bases) (rom_windows windows bytes card.card ++ vga_windows windows card.card)
-    ∙ ap (option_or (pick counts place (base_windows windows bytes card.card.dev 0 card.card.bases))) (pick-append counts place (rom_windows windows bytes card.card) (vga_windows windows card.card))
+    pick-append counts place (base_windows windows bytes card.card.dev 0 card.card.bases ++ rom_windows windows bytes card.card) (vga_windows windows card.card)
+    ∙ ap (λ first. option_or first (pick counts place (vga_windows windows card.card))) (pick-append counts place (base_windows windows bytes card.card.dev 0 card.card.bases) (rom_windows windows bytes card.card))
     ∙ rw (bases, rom, pick_vga counts windows card.card place on)
-    (ap (option_or (of_dev card.card.dev (covering windows card.bases place 0 card.card.bases)))
-    (of_dev_or card.card.dev (rom_claim windows card.card.rom card.rom place) (vga_claim windows card.card.vga place))
-    ∙ of_dev_or card.card.dev (covering windows card.bases place 0 card.card.bases) (option_or (rom_claim windows card.card.rom card.rom place) (vga_claim windows card.card.vga place)))
+    (ap (λ first. option_or first (of_dev card.card.dev (vga_claim windows card.card.vga place)))
+    (of_dev_or card.card.dev (covering windows card.bases place 0 card.card.bases) (rom_claim windows card.card.rom card.rom place))
+    ∙ of_dev_or card.card.dev (option_or (covering windows card.bases place 0 card.card.bases) (rom_claim windows card.card.rom card.rom place)) (vga_claim windows card.card.vga place))
 
 pick_no_card :
     (counts : ℕ → Bool) (windows : Windows) (bytes : Bytes) (place : ℕ) (card : FittedCard) → counts card.dev ≡ false →
     pick counts place (windows_in windows bytes card) ≡ None
 pick_no_card counts windows bytes place card off =
-    pick-append counts place (base_windows windows bytes card.dev 0 card.bases) (rom_windows windows bytes card ++ vga_windows windows card)
-    ∙ rw (pick_no_bases counts windows bytes card.dev place off 0 card.bases, pick-append counts place (rom_windows windows bytes card) (vga_windows windows card), pick_no_rom counts windows bytes card place off)
+    pick-append counts place (base_windows windows bytes card.dev 0 card.bases ++ rom_windows windows bytes card) (vga_windows windows card)
+    ∙ rw (pick-append counts place (base_windows windows bytes card.dev 0 card.bases) (rom_windows windows bytes card), pick_no_bases counts windows bytes card.dev place off 0 card.bases, pick_no_rom counts windows bytes card place off)
     (pick_no_vga counts windows card place off)
 
 -- ---- all cards
@@ -247,6 +260,10 @@ same_windows counts place f g same cards = ap (first_window counts place) (flat_
     flat_map-same f g same [] = refl
     flat_map-same f g same (card ∷ later) = rw (same card, flat_map-same f g same later) refl
 
+-- cards have no ROM and no VGA window among the ports
+pub io_windows_are : (bytes : Bytes) (card : FittedCard) → windows_in Ports bytes card ≡ io_windows bytes card
+io_windows_are bytes card = append-nil (io_windows bytes card ++ []) ∙ append-nil (io_windows bytes card)
+
 device_alone : (found : Option Window) → option_map {T = ℕ × ℕ} (λ named. named.0) (option_map {U = ℕ × ℕ} (λ window. (window.dev, window.base)) found) ≡ option_map (λ window. window.dev) found
 device_alone None = refl
 device_alone (Some window) = refl
@@ -264,7 +281,7 @@ unfolding io_claim
 io_claimed setup bytes cards port fit are =
     claim_is Ports Open setup bytes cards port fit are
     ∙ ap (option_map {U = ℕ × ℕ} (λ window. (window.dev, window.base)))
-    (same_windows (is_enabled_for 0 bytes) port (windows_in Ports bytes) (io_windows bytes) (λ card. append-nil (io_windows bytes card)) setup.cards)
+    (same_windows (is_enabled_for 0 bytes) port (windows_in Ports bytes) (io_windows bytes) (io_windows_are bytes) setup.cards)
 
 pub memory_is_shut :
     (setup : Setup) (bytes : Bytes) (cards : List CardBytes) (addr : ℕ) → AreCards cards → AreDecoded setup bytes cards →
@@ -284,7 +301,7 @@ rom_is_unselected setup bytes cards addr fit are =
     ∙ ap (option_map (λ window. window.dev))
     (same_windows (is_enabled_for 1 bytes) addr (windows_in UnselectedRom bytes) (unselected_windows bytes) (λ card. no_bases bytes card.dev 0 card.bases (unselected_windows bytes card)) setup.cards)
   where
-    no_bases : (bytes : Bytes) (dev k : ℕ) (bases : List Base) (rest : List Window) → base_windows UnselectedRom bytes dev k bases ++ (rest ++ []) ≡ rest
+    no_bases : (bytes : Bytes) (dev k : ℕ) (bases : List Base) (rest : List Window) → (base_windows UnselectedRom bytes dev k bases ++ rest) ++ [] ≡ rest
     no_bases bytes dev k [] rest = append-nil rest
     no_bases bytes dev k (base ∷ later) rest = no_bases bytes dev (k + 1) later rest
 
@@ -296,4 +313,4 @@ io_is_shut setup bytes cards port fit are =
     ap (option_map {T = ℕ × ℕ} (λ named. named.0)) (claim_is Ports Shut setup bytes cards port fit are)
     ∙ device_alone (first_window (λ dev. not (is_enabled_for 0 bytes dev)) port (flat_map (windows_in Ports bytes) setup.cards))
     ∙ ap (option_map (λ window. window.dev))
-    (same_windows (λ dev. not (is_enabled_for 0 bytes dev)) port (windows_in Ports bytes) (io_windows bytes) (λ card. append-nil (io_windows bytes card)) setup.cards)
+    (same_windows (λ dev. not (is_enabled_for 0 bytes dev)) port (windows_in Ports bytes) (io_windows bytes) (io_windows_are bytes) setup.cards)

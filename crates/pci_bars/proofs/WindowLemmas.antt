@@ -4,7 +4,6 @@ use Rattle.std.specs.Prelude.{◌==◌, All, find, flat_map, slice_get}
 use Rattle.std.proofs.lemmas.Bool.{cases_Bool, ne_eqb}
 use Rattle.std.proofs.lemmas.Nat.{pow-add, pow_pos, mod-pow-add}
 use Rattle.std.proofs.Math.Nat.{mod-lt}
-use Rattle.std.proofs.lemmas.List.{append-nil}
 use Rattle.std.proofs.lemmas.List.Elements.{All-nil, All-cons, All-head, All-tail, All-append}
 use Rattle.board_spec.specs.Setup.{Base, MemoryBase, IoBase, FittedCard, Setup, IsBase, IsExpansionRom, IsCard, card_at}
 use Rattle.board_base.specs.declared.access.Width.{Width}
@@ -19,7 +18,7 @@ use Rattle.pci_bars.specs.Cards.{CardBytes, DecodesAs, AreCards, AreDecoded, car
 use Rattle.pci_bars.specs.Bases.{base_size}
 use Rattle.pci_bars.specs.Contents.{IsBaseNumber, LiesIn, IsContentsOf, kept_size}
 use Rattle.pci_bars.proofs.BaseLemmas.{is_base}
-use Rattle.pci_bars.proofs.ClaimLemmas.{window_in, base_windows, rom_windows, vga_windows, windows_in, same_windows}
+use Rattle.pci_bars.proofs.ClaimLemmas.{window_in, base_windows, rom_windows, vga_windows, windows_in, same_windows, io_windows_are}
 
 -- a window is that of a base of the setup's cards, and has its size
 pub record IsSized (setup : Setup) (window : Window) : Type 0 where
@@ -127,9 +126,11 @@ sized_card :
     (windows : Windows) (setup : Setup) (bytes : Bytes) (card : FittedCard) → IsCard card → card_at setup card.dev ≡ Some card →
     All (IsSized setup) (windows_in windows bytes card)
 sized_card windows setup bytes card fit fitted =
-    All-append (IsSized setup) (base_windows windows bytes card.dev 0 card.bases) (rom_windows windows bytes card ++ vga_windows windows card)
+    All-append (IsSized setup) (base_windows windows bytes card.dev 0 card.bases ++ rom_windows windows bytes card) (vga_windows windows card)
+    (All-append (IsSized setup) (base_windows windows bytes card.dev 0 card.bases) (rom_windows windows bytes card)
     (sized_bases windows setup bytes card fit fitted 0 card.bases (let few = fit.count in omega arith) (λ i. ap (slice_get card.bases) (omega arith)))
-    (All-append (IsSized setup) (rom_windows windows bytes card) (vga_windows windows card) (sized_rom windows setup bytes card fit fitted) (sized_vga windows setup card fit fitted))
+    (sized_rom windows setup bytes card fit fitted))
+    (sized_vga windows setup card fit fitted)
 
 sized_cards :
     (windows : Windows) (setup : Setup) (bytes : Bytes) (cards : List CardBytes) → AreCards cards → All (DecodesAs setup bytes) cards →
@@ -158,7 +159,7 @@ unfolding io_claim
 io_claim_sized setup bytes cards port window fit are found =
     All-find (IsSized setup) (λ window. is_enabled_for 0 bytes window.dev && is_covered port window) (flat_map (windows_in Ports bytes) (cards_of cards)) window
     (sized_cards Ports setup bytes cards fit are.1)
-    (same_windows (is_enabled_for 0 bytes) port (windows_in Ports bytes) (io_windows bytes) (λ card. append-nil (io_windows bytes card)) (cards_of cards) ∙ rw are.0 at found)
+    (same_windows (is_enabled_for 0 bytes) port (windows_in Ports bytes) (io_windows bytes) (io_windows_are bytes) (cards_of cards) ∙ rw are.0 at found)
 
 -- ---- an aligned access in a window
 

@@ -48,8 +48,9 @@ vga_claim Ports vga place = None
 -- the base of a card that covers a place
 abbrev pub covering_base : Windows → (place : ℕ) → CardBytes → Option ℕ
 covering_base windows place card =
-    option_or (covering windows card.bases place 0 card.card.bases)
-    (option_or (rom_claim windows card.card.rom card.rom place) (vga_claim windows card.card.vga place))
+    option_or
+    (option_or (covering windows card.bases place 0 card.card.bases) (rom_claim windows card.card.rom card.rom place))
+    (vga_claim windows card.card.vga place)
 
 -- a card's command lets it decode memory by bit 1, and ports by bit 0
 abbrev pub is_enabled : Windows → CardBytes → Bool

@@ -4,7 +4,7 @@ use Rattle.board_base.specs.declared.access.Width.{Width}
 use Rattle.board_base.specs.Access.{bytes_of}
 use Rattle.board_spec.specs.declared.event.Entry.{Entry}
 use Rattle.board_spec.specs.Setup.{FittedCard, Setup, card_at}
-use Rattle.board_spec.specs.Stored.{CardCell, expansion_byte, stored_of}
+use Rattle.board_spec.specs.Stored.{card_byte, expansion_byte}
 use Rattle.pci_bars.specs.Bases.{base_size, of_base}
 
 -- devices 2 to 9 have bases 0 to 5, the expansion ROM as base 6, and the VGA window as base 7
@@ -37,10 +37,10 @@ pub record LiesIn (contents : List (List ℕ)) (dev base off : ℕ) (width : Wid
   pub number : IsBaseNumber dev base
   pub fits : base ≢ 6 → off + bytes_of width ≤ length (held contents dev base)
 
--- each base of the setup's cards has its size, and holds what the last write in a history left there. The
--- bytes of expansion ROMs are `card_byte`'s without any being kept
+-- each base of the setup's cards has its size, and holds what the last write in a history left there, or the
+-- fixed bytes of an expansion ROM
 pub record IsContentsOf (setup : Setup) (history : List Entry) (contents : List (List ℕ)) : Type 0 where
   pub sizes : (dev base : ℕ) → IsBaseNumber dev base →
       length (held contents dev base) ≡ kept_size (card_at setup dev) base
   pub bytes : (dev base off : ℕ) → IsBaseNumber dev base → off < kept_size (card_at setup dev) base →
-      held_byte contents dev base off ≡ stored_of history (CardCell dev base off)
+      held_byte contents dev base off ≡ card_byte history dev base off

@@ -1,5 +1,5 @@
 //! Which card answers at an address or a port (PCI Local Bus 2.1, sections 6.2.2 and 6.2.5).
-ghost use Rattle.std.specs.Prelude.{◌≡◌, ◌≤◌, ◌%◌, ◌^◌, ◌==◌, ℕ, All, Some, find, length, map, option_map};
+ghost use Rattle.std.specs.Prelude.{◌≡◌, ◌≤◌, ◌%◌, ◌^◌, ◌==◌, ℕ, All, None, find, length, map, option_map};
 ghost use Rattle.board_spec.specs.Setup.{Setup, IsBase, IsCard, IsExpansionRom};
 ghost use Rattle.board_spec.specs.Answer.{window_bits};
 ghost use Rattle.board_spec.specs.Decode.{Bytes, Window, memory_claim, memory_shut, rom_unselected, io_claim, io_shut};
@@ -114,11 +114,17 @@ fn bits_at(cards: &[CardRegs], dev: u8, base: u8) -> u8
     ensures bits { result ≡ bits_in (find (λ card. card.dev == dev) (cards_of cards.now)) base }
     ensures most { result ≤ 24 }
 {
-    for fitted in cards {
-        if fitted.spec.dev == dev {
-            return fitted.spec.window_bits(base);
-        }
+    match card_at(cards, dev) {
+        Some(card) => card.spec.window_bits(base),
+        None => bits_of_none(base),
     }
+}
+
+/// What counts as the size of a base that no card has.
+fn bits_of_none(base: u8) -> u8
+    ensures bits { result ≡ bits_in None base }
+    ensures most { result ≤ 24 }
+{
     if base == VGA_BASE { VGA_BITS } else { 0 }
 }
 
@@ -153,7 +159,11 @@ fn gate_of(card: &CardRegs, windows: Windows) -> Gate
         Windows::Memory | Windows::UnselectedRom => MEMORY_ENABLE,
         Windows::Ports => IO_ENABLE,
     };
-    if is_set(u32::from(card.command), enable) { Gate::Open } else { Gate::Shut }
+    if is_set(u32::from(card.command), enable) {
+        Gate::Open
+    } else {
+        Gate::Shut
+    }
 }
 
 /// The lowest base of a card that covers a place, whatever its gate.
@@ -168,7 +178,12 @@ fn base_at(card: &CardRegs, windows: Windows, place: u32) -> Option<u8>
 }
 
 /// The number of the first base that covers a place.
-fn first_covering(bases: &[BaseSpec], values: &[u32; BASE_COUNT], windows: Windows, place: u32) -> Option<u8>
+fn first_covering(
+    bases: &[BaseSpec],
+    values: &[u32; BASE_COUNT],
+    windows: Windows,
+    place: u32,
+) -> Option<u8>
     requires bases { All IsBase (map base_of bases.now) }
     requires count { length bases.now ≤ 6 }
     ensures first { result ≡ covering windows values.now place 0 (map base_of bases.now) }
@@ -210,7 +225,9 @@ fn vga_at(vga: bool, windows: Windows, place: u32) -> Option<u8>
     ensures claim { result ≡ vga_claim windows vga place }
 {
     match windows {
-        Windows::Memory if vga && place >> VGA_BITS == SMRAM_RANGE.first >> VGA_BITS => Some(VGA_BASE),
+        Windows::Memory if vga && place >> VGA_BITS == SMRAM_RANGE.first >> VGA_BITS => Some(
+            VGA_BASE,
+        ),
         _ => None,
     }
 }

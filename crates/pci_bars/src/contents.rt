@@ -1,17 +1,17 @@
 //! The bytes behind the bases of the cards.
-ghost use Rattle.std.specs.Prelude.{◌≡◌, ◌≢◌, ◌≤◌, ◌<◌, ◌+◌, ◌-◌, ◌==◌, ◌&&◌, nat_le, nat_lt, if◌then◌else◌, ℕ, List, [], ◌∷◌, All, find, length, slice_index, IfOk, unwrap_or};
+ghost use Rattle.std.specs.Prelude.{◌≡◌, ◌≢◌, ◌≤◌, ◌<◌, ◌==◌, ℕ, List, [], ◌∷◌, All, find, length, IfOk, unwrap_or};
 ghost use Rattle.board_base.specs.declared.access.Width.{Width};
 ghost use Rattle.board_base.specs.declared.target.Target.TheVariants.{Card};
-ghost use Rattle.board_base.specs.Access.{bytes_of, largest_of};
+ghost use Rattle.board_base.specs.Access.{largest_of};
 ghost use Rattle.board_spec.specs.declared.event.Entry.{Entry};
 ghost use Rattle.board_spec.specs.Setup.{Setup, IsCard};
-ghost use Rattle.board_spec.specs.Bits.{byte, wide};
+ghost use Rattle.board_spec.specs.Bits.{wide};
 ghost use Rattle.board_spec.specs.Stored.{CardCell, byte_put, card_byte, entry_put, expansion_byte};
 ghost use Rattle.pci_bars.specs.Contents.{IsBaseNumber, slot_number, held, held_byte, kept_size, LiesIn, IsContentsOf};
 
 use crate::spec::{CardSpec, ROM_BASE};
 use board_base::{NoMemory, Width};
-use byteorder::{ByteOrder, LittleEndian};
+use board_spec::wide::{read_at, write_at};
 use std::alloc::Global;
 use std::marker::Model;
 
@@ -26,7 +26,7 @@ const BASE_NUMBERS: u8 = 8;
 pub fn expansion_byte(dev: u8, off: u32) -> u8
     ensures byte { result ≡ expansion_byte dev off }
 {
-    dev.wrapping_add(off as u8)
+    dev.wrapping_add((off % 0x100) as u8)
 }
 
 /// The bytes of each base and of each VGA window, which begin with zeros. Those of an expansion ROM are not kept,
@@ -87,7 +87,7 @@ impl Contents {
         if base == ROM_BASE {
             return rom_value(dev, off, width);
         }
-        value_at(&self.buffers[slot_of(dev, base)], off as usize, width)
+        read_at(&self.buffers[slot_of(dev, base)], off as usize, width)
     }
 
     /// Writes a value at an offset in a base, its low byte first. A write to an expansion ROM is lost.
@@ -104,7 +104,7 @@ impl Contents {
             → IsContentsOf setup (entry ∷ history) self.new }
     {
         if base != ROM_BASE {
-            put(
+            write_at(
                 &mut self.buffers[slot_of(dev, base)],
                 off as usize,
                 width,
@@ -146,31 +146,5 @@ fn rom_value(dev: u8, off: u32, width: Width) -> u32
         expansion_byte(dev, off.wrapping_add(2)),
         expansion_byte(dev, off.wrapping_add(3)),
     ];
-    value_at(&bytes, 0, width)
-}
-
-/// The value from a place on, its low byte first.
-fn value_at(bytes: &[u8], at: usize, width: Width) -> u32
-    requires place { at + bytes_of width ≤ length bytes.now }
-    ensures value { result ≡ wide (λ k. slice_index bytes.now k) at width }
-{
-    match width {
-        Width::One => u32::from(bytes[at]),
-        Width::Two => u32::from(LittleEndian::read_u16(&bytes[at..])),
-        Width::Four => LittleEndian::read_u32(&bytes[at..]),
-    }
-}
-
-/// Writes a value from a place on, its low byte first.
-fn put(bytes: &mut [u8], at: usize, width: Width, value: u32)
-    requires place { at + bytes_of width ≤ length bytes.old }
-    requires value { value ≤ largest_of width }
-    ensures bytes { (k : ℕ) → slice_index bytes.new k
-        ≡ (if nat_le at k && nat_lt k (at + bytes_of width) then byte value (k - at) else slice_index bytes.old k) }
-{
-    match width {
-        Width::One => bytes[at] = value as u8,
-        Width::Two => LittleEndian::write_u16(&mut bytes[at..], value as u16),
-        Width::Four => LittleEndian::write_u32(&mut bytes[at..], value),
-    }
+    read_at(&bytes, 0, width)
 }

@@ -8,7 +8,7 @@ mod contents;
 mod regs;
 mod spec;
 
-pub use cards::{CARD_COUNT, card_at, push_card};
+pub use cards::{CARD_COUNT, card_at, card_index, push_card};
 pub use claims::{claim_io, claim_mem, offset_in, shut_io, shut_mem, unselected_rom};
 pub use contents::{Contents, expansion_byte};
 pub use regs::CardRegs;
