@@ -1,7 +1,7 @@
 ghost use Rattle.std.specs.Prelude.{◌≡◌, ◌≤◌, ◌<◌, []};
 ghost use Rattle.board_spec.specs.Setup.{IsBase, IsCard};
 ghost use Rattle.pci_bars.specs.Bases.{base_of};
-ghost use Rattle.addr_decode.specs.MapRegs.{AreFitted};
+ghost use Rattle.pci_bars.specs.Cards.{AreFitted};
 
 use crate::{MapChange, MapRegs, PortRegs, SixAreas, decode, decode_port, next_edge, row, touches};
 use arrayvec::ArrayVec;
@@ -23,6 +23,7 @@ fn card(dev: u8, base: BaseSpec) -> CardSpec
         dev,
         vga: false,
         bases,
+        rom: None,
     }
 }
 
