@@ -3,6 +3,7 @@ use Rattle.std.specs.Prelude.{◌≡◌, ◌≢◌, ℕ, ◌%◌, ◌^◌, List,
 use mathlib.Core.List.{IsPrefix}
 use Rattle.atomic_table.specs.Table.{Me, Step}
 use Rattle.bus_turn.specs.declared.view.View.{View}
+use Rattle.bus_turn.specs.declared.view.Stage.{Stage}
 use Rattle.bus_turn.specs.declared.view.Stage.TheVariants.{Idle, Waits, Holds}
 use Rattle.bus_turn.specs.Views.{own_by, staged, sees, commits}
 
@@ -13,6 +14,11 @@ pub record Fits {T E F : Type 0} (entries : T → List E) (actor : E → ℕ) (f
   pub mine : own_by actor v.number (drop (length v.opened) (entries x)) ≡ v.mine
   pub part : v.fixed ≡ Some (fixed x)
 
+-- the ticket of a pass that waits
+abbrev pub ticket_of : Stage → ℕ
+ticket_of (Waits t) = t
+ticket_of _ = 0
+
 abbrev Told : Type 0 → Type 0 → Type 0 → Type 1
 Told T E F = Step (Option T) → Me (Option T) (View E F) → ℕ → Me (Option T) (View E F) → Type 0
 
@@ -21,10 +27,11 @@ module _ {T E F : Type 0} where
   abbrev pub drew : Told T E F
   drew st m found m' = (t : ℕ) × (t % 2 ^ 64 ≡ found) × (m' ≡ (staged m.0 (Waits t), m.1))
 
-  -- the ticket t is served, and the slot was taken, or nothing changed
+  -- the pass's ticket is served, and the slot was taken, or nothing changed
   abbrev pub called : (T → List E) → (E → ℕ) → (T → F) → Told T E F
-  called entries actor fixed st m found m' = (t : ℕ) → m.0.stage ≡ Waits t
-      → (t % 2 ^ 64 ≡ found → (x : T) × (m' ≡ (sees m.0 Holds (entries x), (0, Some x) ∷ m.1)) × Fits entries actor fixed m.0 x) × (t % 2 ^ 64 ≢ found → m' ≡ m)
+  called entries actor fixed st m found m' =
+      (ticket_of m.0.stage % 2 ^ 64 ≡ found → (x : T) × (m' ≡ (sees m.0 Holds (entries x), (0, Some x) ∷ m.1)) × Fits entries actor fixed m.0 x)
+      × (ticket_of m.0.stage % 2 ^ 64 ≢ found → m' ≡ m)
 
   abbrev pub counted : List E → Told T E F
   counted added st m found m' = m' ≡ (commits m.0 added, m.1)

@@ -39,7 +39,7 @@ abbrev pub gone : Stage → ℕ
 gone Spent = 1
 gone _ = 0
 
-pub total : {A : Type 0} → (A → ℕ) → List A → ℕ
+abbrev pub total : {A : Type 0} → (A → ℕ) → List A → ℕ
 total f [] = 0
 total f (x ∷ xs) = f x + total f xs
 
@@ -60,7 +60,7 @@ module _ {E F : Type 0} where
   abbrev pub AreJoined : List (View E F) → Type 0
   AreJoined views = total is_gone views ≡ total joins views
 
-module _ {T E F : Type 0} (entries : T → List E) (actor : E → ℕ) (fixed : T → F) (first : List E) (part : F) where
+module _ {T E : Type 0} (first : List E) where
   -- all entries
   abbrev pub log_of : Book T E → List E
   log_of b = first ++ b.since
@@ -68,37 +68,39 @@ module _ {T E F : Type 0} (entries : T → List E) (actor : E → ℕ) (fixed : 
   abbrev pub words_of : Book T E → List ℕ
   words_of b = (b.ticket % 2 ^ 64) ∷ (b.serving % 2 ^ 64) ∷ (length (log_of b) % 2 ^ 64) ∷ []
 
+  -- the pass i, which has seen this list, is at this stage
   abbrev pub AtStage : Book T E → ℕ → List E → Stage → Type 0
   AtStage b i seen Idle = Unit {0}
   AtStage b i seen (Waits t) = (b.serving ≤ t) × (t < b.ticket) × (b.owner t ≡ i)
   AtStage b i seen Holds = (b.serving < b.ticket) × (b.owner b.serving ≡ i) × (b.place ≡ away) × (seen ≡ log_of b)
   AtStage b i seen Spent = Unit {0}
 
-  -- what the pass i knows. Its number is its place among the views
-  pub record Knows (b : Book T E) (views : List (View E F)) (i : ℕ) (v : View E F) : Type 0 where
-    pub opened : v.opened ≡ first
-    pub part_is : v.fixed ≡ Some part
-    pub begins : IsPrefix v.seen (log_of b)
-    pub told : IsPrefix v.told (log_of b)
-    pub number : v.number ≡ i
-    pub splits : i ≡ 0 → v.splits + 1 ≡ length views
-    pub mine : own_by actor i b.since ≡ v.mine
-    pub joined : All (λ p. (own_by actor p.0 b.since ≡ p.1) × IsSpent views p.0) v.joined
-    pub stage : AtStage b i v.seen v.stage
+-- what the pass i knows. Its number is its place among the views
+pub record Knows {T E F : Type 0} (actor : E → ℕ) (first : List E) (part : F) (b : Book T E) (views : List (View E F)) (i : ℕ) (v : View E F) : Type 0 where
+  pub opened : v.opened ≡ first
+  pub part_is : v.fixed ≡ Some part
+  pub begins : IsPrefix v.seen (log_of first b)
+  pub told : IsPrefix v.told (log_of first b)
+  pub number : v.number ≡ i
+  pub splits : i ≡ 0 → v.splits + 1 ≡ length views
+  pub mine : own_by actor i b.since ≡ v.mine
+  pub joined : All (λ p. (own_by actor p.0 b.since ≡ p.1) × IsSpent views p.0) v.joined
+  pub stage : AtStage first b i v.seen v.stage
 
-  abbrev pub Lies : Book T E → List (View E F) → Place T → Type 0
-  Lies b views (home x) = (entries x ≡ log_of b) × (fixed x ≡ part)
-  Lies b views away = (v : View E F) × (get_elem? views (b.owner b.serving) ≡ some v) × (v.stage ≡ Holds)
+-- the value in the slot has all entries, or the pass whose ticket is served holds it
+abbrev pub Lies : {T E F : Type 0} → (T → List E) → (T → F) → List E → F → Book T E → List (View E F) → Place T → Type 0
+Lies entries fixed first part b views (home x) = (entries x ≡ log_of first b) × (fixed x ≡ part)
+Lies {T} {E} {F} entries fixed first part b views away = (v : View E F) × (get_elem? views (b.owner b.serving) ≡ some v) × (v.stage ≡ Holds)
 
-  pub record Ordered (s : State (Option T) (View E F)) : Type 0 where
-    pub book : Book T E
-    pub words_are : s.words ≡ words_of book
-    pub home_is : s.homes ≡ slot_of book.place ∷ []
-    pub out : book.ticket ≡ book.serving + total waits s.views
-    pub few : (0 < length s.views) × (length s.views ≤ 256)
-    pub lies : Lies book s.views book.place
-    pub each_seat : (i : ℕ) (v : View E F) → get_elem? s.views i ≡ some v → v.stage ≢ Spent → Knows book s.views i v
-    pub numbered : All (λ e. actor e < length s.views) book.since
+pub record Ordered {T E F : Type 0} (entries : T → List E) (actor : E → ℕ) (fixed : T → F) (first : List E) (part : F) (s : State (Option T) (View E F)) : Type 0 where
+  pub book : Book T E
+  pub words_are : s.words ≡ words_of first book
+  pub home_is : s.homes ≡ slot_of book.place ∷ []
+  pub out : book.ticket ≡ book.serving + total waits s.views
+  pub few : (0 < length s.views) × (length s.views ≤ 256)
+  pub lies : Lies entries fixed first part book s.views book.place
+  pub each_seat : (i : ℕ) (v : View E F) → get_elem? s.views i ≡ some v → v.stage ≢ Spent → Knows actor first part book s.views i v
+  pub numbered : All (λ e. actor e < length s.views) book.since
 
-  abbrev pub Ruled : State (Option T) (View E F) → Type 0
-  Ruled s = Ordered s × AreJoined s.views
+abbrev pub Ruled : {T E F : Type 0} → (T → List E) → (E → ℕ) → (T → F) → List E → F → State (Option T) (View E F) → Type 0
+Ruled entries actor fixed first part s = Ordered entries actor fixed first part s × AreJoined s.views
