@@ -1,5 +1,5 @@
 -- What a step of one pass leaves true of the others.
-use Rattle.std.proofs.Common.{◌≡◌, ◌≢◌, ◌⊎◌, inl, inr, ⊎_elim, ℕ, ◌+◌, ◌≤◌, ◌<◌, List, [], ◌∷◌, ◌++◌, length, set, All, Option, length-set, sym, refl, ap, ◌∙◌, subst, arith}
+use Rattle.std.proofs.Common.{◌≡◌, ◌≢◌, ⊎_elim, ℕ, ◌+◌, ◌<◌, List, [], ◌∷◌, length, set, All, Option, length-set, sym, refl, ap, ◌∙◌, subst, arith}
 use mathlib.Core.Option.{some, some-injective}
 use mathlib.Core.Option as maybe
 use mathlib.Core.List.{IsPrefix}
@@ -9,7 +9,7 @@ use Rattle.atomic_table.specs.Table.{State}
 use Rattle.atomic_table.proofs.Lists.{at_set, set_else}
 use Rattle.bus_turn.specs.declared.view.View.{View}
 use Rattle.bus_turn.specs.declared.view.Stage.{Stage}
-use Rattle.bus_turn.specs.declared.view.Stage.TheVariants.{Idle, Waits, Holds, Spent}
+use Rattle.bus_turn.specs.declared.view.Stage.TheVariants.{Holds, Spent}
 use Rattle.bus_turn.specs.Views.{own_by, spent}
 use Rattle.bus_turn.specs.Rule.{Place, home, away, slot_of, Book, gone, waits, is_gone, joins, total, IsSpent, AreJoined, log_of, words_of, AtStage, Knows, Lies, Ordered}
 use Rattle.bus_turn.proofs.Sums.{total_set}
@@ -83,7 +83,7 @@ module _ {T E F : Type 0} (entries : T → List E) (actor : E → ℕ) (fixed : 
   }
 
   -- The pass id goes from the view v to w, and the book from that of r to b
-  pub moved : (s : State (Option T) V) (r : O s) (id : ℕ) (v w : V) (words : List ℕ) (homes : List (maybe.Option (Option T))) (b : B) → get_elem? s.views id ≡ some v → v.stage ≢ Spent
+  unfoldable pub moved : (s : State (Option T) V) (r : O s) (id : ℕ) (v w : V) (words : List ℕ) (homes : List (maybe.Option (Option T))) (b : B) → get_elem? s.views id ≡ some v → v.stage ≢ Spent
       → words ≡ words_of first b → homes ≡ slot_of b.place ∷ [] → b.ticket + waits v + r.book.serving ≡ r.book.ticket + waits w + b.serving
       → Lies entries fixed first part b (set s.views id w) b.place → IsPrefix (log_of first r.book) (log_of first b)
       → ((n : ℕ) → n ≢ id → own_by actor n b.since ≡ own_by actor n r.book.since) → All (λ e. actor e < length s.views) b.since

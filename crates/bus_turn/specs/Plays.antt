@@ -1,5 +1,5 @@
 -- What each step on the table tells, of the seat before and the seat after.
-use Rattle.std.specs.Prelude.{◌≡◌, ◌≢◌, ℕ, ◌%◌, ◌^◌, List, [], ◌∷◌, length, drop, Option, Some}
+use Rattle.std.specs.Prelude.{◌≡◌, ◌≢◌, ℕ, ◌%◌, ◌^◌, List, [], ◌∷◌, ◌≤◌, length, drop, All, Option, Some}
 use mathlib.Core.List.{IsPrefix}
 use Rattle.atomic_table.specs.Table.{Me, Step}
 use Rattle.bus_turn.specs.declared.view.View.{View}
@@ -13,6 +13,12 @@ pub record Fits {T E F : Type 0} (entries : T → List E) (actor : E → ℕ) (f
   pub opened : IsPrefix v.opened (entries x)
   pub mine : own_by actor v.number (drop (length v.opened) (entries x)) ≡ v.mine
   pub part : v.fixed ≡ Some (fixed x)
+
+-- the value x is what a turn ends with, by the pass of `open`, into which all others were joined
+pub record Closes {T E F : Type 0} (entries : T → List E) (actor : E → ℕ) (fixed : T → F) (v : View E F) (x : T) : Type 0 where
+  pub fits : Fits entries actor fixed v x
+  pub joined : All (λ p. own_by actor p.0 (drop (length v.opened) (entries x)) ≡ p.1) v.joined
+  pub callers : All (λ e. actor e ≤ v.splits) (drop (length v.opened) (entries x))
 
 -- the ticket of a pass that waits
 abbrev pub ticket_of : Stage → ℕ

@@ -1,5 +1,5 @@
 -- What a pass knows, and how its view changes.
-use Rattle.std.specs.Prelude.{ℕ, ◌+◌, ◌==◌, List, [], ◌∷◌, ◌++◌, filter, Option, Some, None}
+use Rattle.std.specs.Prelude.{ℕ, ◌+◌, ◌==◌, List, [], ◌∷◌, ◌++◌, filter, Some, None}
 use Rattle.bus_turn.specs.declared.view.View.{View}
 use Rattle.bus_turn.specs.declared.view.Stage.{Stage}
 use Rattle.bus_turn.specs.declared.view.Stage.TheVariants.{Idle, Spent}

@@ -43,6 +43,7 @@ pub struct TurnOpen<T> {
 }
 
 impl<T: Kept> Turn<T> {
+    ghost use Rattle.bus_turn.specs.Plays.{Closes};
     ghost use Rattle.bus_turn.specs.Turns.{IsOf};
 
     /// Shares a value by turns, and gives the pass of the first caller, whose number is 0. Refused for want of memory.
@@ -175,10 +176,20 @@ impl<T: Kept> Turn<T> {
         requires joined { length (joined_of pass) ≡ splits_of pass }
         ensures begins { IsPrefix (seen_of pass) (T.entries result) }
         ensures opened { IsPrefix (opened_of pass) (T.entries result) }
-        ensures mine { own_by T.actor 0 (drop (length (opened_of pass)) (T.entries result)) ≡ mine_of pass }
+        ensures mine { own_by T.actor (number_of pass) (drop (length (opened_of pass)) (T.entries result)) ≡ mine_of pass }
         ensures joined { All (λ other. own_by T.actor other.0 (drop (length (opened_of pass)) (T.entries result)) ≡ other.1) (joined_of pass) }
         ensures callers { All (λ e. T.actor e ≤ splits_of pass) (drop (length (opened_of pass)) (T.entries result)) }
         ensures part { part_of pass ≡ Some (T.fixed result) }
+    {
+        self.end(pass)
+    }
+
+    fn end(self, pass: Pass<T>) -> T
+        requires own { IsOf self pass }
+        requires idle { IsIdle pass }
+        requires first { number_of pass ≡ 0 }
+        requires joined { length (joined_of pass) ≡ splits_of pass }
+        ensures closes { Closes T.entries T.actor T.fixed pass.me.0 result }
     {
         let Turn { table } = self;
         let mut closed = table.close_with(pass);
