@@ -5,11 +5,16 @@
 //! Nothing is claimed of progress, of fairness, or of an order in time between callers that never joined.
 #![tactic(auto)]
 
+pub mod example;
 mod kept;
 mod plays;
+pub mod sends;
 mod turn;
 mod view;
 
 pub use kept::Kept;
 pub use turn::{Held, Turn, TurnOpen};
 pub use view::{Order, Pass, Stage, View};
+
+#[cfg(test)]
+mod tests;
