@@ -14,13 +14,13 @@ use std::thread;
 use std::thread::Threads;
 
 // The most marks on a sheet.
-const MOST: usize = 1000;
+const MOST: usize = 1_000_000;
 
 /// A row of marks, each the number of the caller that made it.
 #[derive(Drop)]
 pub struct Sheet {
     pub marks: Vec<u8>,
-    ghost within: { length marks.items ≤ 1000 },
+    ghost within: { length marks.items ≤ 1_000_000 },
 }
 
 impl Kept for Sheet {
@@ -68,13 +68,8 @@ pub struct Tally {
     pub second: u32,
 }
 
-// One turn.
-pub(crate) fn mark_once<R: Wait>(
-    rt: &R,
-    turn: &Turn<Sheet>,
-    pass: &mut Pass<Sheet>,
-    number: u8,
-) -> bool
+/// One turn. It tells whether a mark was made.
+pub fn mark_once<R: Wait>(rt: &R, turn: &Turn<Sheet>, pass: &mut Pass<Sheet>, number: u8) -> bool
     requires own { IsOf turn.now pass.old }
     requires idle { IsIdle pass.old }
     requires number { number ≡ number_of pass.old }
@@ -94,8 +89,8 @@ pub(crate) fn mark_once<R: Wait>(
     false
 }
 
-// Some turns. It tells how many marks were made.
-fn mark_often<R: Wait>(
+/// Some turns. It tells how many marks were made.
+pub fn mark_often<R: Wait>(
     rt: &R,
     turn: &Turn<Sheet>,
     mut pass: Pass<Sheet>,
