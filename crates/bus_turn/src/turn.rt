@@ -22,7 +22,7 @@ const SERVING: usize = 1;
 const COUNT: usize = 2;
 
 // A caller spins this often before it gives the processor away between loads.
-const SPINS: u32 = 16;
+const SPINS: u32 = 4;
 
 /// A value that callers share by turns. The slot has the value, or nothing while a caller holds the turn.
 #[derive(Drop)]
