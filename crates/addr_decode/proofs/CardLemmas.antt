@@ -9,7 +9,8 @@ use Rattle.std.proofs.lemmas.List.Quantifiers.{position-Some}
 use Rattle.std.proofs.lemmas.Iterator.Adapters.{position_from-zero}
 use Rattle.board_spec.specs.Setup.{Setup, FittedCard, IsCard, IsCardList, Rises, card_at}
 use Rattle.board_spec.specs.RegisterTable.{reset_byte}
-use Rattle.board_spec.specs.Decode.{Bytes, card_register, base_value}
+use Rattle.board_spec.specs.Decode.{Bytes, base_value}
+use Rattle.board_spec.specs.RegisterNames.{card_register}
 use Rattle.pci_bars.specs.Cards.{CardBytes, DecodesAs, AreCards, AreDecoded, cards_of}
 use Rattle.addr_decode.specs.MapRegs.{AreFitted, AreReset, stored}
 use Rattle.addr_decode.proofs.StoreLemmas.{stored-elsewhere}

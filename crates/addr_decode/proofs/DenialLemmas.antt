@@ -6,7 +6,8 @@ use Rattle.board_base.specs.declared.target.Reg.{Reg}
 use Rattle.board_base.specs.declared.target.Denial.{Denial}
 use Rattle.board_base.specs.declared.target.Denial.TheVariants.{Register, NoRegister}
 use Rattle.board_spec.specs.Bits.{is_within}
-use Rattle.board_spec.specs.Decode.{Window, first_of, line_where, is_smram_range, bridge, isa, command_of, pam_register, abort_denial}
+use Rattle.board_spec.specs.Decode.{Window, first_of, line_where, is_smram_range, command_of, pam_register, abort_denial}
+use Rattle.board_spec.specs.RegisterNames.{bridge, isa}
 use Rattle.addr_decode.specs.Memory.{board_denial, card_denial}
 
 abbrev pub after_board : Option Denial → Option Window → ℕ → Denial

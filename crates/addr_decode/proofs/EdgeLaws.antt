@@ -13,7 +13,8 @@ use Rattle.board_base.specs.declared.target.Area.TheVariants.{Dram, Shadow, Smra
 use Rattle.board_base.specs.declared.target.Reg.{Reg}
 use Rattle.board_spec.specs.Setup.{Base, MemoryBase, IoBase, FittedCard, Setup}
 use Rattle.board_spec.specs.Bits.{is_within}
-use Rattle.board_spec.specs.Decode.{Bytes, Window, bridge, isa, boundary, row_of, is_in, hole_of, pam_register, is_high_window, nibble, is_open, is_shadow_range, is_shadowed, smram_answers, is_smram_range, is_rom_selected, is_covered, base_value, memory_window, vga_window, memory_windows, is_enabled_for, first_window, memory_claim, line_where, first_of, card_area, area_of}
+use Rattle.board_spec.specs.Decode.{Bytes, Window, boundary, row_of, is_in, hole_of, pam_register, is_high_window, nibble, is_open, is_shadow_range, is_shadowed, smram_answers, is_smram_range, is_rom_selected, is_covered, base_value, memory_window, vga_window, memory_windows, is_enabled_for, first_window, memory_claim, line_where, first_of, card_area, area_of}
+use Rattle.board_spec.specs.RegisterNames.{bridge, isa}
 use Rattle.board_spec.specs.FlatMap.{address_count, six_areas}
 use Rattle.addr_decode.specs.Edges.{fixed_edges, row_edges, first_address, window_edges, card_edges, edges_of, IsNextEdge, NoEdgeAbove, SameAreas, AreasChangeAtEdges}
 

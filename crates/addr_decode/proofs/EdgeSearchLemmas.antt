@@ -8,7 +8,8 @@ use Rattle.std.proofs.lemmas.List.Elements.{All-head, All-tail}
 use Rattle.std.proofs.lemmas.List.Sums.{fold-append}
 use Rattle.std.proofs.lemmas.Option.{same_Some}
 use Rattle.board_spec.specs.Setup.{Base, MemoryBase, IoBase, Setup, IsCard}
-use Rattle.board_spec.specs.Decode.{Bytes, bridge, boundary, base_value, memory_window}
+use Rattle.board_spec.specs.Decode.{Bytes, boundary, base_value, memory_window}
+use Rattle.board_spec.specs.RegisterNames.{bridge}
 use Rattle.board_spec.specs.FlatMap.{address_count}
 use Rattle.pmc_regs.specs.Pmc.{IsRowsOf}
 use Rattle.pci_bars.specs.Cards.{CardBytes, DecodesAs, AreCards, AreDecoded, cards_of}

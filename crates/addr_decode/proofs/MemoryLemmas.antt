@@ -7,7 +7,8 @@ use Rattle.board_base.specs.declared.target.Area.TheVariants.{Dram, Shadow, Smra
 use Rattle.board_base.specs.declared.access.Kind.{Kind}
 use Rattle.board_spec.specs.Setup.{Setup}
 use Rattle.board_spec.specs.Bits.{is_within}
-use Rattle.board_spec.specs.Decode.{Window, first_of, line_where, is_smram_range, is_shadow_range, card_area, area_under, Bytes, bridge, isa, row_of, is_in, hole_of, pam_register, is_high_window, nibble, is_open, is_shadowed, smram_answers, is_rom_selected, memory_claim, area_of}
+use Rattle.board_spec.specs.Decode.{Window, first_of, line_where, is_smram_range, is_shadow_range, card_area, area_under, Bytes, row_of, is_in, hole_of, pam_register, is_high_window, nibble, is_open, is_shadowed, smram_answers, is_rom_selected, memory_claim, area_of}
+use Rattle.board_spec.specs.RegisterNames.{bridge, isa}
 use Rattle.addr_decode.specs.Memory.{dram_area, above_dram, area_by}
 
 -- the table over the ranges that the address lies in

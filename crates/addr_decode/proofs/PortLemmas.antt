@@ -15,7 +15,8 @@ use Rattle.board_base.specs.Access.{bytes_of}
 use Rattle.board_spec.specs.Setup.{Setup, FittedCard, card_at}
 use Rattle.board_spec.specs.Bits.{is_bit, is_within}
 use Rattle.board_spec.specs.Registers.{is_enabled, is_config_port, config_register}
-use Rattle.board_spec.specs.Decode.{Bytes, isa, ide, first_of, line_where}
+use Rattle.board_spec.specs.Decode.{Bytes, first_of, line_where}
+use Rattle.board_spec.specs.RegisterNames.{isa, ide}
 use Rattle.board_spec.specs.Ports.{Decoded, device, config_port, byte_device, is_ata_port, selected_by, disk_port, other_port, port_target_of}
 use Rattle.board_spec.specs.RegisterTable.{Line, card_function, function_at, function_exists}
 use Rattle.cfg_ports.specs.declared.conf_add.Selected.{Selected}

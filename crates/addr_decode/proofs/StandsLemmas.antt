@@ -10,7 +10,8 @@ use Rattle.board_spec.specs.Setup.{Setup}
 use Rattle.board_spec.specs.Bits.{merged, byte}
 use Rattle.board_spec.specs.RegisterTable.{isa_bridge, reset_byte, writable_bits}
 use Rattle.board_spec.specs.Registers.{changed_byte, smram_after}
-use Rattle.board_spec.specs.Decode.{Bytes, bridge, isa, card_register}
+use Rattle.board_spec.specs.Decode.{Bytes}
+use Rattle.board_spec.specs.RegisterNames.{bridge, isa, card_register}
 use Rattle.board_spec.specs.MapWrites.{reg_after}
 use Rattle.board_spec.specs.WideStores.{after_stores}
 use Rattle.board_spec.proofs.StoreLemmas.{changed_byte-one_same, byte_by_byte}

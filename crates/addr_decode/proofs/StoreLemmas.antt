@@ -11,7 +11,8 @@ use Rattle.board_base.specs.declared.target.Reg.{Reg}
 use Rattle.board_spec.specs.Setup.{Setup}
 use Rattle.board_spec.specs.Bits.{byte}
 use Rattle.board_spec.specs.Registers.{covers}
-use Rattle.board_spec.specs.Decode.{Bytes, card_register}
+use Rattle.board_spec.specs.Decode.{Bytes}
+use Rattle.board_spec.specs.RegisterNames.{card_register}
 use Rattle.addr_decode.specs.MapRegs.{stored}
 
 abbrev pub Differs : Reg → Reg → Type 0

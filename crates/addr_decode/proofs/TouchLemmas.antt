@@ -10,7 +10,7 @@ use Rattle.board_base.specs.Access.{bytes_of}
 use Rattle.board_spec.specs.declared.map_change.MapChange.TheVariants.{Store}
 use Rattle.board_spec.specs.Setup.{Setup, card_at}
 use Rattle.board_spec.specs.Bits.{is_within}
-use Rattle.board_spec.specs.Decode.{bridge, isa, card_register}
+use Rattle.board_spec.specs.RegisterNames.{bridge, isa, card_register}
 use Rattle.board_spec.specs.MapWrites.{is_map_byte, reg_after, touches_map}
 use Rattle.addr_decode.specs.MapRegs.{overlaps}
 

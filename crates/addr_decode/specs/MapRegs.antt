@@ -8,7 +8,8 @@ use Rattle.board_spec.specs.declared.map_change.MapChange.TheVariants.{Store}
 use Rattle.board_spec.specs.RegisterTable.{reset_byte}
 use Rattle.board_spec.specs.Registers.{changed_byte}
 use Rattle.board_spec.specs.Setup.{Setup, Rises, card_at}
-use Rattle.board_spec.specs.Decode.{Bytes, bridge, isa, ide}
+use Rattle.board_spec.specs.Decode.{Bytes}
+use Rattle.board_spec.specs.RegisterNames.{bridge, isa, ide}
 use Rattle.pmc_regs.specs.Pmc.{IsRowsOf}
 use Rattle.pam_windows.specs.Pam.{IsPamOf}
 use Rattle.pci_bars.specs.Cards.{CardBytes, DecodesAs, AreCards, AreDecoded, cards_of}

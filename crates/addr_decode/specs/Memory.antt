@@ -5,7 +5,8 @@ use Rattle.board_base.specs.declared.target.Area.TheVariants.{Dram, Shadow, Smra
 use Rattle.board_base.specs.declared.target.Denial.{Denial}
 use Rattle.board_base.specs.declared.target.Denial.TheVariants.{Register, NoRegister}
 use Rattle.board_spec.specs.Bits.{is_within}
-use Rattle.board_spec.specs.Decode.{Window, line_where, is_smram_range, is_shadow_range, card_area, bridge, isa, card_register, pam_register}
+use Rattle.board_spec.specs.Decode.{Window, line_where, is_smram_range, is_shadow_range, card_area, pam_register}
+use Rattle.board_spec.specs.RegisterNames.{bridge, isa, card_register}
 
 -- where an access below the top of DRAM reaches it, over what the registers say of the address
 abbrev pub row_area : (row : ℕ) → (smram shadowed hole : Bool) → ℕ → Option Area

@@ -8,7 +8,7 @@ use Rattle.board_base.specs.declared.target.Dev.TheVariants.{Reset, Pic0, Pic1, 
 use Rattle.board_base.specs.declared.target.Denial.{Denial}
 use Rattle.board_base.specs.declared.target.Denial.TheVariants.{Register, NoRegister}
 use Rattle.board_spec.specs.Bits.{is_bit, is_within}
-use Rattle.board_spec.specs.Decode.{isa, ide}
+use Rattle.board_spec.specs.RegisterNames.{isa, ide}
 use Rattle.addr_decode.specs.declared.onboard.Onboard.{Onboard}
 use Rattle.addr_decode.specs.declared.onboard.Onboard.TheVariants.{Answers, Denied, Absent}
 

@@ -8,7 +8,8 @@ use Rattle.board_base.specs.declared.target.Denial.{Denial}
 use Rattle.board_base.specs.Access.{bytes_of}
 use Rattle.board_spec.specs.Setup.{Setup}
 use Rattle.board_spec.specs.Registers.{is_config_port, config_register}
-use Rattle.board_spec.specs.Decode.{Bytes, isa, ide}
+use Rattle.board_spec.specs.Decode.{Bytes}
+use Rattle.board_spec.specs.RegisterNames.{isa, ide}
 use Rattle.board_spec.specs.Ports.{Decoded, device, config_port, unselected, other_port}
 use Rattle.addr_decode.specs.declared.onboard.Onboard.{Onboard}
 use Rattle.addr_decode.specs.declared.onboard.Onboard.TheVariants.{Answers, Denied, Absent}

@@ -3,7 +3,8 @@ ghost use Rattle.std.specs.Prelude.{◌≡◌, ◌==◌, ◌+◌, ◌<◌, ◌++
 ghost use Rattle.std.specs.List.{position};
 ghost use Rattle.arrayvec.specs.ArrayVec.{array_vec_len};
 ghost use Rattle.board_spec.specs.Setup.{Setup, IsCard, card_at};
-ghost use Rattle.board_spec.specs.Decode.{Bytes, card_register};
+ghost use Rattle.board_spec.specs.Decode.{Bytes};
+ghost use Rattle.board_spec.specs.RegisterNames.{card_register};
 ghost use Rattle.pci_bars.specs.Cards.{AreDecoded, cards_of};
 ghost use Rattle.addr_decode.specs.MapRegs.{AreFitted, AreReset, stored};
 

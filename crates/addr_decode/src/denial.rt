@@ -2,7 +2,8 @@
 ghost use Rattle.std.specs.Prelude.{◌≡◌, ◌≤◌, Some, None};
 ghost use Rattle.board_base.specs.declared.target.Denial.TheVariants.{Register};
 ghost use Rattle.board_spec.specs.Setup.{Setup};
-ghost use Rattle.board_spec.specs.Decode.{Bytes, isa, pam_register, top_of as top_by, memory_shut, abort_denial, rom_denial, denial_in};
+ghost use Rattle.board_spec.specs.Decode.{Bytes, pam_register, top_of as top_by, memory_shut, abort_denial, rom_denial, denial_in};
+ghost use Rattle.board_spec.specs.RegisterNames.{isa};
 ghost use Rattle.addr_decode.specs.MapRegs.{AreFitted, StandsFor, map_bytes};
 ghost use Rattle.addr_decode.specs.Memory.{board_denial, card_denial};
 

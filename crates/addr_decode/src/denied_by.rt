@@ -1,7 +1,7 @@
 //! Denials by the registers that the address decode names.
 ghost use Rattle.std.specs.Prelude.{◌≡◌};
 ghost use Rattle.board_base.specs.declared.target.Denial.TheVariants.{Register};
-ghost use Rattle.board_spec.specs.Decode.{bridge, isa, ide, card_register};
+ghost use Rattle.board_spec.specs.RegisterNames.{bridge, isa, ide, card_register};
 
 use board_base::{Denial, Reg};
 use board_spec::offset::{COMMAND, HOST_BRIDGE, IDE, ISA_BRIDGE, SOUTH_BRIDGE};

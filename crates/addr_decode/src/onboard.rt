@@ -3,7 +3,7 @@ ghost use Rattle.std.specs.Prelude.{◌≡◌};
 ghost use Rattle.board_base.specs.declared.target.Dev.TheVariants.{Keyboard, Clock};
 ghost use Rattle.board_base.specs.declared.target.Denial.TheVariants.{Register};
 ghost use Rattle.board_spec.specs.Bits.{is_bit};
-ghost use Rattle.board_spec.specs.Decode.{isa};
+ghost use Rattle.board_spec.specs.RegisterNames.{isa};
 ghost use Rattle.addr_decode.specs.Onboard.{if_selected, disk_by, byte_port, wide_port, onboard_at};
 
 use crate::denied_by::{ide_function, isa_bridge};

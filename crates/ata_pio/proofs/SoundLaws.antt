@@ -3,9 +3,9 @@ use Rattle.std.proofs.Common.{ltb, leb, ◌≡◌, ◌≢◌, ℕ, ◌*◌, ◌/
 use Rattle.std.proofs.lemmas.Bool.{and_parts, ltb-true, leb-true, cases_Bool, cond-true, cond-false, eqb-true, eqb-false, or_parts, true≢false}
 use Rattle.std.proofs.lemmas.List.{length-replicate}
 use Rattle.board_base.specs.declared.access.Width.TheVariants.{One, Two, Four}
-use Rattle.ata_pio.specs.Ata.State.{power_on, Activity, Ready, Failed, Reading, Writing, Identifying, Drive, Disk, sectors_of, sector_bytes, stored, is_drq}
-use Rattle.ata_pio.specs.Ata.Commands.{ended, sector_written, commanded}
-use Rattle.ata_pio.specs.Ata.Steps.{bytes_written, activity_written, word_written, word_read, with_drive, after_word, byte_written, control_written, register_written}
+use Rattle.device_spec.specs.Ata.State.{power_on, Activity, Ready, Failed, Reading, Writing, Identifying, Drive, Disk, sectors_of, sector_bytes, stored, is_drq}
+use Rattle.device_spec.specs.Ata.Commands.{ended, sector_written, commanded}
+use Rattle.device_spec.specs.Ata.Steps.{bytes_written, activity_written, word_written, word_read, with_drive, after_word, byte_written, control_written, register_written}
 use Rattle.ata_pio.specs.Ata.Laws.{PowerOnIsSound, IsUnderWay, IsSound, Access, Read, Write, Spoil, Restart, stepped, activity_stores, word_stores, stores, StaysSound, OnlyStoresChange, after_all, NoneStores}
 use Rattle.ata_pio.proofs.StoreLaws.{stored-whole, stored-other}
 use Rattle.ata_pio.proofs.DriveLaws.{sector_written-under_way, commanded-under_way, register_written-under_way, control_written-under_way, after_word-under_way}

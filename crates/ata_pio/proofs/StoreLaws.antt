@@ -4,7 +4,7 @@ use Rattle.std.proofs.lemmas.Bool.{cases_lt}
 use Rattle.std.proofs.lemmas.List.{drop-drop}
 use Rattle.std.proofs.lemmas.Slice.{take-put_mid_below, drop-put_mid, between-put_mid, between_is}
 use borrow.Rule.Slice.PartMut.{put_mid}
-use Rattle.ata_pio.specs.Ata.State.{Medium, sectors_of, sector_bytes, stored, word_at}
+use Rattle.device_spec.specs.Ata.State.{Medium, sectors_of, sector_bytes, stored, word_at}
 use Rattle.ata_pio.specs.Ata.Laws.{IsWhole}
 use Rattle.ata_pio.proofs.Stores.{length-store}
 

@@ -1,8 +1,8 @@
 //! The disk as its ports show it.
 
 ghost use Rattle.std.specs.Prelude.{◌≡◌, ◌↔◌, length, false, IsTrue, IfOk};
-ghost use Rattle.ata_pio.specs.Ata.State.{is_disk_length, power_on, is_interrupt, sectors_of};
-ghost use Rattle.ata_pio.specs.Ata.Steps.{is_ata_port, read_of, after_read, after_write, after_reset, after_bad, word_of, word_read, word_written, register_of, register_read, byte_written};
+ghost use Rattle.device_spec.specs.Ata.State.{is_disk_length, power_on, is_interrupt, sectors_of};
+ghost use Rattle.device_spec.specs.Ata.Steps.{is_ata_port, read_of, after_read, after_write, after_reset, after_bad, word_of, word_read, word_written, register_of, register_read, byte_written};
 
 use crate::controller::Controller;
 use crate::port;
@@ -34,7 +34,7 @@ pub struct Ata {
 }
 
 impl Model for Ata {
-    ghost use Rattle.ata_pio.specs.Ata.State.{Disk, sectors_of};
+    ghost use Rattle.device_spec.specs.Ata.State.{Disk, sectors_of};
     ghost use Rattle.ata_pio.specs.View.{medium_of, drive_of, IsWithin};
 
     ghost Value = { Disk };

@@ -1,10 +1,10 @@
 //! The drive behind the task file: what a command does, and how its words move.
 
 ghost use Rattle.std.specs.Prelude.{◌≡◌, ◌+◌, ◌-◌, ◌*◌, ◌<◌, length, ◌%◌, ◌/◌, ◌++◌, ◌∷◌, [], ℕ, take};
-ghost use Rattle.ata_pio.specs.Ata.State.{power_on_drive, status_of, is_drq, is_interrupt, sectors_of, reset_drive};
-ghost use Rattle.ata_pio.specs.Ata.Commands.{failed, finished, begin_read, begin_write, sector_read, sector_written, verified, geometry_set, feature_set, obeyed, begun, is_ignored, commanded, identifies};
-ghost use Rattle.ata_pio.specs.Ata.Address.{left_of};
-ghost use Rattle.ata_pio.specs.Ata.Steps.{activity_word, word_of, after_word, word_written, register_of, register_written, control_written};
+ghost use Rattle.device_spec.specs.Ata.State.{power_on_drive, status_of, is_drq, is_interrupt, sectors_of, reset_drive};
+ghost use Rattle.device_spec.specs.Ata.Commands.{failed, finished, begin_read, begin_write, sector_read, sector_written, verified, geometry_set, feature_set, obeyed, begun, is_ignored, commanded, identifies};
+ghost use Rattle.device_spec.specs.Ata.Address.{left_of};
+ghost use Rattle.device_spec.specs.Ata.Steps.{activity_word, word_of, after_word, word_written, register_of, register_written, control_written};
 ghost use Rattle.ata_pio.specs.View.{error_of, medium_of, registers_of, drive_of, IsWithin};
 
 use crate::fault::Fault;
@@ -115,7 +115,7 @@ impl Controller {
     }
 
     /// Looks at the addressed sector, and begins to read it where it can be read.
-    #[tactic(auto, unfolding(crate::specs::Ata::Commands::begin_read))]
+    #[tactic(auto, unfolding(device_spec::specs::Ata::Commands::begin_read))]
     fn begin_read(&mut self, sectors: &Sectors)
         ensures begun { drive_of self.new ≡ begin_read (medium_of sectors.now) (drive_of self.old) }
         ensures within { IsWithin (sectors_of (medium_of sectors.now)) self.new.progress }
@@ -130,7 +130,7 @@ impl Controller {
     }
 
     /// Goes on after the last word of a sector that is read.
-    #[tactic(auto, unfolding(crate::specs::Ata::Commands::sector_read))]
+    #[tactic(auto, unfolding(device_spec::specs::Ata::Commands::sector_read))]
     fn sector_read(&mut self, sector: u32, sectors: &Sectors)
         requires { sector < sectors_of (medium_of sectors.now) }
         ensures read { drive_of self.new ≡ sector_read (medium_of sectors.now) sector (drive_of self.old) }
@@ -146,7 +146,7 @@ impl Controller {
     }
 
     /// Begins to write the addressed sector where it is found.
-    #[tactic(auto, unfolding(crate::specs::Ata::Commands::begin_write))]
+    #[tactic(auto, unfolding(device_spec::specs::Ata::Commands::begin_write))]
     fn begin_write(&mut self, request: bool, sectors: &Sectors)
         ensures begun { drive_of self.new ≡ begin_write (medium_of sectors.now) request (drive_of self.old) }
         ensures within { IsWithin (sectors_of (medium_of sectors.now)) self.new.progress }
@@ -161,7 +161,7 @@ impl Controller {
     }
 
     /// Goes on after a sector was stored.
-    #[tactic(auto, unfolding(crate::specs::Ata::Commands::sector_written))]
+    #[tactic(auto, unfolding(device_spec::specs::Ata::Commands::sector_written))]
     fn sector_written(&mut self, sector: u32, sectors: &Sectors)
         requires { sector < sectors_of (medium_of sectors.now) }
         ensures written { drive_of self.new ≡ sector_written (medium_of sectors.now) sector (drive_of self.old) }
@@ -251,7 +251,7 @@ impl Controller {
     }
 
     /// Obeys a command that was taken.
-    #[tactic(auto, unfolding(crate::specs::Ata::Commands::obeyed))]
+    #[tactic(auto, unfolding(device_spec::specs::Ata::Commands::obeyed))]
     fn obey(&mut self, code: u8, sectors: &Sectors)
         ensures obeyed { drive_of self.new ≡ obeyed (medium_of sectors.now) code (drive_of self.old) }
         ensures within { IsWithin (sectors_of (medium_of sectors.now)) self.new.progress }
@@ -280,7 +280,7 @@ impl Controller {
     }
 
     /// Takes a command, or ignores it.
-    #[tactic(auto, unfolding(crate::specs::Ata::Commands::commanded))]
+    #[tactic(auto, unfolding(device_spec::specs::Ata::Commands::commanded))]
     pub fn command(&mut self, code: u8, sectors: &Sectors)
         requires { IsWithin (sectors_of (medium_of sectors.now)) self.old.progress }
         ensures commanded { drive_of self.new ≡ commanded (medium_of sectors.now) code (drive_of self.old) }
@@ -294,7 +294,7 @@ impl Controller {
     }
 
     /// Writes a register of the task file.
-    #[tactic(auto, unfolding(crate::specs::Ata::Steps::register_written))]
+    #[tactic(auto, unfolding(device_spec::specs::Ata::Steps::register_written))]
     pub fn write_register(&mut self, port: u16, byte: u8)
         ensures written { drive_of self.new ≡ register_written port byte (drive_of self.old) }
         ensures same { self.new.progress ≡ self.old.progress }
@@ -306,7 +306,7 @@ impl Controller {
     }
 
     /// Writes device control.
-    #[tactic(auto, unfolding(crate::specs::Ata::Steps::control_written))]
+    #[tactic(auto, unfolding(device_spec::specs::Ata::Steps::control_written))]
     pub fn write_control(&mut self, byte: u8)
         ensures written { drive_of self.new ≡ control_written byte (drive_of self.old) }
         ensures within { (count : ℕ) → IsWithin count self.old.progress → IsWithin count self.new.progress }
@@ -351,7 +351,7 @@ impl Controller {
     }
 
     /// Goes on after a word was read.
-    #[tactic(auto, unfolding(crate::specs::Ata::Steps::after_word))]
+    #[tactic(auto, unfolding(device_spec::specs::Ata::Steps::after_word))]
     pub fn next_word(&mut self, sectors: &Sectors)
         requires { IsWithin (sectors_of (medium_of sectors.now)) self.old.progress }
         ensures next { drive_of self.new ≡ after_word (medium_of sectors.now) (drive_of self.old) }
@@ -378,7 +378,7 @@ impl Controller {
     }
 
     /// Takes a word of a sector that is written. The last one stores the sector.
-    #[tactic(auto, unfolding(crate::specs::Ata::Steps::word_written))]
+    #[tactic(auto, unfolding(device_spec::specs::Ata::Steps::word_written))]
     pub fn write_word(&mut self, value: u16, sectors: &mut Sectors)
         requires { IsWithin (sectors_of (medium_of sectors.old)) self.old.progress }
         ensures written { record { medium = medium_of sectors.new; drive = drive_of self.new }

@@ -1,7 +1,7 @@
 //! The words of IDENTIFY DEVICE.
 
 ghost use Rattle.std.specs.Prelude.{◌≡◌, ◌≤◌, slice_index_or};
-ghost use Rattle.ata_pio.specs.Ata.Identify.{cylinders_of, chs_sectors, text_word, number_word, identify_word};
+ghost use Rattle.device_spec.specs.Ata.Identify.{cylinders_of, chs_sectors, text_word, number_word, identify_word};
 
 use crate::task_file::{CYLINDER_SECTORS, HEADS, TRACK_SECTORS};
 
@@ -19,7 +19,7 @@ const LBA_SUPPORTED: u16 = 0x0200;
 const GEOMETRY_VALID: u16 = 0x0001;
 
 /// Word `index` for a disk of this many sectors, at most 65,536.
-#[tactic(auto, unfolding(crate::specs::Ata::Identify::identify_word))]
+#[tactic(auto, unfolding(device_spec::specs::Ata::Identify::identify_word))]
 pub fn identify_word(sectors: u32, index: u8) -> u16
     requires { sectors ≤ 65536 }
     ensures word { result ≡ identify_word sectors index }

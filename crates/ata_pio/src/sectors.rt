@@ -1,8 +1,8 @@
 //! The sectors of a disk: their bytes, and which of them are bad.
 
 ghost use Rattle.std.specs.Prelude.{◌≡◌, ◌+◌, ◌*◌, ◌<◌, ◌≤◌, length, vec_len, IsTrue, IfOk};
-ghost use Rattle.ata_pio.specs.Ata.State.{is_disk_length, power_on, sectors_of, word_at, stored, marked};
-ghost use Rattle.ata_pio.specs.Ata.Commands.{found, readable};
+ghost use Rattle.device_spec.specs.Ata.State.{is_disk_length, power_on, sectors_of, word_at, stored, marked};
+ghost use Rattle.device_spec.specs.Ata.Commands.{found, readable};
 
 use crate::fault::Fault;
 use byteorder::{ByteOrder, LittleEndian};

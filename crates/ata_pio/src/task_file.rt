@@ -1,9 +1,9 @@
 //! The registers of the task file, and the sector that its address registers name.
 
 ghost use Rattle.std.specs.Prelude.{◌≡◌, ◌+◌, ◌*◌, ◌<◌, ◌^◌};
-ghost use Rattle.ata_pio.specs.Ata.State.{signed, power_on_registers, is_lba, is_drive_one};
-ghost use Rattle.ata_pio.specs.Ata.Address.{lba_of, chs_of, named, naming, head_of, counted, count_of, with_head};
-ghost use Rattle.ata_pio.specs.Ata.Steps.{with_register, with_control};
+ghost use Rattle.device_spec.specs.Ata.State.{signed, power_on_registers, is_lba, is_drive_one};
+ghost use Rattle.device_spec.specs.Ata.Address.{lba_of, chs_of, named, naming, head_of, counted, with_head};
+ghost use Rattle.device_spec.specs.Ata.Steps.{with_register, with_control};
 ghost use Rattle.ata_pio.specs.View.{registers_of};
 
 use crate::port;

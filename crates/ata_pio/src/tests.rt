@@ -1,7 +1,7 @@
 //! Worked accesses, each a table of steps on a fresh disk.
 
 ghost use Rattle.std.specs.Prelude.{◌≡◌};
-ghost use Rattle.ata_pio.specs.Ata.Steps.{is_ata_port};
+ghost use Rattle.device_spec.specs.Ata.Steps.{is_ata_port};
 
 use crate::identify::identify_word;
 use crate::{Ata, AtaOpen};

@@ -92,3 +92,14 @@ pub struct PortAccess {
     pub width: Width,
     pub value: u32,
 }
+
+/// A memory access of 2, 4 or 8 bytes that no single bus cycle moves: it is of 8 bytes, or `addr` is not a
+/// multiple of `bytes`. Its last byte lies at FFFFFFFFh or below. `value` fits, and is 0 where it does not write.
+#[derive(Clone, Copy, PartialEq, Eq, Debug)]
+pub struct WideAccess {
+    pub kind: Kind,
+    pub addr: u32,
+    pub bytes: u8,
+    pub smm: bool,
+    pub value: u64,
+}

@@ -51,6 +51,7 @@ pub trait Sink {
         ensures never_falls { faults self.old ≤ faults self.new }
         ensures failed { IfErr result (λ fault. fault ≡ PutFault.Failed →
             Rose (faults self.old) (faults self.new)) }
+        ensures quiet { OnOk result (faults self.new ≡ faults self.old) }
         ensures no_fault { IfErr result (λ fault. fault ≡ PutFault.NoMemory →
             faults self.new ≡ faults self.old) };
 }

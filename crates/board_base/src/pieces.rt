@@ -18,7 +18,7 @@ pub fn keep_name(kept: &mut ArrayVec<u8, 255>, name: &str)
 }
 
 // The first `count` bytes, or all where there are fewer.
-fn front(bytes: &[u8], count: usize) -> &[u8]
+pub(crate) fn front(bytes: &[u8], count: usize) -> &[u8]
     ensures front { result.now ≡ take count bytes.now }
     ensures fits { length result.now ≤ count }
 {

@@ -13,6 +13,9 @@ abcdefghijklmnopqrstuvwxyzabcdefghijklmnopqrstuvwxyzabcdefghijklmnopqrstuvwxyz\
 abcdefghijklmnopqrstuvwxyzabcdefghijklmnopqrstuvwxyzabcdefghijklmnopqrstuvwxyz\
 abcdefghijklmnopqrstuvwxyz";
 
+// 32 bytes, each another.
+const DIGITS: &str = "0123456789abcdefghijklmnopqrstuv";
+
 #[test]
 fn widths(rt: HostRuntime) {
     let cases = [
@@ -82,6 +85,35 @@ fn a_sink_fails_by_its_list(rt: HostRuntime) -> Result<(), Fail> {
 }
 
 #[test]
+fn a_slow_copy_ends_at_its_fault(rt: HostRuntime) -> Result<(), Fail> {
+    // the fetch and the put that fail, the bytes that came over, the faults of the shelf and of the sink
+    let cases = [
+        (0, 0, 32, 0, 0),
+        (1, 0, 0, 1, 0),
+        (2, 0, 1, 1, 0),
+        (32, 0, 31, 1, 0),
+        (33, 0, 32, 1, 0),
+        (34, 0, 32, 0, 0),
+        (0, 1, 0, 0, 1),
+        (0, 17, 16, 0, 1),
+        (0, 32, 31, 0, 1),
+        (0, 33, 32, 0, 0),
+    ];
+    for (fetch, put, count, shelf_faults, sink_faults) in cases {
+        let digits = file(rt.alloc(), "digits", DIGITS)?;
+        let mut shelf = SlowShelf::new(MemShelf::new(digits, [fetch].to_vec(rt.alloc())?), 1);
+        let mut sink = SlowSink::new(MemSink::new(rt.alloc(), [put].to_vec(rt.alloc())?), 1);
+        copy(&mut shelf, &mut sink, "digits");
+        assert_eq!(rt; sink.inner.bytes.len(), count, "{fetch} {put}");
+        assert!(rt; DIGITS.as_bytes().starts_with(sink.inner.bytes.as_slice()));
+        assert_eq!(rt; shelf.inner.faults, shelf_faults, "{fetch} {put}");
+        assert_eq!(rt; sink.inner.faults, sink_faults, "{fetch} {put}");
+        assert_eq!(rt; shelf.inner.last.is_empty(), shelf_faults == 0);
+    }
+    Ok(())
+}
+
+#[test]
 fn counts_stand_still_at_their_last_values(rt: HostRuntime) -> Result<(), Fail> {
     let mut shelf = MemShelf::new(files(rt.alloc())?, [u32::MAX].to_vec(rt.alloc())?);
     let mut sink = MemSink::new(rt.alloc(), [u32::MAX].to_vec(rt.alloc())?);
@@ -124,12 +156,29 @@ fn one(alloc: Global) -> Result<Vec<u8>, NoMemory> {
 }
 
 fn files(alloc: Global) -> Result<Vec<(String, Vec<u8>)>, Fail> {
+    file(alloc, "script", "0 r b 0")
+}
+
+fn file(alloc: Global, name: &str, text: &str) -> Result<Vec<(String, Vec<u8>)>, Fail> {
     let mut files = Vec::new(alloc);
     files.push((
-        String::from_str(alloc, "script")?,
-        b"0 r b 0".to_vec(alloc)?,
+        String::from_str(alloc, name)?,
+        text.as_bytes().to_vec(alloc)?,
     ))?;
     Ok(files)
+}
+
+// Copies a file of at most 32 bytes, piece by piece, up to its end or the first fault.
+fn copy<S: Shelf, K: Sink>(shelf: &mut S, sink: &mut K, name: &str) {
+    for at in 0..33 {
+        let mut into = [0; 4];
+        let Ok(count) = shelf.fetch(name, at, &mut into) else {
+            return;
+        };
+        if count == 0 || sink.put(&into[..count]).is_err() {
+            return;
+        }
+    }
 }
 
 // Whether one fetch into four bytes answers so: None stands for Failed.

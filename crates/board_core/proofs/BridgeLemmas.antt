@@ -4,7 +4,8 @@ use Rattle.board_base.specs.declared.access.Width.TheVariants.{One}
 use Rattle.board_spec.specs.declared.map_change.MapChange.TheVariants.{Store}
 use Rattle.board_spec.specs.Setup.{Setup}
 use Rattle.board_spec.specs.Registers.{changed_byte}
-use Rattle.board_spec.specs.Decode.{Bytes, bridge}
+use Rattle.board_spec.specs.Decode.{Bytes}
+use Rattle.board_spec.specs.RegisterNames.{bridge}
 use Rattle.board_spec.proofs.StoreLemmas.{changed_byte-one_other}
 use Rattle.pmc_regs.specs.Pmc.{IsPmcOf}
 use Rattle.pam_windows.specs.Pam.{IsPamOf}

@@ -8,7 +8,8 @@ use Rattle.std.proofs.lemmas.List.Elements.{All-head, All-tail}
 use Rattle.board_base.specs.declared.target.Reg.{Reg}
 use Rattle.board_spec.specs.Setup.{Setup, FittedCard, card_at}
 use Rattle.board_spec.specs.RegisterTable.{reset_byte}
-use Rattle.board_spec.specs.Decode.{Bytes, card_register}
+use Rattle.board_spec.specs.Decode.{Bytes}
+use Rattle.board_spec.specs.RegisterNames.{card_register}
 use Rattle.pci_bars.specs.Cards.{CardBytes, IsCardOf, AreDecoded, AreCardsOf, cards_of}
 use Rattle.addr_decode.specs.MapRegs.{AreFitted, stored}
 use Rattle.addr_decode.proofs.StoreLemmas.{stored-elsewhere}

@@ -14,7 +14,8 @@ use Rattle.board_spec.specs.Bits.{is_within}
 use Rattle.board_spec.specs.Registers.{changed_byte, register_change}
 use Rattle.board_spec.proofs.MapWriteLaws.{untouched}
 use Rattle.board_spec.specs.MapWrites.{is_map_byte, touches_map, map_change_of, map_writes_of, version_of}
-use Rattle.board_spec.specs.Decode.{Bytes, bridge, isa, card_register}
+use Rattle.board_spec.specs.Decode.{Bytes}
+use Rattle.board_spec.specs.RegisterNames.{bridge, isa, card_register}
 use Rattle.pam_windows.specs.Pam.{IsPamOffset}
 use Rattle.pci_bars.specs.Cards.{CardBytes, DecodesAs}
 use Rattle.addr_decode.specs.MapRegs.{MapBytes, StandsFor}

@@ -16,7 +16,8 @@ use Rattle.board_spec.specs.declared.event.Entry.{Entry}
 use Rattle.board_spec.specs.declared.event.Reply.TheVariants.{Bus}
 use Rattle.board_spec.specs.Setup.{Setup, IsRomSize}
 use Rattle.board_spec.specs.Registers.{byte_of}
-use Rattle.board_spec.specs.Decode.{Bytes, Window, bridge, isa, first_of, line_where, card_area, row_of, hole_of, is_in, is_smram_range, is_shadowed, smram_answers, is_rom_selected, memory_claim, area_of}
+use Rattle.board_spec.specs.Decode.{Bytes, Window, first_of, line_where, card_area, row_of, hole_of, is_in, is_smram_range, is_shadowed, smram_answers, is_rom_selected, memory_claim, area_of}
+use Rattle.board_spec.specs.RegisterNames.{bridge, isa}
 use Rattle.board_spec.specs.Bits.{is_within}
 use Rattle.board_spec.specs.InRange.{FitsAccess}
 use Rattle.board_spec.specs.Stored.{Cell, is_write, byte_put, entry_put}

@@ -15,7 +15,8 @@ use Rattle.board_base.specs.Access.{bytes_of}
 use Rattle.board_spec.specs.Setup.{Setup}
 use Rattle.board_spec.specs.Bits.{is_bit, is_within}
 use Rattle.board_spec.specs.Registers.{is_config_port, config_register}
-use Rattle.board_spec.specs.Decode.{Bytes, isa, ide, Window, io_claim}
+use Rattle.board_spec.specs.Decode.{Bytes, Window, io_claim}
+use Rattle.board_spec.specs.RegisterNames.{isa, ide}
 use Rattle.board_spec.specs.Ports.{Decoded, nobody, card_port, config_port, port_target_of}
 use Rattle.addr_decode.specs.declared.onboard.Onboard.{Onboard}
 use Rattle.addr_decode.specs.Onboard.{if_selected, byte_port, wide_port, onboard_at}

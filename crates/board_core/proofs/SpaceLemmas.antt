@@ -15,7 +15,8 @@ use Rattle.board_spec.specs.Registers.{changed_byte}
 use Rattle.board_spec.specs.WideStores.{after_stores}
 use Rattle.board_spec.proofs.StoreLemmas.{byte_by_byte}
 use Rattle.board_spec.specs.MapWrites.{reg_after}
-use Rattle.board_spec.specs.Decode.{Bytes, bridge, card_register}
+use Rattle.board_spec.specs.Decode.{Bytes}
+use Rattle.board_spec.specs.RegisterNames.{bridge, card_register}
 use Rattle.xbus_select.specs.Piix.{PiixBytes, piix_register, IsPiixRegister, IsPiixOf}
 use Rattle.pci_bars.specs.Cards.{CardBytes, AreCards, AreCardsOf}
 use Rattle.addr_decode.specs.MapRegs.{AreFitted, stored}

@@ -7,7 +7,8 @@ use Rattle.board_spec.specs.Setup.{Setup, card_at}
 use Rattle.board_spec.specs.Bits.{is_within}
 use Rattle.board_spec.specs.RegisterTable.{reset_byte}
 use Rattle.board_spec.specs.MapWrites.{reg_after}
-use Rattle.board_spec.specs.Decode.{Bytes, bridge}
+use Rattle.board_spec.specs.Decode.{Bytes}
+use Rattle.board_spec.specs.RegisterNames.{bridge}
 use Rattle.pmc_regs.specs.Pmc.{IsPmcOf}
 use Rattle.pam_windows.specs.Pam.{IsPamOf}
 use Rattle.xbus_select.specs.Piix.{IsPiixOf}

@@ -6,7 +6,8 @@ ghost use Rattle.board_spec.specs.declared.map_change.MapChange.TheVariants.{Sto
 ghost use Rattle.board_spec.specs.Setup.{Setup};
 ghost use Rattle.board_spec.specs.RegisterTable.{reset_byte};
 ghost use Rattle.board_spec.specs.Registers.{changed_byte};
-ghost use Rattle.board_spec.specs.Decode.{Bytes, bridge};
+ghost use Rattle.board_spec.specs.Decode.{Bytes};
+ghost use Rattle.board_spec.specs.RegisterNames.{bridge};
 ghost use Rattle.board_core.specs.Space.{IsBridgeOf};
 
 use board_spec::offset::{PAM0, PAM6, SMRAM};

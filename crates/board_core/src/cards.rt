@@ -7,7 +7,8 @@ ghost use Rattle.board_spec.specs.declared.map_change.MapChange.TheVariants.{Sto
 ghost use Rattle.board_spec.specs.Setup.{Setup, IsCard, IsCardList, card_at};
 ghost use Rattle.board_spec.specs.RegisterTable.{reset_byte};
 ghost use Rattle.board_spec.specs.Registers.{changed_byte};
-ghost use Rattle.board_spec.specs.Decode.{Bytes, card_register};
+ghost use Rattle.board_spec.specs.Decode.{Bytes};
+ghost use Rattle.board_spec.specs.RegisterNames.{card_register};
 ghost use Rattle.pci_bars.specs.Cards.{IsCardOf, AreCards, AreCardsOf, cards_of};
 ghost use Rattle.addr_decode.specs.MapRegs.{AreFitted};
 ghost use Rattle.board_core.specs.Space.{AreCardsReset};

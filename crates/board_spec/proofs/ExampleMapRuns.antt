@@ -7,7 +7,8 @@ use Rattle.std.proofs.Math.Nat.{div-lt_iff_lt-mul}
 use Rattle.board_base.specs.declared.target.Area.TheVariants.{Dram as DramArea, Rom as RomArea, Abort as AbortArea}
 use Rattle.board_spec.specs.RegisterTable.{reset_byte, host_bridge, isa_bridge}
 use Rattle.board_spec.specs.Registers.{byte_of}
-use Rattle.board_spec.specs.Decode.{bridge, nibble, pam_register, row_of, area_of, memory_claim}
+use Rattle.board_spec.specs.Decode.{nibble, pam_register, row_of, area_of, memory_claim}
+use Rattle.board_spec.specs.RegisterNames.{bridge}
 use Rattle.board_spec.specs.FlatMap.{MapRange, IsRight}
 use Rattle.board_spec.specs.Examples.{small_board}
 use Rattle.board_spec.specs.ExampleMaps.{range, map_after_reset as ranges, MapAfterReset, MapAfterResetWritten}

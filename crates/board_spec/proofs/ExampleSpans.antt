@@ -21,10 +21,10 @@ pub below : (first last n : ℕ) → n < first → is_within first last n ≡ fa
 below first last n is = rw (lt-leb first n is) refl
 
 -- with XBCS as after a reset the ROM answers below 1 MiB and in the last 64 KiB alone
-no_rom : (x : ℕ) → 0xF_FFFF < x → x < 0xFFFF_0000 → is_rom_selected 0x03 x ≡ false
+pub no_rom : (x : ℕ) → 0xF_FFFF < x → x < 0xFFFF_0000 → is_rom_selected 0x03 x ≡ false
 no_rom x low high = rw (above 0xF_0000 0xF_FFFF x low, below 0xFFFF_0000 0xFFFF_FFFF x high) refl
 
-covers-yes : (x k : ℕ) (window : Window) → window.inside / 2 ^ window.bits ≡ k → k * 2 ^ window.bits ≤ x → x < (k + 1) * 2 ^ window.bits →
+pub covers-yes : (x k : ℕ) (window : Window) → window.inside / 2 ^ window.bits ≡ k → k * 2 ^ window.bits ≤ x → x < (k + 1) * 2 ^ window.bits →
     is_covered x window ≡ true
 covers-yes x k window is from to = eq-eqb _ _ (is ∙ sym (div-eq_of_lt-le {k = k} (2 ^ window.bits) from to))
 

@@ -1,8 +1,13 @@
 -- The lock law holds of every legal history.
 use Rattle.std.proofs.Common.{◌≡◌, ◌≢◌, ℕ, ◌+◌, ◌-◌, ◌*◌, ◌/◌, ◌%◌, ◌<◌, inl, inr, max, Bool, true, false, not, ◌&&◌, List, [], ◌∷◌, ◌++◌, Option, Some, None, refl, sym, ◌∙◌, arith}
-use Rattle.std.specs.Prelude.{if◌then◌else◌, option_map, IfSome, is_some, unwrap_or}
+use Rattle.std.specs.List.{AllByRecursion}
+use Rattle.std.proofs.Common.{ap}
+use Rattle.std.specs.Prelude.{zero, suc, ◌==◌, map, if◌then◌else◌, option_map, IfSome, is_some, unwrap_or}
 use Rattle.std.proofs.lemmas.Bool.{cases_eq, cases_Bool}
 use Rattle.board_base.specs.declared.access.Kind.{Kind}
+use Rattle.board_base.specs.declared.access.Access.{Access}
+use Rattle.board_base.specs.declared.access.WideAccess.{WideAccess}
+use Rattle.board_base.specs.Access.{bytes_of}
 use Rattle.board_base.specs.declared.target.Denial.{Denial}
 use Rattle.board_base.specs.declared.target.Reg.{Reg}
 use Rattle.board_base.specs.declared.target.Area.{Area}
@@ -10,9 +15,10 @@ use Rattle.board_base.specs.declared.target.Area.TheVariants.{Dram as DramArea, 
 use Rattle.board_base.specs.declared.target.Target.{Target}
 use Rattle.board_base.specs.declared.target.Target.TheVariants.{Smram}
 use Rattle.board_spec.specs.declared.event.Event.{Event}
-use Rattle.board_spec.specs.declared.event.Event.TheVariants.{Memory, Port, Look as LookAt, Ack, Pulses, Time, Wire, Line, BadSector}
+use Rattle.board_spec.specs.declared.event.Event.TheVariants.{Memory, Wide, Port, Look as LookAt, Ack, Pulses, Time, Wire, Line, BadSector}
 use Rattle.board_spec.specs.declared.event.Reply.{Reply}
-use Rattle.board_spec.specs.declared.event.Reply.TheVariants.{Bus, Saw}
+use Rattle.board_spec.specs.declared.event.Part.{Part}
+use Rattle.board_spec.specs.declared.event.Reply.TheVariants.{Bus, Parts, Saw}
 use Rattle.board_spec.specs.declared.event.Entry.{Entry}
 use Rattle.board_spec.specs.declared.map_change.MapChange.{MapChange}
 use Rattle.board_spec.specs.declared.map_change.MapChange.TheVariants.{Store, Reset}
@@ -20,10 +26,12 @@ use Rattle.board_spec.specs.Setup.{Setup}
 use Rattle.board_spec.specs.Bits.{bit, is_bit, byte, is_within}
 use Rattle.board_spec.specs.RegisterTable.{reset_byte, host_bridge}
 use Rattle.board_spec.specs.Registers.{is_hard_reset, config_address, config_register, config_store, register_change, covers, smram_after, byte_with, byte_of, is_config_port}
-use Rattle.board_spec.specs.Decode.{Bytes, bridge, isa, Window, first_of, line_where, card_area, row_of, hole_of, is_in, is_shadowed, is_rom_selected, memory_claim, reaches_smram, smram_answers, is_smram_range, area_under, area_of}
-use Rattle.board_spec.specs.Answer.{target_at, memory_answer, IsAnswer}
+use Rattle.board_spec.specs.Decode.{Bytes, Window, first_of, line_where, card_area, row_of, hole_of, is_in, is_shadowed, is_rom_selected, memory_claim, reaches_smram, smram_answers, is_smram_range, area_under, area_of}
+use Rattle.board_spec.specs.RegisterNames.{bridge, isa, smram}
+use Rattle.board_spec.specs.Answer.{target_at, memory_answer, part_answer, IsAnswer}
 use Rattle.board_spec.specs.Legal.{IsNext, IsLegal}
-use Rattle.board_spec.specs.LockLaw.{SetsLock, NoHardReset, IsOutsideSmm, NamesSmram}
+use Rattle.board_spec.specs.LockLaw.{SetsLock, NoHardReset, IsOutsideSmm, HasSmram, NamesSmram}
+use Rattle.board_spec.specs.WideParts.{longest_at, parts_from, parts_of, parts_list}
 use Rattle.board_spec.specs.Laws.{LegalKeepsLock}
 
 -- ---- the lock and what it keeps shut, in one byte
@@ -59,9 +67,6 @@ shut_after old written = record {
       let below : lock < 2 = omega arith in
       (smram_bits ((1 - lock) * bit written 6) (bit written 5) lock (bit written 3) (omega arith) (bit_below written 5) below (bit_below written 3)).1 ∙ none;
 }
-
-smram : Reg
-smram = bridge 0x72
 
 reset_kept : (setup : Setup) → Kept (reset_byte setup smram)
 unfolding reset_byte host_bridge smram
@@ -110,6 +115,7 @@ if_store false x h = λ e. cc
 
 store_is_no_reset : (setup : Setup) (address : ℕ) (event : Event) → config_store setup address event ≢ Some Reset
 store_is_no_reset setup address (Memory access) = λ e. cc
+store_is_no_reset setup address (Wide access) = λ e. cc
 store_is_no_reset setup address (Port access) =
     if_store (access.write && is_config_port access.port) _
     (mapped_store access.width access.value (config_register setup address access.port))
@@ -225,7 +231,39 @@ reply_names :
     (value : Option ℕ) (target : Target) (denial : Option Denial) (reply : Reply) →
     reply ≡ Bus value target denial → NamesSmram reply → target ≡ Smram
 reply_names value target denial (Bus v t d) e names = cc
+reply_names value target denial (Parts v parts) e names = cc
 reply_names value target denial (Saw look) e names = cc
+
+-- no part of a wide access outside SMM reaches SMRAM
+no_smram_parts :
+    (setup : Setup) (before : List Entry) → bit (byte_of setup before smram) 6 ≡ 0 →
+    (parts : List Access) → AllByRecursion (λ part. part.smm ≡ false) parts → (replies : List Part) →
+    replies ≡ map (part_answer setup before) parts → ¬ HasSmram replies
+unfolding part_answer
+no_smram_parts setup before shut [] outside [] same has = absurd has
+no_smram_parts setup before shut [] outside (reply ∷ replies) same has = cc
+no_smram_parts setup before shut (part ∷ parts) outside [] same has = cc
+no_smram_parts setup before shut (part ∷ parts) outside (reply ∷ replies) same has =
+    let head : reply ≡ part_answer setup before part = cc in
+    let rest : replies ≡ map (part_answer setup before) parts = cc in
+    elim has [
+      | inl here ↦
+          let named : target_at setup (area_of setup (byte_of setup before) part.addr part.kind part.smm) part.addr ≡ Smram =
+          sym (ap (λ (p : Part). p.target) head) ∙ here in
+          let area : area_of setup (byte_of setup before) part.addr part.kind part.smm ≡ SmramArea = target_names setup _ part.addr named in
+          no_smram setup (byte_of setup before) part.addr part.kind shut (rw outside.0 at area)
+      | inr later ↦ no_smram_parts setup before shut parts outside.1 replies rest later
+    ]
+
+-- each part is made in SMM where the whole is
+parts_smm : (access : WideAccess) (smm : Bool) → access.smm ≡ smm → (most addr left : ℕ) → AllByRecursion (λ part. part.smm ≡ smm) (parts_from access most addr left)
+unfolding parts_from
+parts_smm access smm is zero addr left = tt
+parts_smm access smm is (suc most) addr left =
+    elim (cases_Bool (left == 0)) [
+      | inl none ↦ rw none tt
+      | inr some ↦ rw some (is, parts_smm access smm is most (addr + bytes_of (longest_at addr left)) (left - bytes_of (longest_at addr left)))
+    ]
 
 -- the answer to an access or a look outside SMM, with DOPEN at 0, does not name SMRAM
 no_smram_answer :
@@ -238,6 +276,12 @@ no_smram_answer setup before (Memory access) reply shut answer outside names =
     let area : area_of setup (byte_of setup before) access.addr access.kind access.smm ≡ SmramArea =
     target_names setup _ access.addr named in
     no_smram setup (byte_of setup before) access.addr access.kind shut (rw outside at area)
+no_smram_answer setup before (Wide access) (Parts value parts) shut answer outside names =
+    no_smram_parts setup before shut (parts_of access)
+    (parts_smm access false outside 4 access.addr access.bytes) (parts_list parts) answer.each names
+no_smram_answer setup before (Wide access) (Bus value target denial) shut answer outside names = absurd answer
+no_smram_answer setup before (Wide access) (Saw look) shut answer outside names = absurd answer
+no_smram_answer setup before (LookAt kind addr smm) (Parts value parts) shut answer outside names = absurd answer
 no_smram_answer setup before (LookAt kind addr smm) (Saw look) shut answer outside names =
     let area : area_of setup (byte_of setup before) addr kind smm ≡ SmramArea =
     answer.span.same addr answer.span.above answer.span.below ∙ names in

@@ -1,14 +1,16 @@
 -- Areas and denials depend on the map bytes alone.
-use Rattle.std.proofs.Common.{◌≡◌, ℕ, zero, suc, ◌+◌, ◌-◌, ◌*◌, ◌/◌, ◌<◌, ◌≤◌, inl, inr, Bool, true, false, cond, ◌&&◌, ◌||◌, not, List, [], ◌∷◌, ◌++◌, length, get_or, Some, refl, ◌∙◌, ap, arith, lit<}
+use Rattle.std.proofs.Common.{◌≡◌, ℕ, zero, suc, ◌+◌, ◌-◌, ◌*◌, ◌/◌, ◌<◌, ◌≤◌, inl, inr, Bool, true, false, cond, ◌&&◌, ◌||◌, not, List, [], ◌∷◌, ◌++◌, length, get_or, Option, Some, None, refl, ◌∙◌, ap, arith, lit<}
 use Rattle.std.specs.Prelude.{◌==◌, nat_le, nat_lt, is_some, find, flat_map, All, if◌then◌else◌}
 use Rattle.std.specs.List.{AllByRecursion, enumerate_from}
 use Rattle.std.proofs.lemmas.Bool.{cases_Bool, eq-eqb}
 use Rattle.std.proofs.lemmas.Bool.Decides.{nat_tests}
 use Rattle.std.proofs.lemmas.List.Elements.{All-nil, All-cons, All-append, recursion_from_All}
 use Rattle.board_base.specs.declared.access.Kind.{Kind}
-use Rattle.board_spec.specs.Setup.{Base, MemoryBase, IoBase, FittedCard, Setup, IsCard, IsCardList, card_at}
+use Rattle.board_spec.specs.Setup.{Base, MemoryBase, IoBase, FittedCard, Setup, IsCard, IsCardList, Rises, card_at}
+use Rattle.board_spec.specs.MapWrites.{has_rom}
 use Rattle.board_spec.specs.Bits.{is_bit, is_within}
-use Rattle.board_spec.specs.Decode.{Bytes, bridge, isa, card_register, boundary, row_of, is_high_window, is_open, nibble, is_shadow_range, is_shadowed, Window, is_covered, base_value, memory_window, vga_window, memory_windows, is_enabled_for, first_window, memory_claim, memory_shut, area_of, denial_of}
+use Rattle.board_spec.specs.Decode.{Bytes, boundary, row_of, is_high_window, is_open, nibble, is_shadow_range, is_shadowed, Window, is_covered, base_value, memory_window, vga_window, memory_windows, rom_value, rom_window, rom_window_of, is_rom_on, unselected_windows, rom_unselected, pam_register, is_enabled_for, first_window, memory_claim, memory_shut, area_of, denial_of}
+use Rattle.board_spec.specs.RegisterNames.{bridge, isa, card_register}
 use Rattle.board_spec.specs.Laws.{SameMapBytes, MapBytesDecide}
 
 -- ---- searches in lists
@@ -31,10 +33,35 @@ or_right : (a b : Bool) → b ≡ true → (a || b) ≡ true
 or_right true b h = refl
 or_right false b h = h
 
-third : (a b fitted is : Bool) → fitted ≡ true → is ≡ true → (a || b || fitted && true && is) ≡ true
-third true b fitted is h k = refl
-third false true fitted is h k = refl
-third false false fitted is h k = rw (h, k) refl
+third : (a b fitted is d : Bool) → fitted ≡ true → is ≡ true → (a || b || fitted && true && is || d) ≡ true
+third true b fitted is d h k = refl
+third false true fitted is d h k = refl
+third false false fitted is d h k = rw (h, k) refl
+
+fourth : (a b c rom is : Bool) → rom ≡ true → is ≡ true → (a || b || c || rom && true && is) ≡ true
+fourth true b c rom is h k = refl
+fourth false true c rom is h k = refl
+fourth false false true rom is h k = refl
+fourth false false false rom is h k = rw (h, k) refl
+
+abbrev no_windows : List Window
+no_windows = []
+
+both_empty : (a b : Bool) → (if a then no_windows else no_windows) ≡ (if b then no_windows else no_windows)
+both_empty true true = refl
+both_empty true false = refl
+both_empty false true = refl
+both_empty false false = refl
+
+-- a card that is found by its device number, with the ROM of the card
+found_rom : (cards : List FittedCard) → Rises cards → (k : ℕ) (d : FittedCard) → k < length cards →
+    has_rom (find (λ card. card.dev == (get_or cards k d).dev) cards) ≡ is_some (get_or cards k d).rom
+found_rom [] rises k d below = absurd (omega arith)
+found_rom (card ∷ later) rises zero d below = rw (eq-eqb card.dev card.dev refl) refl
+found_rom (card ∷ later) rises (suc k) d below =
+    let above : card.dev < (get_or later k d).dev = rises.0 k d (omega arith) in
+    let apart : (card.dev == (get_or later k d).dev) ≡ false = grind (arith, nat_tests) in
+    rw apart (found_rom later rises.1 k d (omega arith))
 
 module _ (setup : Setup) (bytes other : Bytes) (same : SameMapBytes setup bytes other) where
   -- ---- rows and windows of the host bridge
@@ -52,20 +79,17 @@ module _ (setup : Setup) (bytes other : Bytes) (same : SameMapBytes setup bytes 
       λ row within. ap (λ end. nat_lt addr end) (boundary_same row within) in
       rw (below 0 (lit< tt), below 1 (lit< tt), below 2 (lit< tt), below 3 (lit< tt), below 4 (lit< tt), below 5 (lit< tt), below 6 (lit< tt), below 7 (lit< tt)) refl
 
-  pam_offset : (addr : ℕ) → is_shadow_range addr ≡ true → is_within 0x59 0x68 (if nat_le 0xF_0000 addr then 0x59 else 0x5A + (addr - 0xC_0000) / 0x8000) ≡ true
-  pam_offset addr within =
+  pam_same : (addr : ℕ) → is_shadow_range addr ≡ true → bytes (pam_register addr) ≡ other (pam_register addr)
+  pam_same addr within =
       elim (cases_Bool (nat_le 0xF_0000 addr)) [
-        | inl high ↦ rw high refl
-        | inr low ↦ rw low (grind (arith, nat_tests))
+        | inl high ↦ rw high (bridge_same 0x59 refl)
+        | inr low ↦ rw low (bridge_same (0x5A + (addr - 0xC_0000) / 0x8000) (grind (arith, nat_tests)))
       ]
 
   shadow_same : (addr : ℕ) (kind : Kind) → is_shadowed bytes addr kind ≡ is_shadowed other addr kind
   shadow_same addr kind =
       elim (cases_Bool (is_shadow_range addr)) [
-        | inl within ↦
-            rw within
-            (ap (λ pam. is_open (nibble pam (is_high_window addr)) kind)
-            (bridge_same (if nat_le 0xF_0000 addr then 0x59 else 0x5A + (addr - 0xC_0000) / 0x8000) (pam_offset addr within)))
+        | inl within ↦ rw within (ap (λ byte. is_open (nibble byte (is_high_window addr)) kind) (pam_same addr within))
         | inr outside ↦ rw outside refl
       ]
 
@@ -78,7 +102,37 @@ module _ (setup : Setup) (bytes other : Bytes) (same : SameMapBytes setup bytes 
   card_same dev off fitted is =
       same (card_register dev off)
       (third (dev == 0 && 0 == 0 && (is_within 0x59 0x68 off || off == 0x72)) (dev == 1 && 0 == 0 && off == 0x4E)
-      (is_some (card_at setup dev)) (off == 0x04 || is_within 0x10 0x27 off) fitted is)
+      (is_some (card_at setup dev)) (off == 0x04 || is_within 0x10 0x27 off) _ fitted is)
+
+  -- the register of an expansion ROM
+  abbrev HasRom : ℕ → Type 0
+  HasRom dev = has_rom (card_at setup dev) ≡ true
+
+  rom_same : (dev off : ℕ) → HasRom dev → is_within 0x30 0x33 off ≡ true → bytes (card_register dev off) ≡ other (card_register dev off)
+  rom_same dev off fitted is =
+      same (card_register dev off)
+      (fourth (dev == 0 && 0 == 0 && (is_within 0x59 0x68 off || off == 0x72)) (dev == 1 && 0 == 0 && off == 0x4E)
+      (is_some (card_at setup dev) && true && (off == 0x04 || is_within 0x10 0x27 off))
+      (has_rom (card_at setup dev)) (is_within 0x30 0x33 off) fitted is)
+
+  -- the windows of an expansion ROM, selected or not
+  record SameRom (card : FittedCard) : Type 0 where
+    pub selected :
+        (if is_rom_on bytes card.dev then rom_window bytes card else [])
+        ≡ (if is_rom_on other card.dev then rom_window other card else [])
+    pub unselected : unselected_windows bytes card ≡ unselected_windows other card
+
+  rom_windows_with : (card : FittedCard) (rom : Option ℕ) → card.rom ≡ rom → (is_some rom ≡ true → HasRom card.dev) → SameRom card
+  rom_windows_with card None is has = record {
+    selected = rw is (both_empty (is_rom_on bytes card.dev) (is_rom_on other card.dev));
+    unselected = rw is (both_empty (is_rom_on bytes card.dev) (is_rom_on other card.dev));
+  }
+  rom_windows_with card (Some bits) is has =
+      let fitted : HasRom card.dev = has refl in
+      record {
+        selected = rw (is, rom_same card.dev 0x30 fitted refl, rom_same card.dev 0x31 fitted refl, rom_same card.dev 0x32 fitted refl, rom_same card.dev 0x33 fitted refl) refl;
+        unselected = rw (is, rom_same card.dev 0x30 fitted refl, rom_same card.dev 0x31 fitted refl, rom_same card.dev 0x32 fitted refl, rom_same card.dev 0x33 fitted refl) refl;
+      }
 
   base_same : (dev k : ℕ) → IsFitted dev → k < 6 → base_value bytes dev k ≡ base_value other dev k
   base_same dev k fitted below =
@@ -100,16 +154,25 @@ module _ (setup : Setup) (bytes other : Bytes) (same : SameMapBytes setup bytes 
       ap (λ windows. windows ++ windows_from bytes dev (first + 1) later) (window_same dev first base fitted (omega arith))
       ∙ ap (λ windows. memory_window other dev first base ++ windows) (bases_same dev (first + 1) later fitted (omega arith))
 
-  card_windows_same : (card : FittedCard) → IsFitted card.dev → length card.bases ≤ 6 → memory_windows bytes card ≡ memory_windows other card
-  card_windows_same card fitted count = ap (λ windows. windows ++ vga_window card) (bases_same card.dev 0 card.bases fitted (omega arith))
+  card_windows_same : (card : FittedCard) → IsFitted card.dev → SameRom card → length card.bases ≤ 6 → memory_windows bytes card ≡ memory_windows other card
+  card_windows_same card fitted rom count =
+      rw (bases_same card.dev 0 card.bases fitted (omega arith), rom.selected) refl
 
   windows_same :
-      (cards : List FittedCard) → AllByRecursion (λ card. IsFitted card.dev) cards → AllByRecursion IsCard cards →
-      flat_map (memory_windows bytes) cards ≡ flat_map (memory_windows other) cards
-  windows_same [] fitted each = refl
-  windows_same (card ∷ later) fitted each =
-      ap (λ windows. windows ++ flat_map (memory_windows bytes) later) (card_windows_same card fitted.0 each.0.count)
-      ∙ ap (λ windows. memory_windows other card ++ windows) (windows_same later fitted.1 each.1)
+      (cards : List FittedCard) → AllByRecursion (λ card. IsFitted card.dev) cards → AllByRecursion SameRom cards →
+      AllByRecursion IsCard cards → flat_map (memory_windows bytes) cards ≡ flat_map (memory_windows other) cards
+  windows_same [] fitted roms each = refl
+  windows_same (card ∷ later) fitted roms each =
+      ap (λ windows. windows ++ flat_map (memory_windows bytes) later) (card_windows_same card fitted.0 roms.0 each.0.count)
+      ∙ ap (λ windows. memory_windows other card ++ windows) (windows_same later fitted.1 roms.1 each.1)
+
+  unselected_same :
+      (cards : List FittedCard) → AllByRecursion SameRom cards →
+      flat_map (unselected_windows bytes) cards ≡ flat_map (unselected_windows other) cards
+  unselected_same [] roms = refl
+  unselected_same (card ∷ later) roms =
+      ap (λ windows. windows ++ flat_map (unselected_windows bytes) later) roms.0.unselected
+      ∙ ap (λ windows. unselected_windows other card ++ windows) (unselected_same later roms.1)
 
   -- each window is one of a fitted card
   abbrev IsOfCard : Window → Type 0
@@ -128,12 +191,33 @@ module _ (setup : Setup) (bytes other : Bytes) (same : SameMapBytes setup bytes 
         | inr plain ↦ rw plain (All-nil IsOfCard)
       ]
 
-  of_cards : (cards : List FittedCard) → AllByRecursion (λ card. IsFitted card.dev) cards → All IsOfCard (flat_map (memory_windows other) cards)
-  of_cards [] fitted = All-nil IsOfCard
-  of_cards (card ∷ later) fitted =
-      All-append IsOfCard (memory_windows other card) (flat_map (memory_windows other) later)
-      (All-append IsOfCard (windows_from other card.dev 0 card.bases) (vga_window card) (of_bases card.dev 0 card.bases fitted.0) (of_vga card fitted.0))
-      (of_cards later fitted.1)
+  of_rom : (dev : ℕ) (rom : Option ℕ) → IsFitted dev → All IsOfCard (rom_window_of other dev rom)
+  of_rom dev None fitted = All-nil IsOfCard
+  of_rom dev (Some bits) fitted =
+      All-cons IsOfCard (record { dev = dev; base = 6; inside = rom_value other dev; bits = bits }) [] fitted (All-nil IsOfCard)
+
+  of_choice : (on : Bool) (left right : List Window) → All IsOfCard left → All IsOfCard right → All IsOfCard (if on then left else right)
+  of_choice true left right l r = l
+  of_choice false left right l r = r
+
+  of_card : (card : FittedCard) → IsFitted card.dev → All IsOfCard (memory_windows other card)
+  of_card card fitted =
+      let rom : List Window = if is_rom_on other card.dev then rom_window other card else [] in
+      All-append IsOfCard (windows_from other card.dev 0 card.bases ++ rom) (vga_window card)
+      (All-append IsOfCard (windows_from other card.dev 0 card.bases) rom (of_bases card.dev 0 card.bases fitted)
+      (of_choice (is_rom_on other card.dev) (rom_window other card) [] (of_rom card.dev card.rom fitted) (All-nil IsOfCard)))
+      (of_vga card fitted)
+
+  of_unselected : (card : FittedCard) → IsFitted card.dev → All IsOfCard (unselected_windows other card)
+  of_unselected card fitted =
+      of_choice (is_rom_on other card.dev) [] (rom_window other card) (All-nil IsOfCard) (of_rom card.dev card.rom fitted)
+
+  of_all :
+      (windows : FittedCard → List Window) → ((card : FittedCard) → IsFitted card.dev → All IsOfCard (windows card)) →
+      (cards : List FittedCard) → AllByRecursion (λ card. IsFitted card.dev) cards → All IsOfCard (flat_map windows cards)
+  of_all windows each [] fitted = All-nil IsOfCard
+  of_all windows each (card ∷ later) fitted =
+      All-append IsOfCard (windows card) (flat_map windows later) (each card fitted.0) (of_all windows each later fitted.1)
 
   enabled_same : (dev : ℕ) → IsFitted dev → is_enabled_for 1 bytes dev ≡ is_enabled_for 1 other dev
   enabled_same dev fitted = ap (λ command. is_bit command 1) (card_same dev 0x04 fitted refl)
@@ -143,28 +227,48 @@ module _ (setup : Setup) (bytes other : Bytes) (same : SameMapBytes setup bytes 
   fitted_cards : AllByRecursion (λ card. IsFitted card.dev) setup.cards
   fitted_cards = recursion_from_All (λ card. IsFitted card.dev) setup.cards (λ k d below. found setup.cards k d below)
 
+  rom_cards : IsCardList setup.cards → AllByRecursion SameRom setup.cards
+  rom_cards list =
+      recursion_from_All SameRom setup.cards
+      (λ k d below.
+      let card : FittedCard = get_or setup.cards k d in
+      rom_windows_with card card.rom refl (λ some. found_rom setup.cards list.rises k d below ∙ some))
+
+  -- two searches in the same windows of cards agree where they count the same cards
   first_same :
+      (left right : ℕ → Bool) (addr : ℕ) (windows : List Window) → All IsOfCard windows →
+      ((dev : ℕ) → IsFitted dev → left dev ≡ right dev) → first_window left addr windows ≡ first_window right addr windows
+  first_same left right addr windows each counted =
+      find_same (λ window. left window.dev && is_covered addr window) (λ window. right window.dev && is_covered addr window) windows
+      (recursion_from_All (λ window. (left window.dev && is_covered addr window) ≡ (right window.dev && is_covered addr window)) windows
+      (λ k d below.
+      let window : Window = get_or windows k d in
+      ap (λ counts. counts && is_covered addr window) (counted window.dev (each k d below))))
+
+  memory_same :
       (left right : ℕ → Bool) (addr : ℕ) → ((dev : ℕ) → IsFitted dev → left dev ≡ right dev) → IsCardList setup.cards →
       first_window left addr (flat_map (memory_windows bytes) setup.cards) ≡ first_window right addr (flat_map (memory_windows other) setup.cards)
-  first_same left right addr counted list =
-      ap (λ windows. first_window left addr windows) (windows_same setup.cards fitted_cards (recursion_from_All IsCard setup.cards list.each))
-      ∙ find_same (λ window. left window.dev && is_covered addr window) (λ window. right window.dev && is_covered addr window)
-      (flat_map (memory_windows other) setup.cards)
-      (recursion_from_All (λ window. (left window.dev && is_covered addr window) ≡ (right window.dev && is_covered addr window))
-      (flat_map (memory_windows other) setup.cards)
-      (λ k d below.
-      let window : Window = get_or (flat_map (memory_windows other) setup.cards) k d in
-      ap (λ counts. counts && is_covered addr window) (counted window.dev (of_cards setup.cards fitted_cards k d below))))
+  memory_same left right addr counted list =
+      ap (λ windows. first_window left addr windows)
+      (windows_same setup.cards fitted_cards (rom_cards list) (recursion_from_All IsCard setup.cards list.each))
+      ∙ first_same left right addr _ (of_all (memory_windows other) of_card setup.cards fitted_cards) counted
 
   claim_same : (addr : ℕ) → IsCardList setup.cards → memory_claim setup bytes addr ≡ memory_claim setup other addr
   unfolding memory_claim
-  claim_same addr list = first_same (is_enabled_for 1 bytes) (is_enabled_for 1 other) addr enabled_same list
+  claim_same addr list = memory_same (is_enabled_for 1 bytes) (is_enabled_for 1 other) addr enabled_same list
 
   shut_same : (addr : ℕ) → IsCardList setup.cards → memory_shut setup bytes addr ≡ memory_shut setup other addr
   unfolding memory_shut
   shut_same addr list =
-      first_same (λ dev. not (is_enabled_for 1 bytes dev)) (λ dev. not (is_enabled_for 1 other dev)) addr
+      memory_same (λ dev. not (is_enabled_for 1 bytes dev)) (λ dev. not (is_enabled_for 1 other dev)) addr
       (λ dev fitted. ap (λ enabled. not enabled) (enabled_same dev fitted)) list
+
+  not_selected_same : (addr : ℕ) → IsCardList setup.cards → rom_unselected setup bytes addr ≡ rom_unselected setup other addr
+  unfolding rom_unselected
+  not_selected_same addr list =
+      ap (λ windows. first_window (is_enabled_for 1 bytes) addr windows) (unselected_same setup.cards (rom_cards list))
+      ∙ first_same (is_enabled_for 1 bytes) (is_enabled_for 1 other) addr _
+      (of_all (unselected_windows other) of_unselected setup.cards fitted_cards) enabled_same
 
   -- ---- areas and denials
 
@@ -176,7 +280,7 @@ module _ (setup : Setup) (bytes other : Bytes) (same : SameMapBytes setup bytes 
   denial_same : (addr : ℕ) (kind : Kind) (smm : Bool) → IsCardList setup.cards → denial_of setup bytes addr kind smm ≡ denial_of setup other addr kind smm
   unfolding denial_of
   denial_same addr kind smm list =
-      rw (area_same addr kind smm list, boundary_same 7 (lit< tt), shut_same addr list, same (isa 0x4E) refl) refl
+      rw (area_same addr kind smm list, boundary_same 7 (lit< tt), shut_same addr list, not_selected_same addr list, same (isa 0x4E) refl) refl
 
 pub map_bytes_decide : MapBytesDecide
 map_bytes_decide setup bytes other list same addr kind smm =

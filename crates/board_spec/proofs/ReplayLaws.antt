@@ -1,31 +1,115 @@
 -- Every event has one answer, and every list of statements one replay.
 use Rattle.std.proofs.Common.{◌≡◌, ℕ, ◌+◌, Bool, List, [], ◌∷◌, ◌++◌, refl, sym, ◌∙◌, ap, length, append_assoc}
-use Rattle.std.specs.Prelude.{map, reverse}
+use Rattle.std.specs.Prelude.{◌≢◌, zero, suc, ◌-◌, ◌<◌, ◌≤◌, ◌==◌, Option, map, reverse}
+use Rattle.std.proofs.Common.{arith, inl, inr, ne_eqb, true, false}
+use Rattle.std.proofs.lemmas.Bool.{cases_Bool}
+use Rattle.std.proofs.lemmas.Bool.Decides.{nat_tests}
+use Rattle.std.proofs.lemmas.List.{length-map}
 use Rattle.std.specs.List.{AllByRecursion}
 use Rattle.std.proofs.lemmas.List.{append-nil, reverse-reverse, reverse-append, map-append}
 use Rattle.std.proofs.lemmas.List.Elements.{recursion_from_All}
+use Rattle.board_base.specs.declared.access.Width.{Width}
 use Rattle.board_base.specs.declared.access.Kind.{Kind}
+use Rattle.board_base.specs.declared.access.WideAccess.{WideAccess}
+use Rattle.board_base.specs.Access.{bytes_of}
 use Rattle.board_base.specs.declared.target.Area.{Area}
 use Rattle.board_spec.specs.declared.event.Event.{Event}
-use Rattle.board_spec.specs.declared.event.Event.TheVariants.{Memory, Port, Look as LookAt, Ack, Pulses, Time, Wire, Line, BadSector}
+use Rattle.board_spec.specs.declared.event.Event.TheVariants.{Memory, Wide, Port, Look as LookAt, Ack, Pulses, Time, Wire, Line, BadSector}
 use Rattle.board_spec.specs.declared.event.Look.{Look}
 use Rattle.board_spec.specs.declared.event.Reply.{Reply}
-use Rattle.board_spec.specs.declared.event.Reply.TheVariants.{Bus, Saw}
+use Rattle.board_spec.specs.declared.event.Part.{Part}
+use Rattle.board_spec.specs.declared.event.Parts.{Parts}
+use Rattle.board_spec.specs.declared.event.Parts.TheVariants.{Two as TwoParts, Three as ThreeParts, Four as FourParts}
+use Rattle.board_spec.specs.declared.event.Reply.TheVariants.{Bus, Parts as InParts, Saw}
 use Rattle.board_spec.specs.declared.event.Entry.{Entry}
 use Rattle.board_spec.specs.declared.event.Statement.{Statement}
 use Rattle.board_spec.specs.Setup.{Setup}
 use Rattle.board_spec.specs.Registers.{byte_of}
 use Rattle.board_spec.specs.MapWrites.{version_of}
-use Rattle.board_spec.specs.Answer.{IsLookAnswer, IsAnswer}
+use Rattle.board_spec.specs.WideParts.{longest_at, parts_from, parts_of, parts_list}
+use Rattle.board_spec.specs.InRange.{IsWideAccess}
+use Rattle.board_spec.specs.Answer.{part_answer, wide_value, IsLookAnswer, IsAnswer}
 use Rattle.board_spec.specs.Legal.{entries_by, IsNext, IsLegal}
 use Rattle.board_spec.specs.Orders.{statement_of, statements_of}
 use Rattle.board_spec.specs.Laws.{IsAddressed, SomeAnswer, OneAnswer, SomeReplay, OneReplay}
 use Rattle.board_spec.proofs.SpanLaws.{some_span, one_span}
 
+-- ---- the parts of a wide access
+
+-- two to four parts as the board gives them
+record AsParts (list : List Part) : Type 0 where
+  pub parts : Parts
+  pub same : parts_list parts ≡ list
+
+some_parts : (list : List Part) → (2 ≤ length list) × (length list ≤ 4) → AsParts list
+some_parts [] count = absurd (omega (arith, count.0))
+some_parts (a ∷ []) count = absurd (omega (arith, count.0))
+some_parts (a ∷ b ∷ []) count = record { parts = TwoParts a b; same = refl }
+some_parts (a ∷ b ∷ c ∷ []) count = record { parts = ThreeParts a b c; same = refl }
+some_parts (a ∷ b ∷ c ∷ d ∷ []) count = record { parts = FourParts a b c d; same = refl }
+some_parts (a ∷ b ∷ c ∷ d ∷ e ∷ later) count = absurd (omega (arith, count.1))
+
+one_parts :
+    (value value' : Option ℕ) (parts parts' : Parts) → value ≡ value' → parts_list parts ≡ parts_list parts' →
+    InParts value parts ≡ InParts value' parts'
+one_parts value value' (TwoParts a b) (TwoParts a' b') v l = cc
+one_parts value value' (TwoParts a b) (ThreeParts a' b' c') v l = cc
+one_parts value value' (TwoParts a b) (FourParts a' b' c' d') v l = cc
+one_parts value value' (ThreeParts a b c) (TwoParts a' b') v l = cc
+one_parts value value' (ThreeParts a b c) (ThreeParts a' b' c') v l = cc
+one_parts value value' (ThreeParts a b c) (FourParts a' b' c' d') v l = cc
+one_parts value value' (FourParts a b c d) (TwoParts a' b') v l = cc
+one_parts value value' (FourParts a b c d) (ThreeParts a' b' c') v l = cc
+one_parts value value' (FourParts a b c d) (FourParts a' b' c' d') v l = cc
+
+-- a wide access has two to four parts
+few_parts : (access : WideAccess) (most addr left : ℕ) → length (parts_from access most addr left) ≤ most
+unfolding parts_from
+few_parts access zero addr left = omega arith
+few_parts access (suc most) addr left =
+    elim (cases_Bool (left == 0)) [
+      | inl none ↦ rw none (omega arith)
+      | inr some ↦
+          let width : Width = longest_at addr left in
+          let later : length (parts_from access most (addr + bytes_of width) (left - bytes_of width)) ≤ most =
+          few_parts access most (addr + bytes_of width) (left - bytes_of width) in
+          rw some (omega (arith, later))
+    ]
+
+some_part : (access : WideAccess) (most addr left : ℕ) → left ≢ 0 → 1 ≤ length (parts_from access (suc most) addr left)
+unfolding parts_from
+some_part access most addr left some = rw (ne_eqb left 0 some) (omega arith)
+
+shorter_part : (access : WideAccess) → IsWideAccess access → bytes_of (longest_at access.addr access.bytes) < access.bytes
+shorter_part access wide = grind (arith, nat_tests)
+
+two_parts : (access : WideAccess) → IsWideAccess access → 2 ≤ length (parts_of access)
+unfolding parts_from
+two_parts access wide =
+    let width : Width = longest_at access.addr access.bytes in
+    let shorter : bytes_of width < access.bytes = shorter_part access wide in
+    let later : 1 ≤ length (parts_from access 3 (access.addr + bytes_of width) (access.bytes - bytes_of width)) =
+    some_part access 2 (access.addr + bytes_of width) (access.bytes - bytes_of width) (λ e. omega (arith, e, shorter)) in
+    rw (ne_eqb access.bytes 0 (λ e. omega (arith, e, shorter))) (omega (arith, later))
+
+parts_counted :
+    (setup : Setup) (before : List Entry) (access : WideAccess) → IsWideAccess access →
+    (2 ≤ length (map (part_answer setup before) (parts_of access))) × (length (map (part_answer setup before) (parts_of access)) ≤ 4)
+parts_counted setup before access wide =
+    let same : length (map (part_answer setup before) (parts_of access)) ≡ length (parts_of access) =
+    length-map (parts_of access) (part_answer setup before) in
+    (rw same (two_parts access wide), rw same (few_parts access 4 access.addr access.bytes))
+
 -- ---- answers
 
 pub some_answer : SomeAnswer
 some_answer setup before (Memory access) addressed = record { reply = _; answer = refl }
+some_answer setup before (Wide access) addressed =
+    let some = some_parts (map (part_answer setup before) (parts_of access)) (parts_counted setup before access addressed) in
+    record {
+      reply = InParts (wide_value setup before access) some.parts;
+      answer = record { value_is = refl; each = some.same };
+    }
 some_answer setup before (Port access) addressed = record { reply = _; answer = refl }
 some_answer setup before (LookAt kind addr smm) addressed =
     let span = some_span setup (byte_of setup before) addr kind smm addressed in
@@ -58,6 +142,14 @@ one_look setup before kind addr smm left right l r =
 
 pub one_answer : OneAnswer
 one_answer setup before (Memory access) left right l r = l ∙ sym r
+one_answer setup before (Wide access) (InParts value parts) (InParts value' parts') l r =
+    one_parts value value' parts parts' (l.value_is ∙ sym r.value_is) (l.each ∙ sym r.each)
+one_answer setup before (Wide access) (Bus value target denial) right l r = absurd l
+one_answer setup before (Wide access) (Saw look) right l r = absurd l
+one_answer setup before (Wide access) (InParts value parts) (Bus value' target denial) l r = absurd r
+one_answer setup before (Wide access) (InParts value parts) (Saw look) l r = absurd r
+one_answer setup before (LookAt kind addr smm) (InParts value parts) right l r = absurd l
+one_answer setup before (LookAt kind addr smm) (Saw left) (InParts value parts) l r = absurd r
 one_answer setup before (Port access) left right l r = l ∙ sym r
 one_answer setup before (LookAt kind addr smm) (Saw left) (Saw right) l r = one_look setup before kind addr smm left right l r
 one_answer setup before (LookAt kind addr smm) (Bus value target denial) right l r = absurd l

@@ -8,8 +8,9 @@ use Rattle.board_base.specs.Access.{bytes_of}
 use Rattle.board_spec.specs.declared.map_change.MapChange.TheVariants.{Store}
 use Rattle.board_spec.specs.Setup.{Setup}
 use Rattle.board_spec.specs.Bits.{byte, merged}
+use Rattle.board_spec.specs.RegisterNames.{smram, is_same}
 use Rattle.board_spec.specs.RegisterTable.{writable_bits}
-use Rattle.board_spec.specs.Registers.{covers, is_smram_register, byte_after, changed_byte}
+use Rattle.board_spec.specs.Registers.{covers, byte_after, changed_byte}
 use Rattle.board_spec.specs.WideStores.{after_stores, ByteByByte}
 
 covers-same : (reg : Reg) → covers reg One reg ≡ true
@@ -26,10 +27,10 @@ lowest_byte : (off written : ℕ) → written < 256 → byte written (off - off)
 lowest_byte off written below =
     let none : off - off ≡ 0 = omega arith in ap (λ k. byte written k) none ∙ omega arith
 
-pub changed_byte-one_same : (setup : Setup) (reg : Reg) (old written : ℕ) → written < 256 → is_smram_register reg ≡ false → changed_byte setup (Store reg One written) reg old ≡ merged (writable_bits setup reg) old written
+pub changed_byte-one_same : (setup : Setup) (reg : Reg) (old written : ℕ) → written < 256 → is_same reg smram ≡ false → changed_byte setup (Store reg One written) reg old ≡ merged (writable_bits setup reg) old written
 changed_byte-one_same setup reg old written below plain =
     cond-true (covers reg One reg) _ _ (covers-same reg)
-    ∙ cond-false (is_smram_register reg) _ _ plain
+    ∙ cond-false (is_same reg smram) _ _ plain
     ∙ ap (λ n. merged (writable_bits setup reg) old n) (lowest_byte reg.off written below)
 
 pub changed_byte-one_other : (setup : Setup) (reg : Reg) (off old written : ℕ) → reg.off ≢ off → changed_byte setup (Store (record reg { off = off }) One written) reg old ≡ old

@@ -1,9 +1,10 @@
 -- The answer to an event after a history.
-use Rattle.std.specs.Prelude.{ℕ, ◌≡◌, ◌%◌, ◌^◌, ◌==◌, Bool, if◌then◌else◌, List, length, slice_get, slice_index, Option, Some, None, is_some}
+use Rattle.std.specs.Prelude.{ℕ, ◌≡◌, ◌%◌, ◌^◌, ◌==◌, Bool, if◌then◌else◌, List, length, slice_get, slice_index, Option, Some, None, is_some, unwrap_or, map}
 use Rattle.board_base.specs.declared.access.Width.{Width}
 use Rattle.board_base.specs.declared.access.Kind.{Kind}
 use Rattle.board_base.specs.declared.access.Access.{Access}
 use Rattle.board_base.specs.declared.access.PortAccess.{PortAccess}
+use Rattle.board_base.specs.declared.access.WideAccess.{WideAccess}
 use Rattle.board_base.specs.declared.target.Area.{Area}
 use Rattle.board_base.specs.declared.target.Area.TheVariants.{Dram as DramArea, Shadow as ShadowArea, Smram as SmramArea, Rom as RomArea, Card as CardArea, Abort as AbortArea}
 use Rattle.board_base.specs.declared.target.Dev.{Dev}
@@ -13,10 +14,12 @@ use Rattle.board_base.specs.declared.target.Target.TheVariants.{Dram, Shadow, Sm
 use Rattle.board_base.specs.declared.target.Denial.{Denial}
 use Rattle.board_base.specs.Access.{largest_of}
 use Rattle.board_spec.specs.declared.event.Event.{Event}
-use Rattle.board_spec.specs.declared.event.Event.TheVariants.{Memory, Port, Look as LookAt, Ack, Pulses, Time, Wire, Line, BadSector}
+use Rattle.board_spec.specs.declared.event.Event.TheVariants.{Memory, Wide, Port, Look as LookAt, Ack, Pulses, Time, Wire, Line, BadSector}
 use Rattle.board_spec.specs.declared.event.Look.{Look}
 use Rattle.board_spec.specs.declared.event.Reply.{Reply}
-use Rattle.board_spec.specs.declared.event.Reply.TheVariants.{Bus, Saw}
+use Rattle.board_spec.specs.declared.event.Part.{Part}
+use Rattle.board_spec.specs.declared.event.Parts.{Parts}
+use Rattle.board_spec.specs.declared.event.Reply.TheVariants.{Bus, Parts as InParts, Saw}
 use Rattle.board_spec.specs.declared.event.Entry.{Entry}
 use Rattle.board_spec.specs.Setup.{Base, MemoryBase, IoBase, FittedCard, Setup, card_at}
 use Rattle.board_spec.specs.Bits.{wide}
@@ -25,12 +28,13 @@ use Rattle.board_spec.specs.MapWrites.{version_of}
 use Rattle.board_spec.specs.Decode.{area_of, denial_of}
 use Rattle.board_spec.specs.Ports.{port_target_of}
 use Rattle.board_spec.specs.FlatMap.{IsSpan}
-use Rattle.board_spec.specs.Stored.{CardCell, stored_of, dram_byte, is_write}
-use Rattle.board_spec.specs.Devices.{device_value, vector_of, acknowledged_by}
+use Rattle.board_spec.specs.Stored.{dram_byte, card_byte, is_write}
+use Rattle.board_spec.specs.WideParts.{parts_of, parts_list, joined}
+use Rattle.board_spec.specs.Interrupts.{device_value, vector_of, acknowledged_by}
 
 -- ---- targets
 
--- a card's base of 2 ^ bits bytes. Base 7 is the VGA window of 128 KiB
+-- a card's base of 2 ^ bits bytes. Base 6 is its expansion ROM, and base 7 the VGA window of 128 KiB
 abbrev pub bits_of_base : Option Base → ℕ
 bits_of_base None = 0
 bits_of_base (Some (MemoryBase bits)) = bits
@@ -40,8 +44,14 @@ abbrev pub base_of_card : Option FittedCard → ℕ → Option Base
 base_of_card None base = None
 base_of_card (Some card) base = slice_get card.bases base
 
+abbrev pub rom_bits : Option FittedCard → ℕ
+rom_bits None = 0
+rom_bits (Some card) = unwrap_or card.rom 0
+
 abbrev pub window_bits : Setup → ℕ → ℕ → ℕ
-window_bits setup dev base = if base == 7 then 17 else bits_of_base (base_of_card (card_at setup dev) base)
+window_bits setup dev base =
+    if base == 7 then 17 else
+    if base == 6 then rom_bits (card_at setup dev) else bits_of_base (base_of_card (card_at setup dev) base)
 
 -- what an access to an area reaches: ROM and cards by the address modulo their size
 abbrev pub target_at : Setup → Area → ℕ → Target
@@ -67,7 +77,7 @@ value_at setup before (Dram row) addr width = wide (dram_byte setup before) addr
 value_at setup before (Shadow row) addr width = wide (dram_byte setup before) addr width
 value_at setup before Smram addr width = wide (dram_byte setup before) addr width
 value_at setup before (Rom off) addr width = wide (slice_index setup.rom) off width
-value_at setup before (Card dev base off) addr width = wide (λ at. stored_of before (CardCell dev base at)) off width
+value_at setup before (Card dev base off) addr width = wide (λ at. card_byte before dev base at) off width
 value_at setup before (Config reg) port width = wide (λ off. byte_of setup before (record reg { off = off })) reg.off width
 value_at setup before (Device dev) port width = port_value setup before dev port width
 value_at setup before Abort addr width = largest_of width
@@ -79,12 +89,35 @@ abbrev pub bus_reply : Setup → List Entry → (writes : Bool) → Target → O
 bus_reply setup before writes target denial place width =
     Bus (if writes then None else Some (value_at setup before target place width)) target denial
 
+-- what answers a memory access, and what denied it
+abbrev pub memory_target : Setup → List Entry → Access → Target
+memory_target setup before access =
+    target_at setup (area_of setup (byte_of setup before) access.addr access.kind access.smm) access.addr
+
+abbrev pub memory_denial : Setup → List Entry → Access → Option Denial
+memory_denial setup before access = denial_of setup (byte_of setup before) access.addr access.kind access.smm
+
 unfoldable pub memory_answer : Setup → List Entry → Access → Reply
 memory_answer setup before access =
-    bus_reply setup before (is_write access.kind)
-    (target_at setup (area_of setup (byte_of setup before) access.addr access.kind access.smm) access.addr)
-    (denial_of setup (byte_of setup before) access.addr access.kind access.smm)
-    access.addr access.width
+    bus_reply setup before (is_write access.kind) (memory_target setup before access)
+    (memory_denial setup before access) access.addr access.width
+
+-- the reply to one part of a wide access is that to a memory access of that part
+unfoldable pub part_answer : Setup → List Entry → Access → Part
+part_answer setup before part = record {
+  target = memory_target setup before part;
+  denial = memory_denial setup before part;
+}
+
+-- the values of the parts joined, for a wide access that reads
+unfoldable pub wide_value : Setup → List Entry → WideAccess → Option ℕ
+wide_value setup before access =
+    if is_write access.kind then None
+    else Some (joined (λ part. value_at setup before (memory_target setup before part) part.addr part.width) (parts_of access))
+
+pub record IsWideAnswer (setup : Setup) (before : List Entry) (access : WideAccess) (value : Option ℕ) (parts : Parts) : Type 0 where
+  pub value_is : value ≡ wide_value setup before access
+  pub each : parts_list parts ≡ map (part_answer setup before) (parts_of access)
 
 unfoldable pub port_answer : Setup → List Entry → PortAccess → Reply
 port_answer setup before access =
@@ -102,11 +135,16 @@ pub record IsLookAnswer (setup : Setup) (before : List Entry) (kind : Kind) (add
 
 abbrev pub IsSeen : (Look → Type 0) → Reply → Type 0
 IsSeen P (Saw look) = P look
-IsSeen P (Bus value target denial) = ⊥
+IsSeen P _ = ⊥
+
+abbrev pub IsInParts : (Option ℕ → Parts → Type 0) → Reply → Type 0
+IsInParts P (InParts value parts) = P value parts
+IsInParts P _ = ⊥
 
 -- the reply to an event after a history. There is exactly one (`law_one_answer`)
 abbrev pub IsAnswer : Setup → List Entry → Event → Reply → Type 0
 IsAnswer setup before (Memory access) reply = reply ≡ memory_answer setup before access
+IsAnswer setup before (Wide access) reply = IsInParts (IsWideAnswer setup before access) reply
 IsAnswer setup before (Port access) reply = reply ≡ port_answer setup before access
 IsAnswer setup before (LookAt kind addr smm) reply = IsSeen (IsLookAnswer setup before kind addr smm) reply
 IsAnswer setup before Ack reply =

@@ -15,7 +15,7 @@ text_of lines = flat_map (λ line. line ++ line_feed ∷ []) lines
 
 -- the log of an example is this text
 abbrev pub IsLogged : List Said → List (List ℕ) → Type 0
-IsLogged lines text = log_text (from_reset lines) ≡ text_of text
+IsLogged lines text = log_text 1 (from_reset lines) ≡ text_of text
 
 unfoldable pub VgaBesideSmramLogged : Type 0
 VgaBesideSmramLogged = IsLogged vga_beside_smram
@@ -94,7 +94,7 @@ outside_entries =
     ∷ []
 
 unfoldable pub OutsideLogged : Type 0
-OutsideLogged = log_text outside_entries ≡ text_of
+OutsideLogged = log_text 1 outside_entries ≡ text_of
     (codes "access log 1"
     ∷ codes "1 0.1 ack = 07 spur0 -"
     ∷ codes "2 0.2 pulse 3 = - pit -"

@@ -56,7 +56,7 @@ unfoldable pub LookTooEarly : Type 0
 LookTooEarly = ¬ IsLegal small_board (opened ∷ sees_shadow ∷ addressed ∷ [])
 
 unfoldable pub LookLastLogged : Type 0
-LookLastLogged = log_text look_last ≡ text_of
+LookLastLogged = log_text 1 look_last ≡ text_of
     (codes "access log 1"
     ∷ codes "1 0.1 out d 0CF8 80000058 = - confadd -"
     ∷ codes "2 0.2 out b 0CFD 10 = - config:00.0.59 -"
@@ -64,7 +64,7 @@ LookLastLogged = log_text look_last ≡ text_of
     ∷ [])
 
 unfoldable pub LookFirstLogged : Type 0
-LookFirstLogged = log_text look_first ≡ text_of
+LookFirstLogged = log_text 1 look_first ≡ text_of
     (codes "access log 1"
     ∷ codes "1 0.1 out d 0CF8 80000058 = - confadd -"
     ∷ codes "2 1.1 look r 000F0000 = 0 000F0000 000FFFFF rom"

@@ -1,19 +1,23 @@
 -- Words of the worked examples: what is asked of a board, and what it replies, line by line.
 use Rattle.std.specs.Prelude.{ℕ, ◌+◌, List, [], ◌∷◌, length, Bool, true, false, Some, None}
 use Rattle.board_base.specs.declared.access.Width.{Width}
-use Rattle.board_base.specs.declared.access.Width.TheVariants.{Four}
+use Rattle.board_base.specs.declared.access.Width.TheVariants.{One, Four}
 use Rattle.board_base.specs.declared.access.Kind.{Kind}
 use Rattle.board_base.specs.declared.access.Kind.TheVariants.{Fetch, Read, Write}
-use Rattle.board_base.specs.declared.target.Dev.TheVariants.{Confadd as AddressPort}
+use Rattle.board_base.specs.declared.target.Dev.{Dev}
+use Rattle.board_base.specs.declared.target.Dev.TheVariants.{Confadd as AddressPort, Pit, Clock, Wires, Ata}
+use Rattle.board_base.specs.declared.moment.Moment.{Moment}
 use Rattle.board_base.specs.declared.target.Area.{Area}
 use Rattle.board_base.specs.declared.target.Target.{Target}
 use Rattle.board_base.specs.declared.target.Target.TheVariants.{Config, Device, Abort}
 use Rattle.board_base.specs.declared.target.Denial.{Denial}
 use Rattle.board_base.specs.declared.target.Denial.TheVariants.{Register}
 use Rattle.board_spec.specs.declared.event.Event.{Event}
-use Rattle.board_spec.specs.declared.event.Event.TheVariants.{Memory, Port, Look as LookAt}
+use Rattle.board_spec.specs.declared.event.Event.TheVariants.{Memory, Wide, Port, Look as LookAt, Ack, Pulses, Time, Wire, Line, BadSector}
+use Rattle.board_spec.specs.declared.event.Part.{Part}
+use Rattle.board_spec.specs.declared.event.Parts.{Parts}
 use Rattle.board_spec.specs.declared.event.Reply.{Reply}
-use Rattle.board_spec.specs.declared.event.Reply.TheVariants.{Bus, Saw}
+use Rattle.board_spec.specs.declared.event.Reply.TheVariants.{Bus, Parts as InParts, Saw}
 use Rattle.board_spec.specs.declared.event.Entry.{Entry}
 
 -- one line of an example: what is asked, and the reply
@@ -106,3 +110,56 @@ selects address = outputs Four 0xCF8 address (goes_to (Device AddressPort))
 -- the version of the map, and the interval round the address with its area
 abbrev pub sees : ℕ → ℕ → ℕ → Area → Reply
 sees version lo hi area = Saw (record { version = version; lo = lo; hi = hi; area = area })
+
+-- ---- wide accesses
+
+abbrev pub wide_access : Kind → Bool → (bytes addr value : ℕ) → Reply → Said
+wide_access kind smm bytes addr value reply =
+    record { asked = Wide (record { kind = kind; addr = addr; bytes = bytes; smm = smm; value = value }); replied = reply }
+
+abbrev pub reads_wide : (bytes addr : ℕ) → Reply → Said
+reads_wide bytes addr reply = wide_access Read false bytes addr 0 reply
+
+abbrev pub writes_wide : (bytes addr value : ℕ) → Reply → Said
+writes_wide bytes addr value reply = wide_access Write false bytes addr value reply
+
+-- what answers a part, and what denied it
+abbrev pub part : Target → Part
+part target = record { target = target; denial = None }
+
+abbrev pub denied_part : Target → Denial → Part
+denied_part target denial = record { target = target; denial = Some denial }
+
+abbrev pub gives_parts : ℕ → Parts → Reply
+gives_parts value parts = InParts (Some value) parts
+
+abbrev pub goes_in_parts : Parts → Reply
+goes_in_parts parts = InParts None parts
+
+-- ---- devices
+
+-- a byte is written to a device's port, or read from it
+abbrev pub puts : Dev → (port byte : ℕ) → Said
+puts dev port byte = outputs One port byte (goes_to (Device dev))
+
+abbrev pub gets : Dev → (port byte : ℕ) → Said
+gets dev port byte = inputs One port (gives byte (Device dev))
+
+-- an acknowledge, its vector and who gave it
+abbrev pub acknowledges : ℕ → Dev → Said
+acknowledges vector dev = record { asked = Ack; replied = gives vector (Device dev) }
+
+abbrev pub pulses : ℕ → Said
+pulses count = record { asked = Pulses count; replied = goes_to (Device Pit) }
+
+abbrev pub wire : ℕ → Bool → Said
+wire dev on = record { asked = Wire dev on; replied = goes_to (Device Wires) }
+
+abbrev pub line : ℕ → Bool → Said
+line irq on = record { asked = Line irq on; replied = goes_to (Device Wires) }
+
+abbrev pub tells : Moment → Said
+tells moment = record { asked = Time moment; replied = goes_to (Device Clock) }
+
+abbrev pub spoils : ℕ → Said
+spoils sector = record { asked = BadSector sector; replied = goes_to (Device Ata) }

@@ -26,11 +26,11 @@ abbrev pub small_board : Setup
 small_board = board_of 8 []
 
 abbrev pub vga_card : FittedCard
-vga_card = record { dev = 2; vga = true; bases = [] }
+vga_card = record { dev = 2; vga = true; bases = []; rom = None }
 
 -- a card with one memory base of 2 ^ bits bytes
 abbrev pub memory_card : ℕ → ℕ → FittedCard
-memory_card dev bits = record { dev = dev; vga = false; bases = MemoryBase bits ∷ [] }
+memory_card dev bits = record { dev = dev; vga = false; bases = MemoryBase bits ∷ []; rom = None }
 
 -- ---- shadow windows
 

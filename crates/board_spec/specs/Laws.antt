@@ -4,11 +4,12 @@ use Rattle.board_base.specs.declared.access.Kind.{Kind}
 use Rattle.board_base.specs.declared.target.Area.{Area}
 use Rattle.board_base.specs.declared.target.Reg.{Reg}
 use Rattle.board_spec.specs.declared.event.Event.{Event}
-use Rattle.board_spec.specs.declared.event.Event.TheVariants.{Look as LookAt}
+use Rattle.board_spec.specs.declared.event.Event.TheVariants.{Wide, Look as LookAt}
 use Rattle.board_spec.specs.declared.event.Reply.{Reply}
 use Rattle.board_spec.specs.declared.event.Entry.{Entry}
 use Rattle.board_spec.specs.declared.event.Statement.{Statement}
 use Rattle.board_spec.specs.Setup.{Setup, IsCardList}
+use Rattle.board_spec.specs.InRange.{IsWideAccess}
 use Rattle.board_spec.specs.Registers.{byte_of}
 use Rattle.board_spec.specs.MapWrites.{is_map_byte, map_writes_of, registers_after}
 use Rattle.board_spec.specs.Decode.{Bytes, area_of, denial_of}
@@ -66,9 +67,10 @@ OneSpan =
 abbrev pub LegalKeepsLock : Type 0
 LegalKeepsLock = (setup : Setup) (history : List Entry) → IsLegal setup history → LockLaw setup history
 
--- the address of a look is an address
+-- the address of a look is an address, and a wide access is one
 abbrev pub IsAddressed : Event → Type 0
 IsAddressed (LookAt kind addr smm) = addr < address_count
+IsAddressed (Wide access) = IsWideAccess access
 IsAddressed _ = Unit {0}
 
 -- every event has an answer, and only one

@@ -1,5 +1,5 @@
 -- Map writes: the changes of the registers that the address map depends on, and how many there were.
-use Rattle.std.specs.Prelude.{ℕ, ◌+◌, ◌==◌, Bool, true, ◌&&◌, ◌||◌, List, [], ◌∷◌, ◌++◌, length, take, Option, Some, None, is_some, option_and_then, if◌then◌else◌}
+use Rattle.std.specs.Prelude.{ℕ, ◌+◌, ◌==◌, Bool, true, false, ◌&&◌, ◌||◌, List, [], ◌∷◌, ◌++◌, length, take, Option, Some, None, is_some, option_and_then, if◌then◌else◌}
 use Rattle.std.specs.List.{list_any}
 use Rattle.std.specs.Option.{option_to_list}
 use Rattle.board_base.specs.declared.target.Reg.{Reg}
@@ -8,18 +8,28 @@ use Rattle.board_spec.specs.declared.event.Event.{Event}
 use Rattle.board_spec.specs.declared.event.Entry.{Entry}
 use Rattle.board_spec.specs.declared.map_change.MapChange.{MapChange}
 use Rattle.board_spec.specs.declared.map_change.MapChange.TheVariants.{Store, Reset}
-use Rattle.board_spec.specs.Setup.{Setup, card_at}
+use Rattle.board_spec.specs.Setup.{FittedCard, Setup, card_at}
 use Rattle.board_spec.specs.Bits.{is_within}
+use Rattle.board_spec.specs.RegisterNames.{pam, fdhc, smram, xbcs, card_command, base_register, expansion_rom, is_same}
 use Rattle.board_spec.specs.RegisterTable.{reset_byte}
 use Rattle.board_spec.specs.Registers.{register_change, changed_byte}
 
--- the bytes that the address map depends on: PAM, DRB, FDHC and SMRAM of 00.0, XBCS of 01.0, and the
--- command and the bases of each card
+-- a card has an expansion ROM
+abbrev pub has_rom : Option FittedCard → Bool
+has_rom None = false
+has_rom (Some card) = is_some card.rom
+
+-- the bytes that the address map depends on: PAM, DRB, FDHC and SMRAM of 00.0, XBCS of 01.0, the command and
+-- the bases of each card, and the register of each expansion ROM
 abbrev pub is_map_byte : Setup → Reg → Bool
 is_map_byte setup reg =
-    reg.dev == 0 && reg.fun == 0 && (is_within 0x59 0x68 reg.off || reg.off == 0x72)
-    || reg.dev == 1 && reg.fun == 0 && reg.off == 0x4E
-    || is_some (card_at setup reg.dev) && reg.fun == 0 && (reg.off == 0x04 || is_within 0x10 0x27 reg.off)
+    reg.dev == 0 && reg.fun == 0 && (is_within (pam 0).off fdhc.off reg.off || reg.off == smram.off)
+    || is_same reg xbcs
+    || is_some (card_at setup reg.dev) && reg.fun == 0
+    && (reg.off == (card_command reg.dev).off
+    || is_within (base_register reg.dev 0).off ((base_register reg.dev 5).off + 3) reg.off)
+    || has_rom (card_at setup reg.dev) && reg.fun == 0
+    && is_within (expansion_rom reg.dev).off ((expansion_rom reg.dev).off + 3) reg.off
 
 -- the register so many bytes after another
 abbrev pub reg_after : Reg → ℕ → Reg

@@ -10,9 +10,12 @@ use Rattle.board_base.specs.declared.target.Denial.{Denial}
 use Rattle.board_base.specs.declared.target.Denial.TheVariants.{Register, Confadd, NoRegister}
 use Rattle.board_base.specs.Access.{bytes_of}
 use Rattle.board_spec.specs.Setup.{Setup}
-use Rattle.board_spec.specs.Bits.{is_bit, is_within}
+use Rattle.board_spec.specs.Bits.{is_bit}
 use Rattle.board_spec.specs.Registers.{is_enabled, is_config_port, config_register}
-use Rattle.board_spec.specs.Decode.{Bytes, isa, ide, Window, io_claim, io_shut, command_of, first_of, line_where}
+use Rattle.board_spec.specs.Ranges.{lies_in}
+use Rattle.board_spec.specs.PortNames.{config_address_port, reset_control_port, master_ports, slave_ports, elcr_ports, timer_ports, system_port, keyboard_data_port, keyboard_command_port, clock_ports, disk_data_port, disk_ports, disk_control_port}
+use Rattle.board_spec.specs.RegisterNames.{xbcs, ide_command, idetim, idetim_high}
+use Rattle.board_spec.specs.Decode.{Bytes, Window, io_claim, io_shut, command_of, first_of, line_where}
 
 -- what answers, and what denied the access
 pub record Decoded : Type 0 where
@@ -38,17 +41,18 @@ config_port address None = nobody (if is_enabled address then NoRegister else Co
 -- the ports of the primary IDE channel: data in words, the other registers in bytes
 abbrev pub is_ata_port : ℕ → ℕ → Bool
 is_ata_port port size =
-    port == 0x1F0 && (size == 2 || size == 4) || (is_within 0x1F1 0x1F7 port || port == 0x3F6) && size == 1
+    port == disk_data_port && (size == 2 || size == 4)
+    || (lies_in disk_ports port || port == disk_control_port) && size == 1
 
 -- the device registers of a byte that always answer
 abbrev pub byte_device : ℕ → Option Dev
 byte_device port = first_of
-    (line_where (port == 0xCF9) (Some Reset)
-    ∷ line_where (is_within 0x20 0x21 port) (Some Pic0)
-    ∷ line_where (is_within 0xA0 0xA1 port) (Some Pic1)
-    ∷ line_where (is_within 0x40 0x43 port) (Some Pit)
-    ∷ line_where (port == 0x61) (Some System)
-    ∷ line_where (is_within 0x4D0 0x4D1 port) (Some Elcr)
+    (line_where (port == reset_control_port) (Some Reset)
+    ∷ line_where (lies_in master_ports port) (Some Pic0)
+    ∷ line_where (lies_in slave_ports port) (Some Pic1)
+    ∷ line_where (lies_in timer_ports port) (Some Pit)
+    ∷ line_where (port == system_port) (Some System)
+    ∷ line_where (lies_in elcr_ports port) (Some Elcr)
     ∷ [])
     None
 
@@ -59,15 +63,15 @@ unselected setup bytes port denial =
 
 -- the keyboard controller answers where XBCS bit 1 is set, the clock where bit 0 is
 abbrev pub selected_by : ℕ → Dev → Setup → Bytes → ℕ → Decoded
-selected_by xbcs_bit dev setup bytes port =
-    if is_bit (bytes (isa 0x4E)) xbcs_bit then device dev else unselected setup bytes port (Register (isa 0x4E))
+selected_by select dev setup bytes port =
+    if is_bit (bytes xbcs) select then device dev else unselected setup bytes port (Register xbcs)
 
 -- the disk answers where one is fitted, bit 0 of the IDE command and bit 15 of IDETIM are set
 abbrev pub disk_port : Setup → Bytes → Bool → ℕ → Decoded
 disk_port setup bytes false port = unselected setup bytes port NoRegister
 disk_port setup bytes true port =
-    if not (is_bit (bytes (ide 0x04)) 0) then unselected setup bytes port (Register (ide 0x04)) else
-    if not (is_bit (bytes (ide 0x41)) 7) then unselected setup bytes port (Register (ide 0x40)) else device Ata
+    if not (is_bit (bytes ide_command) 0) then unselected setup bytes port (Register ide_command) else
+    if not (is_bit (bytes idetim_high) 7) then unselected setup bytes port (Register idetim) else device Ata
 
 -- all other ports are the cards', and what none claims is denied by the card that would if it were enabled
 abbrev pub other_port : Setup → Bytes → ℕ → Decoded
@@ -78,11 +82,11 @@ other_port setup bytes port =
 unfoldable pub port_target_of : Setup → Bytes → (address : ℕ) → (disk : Bool) → ℕ → Width → Decoded
 port_target_of setup bytes address disk port width =
     first_of
-    (line_where (port == 0xCF8 && bytes_of width == 4) (device AddressPort)
+    (line_where (port == config_address_port && bytes_of width == 4) (device AddressPort)
     ∷ line_where (is_config_port port) (config_port address (config_register setup address port))
     ∷ (if bytes_of width == 1 then option_map device (byte_device port) else None)
-    ∷ line_where ((port == 0x60 || port == 0x64) && bytes_of width == 1) (selected_by 1 Keyboard setup bytes port)
-    ∷ line_where (is_within 0x70 0x71 port && bytes_of width == 1) (selected_by 0 Clock setup bytes port)
+    ∷ line_where ((port == keyboard_data_port || port == keyboard_command_port) && bytes_of width == 1) (selected_by 1 Keyboard setup bytes port)
+    ∷ line_where (lies_in clock_ports port && bytes_of width == 1) (selected_by 0 Clock setup bytes port)
     ∷ line_where (is_ata_port port (bytes_of width)) (disk_port setup bytes disk port)
     ∷ [])
     (other_port setup bytes port)

@@ -5,6 +5,7 @@ use Rattle.std.specs.Prelude.{ℕ, ◌+◌, ◌-◌, ◌^◌, ◌==◌, Bool, �
 use Rattle.board_base.specs.declared.target.Reg.{Reg}
 use Rattle.board_spec.specs.Setup.{Base, MemoryBase, IoBase, FittedCard, Setup, card_at}
 use Rattle.board_spec.specs.Bits.{long_bytes}
+use Rattle.board_spec.specs.RegisterNames.{pam, drb, fdhc, smram, xbcs, pirq, ide_command, idetim, card_command, base_register, expansion_rom, interrupt_line}
 
 -- one line: the first offset, the bytes from there on after a reset, and their writable bits.
 -- Where the list of writable bits is shorter, the rest is read-only
@@ -25,11 +26,11 @@ host_bridge =
     line 0x00 (0x86 ∷ 0x80 ∷ 0x37 ∷ 0x12 ∷ []) read_only  -- vendor 8086h, device 1237h
     ∷ line 0x04 (0x06 ∷ 0x00 ∷ 0x80 ∷ 0x02 ∷ []) read_only  -- command, status
     ∷ line 0x08 (0x00 ∷ 0x00 ∷ 0x00 ∷ 0x06 ∷ []) read_only  -- class 060000h
-    ∷ line 0x59 (0x00 ∷ []) (0x30 ∷ [])  -- PAM0
-    ∷ line 0x5A (replicate 6 0x00) (replicate 6 0x33)  -- PAM1 to PAM6
-    ∷ line 0x60 (replicate 8 0x01) (replicate 8 0xFF)  -- DRB0 to DRB7
-    ∷ line 0x68 (0x00 ∷ []) (0xC0 ∷ [])  -- FDHC
-    ∷ line 0x72 (0x02 ∷ []) read_only  -- SMRAM, written by the lock rule
+    ∷ line (pam 0).off (0x00 ∷ []) (0x30 ∷ [])
+    ∷ line (pam 1).off (replicate 6 0x00) (replicate 6 0x33)  -- PAM1 to PAM6
+    ∷ line (drb 0).off (replicate 8 0x01) (replicate 8 0xFF)  -- DRB0 to DRB7
+    ∷ line fdhc.off (0x00 ∷ []) (0xC0 ∷ [])
+    ∷ line smram.off (0x02 ∷ []) read_only  -- written by the lock rule
     ∷ []
 
 -- 01.0, the ISA bridge of the 82371SB
@@ -39,17 +40,17 @@ isa_bridge =
     ∷ line 0x04 (0x07 ∷ 0x00 ∷ 0x80 ∷ 0x02 ∷ []) read_only  -- command, status
     ∷ line 0x08 (0x00 ∷ 0x00 ∷ 0x01 ∷ 0x06 ∷ []) read_only  -- class 060100h
     ∷ line 0x0E (0x80 ∷ []) read_only  -- header type: several functions
-    ∷ line 0x4E (0x03 ∷ 0x00 ∷ []) (0xC7 ∷ 0x00 ∷ [])  -- XBCS
-    ∷ line 0x60 (replicate 4 0x80) (replicate 4 0x8F)  -- PIRQRCA to PIRQRCD
+    ∷ line xbcs.off (0x03 ∷ 0x00 ∷ []) (0xC7 ∷ 0x00 ∷ [])
+    ∷ line (pirq 0).off (replicate 4 0x80) (replicate 4 0x8F)  -- PIRQRCA to PIRQRCD
     ∷ []
 
 -- 01.1, the IDE function of the 82371SB
 unfoldable pub ide_function : List Line
 ide_function =
     line 0x00 (0x86 ∷ 0x80 ∷ 0x10 ∷ 0x70 ∷ []) read_only  -- vendor 8086h, device 7010h
-    ∷ line 0x04 (0x00 ∷ 0x00 ∷ 0x80 ∷ 0x02 ∷ []) (0x05 ∷ [])  -- command, status
+    ∷ line ide_command.off (0x00 ∷ 0x00 ∷ 0x80 ∷ 0x02 ∷ []) (0x05 ∷ [])  -- command, status
     ∷ line 0x08 (0x00 ∷ 0x80 ∷ 0x01 ∷ 0x01 ∷ []) read_only  -- class 010180h
-    ∷ line 0x40 (0x00 ∷ 0x00 ∷ []) (0xFF ∷ 0xFF ∷ [])  -- IDETIM of the primary channel
+    ∷ line idetim.off (0x00 ∷ 0x00 ∷ []) (0xFF ∷ 0xFF ∷ [])  -- the primary channel
     ∷ []
 
 -- a base register after a reset: bit 0 tells memory from I/O
@@ -62,14 +63,21 @@ abbrev pub base_writable : Base → ℕ
 base_writable (MemoryBase bits) = 0x1_0000_0000 - 2 ^ bits
 base_writable (IoBase bits) = 0x1_0000_0000 - 2 ^ bits
 
--- a card. Its bases fill the registers at 10h, 14h and so on
+-- the writable bits of the register of an expansion ROM of 2 ^ bits bytes: 31 down to `bits`, and bit 0,
+-- which enables it. Without a ROM there are none
+abbrev pub rom_writable : Option ℕ → ℕ
+rom_writable None = 0
+rom_writable (Some bits) = 0x1_0000_0000 - 2 ^ bits + 1
+
+-- a card. Its bases fill the base address registers in their order
 unfoldable pub card_function : FittedCard → List Line
 card_function card =
     line 0x00 (0x5A ∷ 0xA5 ∷ card.dev ∷ 0x01 ∷ []) read_only  -- vendor A55Ah, device
-    ∷ line 0x04 (0x00 ∷ 0x00 ∷ 0x80 ∷ 0x02 ∷ []) (0x07 ∷ [])  -- command, status
+    ∷ line (card_command card.dev).off (0x00 ∷ 0x00 ∷ 0x80 ∷ 0x02 ∷ []) (0x07 ∷ [])  -- command, status
     ∷ line 0x08 (0x00 ∷ 0x00 ∷ 0x00 ∷ (if card.vga then 0x03 else 0xFF) ∷ []) read_only  -- class
-    ∷ line 0x10 (flat_map (λ base. long_bytes (base_reset base)) card.bases) (flat_map (λ base. long_bytes (base_writable base)) card.bases)  -- base addresses
-    ∷ line 0x3C (0x00 ∷ 0x01 ∷ []) (0xFF ∷ [])  -- interrupt line, pin INTA#
+    ∷ line (base_register card.dev 0).off (flat_map (λ base. long_bytes (base_reset base)) card.bases) (flat_map (λ base. long_bytes (base_writable base)) card.bases)  -- base addresses
+    ∷ line (expansion_rom card.dev).off (replicate 4 0x00) (long_bytes (rom_writable card.rom))
+    ∷ line (interrupt_line card.dev).off (0x00 ∷ 0x01 ∷ []) (0xFF ∷ [])  -- interrupt line, pin INTA#
     ∷ []
 
 -- the functions of bus 0, which alone exists, each with its lines

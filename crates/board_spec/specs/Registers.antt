@@ -11,7 +11,10 @@ use Rattle.board_spec.specs.declared.event.Entry.{Entry}
 use Rattle.board_spec.specs.declared.map_change.MapChange.{MapChange}
 use Rattle.board_spec.specs.declared.map_change.MapChange.TheVariants.{Store, Reset}
 use Rattle.board_spec.specs.Setup.{Setup}
-use Rattle.board_spec.specs.Bits.{bit, is_bit, byte, merged, is_within}
+use Rattle.board_spec.specs.Bits.{bit, is_bit, byte, merged}
+use Rattle.board_spec.specs.Ranges.{lies_in}
+use Rattle.board_spec.specs.PortNames.{config_address_port, reset_control_port, config_data_ports}
+use Rattle.board_spec.specs.RegisterNames.{smram, is_same}
 use Rattle.board_spec.specs.RegisterTable.{function_exists, reset_byte, writable_bits}
 
 -- ---- reset control, port 0CF9h
@@ -19,7 +22,7 @@ use Rattle.board_spec.specs.RegisterTable.{function_exists, reset_byte, writable
 -- what an event writes to the reset control port
 abbrev pub control_written : Event → Option ℕ
 control_written (Port access) =
-    if access.write && access.port == 0xCF9 && bytes_of access.width == 1 then Some access.value else None
+    if access.write && access.port == reset_control_port && bytes_of access.width == 1 then Some access.value else None
 control_written _ = None
 
 -- a write of this value resets hard where bits 2 and 1 are set and bit 2 was not
@@ -48,7 +51,7 @@ is_hard_reset before event = resets_hard (reset_control before) (control_written
 -- what an event writes to the configuration address port
 abbrev pub address_written : Event → Option ℕ
 address_written (Port access) =
-    if access.write && access.port == 0xCF8 && bytes_of access.width == 4 then Some access.value else None
+    if access.write && access.port == config_address_port && bytes_of access.width == 4 then Some access.value else None
 address_written _ = None
 
 -- the bits that the configuration address keeps: enable, bus, device, function and register
@@ -80,7 +83,7 @@ register_of address = address % 0x100
 -- ---- configuration writes, ports 0CFCh to 0CFFh
 
 abbrev pub is_config_port : ℕ → Bool
-is_config_port port = is_within 0xCFC 0xCFF port
+is_config_port port = lies_in config_data_ports port
 
 -- the register at a configuration port, where the address is enabled and its function exists
 abbrev pub config_register : Setup → ℕ → ℕ → Option Reg
@@ -109,11 +112,8 @@ abbrev pub covers : Reg → Width → Reg → Bool
 covers at width reg =
     at.dev == reg.dev && at.fun == reg.fun && nat_le at.off reg.off && nat_lt reg.off (at.off + bytes_of width)
 
--- the SMRAM register, 72h of 00.0. Bits: 6 DOPEN, 5 DCLS, 4 DLCK, 3 SMRAME; 7 reads 0 and 2 to 0
--- read 010. DLCK stays once it is set, and where it is set DOPEN is 0
-abbrev pub is_smram_register : Reg → Bool
-is_smram_register reg = reg.dev == 0 && reg.fun == 0 && reg.off == 0x72
-
+-- the SMRAM register. Bits: 6 DOPEN, 5 DCLS, 4 DLCK, 3 SMRAME; 7 reads 0 and 2 to 0 read 010. DLCK stays
+-- once it is set, and where it is set DOPEN is 0 (`law_smram` says so bit by bit)
 abbrev pub smram_after : ℕ → ℕ → ℕ
 smram_after old written =
     let lock = max (bit old 4) (bit written 4) in
@@ -122,7 +122,7 @@ smram_after old written =
 -- a register after a byte is written to it
 abbrev pub byte_after : Setup → Reg → ℕ → ℕ → ℕ
 byte_after setup reg old written =
-    if is_smram_register reg then smram_after old written else merged (writable_bits setup reg) old written
+    if is_same reg smram then smram_after old written else merged (writable_bits setup reg) old written
 
 -- a register after a change. Byte j of a store goes to the offset j after its first
 abbrev pub changed_byte : Setup → MapChange → Reg → ℕ → ℕ

@@ -7,11 +7,13 @@ pub data Base : Type 0 where
   MemoryBase : (bits : ℕ) → Base
   IoBase : (bits : ℕ) → Base
 
--- a PCI card: its device number, whether it is a VGA adapter, and its bases from offset 10h on
+-- a PCI card: its device number, whether it is a VGA adapter, its bases from offset 10h on, and its
+-- expansion ROM of 2 ^ rom bytes where it has one (PCI Local Bus 2.1, section 6.2.5.2)
 pub record FittedCard : Type 0 where
   pub dev : ℕ
   pub vga : Bool
   pub bases : List Base
+  pub rom : Option ℕ
 
 -- the installed memory in MiB, the cards in rising order of device, the bytes of the BIOS ROM, and
 -- those of the disk where one is fitted
@@ -36,11 +38,17 @@ abbrev pub IsBase : Base → Type 0
 IsBase (MemoryBase bits) = (4 ≤ bits) × (bits ≤ 24)
 IsBase (IoBase bits) = (2 ≤ bits) × (bits ≤ 8)
 
+-- an expansion ROM has 2 KiB to 16 MiB
+abbrev pub IsExpansionRom : Option ℕ → Type 0
+IsExpansionRom None = Unit {0}
+IsExpansionRom (Some bits) = (11 ≤ bits) × (bits ≤ 24)
+
 pub record IsCard (card : FittedCard) : Type 0 where
   pub first : 2 ≤ card.dev
   pub last : card.dev ≤ 9
   pub count : length card.bases ≤ 6
   pub each : All IsBase card.bases
+  pub rom : IsExpansionRom card.rom
 
 -- the devices rise
 abbrev pub Rises : List FittedCard → Type 0

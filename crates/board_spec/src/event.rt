@@ -2,13 +2,15 @@
 
 ghost use Rattle.std.specs.Prelude.{◌≡◌};
 
-use board_base::{Access, Area, Denial, Kind, Moment, PortAccess, Target};
+use board_base::{Access, Area, Denial, Kind, Moment, PortAccess, Target, WideAccess};
 
 /// What one statement asks of the board.
 #[derive(Clone, Copy, PartialEq, Eq, Debug)]
 pub enum Event {
     /// An access to memory.
     Memory(Access),
+    /// An access to memory that is not aligned, or has 8 bytes.
+    Wide(WideAccess),
     /// An access to an I/O port.
     Port(PortAccess),
     /// A look at the address map, which is no access: where would this kind of access at `addr` land?
@@ -37,6 +39,21 @@ pub struct Look {
     pub area: Area,
 }
 
+/// What answered one part of a wide access, and the register that denied this part.
+#[derive(Clone, Copy, PartialEq, Eq, Debug)]
+pub struct Part {
+    pub target: Target,
+    pub denial: Option<Denial>,
+}
+
+/// The parts of a wide access, two to four, in rising order of address.
+#[derive(Clone, Copy, PartialEq, Eq, Debug)]
+pub enum Parts {
+    Two(Part, Part),
+    Three(Part, Part, Part),
+    Four(Part, Part, Part, Part),
+}
+
 /// What the board answers to an event.
 #[derive(Clone, Copy, PartialEq, Eq, Debug)]
 pub enum Reply {
@@ -45,6 +62,11 @@ pub enum Reply {
         value: Option<u32>,
         target: Target,
         denial: Option<Denial>,
+    },
+    /// The value of a wide access that reads, and what answered each of its parts.
+    Parts {
+        value: Option<u64>,
+        parts: Parts,
     },
     /// What a look saw.
     Saw(Look),
@@ -59,8 +81,8 @@ impl Reply {
     }
 }
 
-/// One entry of a history: who, the how manieth of that processor's entries (from 1), what it asked
-/// and what was replied.
+/// One entry of a history: the processor, the number of this entry among its processor's, from 1, what was
+/// asked and what was replied.
 #[derive(Clone, Copy, PartialEq, Eq, Debug)]
 pub struct Entry {
     pub actor: u8,

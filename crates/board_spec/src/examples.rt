@@ -1,6 +1,18 @@
 //! Worked examples of the definitions: what is asked of a board from reset on and what it replies, and
 //! the logs of some of them. Each is computed from the definitions alone.
 
+pub mod devices;
+pub mod disk;
+pub mod events;
+pub mod interrupts;
+pub mod masks;
+pub mod roms;
+pub mod stories;
+pub mod texts;
+pub mod versions;
+pub mod wide;
+pub mod windows;
+
 ghost use Rattle.board_spec.specs.Examples.{ShadowingTheBios, OneWindowForWrites, MemoryAfterReset, ConfigurationPorts, SmramLockedUntilReset, VgaBesideSmram, NoRowOfDram, CardInTheHole, HoleAt512Kib, TwoCardsAtOneAddress, XbcsOverASoftReset, RomAfterReset, CardMovedUnderTheRom};
 ghost use Rattle.board_spec.specs.ExampleLogs.{VgaBesideSmramLogged, ConfigurationPortsLogged, TwoCardsLogged, XbcsLogged, OutsideLogged};
 ghost use Rattle.board_spec.specs.ExampleMaps.{MapAfterReset, MapAfterResetWritten};

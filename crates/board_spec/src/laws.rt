@@ -1,8 +1,18 @@
 //! Laws of the definitions. Each function does nothing: its clause is the law.
 
 ghost use Rattle.board_spec.specs.Laws.{LegalKeepsLock, MapBytesDecide, MapWritesDecide, OneAnswer, OneFlatMap, OneReplay, OneSpan, SomeAnswer, SomeReplay, SomeSpan};
+ghost use Rattle.board_spec.specs.AreaLaws.{RowBelowTop, WhoAnswers};
+ghost use Rattle.board_spec.specs.DenialLaws.{DeniedInParts, DeniedOnBus};
+ghost use Rattle.board_spec.specs.MapLaws.{MapWritesDecideMap};
 ghost use Rattle.board_spec.specs.MergedBits.{MergedBits};
+ghost use Rattle.board_spec.specs.PartLaws.{CutIntoParts, WideReads};
+ghost use Rattle.board_spec.specs.RegisterLaws.{RegistersStay};
+ghost use Rattle.board_spec.specs.SmramLaw.{SmramByBits};
+ghost use Rattle.board_spec.specs.StoreLaws.{LastStays, NothingStored, WideStored};
 ghost use Rattle.board_spec.specs.WideStores.{ByteByByte};
+
+pub mod devices;
+pub mod orders;
 
 /// The registers that the address map depends on are those after the map writes alone.
 pub fn law_map_registers()
@@ -50,4 +60,48 @@ pub fn law_merged()
 /// A store of several bytes is the stores of its bytes, one after the other in rising offset.
 pub fn law_wide_store()
     ensures bytes { ByteByByte }
+{}
+
+/// A cell holds the byte of the last entry that put one there, and 0 where none did.
+pub fn law_stored()
+    ensures last { LastStays }
+    ensures none { NothingStored }
+{}
+
+/// The SMRAM register after a write, bit by bit.
+pub fn law_smram()
+    ensures bits { SmramByBits }
+{}
+
+/// A wide access is cut into two to four aligned accesses that follow one another and make up its value.
+pub fn law_parts()
+    ensures cut { CutIntoParts }
+{}
+
+/// Of DRAM a wide read gives, and a wide write stores, the bytes from its address on.
+pub fn law_wide_dram()
+    ensures reads { WideReads }
+    ensures writes { WideStored }
+{}
+
+/// Two histories with the same map writes have the same map bytes, spans and flat map.
+pub fn law_map_writes()
+    ensures decided { MapWritesDecideMap }
+{}
+
+/// Who answers at an address of memory, line by line of the memory map.
+pub fn law_areas()
+    ensures row { RowBelowTop }
+    ensures answers { WhoAnswers }
+{}
+
+/// Without a hard reset only an entry whose reply names a register changes registers, and only near it.
+pub fn law_registers_stay()
+    ensures stay { RegistersStay }
+{}
+
+/// An access is denied exactly where nobody answers it, or where it writes to the ROM.
+pub fn law_denials()
+    ensures bus { DeniedOnBus }
+    ensures parts { DeniedInParts }
 {}

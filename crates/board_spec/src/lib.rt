@@ -8,6 +8,9 @@ pub mod examples;
 pub mod laws;
 mod map_change;
 pub mod offset;
+pub mod port;
+pub mod range;
+pub mod wide;
 
-pub use event::{Entry, Event, Look, Reply, Statement};
+pub use event::{Entry, Event, Look, Part, Parts, Reply, Statement};
 pub use map_change::MapChange;

@@ -16,6 +16,10 @@ pub const COMMAND: u8 = 0x04;
 pub const BASES: u8 = 0x10;
 /// The last byte of the base address registers of a card.
 pub const BASES_END: u8 = 0x27;
+/// The first byte of the expansion ROM base address register of a card.
+pub const EXPANSION_ROM: u8 = 0x30;
+/// The last byte of the expansion ROM base address register.
+pub const EXPANSION_ROM_END: u8 = 0x33;
 /// The interrupt line register of a card.
 pub const INTERRUPT_LINE: u8 = 0x3C;
 /// The interrupt pin register of a card.

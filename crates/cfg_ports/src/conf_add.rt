@@ -1,4 +1,4 @@
-//! The configuration address register, CONFADD of the 82441FX (PCI Local Bus 2.1, section 3.7.4.1).
+//! The configuration address register, CONFADD of the 82441FX (configuration mechanism one of PCI Local Bus 2.1).
 ghost use Rattle.std.specs.Prelude.{◌≡◌, ◌+◌, ◌%◌, ◌≤◌, ◌↔◌, false, IsTrue, IsNone, IfSome};
 ghost use Rattle.board_base.specs.declared.access.Width.{Width};
 ghost use Rattle.board_base.specs.Access.{bytes_of};
@@ -7,12 +7,13 @@ ghost use Rattle.board_spec.specs.Registers.{kept_address, is_enabled, is_config
 ghost use Rattle.cfg_ports.specs.Selection.{selected_at, existing};
 
 use board_base::Reg;
+use board_spec::bits::is_set;
 use std::marker::Model;
 
 /// The bits that the register keeps: enable, bus, device, function and register. The others read 0.
 const KEPT: u32 = 0x80FF_FFFC;
 /// The bit that turns an access to the configuration data ports into a configuration access.
-const ENABLE: u32 = 0x8000_0000;
+const ENABLE: u32 = 31;
 
 /// What the configuration address selects at a configuration data port: a bus, and a register there.
 #[derive(Clone, Copy, PartialEq, Eq, Debug)]
@@ -78,23 +79,39 @@ impl ConfAdd {
         ensures within { IfSome result (λ selected. (width : Width) → port % bytes_of width ≡ 0
             → selected.reg.off + bytes_of width ≤ 0x100) }
     {
-        if self.value & ENABLE == 0 {
-            return None;
-        }
-        Some(Selected {
-            bus: (self.value >> 16 & 0xFF) as u8,
-            reg: Reg {
-                dev: (self.value >> 11 & 0x1F) as u8,
-                fun: (self.value >> 8 & 0x07) as u8,
-                off: (self.value & 0xFF) as u8 + (port & 0x03) as u8,
-            },
-        })
+        select(self.value, port)
     }
+}
+
+/// The register that an access at one of the ports 0CFCh to 0CFFh reaches by an address that the configuration
+/// address register holds, whether or not its function exists. None where the enable bit is 0. An aligned access
+/// stays within the function's 256 bytes.
+pub fn select(address: u32, port: u16) -> Option<Selected>
+    requires kept { kept_address address ≡ address }
+    requires config_port { IsTrue (is_config_port port) }
+    ensures none { IsNone result ↔ (is_enabled address ≡ false) }
+    ensures selected { IfSome result (λ selected. selected ≡ selected_at address port) }
+    ensures register { (setup : Setup) → config_register setup address port ≡ existing setup result }
+    ensures within { IfSome result (λ selected. (width : Width) → port % bytes_of width ≡ 0
+        → selected.reg.off + bytes_of width ≤ 0x100) }
+{
+    if !is_set(address, ENABLE) {
+        return None;
+    }
+    Some(Selected {
+        bus: (address >> 16 & 0xFF) as u8,
+        reg: Reg {
+            dev: (address >> 11 & 0x1F) as u8,
+            fun: (address >> 8 & 0x07) as u8,
+            off: (address & 0xFF) as u8 + (port & 0x03) as u8,
+        },
+    })
 }
 
 #[cfg(test)]
 mod tests {
     use super::*;
+    use board_spec::port::CONFIG_DATA;
 
     #[test]
     fn reserved_bits_read_zero(rt: HostRuntime) {
@@ -127,7 +144,7 @@ mod tests {
             let mut conf_add = ConfAdd::new();
             conf_add.write(address);
             let selected = conf_add
-                .select(0xCFC + byte % 4)
+                .select(CONFIG_DATA + byte % 4)
                 .map(|s| (s.bus, s.reg.dev, s.reg.fun, s.reg.off));
             assert_eq!(rt; selected, expected, "by {address} at byte {byte}");
         }

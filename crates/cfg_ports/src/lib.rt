@@ -5,5 +5,5 @@
 mod conf_add;
 mod space;
 
-pub use conf_add::{ConfAdd, Selected};
+pub use conf_add::{ConfAdd, Selected, select};
 pub use space::Space;

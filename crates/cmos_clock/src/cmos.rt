@@ -1,7 +1,7 @@
 ghost use Rattle.std.specs.Prelude.{◌≡◌};
-ghost use Rattle.cmos_clock.specs.Clock.{after_moment, after_read, after_reset, after_write, alarm_fits, alarm_rings, control_of, data_byte, flags_byte, interrupt_line, power_on, put, read_value, store, time_bytes, without_flags};
+ghost use Rattle.device_spec.specs.Clock.{after_moment, after_read, after_reset, after_write, alarm_fits, alarm_rings, control_of, data_byte, flags_byte, interrupt_line, power_on, put, read_value, store, time_bytes, without_flags};
 ghost use Rattle.board_base.specs.Calendar.{IsMoment};
-ghost use Rattle.cmos_clock.specs.View.{civil_time};
+ghost use Rattle.device_spec.specs.Told.{civil_time};
 
 use crate::control::Control;
 use crate::register::{
@@ -53,7 +53,7 @@ pub struct Cmos {
 
 impl Model for Cmos {
     ghost use Rattle.std.specs.Prelude.{◌<◌};
-    ghost use Rattle.cmos_clock.specs.Clock.{Clock};
+    ghost use Rattle.device_spec.specs.Clock.{Clock};
 
     ghost Value = { Clock };
 
@@ -64,7 +64,7 @@ impl Model for Cmos {
 
 impl Cmos {
     /// The clock at power-on: hours are 0 to 23, numbers are binary-coded decimal.
-    #[tactic(auto, unfolding(crate::specs::Clock::power_on))]
+    #[tactic(auto, unfolding(device_spec::specs::Clock::power_on))]
     pub fn new() -> Cmos
         ensures state { result ≡ power_on }
     {

@@ -1,6 +1,7 @@
 // Register B: what the clock does and how it writes its time.
 ghost use Rattle.std.specs.Prelude.{◌≡◌, ◌<◌};
-ghost use Rattle.cmos_clock.specs.Clock.{alarm_interrupts, bcd, control_reset, control_written, has_bit, hour_byte, is_24_hour, is_binary, is_set, number_byte, update_interrupts};
+ghost use Rattle.device_spec.specs.Bits.{is_bit};
+ghost use Rattle.device_spec.specs.Clock.{alarm_interrupts, bcd, control_reset, control_written, hour_byte, is_24_hour, is_binary, is_set, number_byte, update_interrupts};
 
 // The places of its bits.
 const SET: u32 = 7;
@@ -53,21 +54,21 @@ impl Control {
     pub fn is_set(self) -> bool
         ensures value { result ≡ is_set self.byte }
     {
-        has_bit(self.byte, SET)
+        is_bit(self.byte, SET)
     }
 
     /// Whether the alarm's flag raises the interrupt line.
     pub fn alarm_interrupts(self) -> bool
         ensures value { result ≡ alarm_interrupts self.byte }
     {
-        has_bit(self.byte, ALARM_INTERRUPT)
+        is_bit(self.byte, ALARM_INTERRUPT)
     }
 
     /// Whether the update's flag raises the interrupt line.
     pub fn update_interrupts(self) -> bool
         ensures value { result ≡ update_interrupts self.byte }
     {
-        has_bit(self.byte, UPDATE_INTERRUPT)
+        is_bit(self.byte, UPDATE_INTERRUPT)
     }
 
     /// A number of at most two digits as the clock writes it.
@@ -75,7 +76,7 @@ impl Control {
         requires { number < 100 }
         ensures value { result ≡ number_byte self.byte number }
     {
-        if has_bit(self.byte, BINARY) {
+        if is_bit(self.byte, BINARY) {
             number
         } else {
             bcd(number)
@@ -87,7 +88,7 @@ impl Control {
         requires { hour < 24 }
         ensures value { result ≡ hour_byte self.byte hour }
     {
-        if has_bit(self.byte, HOURS_24) {
+        if is_bit(self.byte, HOURS_24) {
             return self.number(hour);
         }
         let face = match hour % 12 {
@@ -102,9 +103,9 @@ impl Control {
     }
 }
 
-fn has_bit(byte: u8, place: u32) -> bool
+fn is_bit(byte: u8, place: u32) -> bool
     requires { place < 8 }
-    ensures value { result ≡ has_bit byte place }
+    ensures value { result ≡ is_bit byte place }
 {
     byte >> place & 1 == 1
 }

@@ -3,7 +3,6 @@
 
 mod cmos;
 mod control;
-pub mod laws;
 mod register;
 
 pub use cmos::Cmos;

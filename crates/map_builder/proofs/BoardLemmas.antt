@@ -9,7 +9,7 @@ use Rattle.board_base.specs.declared.target.Reg.{Reg}
 use Rattle.board_base.specs.declared.access.Width.TheVariants.{Four}
 use Rattle.board_spec.specs.Setup.{Setup, FittedCard, Rises, IsCard, IsCardList}
 use Rattle.board_spec.specs.Bits.{byte, wide}
-use Rattle.board_spec.specs.Decode.{card_register, bridge, isa}
+use Rattle.board_spec.specs.RegisterNames.{card_register, bridge, isa}
 use Rattle.pci_bars.specs.Cards.{CardBytes, DecodesAs, cards_of}
 use Rattle.addr_decode.specs.MapRegs.{MapBytes, AreFitted}
 use Rattle.map_builder.specs.Map.{HasBoard, HaveWidths}

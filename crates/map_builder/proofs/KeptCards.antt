@@ -11,7 +11,8 @@ use Rattle.std.proofs.lemmas.List.Folds.{find-append}
 use Rattle.board_base.specs.declared.target.Reg.{Reg}
 use Rattle.board_spec.specs.Setup.{Base, MemoryBase, IoBase, FittedCard, Setup, IsCard, IsCardList, Rises, card_at}
 use Rattle.board_spec.specs.Bits.{is_bit, is_within}
-use Rattle.board_spec.specs.Decode.{Bytes, Window, card_register, base_value, is_covered, vga_window, memory_windows, is_enabled_for, memory_claim}
+use Rattle.board_spec.specs.Decode.{Bytes, Window, base_value, is_covered, vga_window, memory_windows, is_enabled_for, memory_claim}
+use Rattle.board_spec.specs.RegisterNames.{card_register}
 use Rattle.pci_bars.specs.Cards.{CardBytes}
 use Rattle.map_builder.specs.Changed.{card_windows, windows_of}
 use Rattle.map_builder.specs.Held.{held_by, card_held}

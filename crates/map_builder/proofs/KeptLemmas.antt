@@ -8,7 +8,8 @@ use Rattle.board_base.specs.declared.access.Kind.TheVariants.{Fetch, Read, Write
 use Rattle.board_base.specs.declared.target.Reg.{Reg}
 use Rattle.board_spec.specs.Setup.{Setup, IsCardList}
 use Rattle.board_spec.specs.Bits.{is_bit, is_within}
-use Rattle.board_spec.specs.Decode.{Bytes, bridge, isa, boundary, top_of, row_of, is_in, hole_of, is_high_window, nibble, is_open, is_shadow_range, is_shadowed, is_smram_range, is_rom_selected, area_of}
+use Rattle.board_spec.specs.Decode.{Bytes, boundary, top_of, row_of, is_in, hole_of, is_high_window, nibble, is_open, is_shadow_range, is_shadowed, is_smram_range, is_rom_selected, area_of}
+use Rattle.board_spec.specs.RegisterNames.{bridge, isa}
 use Rattle.board_spec.specs.FlatMap.{six_areas}
 use Rattle.map_builder.specs.Changed.{from_to, bridge_windows, IsOutside}
 use Rattle.map_builder.proofs.OutsideLemmas.{Outside, and_no}

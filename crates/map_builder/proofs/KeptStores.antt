@@ -15,7 +15,8 @@ use Rattle.board_spec.specs.Setup.{Setup, IsCardList}
 use Rattle.board_spec.specs.Bits.{byte, merged}
 use Rattle.board_spec.specs.RegisterTable.{host_bridge, reset_byte, writable_bits}
 use Rattle.board_spec.specs.Registers.{covers, byte_after}
-use Rattle.board_spec.specs.Decode.{Bytes, bridge, boundary, top_of}
+use Rattle.board_spec.specs.Decode.{Bytes, boundary, top_of}
+use Rattle.board_spec.specs.RegisterNames.{bridge}
 use Rattle.board_spec.specs.MapWrites.{reg_after}
 use Rattle.board_spec.specs.FlatMap.{address_count, six_areas}
 use Rattle.addr_decode.specs.MapRegs.{MapBytes, StandsFor}

@@ -10,7 +10,8 @@ use Rattle.board_base.specs.declared.access.Kind.TheVariants.{Fetch, Read, Write
 use Rattle.board_base.specs.declared.target.Reg.{Reg}
 use Rattle.board_spec.specs.Setup.{FittedCard, Setup, IsCardList, card_at}
 use Rattle.board_spec.specs.Bits.{is_within}
-use Rattle.board_spec.specs.Decode.{Bytes, bridge, isa, card_register, memory_claim, area_of}
+use Rattle.board_spec.specs.Decode.{Bytes, memory_claim, area_of}
+use Rattle.board_spec.specs.RegisterNames.{bridge, isa, card_register}
 use Rattle.board_spec.specs.FlatMap.{six_areas}
 use Rattle.board_spec.specs.Laws.{SameMapBytes}
 use Rattle.board_spec.proofs.MapByteLaws.{map_bytes_decide}

@@ -1,2 +1,1 @@
 pub mod PamLemmas
-pub mod WindowLemmas

@@ -1,35 +1,25 @@
 -- The PAM registers in the table of registers.
-use Rattle.std.proofs.Common.{◌≡◌, ◌≢◌, ℕ, ◌+◌, ◌-◌, ◌<◌, ◌≤◌, List, [], ◌∷◌, length, get_or, set, false, ◌∙◌, sym, refl, ap, subst, arith, inl, inr, get_or-set_other, get_or-set_same}
-use Rattle.std.proofs.lemmas.Bool.{cases_lt, cases_eq}
+use Rattle.std.proofs.Common.{◌≡◌, ◌≢◌, ℕ, ◌-◌, ◌<◌, List, [], ◌∷◌, length, get_or, set, false, ◌∙◌, sym, refl, ap, subst, arith, inl, inr, get_or-set_other, get_or-set_same}
+use Rattle.std.proofs.lemmas.Bool.{cases_eq}
 use Rattle.board_base.specs.declared.access.Width.TheVariants.{One}
 use Rattle.board_spec.specs.declared.map_change.MapChange.TheVariants.{Store}
 use Rattle.board_spec.specs.Setup.{Setup}
 use Rattle.board_spec.specs.Bits.{merged}
 use Rattle.board_spec.specs.RegisterTable.{host_bridge, reset_byte, writable_bits}
-use Rattle.board_spec.specs.Registers.{is_smram_register, changed_byte}
-use Rattle.board_spec.specs.Decode.{Bytes, bridge}
+use Rattle.board_spec.specs.Registers.{changed_byte}
+use Rattle.board_spec.specs.Decode.{Bytes}
+use Rattle.board_spec.specs.RegisterNames.{bridge, smram, is_same}
 use Rattle.pam_windows.specs.Pam.{IsPamOffset, IsPamOf, pam_byte}
+use Rattle.board_spec.proofs.TableLemmas.{Each, each_from}
 use Rattle.board_spec.proofs.StoreLemmas.{changed_byte-one_same, changed_byte-one_other}
 
-at_or_above : (P : ℕ → Type 0) (first off : ℕ) → first ≤ off → P first → (first + 1 ≤ off → P off) → P off
-at_or_above P first off from here above =
-    elim (cases_lt first off) [ inl below ↦ above (omega arith) | inr past ↦ subst P (omega arith) here ]
-
 -- what holds at each of the seven offsets
-each_offset : (P : ℕ → Type 0) → P 0x59 → P 0x5A → P 0x5B → P 0x5C → P 0x5D → P 0x5E → P 0x5F → (off : ℕ) → IsPamOffset off → P off
-each_offset P p0 p1 p2 p3 p4 p5 p6 off h =
-    at_or_above P 0x59 off h.0 p0
-    (λ h1. at_or_above P 0x5A off h1 p1
-    (λ h2. at_or_above P 0x5B off h2 p2
-    (λ h3. at_or_above P 0x5C off h3 p3
-    (λ h4. at_or_above P 0x5D off h4 p4
-    (λ h5. at_or_above P 0x5E off h5 p5
-    (λ h6. at_or_above P 0x5F off h6 p6
-    (λ h7. absurd (omega arith))))))))
+each_offset : (P : ℕ → Type 0) → Each P 0x59 7 → (off : ℕ) → IsPamOffset off → P off
+each_offset P each off h = each_from P 0x59 7 off each h.0 (omega (arith, h.1))
 
 reset_byte-pam : (setup : Setup) (off : ℕ) → IsPamOffset off → reset_byte setup (bridge off) ≡ 0
 unfolding reset_byte host_bridge
-reset_byte-pam setup = each_offset (λ off. reset_byte setup (bridge off) ≡ 0) refl refl refl refl refl refl refl
+reset_byte-pam setup = each_offset (λ off. reset_byte setup (bridge off) ≡ 0) (refl, (refl, (refl, (refl, (refl, (refl, (refl, tt)))))))
 
 -- the writable bits of PAM0 to PAM6
 abbrev pub pam_masks : List ℕ
@@ -38,14 +28,14 @@ pam_masks = 0x30 ∷ 0x33 ∷ 0x33 ∷ 0x33 ∷ 0x33 ∷ 0x33 ∷ 0x33 ∷ []
 writable_bits-pam : (setup : Setup) (off : ℕ) → IsPamOffset off → pam_byte pam_masks off ≡ writable_bits setup (bridge off)
 unfolding writable_bits host_bridge
 writable_bits-pam setup =
-    each_offset (λ off. pam_byte pam_masks off ≡ writable_bits setup (bridge off)) refl refl refl refl refl refl refl
+    each_offset (λ off. pam_byte pam_masks off ≡ writable_bits setup (bridge off)) (refl, (refl, (refl, (refl, (refl, (refl, (refl, tt)))))))
 
-plain_register : (off : ℕ) → IsPamOffset off → is_smram_register (bridge off) ≡ false
-plain_register = each_offset (λ off. is_smram_register (bridge off) ≡ false) refl refl refl refl refl refl refl
+plain_register : (off : ℕ) → IsPamOffset off → is_same (bridge off) smram ≡ false
+plain_register = each_offset (λ off. is_same (bridge off) smram ≡ false) (refl, (refl, (refl, (refl, (refl, (refl, (refl, tt)))))))
 
 pub zeros_at_reset : (setup : Setup) → IsPamOf (reset_byte setup) (0 ∷ 0 ∷ 0 ∷ 0 ∷ 0 ∷ 0 ∷ 0 ∷ [])
 zeros_at_reset setup off h =
-    each_offset (λ off. pam_byte (0 ∷ 0 ∷ 0 ∷ 0 ∷ 0 ∷ 0 ∷ 0 ∷ []) off ≡ 0) refl refl refl refl refl refl refl off h ∙ sym (reset_byte-pam setup off h)
+    each_offset (λ off. pam_byte (0 ∷ 0 ∷ 0 ∷ 0 ∷ 0 ∷ 0 ∷ 0 ∷ []) off ≡ 0) (refl, (refl, (refl, (refl, (refl, (refl, (refl, tt))))))) off h ∙ sym (reset_byte-pam setup off h)
 
 -- a store of one byte to a PAM register, as the registers keep it
 stored_at : (setup : Setup) (bytes : Bytes) (pam : List ℕ) (off written : ℕ) → length pam ≡ 7 → written < 256 → IsPamOffset off → IsPamOf bytes pam → get_or (set pam (off - 0x59) (merged (pam_byte pam_masks off) (pam_byte pam off) written)) (off - 0x59) 0 ≡ changed_byte setup (Store (bridge off) One written) (bridge off) (bytes (bridge off))

@@ -1,13 +1,18 @@
--- The windows between C0000h and FFFFFh, by their numbers: 0 to 11 have 16 KiB each, and 12 is
--- F0000h to FFFFFh (82441FX, section 3.2.16).
-use Rattle.std.specs.Prelude.{ℕ, ◌+◌, ◌*◌, ◌/◌, ◌==◌, if◌then◌else◌}
+-- The shadow windows by their numbers (82441FX, PAM): 0 to 11 have 16 KiB each from the first address of
+-- the expansion range on, and 12 is the system BIOS.
+use Rattle.std.specs.Prelude.{ℕ, ◌+◌, ◌-◌, ◌*◌, ◌/◌, ◌==◌, if◌then◌else◌}
+use Rattle.board_spec.specs.RegisterNames.{pam}
+use Rattle.board_spec.specs.Ranges.{expansion_range, system_bios}
+
+abbrev pub last_window : ℕ
+last_window = 12
 
 abbrev pub first_address : ℕ → ℕ
-first_address index = 0xC_0000 + 0x4000 * index
+first_address index = expansion_range.0 + 0x4000 * index
 
 abbrev pub last_address : ℕ → ℕ
-last_address index = if index == 12 then 0xF_FFFF else first_address index + 0x3FFF
+last_address index = if index == last_window then system_bios.1 else first_address (index + 1) - 1
 
--- the offset of a window's PAM register: PAM0 has window 12 alone, and PAM1 to PAM6 have two each
+-- the offset of a window's PAM register: PAM0 has the last window alone, and PAM1 to PAM6 have two each
 abbrev pub register_offset : ℕ → ℕ
-register_offset index = if index == 12 then 0x59 else 0x5A + index / 2
+register_offset index = if index == last_window then (pam 0).off else (pam 1).off + index / 2

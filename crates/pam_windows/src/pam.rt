@@ -1,11 +1,12 @@
-//! The programmable attribute map registers, PAM0 to PAM6 (82441FX, offsets 59h to 5Fh).
+//! The programmable attribute map registers, PAM0 to PAM6 (82441FX).
 ghost use Rattle.std.specs.Prelude.{◌≡◌, ◌≤◌, ℕ};
 ghost use Rattle.board_base.specs.declared.access.Width.TheVariants.{One};
 ghost use Rattle.board_spec.specs.declared.map_change.MapChange.TheVariants.{Store};
 ghost use Rattle.board_spec.specs.Setup.{Setup};
 ghost use Rattle.board_spec.specs.RegisterTable.{reset_byte};
 ghost use Rattle.board_spec.specs.Registers.{changed_byte};
-ghost use Rattle.board_spec.specs.Decode.{Bytes, bridge, is_shadowed};
+ghost use Rattle.board_spec.specs.Decode.{Bytes, is_shadowed};
+ghost use Rattle.board_spec.specs.RegisterNames.{bridge};
 ghost use Rattle.pam_windows.specs.Pam.{IsPamOffset, IsPamOf, pam_byte};
 
 use crate::window::Window;
@@ -43,7 +44,7 @@ impl Pam {
         }
     }
 
-    /// The register at an offset, 59h to 5Fh.
+    /// The register at an offset from PAM0 to PAM6.
     pub fn read(&self, off: u8) -> u8
         requires offset { IsPamOffset off }
         ensures byte { result ≡ pam_byte self.now off }
@@ -51,7 +52,7 @@ impl Pam {
         self.bytes[usize::from(off - PAM0)]
     }
 
-    /// Writes the register at an offset, 59h to 5Fh. Reserved bits stay 0.
+    /// Writes the register at an offset from PAM0 to PAM6. Reserved bits stay 0.
     pub fn write(&mut self, off: u8, byte: u8)
         requires offset { IsPamOffset off }
         ensures written { (setup : Setup) (bytes : Bytes) → IsPamOf bytes self.old
@@ -76,8 +77,7 @@ impl Pam {
     }
 }
 
-/// Stores a byte in one of seven PAM registers that stand as plain bytes, by its offset, 59h to 5Fh. Reserved bits
-/// stay as they were.
+/// Stores a byte in one of seven PAM registers that stand as plain bytes, by its offset. Reserved bits stay as they were.
 pub fn store_pam(pam: &mut [u8; 7], off: u8, byte: u8)
     requires offset { IsPamOffset off }
     ensures stored { (setup : Setup) (bytes : Bytes) → IsPamOf bytes pam.old
@@ -91,6 +91,7 @@ pub fn store_pam(pam: &mut [u8; 7], off: u8, byte: u8)
 mod tests {
     use super::*;
     use crate::window::window_of;
+    use board_spec::offset::PAM6;
 
     #[test]
     fn registers_keep_the_enable_bits(rt: HostRuntime) {
@@ -107,8 +108,8 @@ mod tests {
             assert_eq!(rt; pam.read(off), kept, "at {off}");
         }
         pam.reset();
-        assert_eq!(rt; pam.read(0x59), 0);
-        assert_eq!(rt; pam.read(0x5F), 0);
+        assert_eq!(rt; pam.read(PAM0), 0);
+        assert_eq!(rt; pam.read(PAM6), 0);
     }
 
     #[test]

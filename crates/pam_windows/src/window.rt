@@ -1,26 +1,27 @@
 //! The thirteen windows between C0000h and FFFFFh, and the PAM register of each.
 ghost use Rattle.std.specs.Prelude.{◌≡◌, ◌≤◌, ◌↔◌, ℕ, false, IsNone, IfSome};
-ghost use Rattle.board_spec.specs.Decode.{bridge, pam_register, is_high_window, nibble, is_open, is_shadow_range};
-ghost use Rattle.pam_windows.specs.Windows.{first_address, last_address, register_offset};
+ghost use Rattle.board_spec.specs.Decode.{pam_register, is_high_window, nibble, is_open, is_shadow_range};
+ghost use Rattle.board_spec.specs.RegisterNames.{bridge};
+ghost use Rattle.pam_windows.specs.Windows.{last_window, first_address, last_address, register_offset};
 
 use board_base::Kind;
+use board_spec::bits::is_set;
 use board_spec::offset::PAM0;
+use board_spec::range::{EXPANSION_RANGE, SYSTEM_BIOS};
 
 /// The offset of the second PAM register. From here on each governs two windows, where PAM0 governs
 /// the last window alone.
 const PAM1: u8 = PAM0 + 1;
 
-/// The first address of the first window.
-const FIRST: u32 = 0xC_0000;
 /// How many bytes each window has but the last.
 const SIZE: u32 = 0x4000;
-/// The number of the last window, F0000h to FFFFFh.
+/// The number of the last window, the system BIOS.
 const LAST: u8 = 12;
 
 /// The bit of a window's nibble that sends reads and fetches to DRAM.
-const READ_ENABLE: u8 = 1 << 0;
+const READ_ENABLE: u32 = 0;
 /// The bit of a window's nibble that sends writes to DRAM.
-const WRITE_ENABLE: u8 = 1 << 1;
+const WRITE_ENABLE: u32 = 1;
 
 /// A window: its number, its first and last address, and the offset of its PAM register. Numbers 0 to
 /// 11 have 16 KiB each from C0000h on, and number 12 is F0000h to FFFFFh.
@@ -30,7 +31,7 @@ pub struct Window {
     pub lo: u32,
     pub hi: u32,
     pub off: u8,
-    ghost numbered: { index ≤ 12 },
+    ghost numbered: { index ≤ last_window },
     ghost first: { lo ≡ first_address index },
     ghost last: { hi ≡ last_address index },
     ghost register: { off ≡ register_offset index },
@@ -42,10 +43,10 @@ impl Window {
         ensures opened { (addr : ℕ) → self.now.lo ≤ addr → addr ≤ self.now.hi
             → result ≡ is_open (nibble pam (is_high_window addr)) kind }
     {
-        let enables = self.enables(pam);
+        let enables = u32::from(self.enables(pam));
         match kind {
-            Kind::Fetch | Kind::Read => enables & READ_ENABLE != 0,
-            Kind::Write => enables & WRITE_ENABLE != 0,
+            Kind::Fetch | Kind::Read => is_set(enables, READ_ENABLE),
+            Kind::Write => is_set(enables, WRITE_ENABLE),
         }
     }
 
@@ -71,25 +72,25 @@ pub fn window_of(addr: u32) -> Option<Window>
     ensures within { IfSome result (λ window. (window.lo ≤ addr) × (addr ≤ window.hi)) }
     ensures register { IfSome result (λ window. bridge window.off ≡ pam_register addr) }
 {
-    match addr {
-        0xC_0000..=0xE_FFFF => {
-            let index = (addr - FIRST) / SIZE;
-            let lo = FIRST + index * SIZE;
-            Some(Window {
-                index: index as u8,
-                lo,
-                hi: lo + (SIZE - 1),
-                off: PAM1 + (index / 2) as u8,
-            })
-        }
-        0xF_0000..=0xF_FFFF => Some(Window {
+    if SYSTEM_BIOS.contains(addr) {
+        return Some(Window {
             index: LAST,
-            lo: 0xF_0000,
-            hi: 0xF_FFFF,
+            lo: SYSTEM_BIOS.first,
+            hi: SYSTEM_BIOS.last,
             off: PAM0,
-        }),
-        _ => None,
+        });
     }
+    if !EXPANSION_RANGE.contains(addr) {
+        return None;
+    }
+    let index = (addr - EXPANSION_RANGE.first) / SIZE;
+    let lo = EXPANSION_RANGE.first + index * SIZE;
+    Some(Window {
+        index: index as u8,
+        lo,
+        hi: lo + (SIZE - 1),
+        off: PAM1 + (index / 2) as u8,
+    })
 }
 
 #[cfg(test)]

@@ -11,7 +11,8 @@ use Rattle.board_spec.specs.Setup.{Base, MemoryBase, IoBase, FittedCard, Setup, 
 use Rattle.board_spec.specs.Bits.{byte, merged, wide}
 use Rattle.board_spec.specs.RegisterTable.{card_function, listed, base_reset, base_writable, reset_byte}
 use Rattle.board_spec.specs.Registers.{is_smram_register, changed_byte}
-use Rattle.board_spec.specs.Decode.{Bytes, card_register, base_value}
+use Rattle.board_spec.specs.Decode.{Bytes, base_value}
+use Rattle.board_spec.specs.RegisterNames.{card_register}
 use Rattle.board_spec.proofs.StoreLemmas.{changed_byte-one_same, changed_byte-one_other}
 use Rattle.pci_bars.specs.Bases.{of_base}
 use Rattle.pci_bars.specs.Cards.{CardBytes, DecodesAs, IsCardOf, is_kept_offset, header_of}

@@ -7,7 +7,7 @@ use Rattle.std.proofs.lemmas.List.{get_or_append_left, get_or-append_right}
 use Rattle.board_spec.specs.Setup.{Base, FittedCard, Setup, IsCard, card_at}
 use Rattle.board_spec.specs.Bits.{byte, long_bytes}
 use Rattle.board_spec.specs.RegisterTable.{Line, line, read_only, card_function, function_lines, listed, base_reset, base_writable, reset_byte, writable_bits}
-use Rattle.board_spec.specs.Decode.{card_register}
+use Rattle.board_spec.specs.RegisterNames.{card_register}
 use Rattle.board_spec.proofs.TableLemmas.{listed-past, listed-before, listed-here, each_below}
 use Rattle.pci_bars.specs.Bases.{of_base}
 use Rattle.pci_bars.specs.Cards.{CardBytes, is_kept_offset, header_of}

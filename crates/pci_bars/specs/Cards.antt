@@ -3,7 +3,8 @@ use Rattle.std.specs.Prelude.{◌≡◌, ℕ, ◌+◌, ◌*◌, ◌<◌, ◌==�
 use Rattle.board_spec.specs.Setup.{FittedCard, Setup, IsCard, card_at}
 use Rattle.board_spec.specs.Bits.{byte, is_within}
 use Rattle.board_spec.specs.RegisterTable.{reset_byte}
-use Rattle.board_spec.specs.Decode.{Bytes, card_register, base_value}
+use Rattle.board_spec.specs.Decode.{Bytes, base_value}
+use Rattle.board_spec.specs.RegisterNames.{card_register}
 
 -- a card, its command register, its interrupt line and its six base address registers
 pub record CardBytes : Type 0 where

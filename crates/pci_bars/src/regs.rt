@@ -6,7 +6,8 @@ ghost use Rattle.board_spec.specs.Setup.{Setup, IsCard, card_at};
 ghost use Rattle.board_spec.specs.Bits.{byte, merged};
 ghost use Rattle.board_spec.specs.RegisterTable.{reset_byte};
 ghost use Rattle.board_spec.specs.Registers.{changed_byte};
-ghost use Rattle.board_spec.specs.Decode.{Bytes, card_register};
+ghost use Rattle.board_spec.specs.Decode.{Bytes};
+ghost use Rattle.board_spec.specs.RegisterNames.{card_register};
 ghost use Rattle.pci_bars.specs.Cards.{DecodesAs, IsCardOf, header_of};
 
 use crate::spec::{BASES, CardSpec};

@@ -5,48 +5,9 @@ use Rattle.std.specs.Int.{bit_at}
 use mir.Syntax.{w8}
 use Rattle.std.proofs.lemmas.Bool.{cases_eq, cases_order, eq-eqb, ne_eqb, lt-ltb, le-ltb, agree_below_at, eqb-true}
 use Rattle.std.proofs.lemmas.Nat.Bits.{bit_at-lt, bit_at_or, bit_at_and, bit_at_not, bit_at_set_same, bit_at_set_other, bit_at_clear_same, bit_at_clear_other, shr_and_one}
-use Rattle.pic_pair.specs.Levels.{Levels, has, levels_where, no_levels, with_level, without_level, is_bit, levels_of_byte, byte_of_levels}
-
--- tests that agree on the levels give one set
-pub levels_where-same : (p q : ℕ → Bool) → ((l : ℕ) → l < 8 → p l ≡ q l) → levels_where p ≡ levels_where q
-unfolding levels_where
-levels_where-same p q same =
-    let e0 = same 0 (lit< tt) in
-    let e1 = same 1 (lit< tt) in
-    let e2 = same 2 (lit< tt) in
-    let e3 = same 3 (lit< tt) in
-    let e4 = same 4 (lit< tt) in
-    let e5 = same 5 (lit< tt) in
-    let e6 = same 6 (lit< tt) in
-    let e7 = same 7 (lit< tt) in
-    cc
-
--- a set has the levels that pass its test
-pub has-levels_where : (p : ℕ → Bool) (l : ℕ) → l < 8 → has (levels_where p) l ≡ p l
-unfolding levels_where
-has-levels_where p zero h = refl
-has-levels_where p (suc zero) h = refl
-has-levels_where p (suc (suc zero)) h = refl
-has-levels_where p (suc (suc (suc zero))) h = refl
-has-levels_where p (suc (suc (suc (suc zero)))) h = refl
-has-levels_where p (suc (suc (suc (suc (suc zero))))) h = refl
-has-levels_where p (suc (suc (suc (suc (suc (suc zero)))))) h = refl
-has-levels_where p (suc (suc (suc (suc (suc (suc (suc zero))))))) h = refl
-has-levels_where p (suc (suc (suc (suc (suc (suc (suc (suc l)))))))) h = absurd (omega arith)
-
--- a list of eight Booleans is the set of the levels at which it is true
-pub levels_where-has : (set : Levels) → length set ≡ 8 → levels_where (λ l. has set l) ≡ set
-unfolding levels_where
-levels_where-has (a ∷ b ∷ c ∷ d ∷ e ∷ f ∷ g ∷ h ∷ []) all = refl
-levels_where-has [] all = absurd (omega arith)
-levels_where-has (a ∷ []) all = absurd (omega arith)
-levels_where-has (a ∷ b ∷ []) all = absurd (omega arith)
-levels_where-has (a ∷ b ∷ c ∷ []) all = absurd (omega arith)
-levels_where-has (a ∷ b ∷ c ∷ d ∷ []) all = absurd (omega arith)
-levels_where-has (a ∷ b ∷ c ∷ d ∷ e ∷ []) all = absurd (omega arith)
-levels_where-has (a ∷ b ∷ c ∷ d ∷ e ∷ f ∷ []) all = absurd (omega arith)
-levels_where-has (a ∷ b ∷ c ∷ d ∷ e ∷ f ∷ g ∷ []) all = absurd (omega arith)
-levels_where-has (a ∷ b ∷ c ∷ d ∷ e ∷ f ∷ g ∷ h ∷ i ∷ more) all = absurd (omega arith)
+use Rattle.device_spec.specs.Bits.{is_bit}
+use Rattle.device_spec.proofs.Levels.{levels_where-same, has-levels_where, levels_where-has}
+use Rattle.device_spec.specs.Levels.{Levels, has, levels_where, no_levels, with_level, without_level, levels_of_byte, byte_of_levels}
 
 -- ---- bits
 

@@ -1,3 +1,2 @@
 mod LevelLemmas
 mod ChipLemmas
-mod LawProofs

@@ -1,5 +1,1 @@
-pub mod Laws
-pub mod Levels
-pub mod Pair
-pub mod Pic
 pub mod View

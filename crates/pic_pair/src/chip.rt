@@ -1,8 +1,9 @@
 //! One 8259A interrupt controller.
 ghost use Rattle.std.specs.Prelude.{◌≡◌, ◌+◌, ◌++◌, ◌<◌, ◌&&◌, ◌||◌, not, IfSome, EachIndex, slice_index, false};
-ghost use Rattle.pic_pair.specs.Levels.{with_level, is_bit};
+ghost use Rattle.device_spec.specs.Bits.{is_bit};
+ghost use Rattle.device_spec.specs.Levels.{with_level};
 ghost use Rattle.pic_pair.specs.View.{awaited_words, cascade_words, mode_words};
-ghost use Rattle.pic_pair.specs.Pic.{acknowledged_if, byte_polled, is_complete, chip_at_reset, chip_after_inputs, pending, priority_order, is_blocking, blocks_itself, is_requested, request, interrupt, acknowledged, chip_after_icw1, first_blocking, ended, chip_after_ocw2, chip_after_ocw3, chip_after_even_write, chip_after_odd_write, chip_after_write, byte_read, chip_after_read};
+ghost use Rattle.device_spec.specs.Pic.{acknowledged_if, byte_polled, is_complete, chip_at_reset, chip_after_inputs, pending, priority_order, is_blocking, blocks_itself, is_requested, request, interrupt, acknowledged, chip_after_icw1, first_blocking, ended, chip_after_ocw2, chip_after_ocw3, chip_after_even_write, chip_after_odd_write, chip_after_write, byte_read, chip_after_read};
 
 use crate::level_set::LevelSet;
 use std::marker::Model;
@@ -98,7 +99,7 @@ pub struct Pic {
 
 impl Model for Pic {
     ghost use Rattle.std.specs.Prelude.{◌≤◌, ◌<◌};
-    ghost use Rattle.pic_pair.specs.Pic.{Chip};
+    ghost use Rattle.device_spec.specs.Pic.{Chip};
 
     ghost Value = { Chip };
 
@@ -199,7 +200,7 @@ impl Pic {
     }
 
     /// Reads the even or the odd port.
-    #[tactic(auto, unfolding(crate::specs::Pic::byte_read, crate::specs::Pic::chip_after_read))]
+    #[tactic(auto, unfolding(device_spec::specs::Pic::byte_read, device_spec::specs::Pic::chip_after_read))]
     pub fn read(&mut self, is_odd: bool) -> u8
         ensures byte { result ≡ byte_read self.old is_odd }
         ensures after { self.new ≡ chip_after_read self.old }
@@ -217,7 +218,7 @@ impl Pic {
     }
 
     /// Writes the even or the odd port.
-    #[tactic(auto, unfolding(crate::specs::Pic::chip_after_write))]
+    #[tactic(auto, unfolding(device_spec::specs::Pic::chip_after_write))]
     pub fn write(&mut self, is_odd: bool, byte: u8)
         ensures written { self.new ≡ chip_after_write self.old is_odd byte }
     {

@@ -1,6 +1,6 @@
 //! Sets of the eight levels of an interrupt controller, as bit masks.
 ghost use Rattle.std.specs.Prelude.{◌≡◌, ◌<◌, ◌&&◌, ◌||◌, not, length};
-ghost use Rattle.pic_pair.specs.Levels.{has, levels_where, no_levels, with_level, without_level, levels_of_byte, byte_of_levels};
+ghost use Rattle.device_spec.specs.Levels.{has, levels_where, no_levels, with_level, without_level, levels_of_byte, byte_of_levels};
 
 use std::marker::Model;
 
@@ -13,7 +13,7 @@ pub struct LevelSet {
 }
 
 impl Model for LevelSet {
-    ghost use Rattle.pic_pair.specs.Levels.{Levels, levels_of_byte};
+    ghost use Rattle.device_spec.specs.Levels.{Levels, levels_of_byte};
 
     ghost Value = { Levels };
 

@@ -1,7 +1,7 @@
 //! The master and the slave.
 ghost use Rattle.std.specs.Prelude.{◌≡◌, ◌<◌, is_some, Some, None};
-ghost use Rattle.pic_pair.specs.Pic.{interrupt, acknowledged_if};
-ghost use Rattle.pic_pair.specs.Pair.{chip_answer, master_inputs, pair_at_reset, levels_at_power_on, settled, pair_after_lines, is_slave_port, is_odd_port, pair_written, pair_after_write, port_byte, pair_read, pair_after_read, answer_at, answer_of, pair_acknowledged, pair_after_acknowledge};
+ghost use Rattle.device_spec.specs.Pic.{interrupt, acknowledged_if};
+ghost use Rattle.device_spec.specs.Pair.{chip_answer, master_inputs, pair_at_reset, levels_at_power_on, settled, pair_after_lines, is_slave_port, is_odd_port, pair_written, pair_after_write, port_byte, pair_read, pair_after_read, answer_at, answer_of, pair_acknowledged, pair_after_acknowledge};
 ghost use Rattle.pic_pair.specs.View.{answer_shown};
 
 use crate::chip::{CASCADE, Pic};
@@ -40,7 +40,7 @@ pub struct PicPair {
 }
 
 impl Model for PicPair {
-    ghost use Rattle.pic_pair.specs.Pair.{Pair};
+    ghost use Rattle.device_spec.specs.Pair.{Pair};
 
     ghost Value = { Pair };
 
@@ -107,7 +107,7 @@ impl PicPair {
     }
 
     /// Acknowledges the interrupt that is asked for; where none is, the answer is spurious.
-    #[tactic(auto, unfolding(crate::specs::Pair::answer_of, crate::specs::Pair::pair_after_acknowledge))]
+    #[tactic(auto, unfolding(device_spec::specs::Pair::answer_of, device_spec::specs::Pair::pair_after_acknowledge))]
     pub fn acknowledge(&mut self) -> Ack
         ensures answer { answer_shown result ≡ answer_of self.old }
         ensures after { self.new ≡ pair_after_acknowledge self.old }

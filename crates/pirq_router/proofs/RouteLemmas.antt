@@ -1,8 +1,28 @@
 -- One pin more, and one line set.
-use Rattle.std.proofs.Common.{zero, suc, cond, not, ltb, ◌%◌, ◌≡◌, ℕ, ◌+◌, ◌<◌, Bool, true, false, eqb, ◌||◌, ◌&&◌, List, length, get_or, set, Some, None, refl, sym, ap, ◌∙◌, add-one, get_or-set_same, get_or-set_other, inl, inr}
+use Rattle.std.proofs.Common.{zero, suc, ◌≡◌, ℕ, ◌+◌, ◌<◌, Bool, true, false, eqb, ◌||◌, ◌&&◌, List, length, get_or, set, Some, None, refl, sym, ap, ◌∙◌, add-one, get_or-set_same, get_or-set_other, inl, inr}
 use Rattle.std.proofs.Math.Bool.{or-false, and-true, and-false}
-use Rattle.std.proofs.lemmas.Bool.{cases_eq, cases_Bool, eq-eqb, ne_eqb, and_parts, or_from, not-true, both_ways}
-use Rattle.pirq_router.specs.Routing.{Routes, drives_among, drives, line_of_route, is_reserved_line}
+use Rattle.std.proofs.lemmas.Bool.{cases_eq, eq-eqb, ne_eqb}
+use Rattle.device_spec.specs.Routing.{Routes, drives, line_of_route, is_line_driven}
+
+-- whether one of the first pins holds the line at 1
+unfoldable pub drives_among : ℕ → Routes → List Bool → ℕ → Bool
+drives_among zero routes pins line = false
+drives_among (suc k) routes pins line =
+    drives_among k routes pins line || drives (line_of_route (get_or routes k 0)) (get_or pins k false) line
+
+or_of_four : (a b c d : Bool) → (((a || b) || c) || d) ≡ (a || (b || (c || (d || false))))
+or_of_four true b c d = refl
+or_of_four false true c d = refl
+or_of_four false false true d = refl
+or_of_four false false false true = refl
+or_of_four false false false false = refl
+
+-- one of all four
+pub drives_among-all : (routes : Routes) (pins : List Bool) (line : ℕ) → drives_among 4 routes pins line ≡ is_line_driven routes pins line
+unfolding drives_among is_line_driven
+drives_among-all routes pins line =
+    let pin : ℕ → Bool = λ k. drives (line_of_route (get_or routes k 0)) (get_or pins k false) line in
+    or_of_four (pin 0) (pin 1) (pin 2) (pin 3)
 
 -- no pin holds a line
 pub drives_among-none : (routes : Routes) (pins : List Bool) (line : ℕ) → drives_among 0 routes pins line ≡ false
@@ -34,21 +54,3 @@ pub drives_among-routed : (k : ℕ) (routes : Routes) (pins : List Bool) (line r
 drives_among-routed k routes pins line routed e =
     drives_among-more k routes pins line
     ∙ ap (λ o. drives_among k routes pins line || drives o (get_or pins k false) line) e
-
--- no pin drives a reserved line
-drives-reserved : (byte : ℕ) (level : Bool) (line : ℕ) → is_reserved_line line ≡ true → drives (line_of_route byte) level line ≡ false
-drives-reserved byte level line reserved =
-    elim (cases_Bool (ltb byte 0x80 && not (is_reserved_line (byte % 16)))) [
-      | inl routed ↦
-          let open_line = and_parts (ltb byte 0x80) (not (is_reserved_line (byte % 16))) routed in
-          let free : is_reserved_line (byte % 16) ≡ false = not-true (is_reserved_line (byte % 16)) open_line.1 in
-          let apart : eqb (byte % 16) line ≡ false = ne_eqb (byte % 16) line (λ e. both_ways (is_reserved_line line) (ap is_reserved_line (sym e) ∙ free) reserved) in
-          ap (λ b. drives (cond b (Some (byte % 16)) None) level line) routed ∙ ap (λ b. level && b) apart ∙ and-false level
-      | inr unrouted ↦ ap (λ b. drives (cond b (Some (byte % 16)) None) level line) unrouted
-    ]
-
-pub drives_among-reserved : (k : ℕ) (routes : Routes) (pins : List Bool) (line : ℕ) → is_reserved_line line ≡ true → drives_among k routes pins line ≡ false
-unfolding drives_among
-drives_among-reserved zero routes pins line reserved = refl
-drives_among-reserved (suc k) routes pins line reserved =
-    or_from _ _ (drives_among-reserved k routes pins line reserved) (drives-reserved (get_or routes k 0) (get_or pins k false) line reserved)

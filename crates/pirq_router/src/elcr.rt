@@ -1,7 +1,8 @@
 //! The edge/level control registers of the PIIX3, ports 4D0h and 4D1h.
 ghost use Rattle.std.specs.Prelude.{◌≡◌};
-ghost use Rattle.pirq_router.specs.Elcr.{trigger_byte, triggers_after_write, triggers_at_reset};
+ghost use Rattle.device_spec.specs.Elcr.{trigger_byte, triggers_after_write, triggers_at_reset};
 
+use board_spec::bits::merged;
 use std::marker::Model;
 
 /// The bits of 4D0h that can be written: lines 0, 1 and 2 stay edge triggered.
@@ -17,7 +18,7 @@ pub struct Elcr {
 }
 
 impl Model for Elcr {
-    ghost use Rattle.pirq_router.specs.Elcr.{Triggers};
+    ghost use Rattle.device_spec.specs.Elcr.{Triggers};
 
     ghost Value = { Triggers };
 
@@ -44,9 +45,9 @@ impl Elcr {
         ensures written { self.new ≡ triggers_after_write self.old high byte }
     {
         if high {
-            self.high = byte & WRITABLE_HIGH | self.high & !WRITABLE_HIGH;
+            self.high = merged(WRITABLE_HIGH, self.high, byte);
         } else {
-            self.low = byte & WRITABLE_LOW | self.low & !WRITABLE_LOW;
+            self.low = merged(WRITABLE_LOW, self.low, byte);
         }
     }
 

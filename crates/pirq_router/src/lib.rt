@@ -5,4 +5,4 @@ mod elcr;
 mod pirq;
 
 pub use elcr::Elcr;
-pub use pirq::{Pirq, reserved_lines_rest};
+pub use pirq::Pirq;

@@ -1,7 +1,10 @@
 //! The PIRQ route control registers, PIRQRC[A:D] of the PIIX3.
 ghost use Rattle.std.specs.Prelude.{◌≡◌, ℕ, ◌<◌, ◌-◌, if◌then◌else◌, replicate, IfSome, slice_index_or, false};
-ghost use Rattle.pirq_router.specs.Routing.{route_byte, routes_after_write, route_reset, is_line_driven, is_route_offset, line_of_route, ReservedLinesRest};
+ghost use Rattle.board_spec.specs.RegisterNames.{pirq};
+ghost use Rattle.device_spec.specs.Routing.{route_byte, routes_after_write, route_reset, is_line_driven, is_route_offset, line_of_route};
 
+use board_spec::bits::{is_set, merged};
+use board_spec::offset::{PIRQRCA, PIRQRCD};
 use std::marker::Model;
 
 /// How many PCI interrupt pins are routed, PIRQA# to PIRQD#.
@@ -9,16 +12,16 @@ const PINS: usize = 4;
 /// How many interrupt lines the two interrupt controllers have.
 const LINES: usize = 16;
 
-/// The offset of the first register in the configuration space of function 0.
-const FIRST_OFFSET: u8 = 0x60;
-/// The bits that can be written: the disable bit and the number of the line.
-const WRITABLE: u8 = 0x8F;
 /// The bit that disables the routing.
-const DISABLED: u8 = 0x80;
+const DISABLE: u32 = 7;
 /// The bits that name the line.
 const LINE: u8 = 0x0F;
+/// A register after a reset: its pin is not routed.
+const DISABLED: u8 = 1 << DISABLE;
+/// The bits that can be written.
+const WRITABLE: u8 = DISABLED | LINE;
 
-/// The four PIRQ route control registers of the PIIX3, offsets 60h to 63h of its function 0.
+/// The four PIRQ route control registers of the PIIX3, in its function 0.
 ///
 /// Contracts see the list of their four bytes.
 #[derive(Drop)]
@@ -27,7 +30,8 @@ pub struct Pirq {
 }
 
 impl Model for Pirq {
-    ghost use Rattle.pirq_router.specs.Routing.{Routes};
+    ghost use Rattle.board_spec.specs.RegisterNames.{pirq};
+    ghost use Rattle.device_spec.specs.Routing.{Routes};
 
     ghost Value = { Routes };
 
@@ -44,7 +48,7 @@ impl Pirq {
         }
     }
 
-    /// The byte at an offset of function 0: 0 at each other offset than 60h to 63h.
+    /// The byte at an offset of function 0, which is 0 where none of the registers stands.
     pub fn read(&self, offset: u8) -> u8
         ensures byte { result ≡ route_byte self.now offset }
     {
@@ -54,12 +58,12 @@ impl Pirq {
         }
     }
 
-    /// Writes the byte at an offset of function 0; other offsets than 60h to 63h are ignored.
+    /// Writes the byte at an offset of function 0. A write where none of the registers stands is ignored.
     pub fn write(&mut self, offset: u8, byte: u8)
         ensures written { self.new ≡ routes_after_write self.old offset byte }
     {
         if let Some(pin) = pin_at(offset) {
-            self.bytes[pin] = byte & WRITABLE | self.bytes[pin] & !WRITABLE;
+            self.bytes[pin] = merged(WRITABLE, self.bytes[pin], byte);
         }
     }
 
@@ -87,10 +91,10 @@ impl Pirq {
 
 /// The pin whose register stands at the offset.
 fn pin_at(offset: u8) -> Option<usize>
-    ensures pin { result ≡ (if is_route_offset offset then Some (offset - 0x60) else None) }
+    ensures pin { result ≡ (if is_route_offset offset then Some (offset - (pirq 0).off) else None) }
 {
     match offset {
-        0x60..=0x63 => Some((offset - FIRST_OFFSET) as usize),
+        PIRQRCA..=PIRQRCD => Some((offset - PIRQRCA) as usize),
         _ => None,
     }
 }
@@ -103,15 +107,10 @@ fn line_of_route(byte: u8) -> Option<usize>
     let line = byte & LINE;
     match line {
         0 | 1 | 2 | 8 | 13 => None,
-        _ if byte & DISABLED != 0 => None,
+        _ if is_set(byte.into(), DISABLE) => None,
         _ => Some(line as usize),
     }
 }
-
-/// No pin can hold the lines 0, 1, 2, 8 and 13, whatever the registers.
-pub fn reserved_lines_rest()
-    ensures { ReservedLinesRest }
-{}
 
 #[cfg(test)]
 mod tests {

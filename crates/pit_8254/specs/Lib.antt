@@ -1,4 +1,1 @@
-pub mod Pit
-pub mod PitLaws
-pub mod PitPeriods
 pub mod View

@@ -1,5 +1,5 @@
 ghost use Rattle.std.specs.Prelude.{◌≡◌, Some};
-ghost use Rattle.pit_8254.specs.Pit.{programmed, reset_counter, element_bytes, status_byte, latch_count, latch_status, control, read_back, read_live, read, count_of_bytes, complete, take_low, take_byte, write, set_gate};
+ghost use Rattle.device_spec.specs.Pit.{programmed, reset_counter, element_bytes, status_byte, latch_count, latch_status, control, read_back, read_live, read, count_of_bytes, complete, take_low, take_byte, write, gate_rises, gate_falls};
 ghost use Rattle.pit_8254.specs.View.{mode_view, access_view, notation_view, latch_view};
 
 mod pulsing;
@@ -28,11 +28,10 @@ pub struct Counter {
     stopped: bool,
     expired: bool,
     trigger: bool,
-    gate: bool,
 }
 
 impl Model for Counter {
-    ghost use Rattle.pit_8254.specs.Pit.{CounterState};
+    ghost use Rattle.device_spec.specs.Pit.{CounterState};
     ghost use Rattle.pit_8254.specs.View.{mode_view, access_view, notation_view, latch_view};
 
     ghost Value = { CounterState };
@@ -55,20 +54,14 @@ impl Model for Counter {
       stopped = c.stopped;
       expired = c.expired;
       trigger = c.trigger;
-      gate = c.gate;
     } };
 }
 
 impl Counter {
-    /// A counter after a control word, with its gate at the level given.
-    #[tactic(auto, unfolding(crate::specs::Pit::programmed))]
-    pub fn programmed(
-        access: ByteAccess,
-        mode: CountingMode,
-        notation: CountNotation,
-        gate: bool,
-    ) -> Counter
-        ensures state { result ≡ programmed (access_view access) (mode_view mode) (notation_view notation) gate }
+    /// A counter after a control word.
+    #[tactic(auto, unfolding(device_spec::specs::Pit::programmed))]
+    pub fn programmed(access: ByteAccess, mode: CountingMode, notation: CountNotation) -> Counter
+        ensures state { result ≡ programmed (access_view access) (mode_view mode) (notation_view notation) }
     {
         Counter {
             element: 0,
@@ -88,19 +81,17 @@ impl Counter {
             stopped: false,
             expired: false,
             trigger: false,
-            gate,
         }
     }
 
     /// A counter at reset: as after a control word with RW 3, mode 3, binary.
-    pub fn at_reset(gate: bool) -> Counter
-        ensures state { result ≡ reset_counter gate }
+    pub fn new() -> Counter
+        ensures state { result ≡ reset_counter }
     {
         Counter::programmed(
             ByteAccess::LowThenHigh,
             CountingMode::SquareWave,
             CountNotation::Binary,
-            gate,
         )
     }
 
@@ -112,7 +103,7 @@ impl Counter {
     }
 
     /// A control word for this counter: the counter latch command, or the counter anew.
-    #[tactic(auto, unfolding(crate::specs::Pit::control))]
+    #[tactic(auto, unfolding(device_spec::specs::Pit::control))]
     pub fn control(&mut self, word: u8)
         ensures state { self.new ≡ control word self.old }
     {
@@ -123,14 +114,13 @@ impl Counter {
                     access,
                     CountingMode::of_word(word),
                     CountNotation::of_word(word),
-                    self.gate,
                 );
             }
         }
     }
 
     /// A read-back command for this counter: bit 5 at 0 latches the count, bit 4 at 0 the status.
-    #[tactic(auto, unfolding(crate::specs::Pit::read_back))]
+    #[tactic(auto, unfolding(device_spec::specs::Pit::read_back))]
     pub fn read_back(&mut self, word: u8)
         ensures state { self.new ≡ read_back word self.old }
     {
@@ -143,7 +133,7 @@ impl Counter {
     }
 
     /// Latches CE, unless a count is latched already.
-    #[tactic(auto, unfolding(crate::specs::Pit::latch_count))]
+    #[tactic(auto, unfolding(device_spec::specs::Pit::latch_count))]
     fn latch_count(&mut self)
         ensures state { self.new ≡ latch_count self.old }
     {
@@ -153,7 +143,7 @@ impl Counter {
     }
 
     /// The bytes of CE that a latch holds, in the order of reading.
-    #[tactic(auto, unfolding(crate::specs::Pit::element_bytes))]
+    #[tactic(auto, unfolding(device_spec::specs::Pit::element_bytes))]
     fn element_bytes(&self) -> CountLatch
         ensures bytes { latch_view result ≡ element_bytes self.now }
     {
@@ -167,7 +157,7 @@ impl Counter {
     }
 
     /// Latches the status, unless a status is latched already.
-    #[tactic(auto, unfolding(crate::specs::Pit::latch_status))]
+    #[tactic(auto, unfolding(device_spec::specs::Pit::latch_status))]
     fn latch_status(&mut self)
         ensures state { self.new ≡ latch_status self.old }
     {
@@ -177,7 +167,7 @@ impl Counter {
     }
 
     /// The status byte: OUT, null count, RW, mode and BCD from bit 7 down.
-    #[tactic(auto, unfolding(crate::specs::Pit::status_byte))]
+    #[tactic(auto, unfolding(device_spec::specs::Pit::status_byte))]
     fn status_byte(&self) -> u8
         ensures byte { result ≡ status_byte self.now }
     {
@@ -190,7 +180,7 @@ impl Counter {
     }
 
     /// A read of the counter's port: a latched status, else a latched count, else CE live.
-    #[tactic(auto, unfolding(crate::specs::Pit::read))]
+    #[tactic(auto, unfolding(device_spec::specs::Pit::read))]
     pub fn read(&mut self) -> u8
         ensures byte { result ≡ (read self.old).0 }
         ensures state { self.new ≡ (read self.old).1 }
@@ -213,7 +203,7 @@ impl Counter {
     }
 
     /// A read of CE with no latch held, by RW 3 low and high in turn.
-    #[tactic(auto, unfolding(crate::specs::Pit::read_live))]
+    #[tactic(auto, unfolding(device_spec::specs::Pit::read_live))]
     fn read_live(&mut self) -> u8
         ensures byte { result ≡ (read_live self.old).0 }
         ensures state { self.new ≡ (read_live self.old).1 }
@@ -232,7 +222,7 @@ impl Counter {
     }
 
     /// A write of a byte at the counter's port; in mode 0 it sets OUT to 0.
-    #[tactic(auto, unfolding(crate::specs::Pit::write))]
+    #[tactic(auto, unfolding(device_spec::specs::Pit::write))]
     pub fn write(&mut self, byte: u8)
         ensures state { self.new ≡ write byte self.old }
     {
@@ -243,7 +233,7 @@ impl Counter {
     }
 
     /// Takes a byte of a count, by RW the low one, the high one, or both in turn.
-    #[tactic(auto, unfolding(crate::specs::Pit::take_byte))]
+    #[tactic(auto, unfolding(device_spec::specs::Pit::take_byte))]
     fn take_byte(&mut self, byte: u8)
         ensures state { self.new ≡ take_byte byte self.old }
     {
@@ -258,7 +248,7 @@ impl Counter {
     }
 
     /// Takes the low byte of two; in mode 0 the counter stops until the high one.
-    #[tactic(auto, unfolding(crate::specs::Pit::take_low))]
+    #[tactic(auto, unfolding(device_spec::specs::Pit::take_low))]
     fn take_low(&mut self, byte: u8)
         ensures state { self.new ≡ take_low byte self.old }
     {
@@ -267,7 +257,7 @@ impl Counter {
     }
 
     /// Takes a complete count, which is null until it is loaded.
-    #[tactic(auto, unfolding(crate::specs::Pit::complete))]
+    #[tactic(auto, unfolding(device_spec::specs::Pit::complete))]
     fn complete(&mut self, low: u8, high: u8)
         ensures state { self.new ≡ complete low high self.old }
     {
@@ -279,7 +269,7 @@ impl Counter {
     }
 
     /// The count that two bytes ask for: 0 is M, and in a periodic mode 1 is taken as 2.
-    #[tactic(auto, unfolding(crate::specs::Pit::count_of_number))]
+    #[tactic(auto, unfolding(device_spec::specs::Pit::count_of_number))]
     fn count_of_bytes(&self, low: u8, high: u8) -> u32
         ensures count { result ≡ count_of_bytes self.now.mode self.now.notation low high }
     {
@@ -292,17 +282,19 @@ impl Counter {
         }
     }
 
-    /// Sets the gate: a rise is a trigger in modes 1, 2, 3 and 5, a fall sets OUT in modes 2 and 3.
-    #[tactic(auto, unfolding(crate::specs::Pit::set_gate))]
-    pub fn set_gate(&mut self, on: bool)
-        ensures state { self.new ≡ set_gate on self.old }
+    /// A rise of the gate, which is a trigger in modes 1, 2, 3 and 5.
+    #[tactic(auto, unfolding(device_spec::specs::Pit::gate_rises))]
+    pub fn gate_rises(&mut self)
+        ensures state { self.new ≡ gate_rises self.old }
     {
-        if on && !self.gate {
-            self.trigger = self.trigger || self.mode.is_triggered_by_gate();
-        }
-        if !on && self.gate {
-            self.out = self.out || self.mode.is_periodic();
-        }
-        self.gate = on;
+        self.trigger = self.trigger || self.mode.is_triggered_by_gate();
+    }
+
+    /// A fall of the gate, which sets OUT to 1 in modes 2 and 3.
+    #[tactic(auto, unfolding(device_spec::specs::Pit::gate_falls))]
+    pub fn gate_falls(&mut self)
+        ensures state { self.new ≡ gate_falls self.old }
+    {
+        self.out = self.out || self.mode.is_periodic();
     }
 }

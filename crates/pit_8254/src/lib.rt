@@ -1,14 +1,13 @@
 //! The 8254 programmable interval timer: three counters behind ports 40h to 43h.
 //!
-//! `specs/Pit.antt` describes the chip in the terms of its datasheet, and each call of a `Pit` is one step of it.
+//! `device_spec` describes the chip in the terms of its datasheet, and each call of a `Pit` is one step of it.
 #![tactic(auto)]
 
 ghost use Rattle.std.specs.Prelude.{◌≡◌, ◌+◌, ◌<◌, ◌≤◌};
-ghost use Rattle.pit_8254.specs.Pit.{IsTimerPort, reset, port_read, port_write, read_back_chosen, write_control, set_gate2, out_of, pulse_all, pulses, rises};
+ghost use Rattle.device_spec.specs.Pit.{IsTimerPort, reset, port_read, port_write, read_back_chosen, write_control, set_gate2, out_of, pulse_all, pulses, rises};
 
 mod counting;
 mod latch;
-pub mod laws;
 mod word;
 
 use counting::Counter;
@@ -31,14 +30,15 @@ pub struct Pit {
     counter0: Counter,
     counter1: Counter,
     counter2: Counter,
+    gate2: bool,
 }
 
 impl Model for Pit {
-    ghost use Rattle.pit_8254.specs.Pit.{PitState};
+    ghost use Rattle.device_spec.specs.Pit.{PitState};
 
     ghost Value = { PitState };
 
-    ghost view = { λ p. record { counter0 = p.counter0; counter1 = p.counter1; counter2 = p.counter2 } };
+    ghost view = { λ p. record { counter0 = p.counter0; counter1 = p.counter1; counter2 = p.counter2; gate2 = p.gate2 } };
 }
 
 /// How often OUT of counter 0 rose, and the level that it has after.
@@ -50,14 +50,15 @@ pub struct Rises {
 
 impl Pit {
     /// A timer at reset, with the gate of counter 2 at 0.
-    #[tactic(auto, unfolding(crate::specs::Pit::reset))]
+    #[tactic(auto, unfolding(device_spec::specs::Pit::reset))]
     pub fn new() -> Pit
         ensures state { result ≡ reset }
     {
         Pit {
-            counter0: Counter::at_reset(true),
-            counter1: Counter::at_reset(true),
-            counter2: Counter::at_reset(false),
+            counter0: Counter::new(),
+            counter1: Counter::new(),
+            counter2: Counter::new(),
+            gate2: false,
         }
     }
 
@@ -69,7 +70,7 @@ impl Pit {
     }
 
     /// A read of a byte at one of ports 40h to 43h.
-    #[tactic(auto, unfolding(crate::specs::Pit::port_read))]
+    #[tactic(auto, unfolding(device_spec::specs::Pit::port_read))]
     pub fn port_read(&mut self, port: u16) -> u8
         requires { IsTimerPort port }
         ensures byte { result ≡ (port_read port self.old).0 }
@@ -84,7 +85,7 @@ impl Pit {
     }
 
     /// A write of a byte at one of ports 40h to 43h.
-    #[tactic(auto, unfolding(crate::specs::Pit::port_write))]
+    #[tactic(auto, unfolding(device_spec::specs::Pit::port_write))]
     pub fn port_write(&mut self, port: u16, byte: u8)
         requires { IsTimerPort port }
         ensures state { self.new ≡ port_write port byte self.old }
@@ -98,7 +99,7 @@ impl Pit {
     }
 
     /// A control word: SC 0 to 2 names the counter, SC 3 is read-back.
-    #[tactic(auto, unfolding(crate::specs::Pit::write_control))]
+    #[tactic(auto, unfolding(device_spec::specs::Pit::write_control))]
     fn write_control(&mut self, word: u8)
         ensures state { self.new ≡ write_control word self.old }
     {
@@ -111,7 +112,7 @@ impl Pit {
     }
 
     /// A read-back command, whose bits 3 to 1 choose counters 2 to 0.
-    #[tactic(auto, unfolding(crate::specs::Pit::read_back_chosen))]
+    #[tactic(auto, unfolding(device_spec::specs::Pit::read_back_chosen))]
     fn read_back_chosen(&mut self, word: u8)
         ensures state { self.new ≡ read_back_chosen word self.old }
     {
@@ -127,15 +128,21 @@ impl Pit {
     }
 
     /// Sets the gate of counter 2.
-    #[tactic(auto, unfolding(crate::specs::Pit::set_gate2))]
+    #[tactic(auto, unfolding(device_spec::specs::Pit::set_gate2))]
     pub fn gate2(&mut self, on: bool)
         ensures state { self.new ≡ set_gate2 on self.old }
     {
-        self.counter2.set_gate(on);
+        if on && !self.gate2 {
+            self.counter2.gate_rises();
+        }
+        if !on && self.gate2 {
+            self.counter2.gate_falls();
+        }
+        self.gate2 = on;
     }
 
     /// Runs the clock for `n` pulses.
-    #[tactic(auto, unfolding(crate::specs::Pit::pulses, crate::specs::Pit::rises))]
+    #[tactic(auto, unfolding(device_spec::specs::Pit::pulses, device_spec::specs::Pit::rises))]
     pub fn pulses(&mut self, n: u32) -> Rises
         ensures state { self.new ≡ pulses n self.old }
         ensures rose { result.rose ≡ rises n self.old }
@@ -156,17 +163,17 @@ impl Pit {
     }
 
     /// One pulse of the clock, which all counters share.
-    #[tactic(auto, unfolding(crate::specs::Pit::pulse_all))]
+    #[tactic(auto, unfolding(device_spec::specs::Pit::pulse_all))]
     fn pulse(&mut self)
         ensures state { self.new ≡ pulse_all self.old }
     {
-        self.counter0.pulse();
-        self.counter1.pulse();
-        self.counter2.pulse();
+        self.counter0.pulse(true);
+        self.counter1.pulse(true);
+        self.counter2.pulse(self.gate2);
     }
 
     /// The level of OUT of counter 0, 1 or 2.
-    #[tactic(auto, unfolding(crate::specs::Pit::out_of))]
+    #[tactic(auto, unfolding(device_spec::specs::Pit::out_of))]
     pub fn out(&self, counter: u8) -> bool
         requires { counter < 3 }
         ensures level { result ≡ out_of counter self.now }
@@ -180,7 +187,7 @@ impl Pit {
 }
 
 impl Default for Pit {
-    ghost use Rattle.pit_8254.specs.Pit.{PitState};
+    ghost use Rattle.device_spec.specs.Pit.{PitState};
 
     ghost is_default = { λ p. p ≡ reset };
 

@@ -1,5 +1,5 @@
 ghost use Rattle.std.specs.Prelude.{◌≡◌, ◌<◌, ◌≤◌, ◌%◌, ◌/◌, ◌+◌, ◌*◌, ◌^◌, option_map};
-ghost use Rattle.pit_8254.specs.Pit.{mode_numbered, mode_number, is_periodic, first_element, is_terminal_count, is_triggered_by_gate, asks_for_load, access_numbered, access_number, notation_of_bit, notation_number, is_bit, byte_values, modulus, byte_value, byte_of_value, low_byte, high_byte, count_of_number};
+ghost use Rattle.device_spec.specs.Pit.{mode_numbered, mode_number, is_periodic, first_element, is_terminal_count, is_triggered_by_gate, asks_for_load, access_numbered, access_number, notation_of_bit, notation_number, rw_field, mode_field, bcd_bit, byte_values, modulus, byte_value, byte_of_value, low_byte, high_byte, count_of_number};
 ghost use Rattle.pit_8254.specs.View.{mode_view, access_view, notation_view};
 
 /// How a counter counts: modes 0 to 5 of the 8254 datasheet, in this order.
@@ -15,9 +15,9 @@ pub enum CountingMode {
 
 impl CountingMode {
     /// The mode of bits 3 to 1 of a control word, where 6 is mode 2 and 7 is mode 3.
-    #[tactic(auto, unfolding(crate::specs::Pit::mode_numbered))]
+    #[tactic(auto, unfolding(device_spec::specs::Pit::mode_numbered))]
     pub fn of_word(word: u8) -> CountingMode
-        ensures mode { mode_view result ≡ mode_numbered (word / 2 % 8) }
+        ensures mode { mode_view result ≡ mode_numbered (mode_field word) }
     {
         match word / 2 % 8 {
             0 => CountingMode::TerminalCount,
@@ -79,7 +79,7 @@ impl CountingMode {
     }
 
     /// Whether a complete count asks for a load, by whether the counter was started.
-    #[tactic(auto, unfolding(crate::specs::Pit::asks_for_load))]
+    #[tactic(auto, unfolding(device_spec::specs::Pit::asks_for_load))]
     pub fn asks_for_load(self, started: bool) -> bool
         ensures asks { result ≡ asks_for_load (mode_view self) started }
     {
@@ -101,9 +101,9 @@ pub enum ByteAccess {
 
 impl ByteAccess {
     /// The access of bits 5 and 4 of a control word; none for the counter latch command.
-    #[tactic(auto, unfolding(crate::specs::Pit::access_numbered))]
+    #[tactic(auto, unfolding(device_spec::specs::Pit::access_numbered))]
     pub fn of_word(word: u8) -> Option<ByteAccess>
-        ensures access { option_map access_view result ≡ access_numbered (word / 16 % 4) }
+        ensures access { option_map access_view result ≡ access_numbered (rw_field word) }
     {
         match word / 16 % 4 {
             1 => Some(ByteAccess::LowByte),
@@ -136,7 +136,7 @@ pub enum CountNotation {
 impl CountNotation {
     /// The notation of bit 0 of a control word.
     pub fn of_word(word: u8) -> CountNotation
-        ensures notation { notation_view result ≡ notation_of_bit (is_bit word 0) }
+        ensures notation { notation_view result ≡ notation_of_bit (bcd_bit word) }
     {
         if word % 2 == 1 {
             CountNotation::Decimal
@@ -192,7 +192,7 @@ impl CountNotation {
     }
 
     /// The low byte of a value, which is taken modulo M.
-    #[tactic(auto, unfolding(crate::specs::Pit::low_byte))]
+    #[tactic(auto, unfolding(device_spec::specs::Pit::low_byte))]
     pub fn low_byte(self, value: u32) -> u8
         ensures byte { result ≡ low_byte (notation_view self) value }
     {
@@ -200,7 +200,7 @@ impl CountNotation {
     }
 
     /// The high byte of a value, which is taken modulo M.
-    #[tactic(auto, unfolding(crate::specs::Pit::high_byte))]
+    #[tactic(auto, unfolding(device_spec::specs::Pit::high_byte))]
     pub fn high_byte(self, value: u32) -> u8
         ensures byte { result ≡ high_byte (notation_view self) value }
     {

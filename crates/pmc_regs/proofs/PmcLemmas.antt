@@ -1,19 +1,19 @@
 -- Stores of one byte to the registers of the host bridge.
-use Rattle.std.proofs.Common.{◌≡◌, ◌≢◌, ℕ, ◌+◌, ◌%◌, ◌^◌, ◌<◌, ◌⊎◌, List, [], ◌∷◌, length, set, false, None, ◌∙◌, refl, sym, ap, subst, arith, inl, inr, get_or-set_other, get_or-set_same}
-use Rattle.std.specs.Prelude.{slice_index, bit_and, bit_or}
-use Rattle.std.specs.Int.Bits.{and_zero_r, or_zero_l, or_zero_r}
-use Rattle.std.proofs.lemmas.Nat.{and_mask}
+use Rattle.std.proofs.Common.{◌≡◌, ◌≢◌, ℕ, ◌+◌, ◌<◌, ◌⊎◌, List, [], ◌∷◌, length, set, false, None, ◌∙◌, refl, sym, ap, subst, arith, inl, inr, get_or-set_other, get_or-set_same}
+use Rattle.std.specs.Prelude.{slice_index}
 use Rattle.std.proofs.lemmas.Bool.{cases_lt, cases_eq, ne_eqb}
 use Rattle.board_base.specs.declared.access.Width.TheVariants.{One}
 use Rattle.board_spec.specs.declared.map_change.MapChange.TheVariants.{Store}
 use Rattle.board_spec.specs.Setup.{Setup}
 use Rattle.board_spec.specs.Bits.{merged}
 use Rattle.board_spec.specs.RegisterTable.{reset_byte, writable_bits}
-use Rattle.board_spec.specs.Registers.{is_smram_register, changed_byte}
-use Rattle.board_spec.specs.Decode.{Bytes, bridge}
+use Rattle.board_spec.specs.Registers.{changed_byte}
+use Rattle.board_spec.specs.Decode.{Bytes}
+use Rattle.board_spec.specs.RegisterNames.{bridge, fdhc, smram, is_same}
+use Rattle.board_spec.proofs.MergedLemmas.{merged-all, merged-none}
 use Rattle.board_spec.proofs.StoreLemmas.{changed_byte-one_same, changed_byte-one_other}
 use Rattle.pmc_regs.specs.Pmc.{PmcBytes, IsFixedOffset, IsPmcOf}
-use Rattle.pmc_regs.proofs.TableLemmas.{header_byte, rows_at_reset, hole_at_reset, writable_bits-row, writable_bits-hole, reset_byte-header, reset_byte-blank, writable_bits-fixed}
+use Rattle.pmc_regs.proofs.TableLemmas.{header_byte, rows_at_reset, hole_at_reset, writable_bits-row, reset_byte-header, reset_byte-blank, writable_bits-fixed}
 
 -- ---- after a reset
 
@@ -25,22 +25,6 @@ pub pmc_at_reset : (setup : Setup) → IsPmcOf (reset_byte setup) (record { drb 
 pmc_at_reset setup =
     record { rows = rows_at_reset setup; hole = hole_at_reset setup; fixed = λ other off fixed. reset_byte-same setup other off }
 
--- ---- what a mask keeps
-
-pub merged-all : (old written : ℕ) → written < 256 → merged 0xFF old written ≡ written
-merged-all old written below =
-    ap (λ n. bit_or n (bit_and old 0)) (and_mask written 8)
-    ∙ ap (λ n. bit_or (written % 2 ^ 8) n) (and_zero_r old)
-    ∙ or_zero_r (written % 2 ^ 8)
-    ∙ omega arith
-
-pub merged-none : (old written : ℕ) → old < 256 → merged 0 old written ≡ old
-merged-none old written below =
-    ap (λ n. bit_or n (bit_and old 0xFF)) (and_zero_r written)
-    ∙ or_zero_l (bit_and old 0xFF)
-    ∙ and_mask old 8
-    ∙ omega arith
-
 -- ---- a store to one register
 
 -- a register after the store of a byte at an offset
@@ -50,7 +34,7 @@ after_store setup bytes off written reg = changed_byte setup (Store (bridge off)
 pub elsewhere : (setup : Setup) (bytes : Bytes) (off written at : ℕ) → at ≢ off → after_store setup bytes off written (bridge at) ≡ bytes (bridge at)
 elsewhere setup bytes off written at apart = changed_byte-one_other setup (bridge at) off (bytes (bridge at)) written apart
 
-plain_register : (off : ℕ) → off ≢ 0x72 → is_smram_register (bridge off) ≡ false
+plain_register : (off : ℕ) → off ≢ 0x72 → is_same (bridge off) smram ≡ false
 plain_register off apart = ne_eqb off 0x72 apart
 
 pub there : (setup : Setup) (bytes : Bytes) (off written mask : ℕ) → written < 256 → off ≢ 0x72 → writable_bits setup (bridge off) ≡ mask → after_store setup bytes off written (bridge off) ≡ merged mask (bytes (bridge off)) written
@@ -86,8 +70,8 @@ fixed_stay setup bytes off written below fixed other at is_fixed =
 
 -- ---- the three kinds of registers
 
-pub stored_row : (setup : Setup) (bytes : Bytes) (drb : List ℕ) (fdhc row written : ℕ) → length drb ≡ 8 → row < 8 → written < 256 → IsPmcOf bytes (record { drb = drb; fdhc = fdhc }) → IsPmcOf (after_store setup bytes (0x60 + row) written) (record { drb = set drb row written; fdhc = fdhc })
-stored_row setup bytes drb fdhc row written eight within below is_pmc =
+pub stored_row : (setup : Setup) (bytes : Bytes) (drb : List ℕ) (hole row written : ℕ) → length drb ≡ 8 → row < 8 → written < 256 → IsPmcOf bytes (record { drb = drb; fdhc = hole }) → IsPmcOf (after_store setup bytes (0x60 + row) written) (record { drb = set drb row written; fdhc = hole })
+stored_row setup bytes drb hole row written eight within below is_pmc =
     record {
       rows = λ at at_within. elim (cases_eq at row) [
         | inl same ↦ subst (λ k. slice_index (set drb row written) k ≡ after_store setup bytes (0x60 + row) written (bridge (0x60 + k))) (sym same)
@@ -102,13 +86,13 @@ stored_row setup bytes drb fdhc row written eight within below is_pmc =
       fixed = fixed_stay setup bytes (0x60 + row) written below is_pmc.fixed;
     }
 
-pub stored_hole : (setup : Setup) (bytes : Bytes) (drb : List ℕ) (fdhc written : ℕ) → written < 256 → IsPmcOf bytes (record { drb = drb; fdhc = fdhc }) → IsPmcOf (after_store setup bytes 0x68 written) (record { drb = drb; fdhc = merged 0xC0 fdhc written })
-stored_hole setup bytes drb fdhc written below is_pmc =
+pub stored_hole : (setup : Setup) (bytes : Bytes) (drb : List ℕ) (old written : ℕ) → written < 256 → IsPmcOf bytes (record { drb = drb; fdhc = old }) → IsPmcOf (after_store setup bytes fdhc.off written) (record { drb = drb; fdhc = merged (writable_bits setup fdhc) old written })
+stored_hole setup bytes drb old written below is_pmc =
     record {
-      rows = λ at at_within. is_pmc.rows at at_within ∙ sym (elsewhere setup bytes 0x68 written (0x60 + at) (omega arith));
-      hole = ap (λ old. merged 0xC0 old written) is_pmc.hole
-          ∙ sym (there setup bytes 0x68 written 0xC0 below (omega arith) (writable_bits-hole setup));
-      fixed = fixed_stay setup bytes 0x68 written below is_pmc.fixed;
+      rows = λ at at_within. is_pmc.rows at at_within ∙ sym (elsewhere setup bytes fdhc.off written (0x60 + at) (omega arith));
+      hole = ap (λ byte. merged (writable_bits setup fdhc) byte written) is_pmc.hole
+          ∙ sym (there setup bytes fdhc.off written (writable_bits setup fdhc) below (omega arith) refl);
+      fixed = fixed_stay setup bytes fdhc.off written below is_pmc.fixed;
     }
 
 pub stored_nowhere : (setup : Setup) (bytes : Bytes) (pmc : PmcBytes) (off written : ℕ) → written < 256 → ((off < 0x60) ⊎ (0x68 < off)) → IsPmcOf bytes pmc → IsPmcOf (after_store setup bytes off written) pmc

@@ -6,7 +6,8 @@ use Rattle.std.specs.Option.{option_or}
 use Rattle.std.proofs.lemmas.Bool.{cases_lt, lt-ltb, le-ltb, cond-true, cond-false, false≢true}
 use Rattle.std.proofs.lemmas.Iterator.Adapters.{position_from-zero}
 use Rattle.std.proofs.lemmas.List.Folds.{find-append}
-use Rattle.board_spec.specs.Decode.{Bytes, bridge, boundary, top_of, row_of}
+use Rattle.board_spec.specs.Decode.{Bytes, boundary, top_of, row_of}
+use Rattle.board_spec.specs.RegisterNames.{bridge}
 use Rattle.pmc_regs.specs.Pmc.{IsRowsOf}
 
 abbrev rows_from : ℕ → ℕ → List ℕ

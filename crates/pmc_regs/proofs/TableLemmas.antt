@@ -4,7 +4,7 @@ use Rattle.std.specs.Prelude.{slice_index}
 use Rattle.std.proofs.lemmas.Bool.{cases_lt}
 use Rattle.board_spec.specs.Setup.{Setup}
 use Rattle.board_spec.specs.RegisterTable.{Line, host_bridge, listed, reset_byte, writable_bits}
-use Rattle.board_spec.specs.Decode.{bridge}
+use Rattle.board_spec.specs.RegisterNames.{bridge}
 use Rattle.board_spec.proofs.TableLemmas.{listed-past, listed-before, each_below}
 use Rattle.pmc_regs.specs.Pmc.{IsFixedOffset, IsRowsOf}
 

@@ -1,35 +1,37 @@
-//! The fixed DRAM hole, by its control register FDHC (82441FX, offset 68h).
-ghost use Rattle.std.specs.Prelude.{◌≡◌, ◌/◌, ◌↔◌, ◌⊎◌, IsNone};
-ghost use Rattle.board_spec.specs.Bits.{merged};
+//! The fixed DRAM hole, by its control register FDHC (82441FX).
+ghost use Rattle.std.specs.Prelude.{◌≡◌, ◌↔◌, IsNone};
+ghost use Rattle.board_spec.specs.Setup.{Setup};
+ghost use Rattle.board_spec.specs.Bits.{is_bit, merged};
+ghost use Rattle.board_spec.specs.RegisterNames.{fdhc as hole_register};
+ghost use Rattle.board_spec.specs.RegisterTable.{writable_bits};
 ghost use Rattle.board_spec.specs.Decode.{hole_of as hole_by};
 
 use board_spec::bits::merged;
+use board_spec::range::{HOLE_AT_15_MIB, HOLE_AT_512_KIB};
 
-/// The bits of FDHC that can be written: 7 and 6, the hole enable. The others read 0.
-const HOLE_ENABLE: u8 = 0xC0;
-/// The hole enable of the hole at 512 KiB.
-const HOLE_AT_512_KIB: u8 = 0x40;
-/// The hole enable of the hole at 15 MiB.
-const HOLE_AT_15_MIB: u8 = 0x80;
+/// The lower of the two bits that enable a hole. The bits below it are reserved and read 0.
+const HOLE_ENABLE: u8 = 6;
+/// The bits that can be written.
+const WRITABLE: u8 = 0b11 << HOLE_ENABLE;
 
-/// The first and the last address of the hole in DRAM that FDHC makes: 80000h to 9FFFFh by 01 in bits
-/// 7 and 6, F00000h to FFFFFFh by 10. None by 00 and 11.
+/// The first and the last address of the hole in DRAM that FDHC makes: that at 512 KiB by 01 in bits 7 and 6,
+/// that at 15 MiB by 10. None by 00 and 11.
 pub fn hole_of(fdhc: u8) -> Option<(u32, u32)>
     ensures hole { result ≡ hole_by fdhc }
-    ensures none { IsNone result ↔ ((fdhc / 0x40 ≡ 0) ⊎ (fdhc / 0x40 ≡ 3)) }
+    ensures none { IsNone result ↔ (is_bit fdhc 7 ≡ is_bit fdhc 6) }
 {
-    match fdhc & HOLE_ENABLE {
-        HOLE_AT_512_KIB => Some((0x8_0000, 0x9_FFFF)),
-        HOLE_AT_15_MIB => Some((0xF0_0000, 0xFF_FFFF)),
+    match fdhc >> HOLE_ENABLE {
+        0b01 => Some((HOLE_AT_512_KIB.first, HOLE_AT_512_KIB.last)),
+        0b10 => Some((HOLE_AT_15_MIB.first, HOLE_AT_15_MIB.last)),
         _ => None,
     }
 }
 
 /// FDHC after a byte is written to it. Reserved bits stay as they were.
 pub fn fdhc_after(old: u8, written: u8) -> u8
-    ensures merged { result ≡ merged 0xC0 old written }
+    ensures merged { (setup : Setup) → result ≡ merged (writable_bits setup hole_register) old written }
 {
-    merged(HOLE_ENABLE, old, written)
+    merged(WRITABLE, old, written)
 }
 
 #[cfg(test)]

@@ -8,13 +8,16 @@
 //! | 60-67  | DRB0 to DRB7    | 01h each     | FF each  | where a row of DRAM ends, in 8 MiB |
 //! | 68     | FDHC            | 00h          | C0       | the hole in DRAM, by bits 7 and 6  |
 //! | others | reserved        | 00h          | 00       |                                    |
-ghost use Rattle.std.specs.Prelude.{◌≡◌, ◌≤◌, ◌<◌, ◌/◌, ◌↔◌, ◌⊎◌, ℕ, IsNone, IfSome};
+ghost use Rattle.std.specs.Prelude.{◌≡◌, ◌≤◌, ◌<◌, ◌↔◌, ℕ, IsNone, IfSome};
 ghost use Rattle.board_base.specs.declared.access.Width.TheVariants.{One};
 ghost use Rattle.board_spec.specs.declared.map_change.MapChange.TheVariants.{Store};
 ghost use Rattle.board_spec.specs.Setup.{Setup};
+ghost use Rattle.board_spec.specs.Bits.{is_bit};
+ghost use Rattle.board_spec.specs.Ranges.{largest_top};
 ghost use Rattle.board_spec.specs.RegisterTable.{reset_byte};
 ghost use Rattle.board_spec.specs.Registers.{changed_byte};
-ghost use Rattle.board_spec.specs.Decode.{Bytes, bridge, top_of as top_by, row_of as row_by, hole_of as hole_by};
+ghost use Rattle.board_spec.specs.Decode.{Bytes, top_of as top_by, row_of as row_by, hole_of as hole_by};
+ghost use Rattle.board_spec.specs.RegisterNames.{bridge, fdhc};
 ghost use Rattle.pmc_regs.specs.Pmc.{IsPmcOffset, IsFixedOffset, IsPmcOf};
 
 use crate::hole::{fdhc_after, hole_of};
@@ -95,7 +98,7 @@ impl Pmc {
     /// The top of DRAM, where its last row ends. It is a multiple of 8 MiB, and 0 where there is no DRAM.
     pub fn top(&self) -> u32
         ensures top { (bytes : Bytes) → IsPmcOf bytes self.now → result ≡ top_by bytes }
-        ensures largest { result ≤ 0x7F80_0000 }
+        ensures largest { result ≤ largest_top }
     {
         top_of(&self.drb)
     }
@@ -111,8 +114,8 @@ impl Pmc {
 
     /// The first and the last address of the hole in DRAM. None where bits 7 and 6 of FDHC are 00 or 11.
     pub fn hole(&self) -> Option<(u32, u32)>
-        ensures hole { (bytes : Bytes) → IsPmcOf bytes self.now → result ≡ hole_by (bytes (bridge 0x68)) }
-        ensures none { IsNone result ↔ ((self.now.fdhc / 0x40 ≡ 0) ⊎ (self.now.fdhc / 0x40 ≡ 3)) }
+        ensures hole { (bytes : Bytes) → IsPmcOf bytes self.now → result ≡ hole_by (bytes fdhc) }
+        ensures none { IsNone result ↔ (is_bit self.now.fdhc 7 ≡ is_bit self.now.fdhc 6) }
     {
         hole_of(self.fdhc)
     }

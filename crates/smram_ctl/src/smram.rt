@@ -3,11 +3,11 @@ ghost use Rattle.std.specs.Prelude.{◌≡◌, true, false};
 ghost use Rattle.board_base.specs.declared.access.Width.TheVariants.{One};
 ghost use Rattle.board_spec.specs.declared.map_change.MapChange.TheVariants.{Store};
 ghost use Rattle.board_spec.specs.Setup.{Setup};
-ghost use Rattle.board_spec.specs.Bits.{is_bit};
 ghost use Rattle.board_spec.specs.RegisterTable.{reset_byte};
 ghost use Rattle.board_spec.specs.Registers.{smram_after, changed_byte};
-ghost use Rattle.board_spec.specs.Decode.{Bytes, bridge, smram_answers};
-ghost use Rattle.smram_ctl.specs.Control.{IsSmramByte};
+ghost use Rattle.board_spec.specs.Decode.{Bytes, smram_answers};
+ghost use Rattle.board_spec.specs.RegisterNames.{smram};
+ghost use Rattle.smram_ctl.specs.Control.{is_locked, IsSmramByte};
 
 use crate::control::{DLCK, SMRAM_RESET, smram_after, smram_reaches};
 use board_base::Kind;
@@ -34,8 +34,7 @@ impl Model for Smram {
 impl Smram {
     /// The register after a reset: SMRAM never answers, and the lock is off.
     pub fn new() -> Smram
-        ensures value { result ≡ 0x02 }
-        ensures reset { (setup : Setup) → result ≡ reset_byte setup (bridge 0x72) }
+        ensures reset { (setup : Setup) → result ≡ reset_byte setup smram }
     {
         Smram { byte: SMRAM_RESET }
     }
@@ -43,9 +42,9 @@ impl Smram {
     /// Writes the register, by the rule of its lock.
     pub fn write(&mut self, byte: u8)
         ensures byte { self.new ≡ smram_after self.old byte }
-        ensures written { (setup : Setup) (bytes : Bytes) → self.old ≡ bytes (bridge 0x72)
-            → self.new ≡ changed_byte setup (Store (bridge 0x72) One byte) (bridge 0x72) (bytes (bridge 0x72)) }
-        ensures stays_locked { is_bit self.old 4 ≡ true → is_bit self.new 4 ≡ true }
+        ensures written { (setup : Setup) (bytes : Bytes) → self.old ≡ bytes smram
+            → self.new ≡ changed_byte setup (Store smram One byte) smram (bytes smram) }
+        ensures stays_locked { is_locked self.old ≡ true → is_locked self.new ≡ true }
     {
         self.byte = smram_after(self.byte, byte);
     }
@@ -60,15 +59,14 @@ impl Smram {
 
     /// Gives the register its value after a reset. Nothing else ends the lock.
     pub fn reset(&mut self)
-        ensures value { self.new ≡ 0x02 }
-        ensures reset { (setup : Setup) → self.new ≡ reset_byte setup (bridge 0x72) }
+        ensures reset { (setup : Setup) → self.new ≡ reset_byte setup smram }
     {
         *self = Smram::new();
     }
 
     /// Whether DLCK is set: DOPEN stays 0, and only a reset ends the lock.
     pub fn locked(&self) -> bool
-        ensures locked { result ≡ is_bit self.now 4 }
+        ensures locked { result ≡ is_locked self.now }
     {
         is_set(u32::from(self.byte), DLCK)
     }
@@ -77,7 +75,7 @@ impl Smram {
     /// management mode. While the register is locked, no access outside it does.
     pub fn reaches(&self, kind: Kind, smm: bool) -> bool
         ensures reaches { result ≡ smram_answers self.now kind smm }
-        ensures lock { is_bit self.now 4 ≡ true → smm ≡ false → result ≡ false }
+        ensures lock { is_locked self.now ≡ true → smm ≡ false → result ≡ false }
     {
         smram_reaches(self.byte, kind, smm)
     }

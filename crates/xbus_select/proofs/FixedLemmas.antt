@@ -1,5 +1,5 @@
 -- The registers of the 82371SB that cannot be written, in the table of registers.
-use Rattle.std.proofs.Common.{◌≡◌, ◌≢◌, ℕ, ◌+◌, ◌<◌, ◌≤◌, List, [], ◌∷◌, false, sym, refl, subst, arith, inl, inr}
+use Rattle.std.proofs.Common.{◌≡◌, ◌≢◌, ℕ, ◌<◌, ◌≤◌, List, [], ◌∷◌, false, sym, refl, subst, arith, inl, inr, lit<}
 use Rattle.std.specs.Prelude.{slice_index}
 use Rattle.std.proofs.lemmas.Bool.{cases_lt, cases_eq}
 use Rattle.std.proofs.lemmas.Bool.Decides.{nat_tests}
@@ -8,38 +8,14 @@ use Rattle.board_base.specs.declared.target.Reg.{Reg}
 use Rattle.board_spec.specs.Setup.{Setup}
 use Rattle.board_spec.specs.Bits.{is_within}
 use Rattle.board_spec.specs.RegisterTable.{isa_bridge, ide_function, reset_byte, writable_bits}
-use Rattle.board_spec.specs.Decode.{isa, ide}
+use Rattle.board_spec.specs.RegisterNames.{isa, ide}
+use Rattle.board_spec.proofs.TableLemmas.{each_below}
 
 -- a register has this byte at all times
 pub record IsFixedAt (setup : Setup) (reg : Reg) (byte : ℕ) : Type 0 where
   pub reset : byte ≡ reset_byte setup reg
   pub read_only : writable_bits setup reg ≡ 0
   pub fits : byte < 256
-
--- what holds at each of the sixteen offsets of a header, and past it
-or_next : (P : ℕ → Type 0) (first off : ℕ) → first ≤ off → P first → (first + 1 ≤ off → P off) → P off
-or_next P first off from here above =
-    elim (cases_lt first off) [ inl below ↦ above (omega arith) | inr past ↦ subst P (omega arith) here ]
-
-each_offset : (P : ℕ → Type 0) → P 0 → P 1 → P 2 → P 3 → P 4 → P 5 → P 6 → P 7 → P 8 → P 9 → P 10 → P 11 → P 12 → P 13 → P 14 → P 15 → (off : ℕ) → (16 ≤ off → P off) → P off
-each_offset P p0 p1 p2 p3 p4 p5 p6 p7 p8 p9 p10 p11 p12 p13 p14 p15 off past =
-    or_next P 0 off (omega arith) p0
-    (λ h1. or_next P 1 off h1 p1
-    (λ h2. or_next P 2 off h2 p2
-    (λ h3. or_next P 3 off h3 p3
-    (λ h4. or_next P 4 off h4 p4
-    (λ h5. or_next P 5 off h5 p5
-    (λ h6. or_next P 6 off h6 p6
-    (λ h7. or_next P 7 off h7 p7
-    (λ h8. or_next P 8 off h8 p8
-    (λ h9. or_next P 9 off h9 p9
-    (λ h10. or_next P 10 off h10 p10
-    (λ h11. or_next P 11 off h11 p11
-    (λ h12. or_next P 12 off h12 p12
-    (λ h13. or_next P 13 off h13 p13
-    (λ h14. or_next P 14 off h14 p14
-    (λ h15. or_next P 15 off h15 p15
-    past)))))))))))))))
 
 -- the headers of the ISA bridge and of the IDE function
 abbrev pub isa_header : List ℕ
@@ -72,50 +48,45 @@ isa_fixed-past setup off xbcs pirq above =
       | inr low ↦ record { reset = sym (reset_byte-isa_past setup off above xbcs low pirq); read_only = writable_bits-isa_past setup off above xbcs low pirq; fits = omega arith }
     ]
 
+isa_header_byte : (off : ℕ) → off < 16 → slice_index isa_header off < 256
+isa_header_byte off below =
+    each_below (λ k. slice_index isa_header k < 256) 16 off
+    (lit< tt, (lit< tt, (lit< tt, (lit< tt, (lit< tt, (lit< tt, (lit< tt, (lit< tt, (lit< tt, (lit< tt, (lit< tt, (lit< tt, (lit< tt, (lit< tt, (lit< tt, (lit< tt, tt)))))))))))))))) below
+
+ide_header_byte : (off : ℕ) → off < 16 → slice_index ide_header off < 256
+ide_header_byte off below =
+    each_below (λ k. slice_index ide_header k < 256) 16 off
+    (lit< tt, (lit< tt, (lit< tt, (lit< tt, (lit< tt, (lit< tt, (lit< tt, (lit< tt, (lit< tt, (lit< tt, (lit< tt, (lit< tt, (lit< tt, (lit< tt, (lit< tt, (lit< tt, tt)))))))))))))))) below
+
 -- all registers of the ISA bridge but XBCS and those that route interrupts
 pub isa_fixed : (setup : Setup) (off : ℕ) → off ≢ 0x4E → is_within 0x60 0x63 off ≡ false → IsFixedAt setup (isa off) (slice_index isa_header off)
 unfolding reset_byte writable_bits isa_bridge
 isa_fixed setup off xbcs pirq =
-    each_offset (λ k. IsFixedAt setup (isa k) (slice_index isa_header k))
-    (record { reset = refl; read_only = refl; fits = omega arith })
-    (record { reset = refl; read_only = refl; fits = omega arith })
-    (record { reset = refl; read_only = refl; fits = omega arith })
-    (record { reset = refl; read_only = refl; fits = omega arith })
-    (record { reset = refl; read_only = refl; fits = omega arith })
-    (record { reset = refl; read_only = refl; fits = omega arith })
-    (record { reset = refl; read_only = refl; fits = omega arith })
-    (record { reset = refl; read_only = refl; fits = omega arith })
-    (record { reset = refl; read_only = refl; fits = omega arith })
-    (record { reset = refl; read_only = refl; fits = omega arith })
-    (record { reset = refl; read_only = refl; fits = omega arith })
-    (record { reset = refl; read_only = refl; fits = omega arith })
-    (record { reset = refl; read_only = refl; fits = omega arith })
-    (record { reset = refl; read_only = refl; fits = omega arith })
-    (record { reset = refl; read_only = refl; fits = omega arith })
-    (record { reset = refl; read_only = refl; fits = omega arith })
-    off (isa_fixed-past setup off xbcs pirq)
+    elim (cases_lt off 16) [
+      | inl below ↦ record {
+        reset = each_below (λ k. slice_index isa_header k ≡ reset_byte setup (isa k)) 16 off
+            (refl, (refl, (refl, (refl, (refl, (refl, (refl, (refl, (refl, (refl, (refl, (refl, (refl, (refl, (refl, (refl, tt)))))))))))))))) below;
+        read_only = each_below (λ k. writable_bits setup (isa k) ≡ 0) 16 off
+            (refl, (refl, (refl, (refl, (refl, (refl, (refl, (refl, (refl, (refl, (refl, (refl, (refl, (refl, (refl, (refl, tt)))))))))))))))) below;
+        fits = isa_header_byte off below;
+      }
+      | inr above ↦ isa_fixed-past setup off xbcs pirq above
+    ]
 
 -- all registers of the IDE function but the low byte of the command and the two of IDETIM
 pub ide_fixed : (setup : Setup) (off : ℕ) → off ≢ 0x04 → is_within 0x40 0x41 off ≡ false → IsFixedAt setup (ide off) (slice_index ide_header off)
 unfolding reset_byte writable_bits ide_function
 ide_fixed setup off command timing =
-    each_offset (λ k. k ≢ 0x04 → IsFixedAt setup (ide k) (slice_index ide_header k))
-    (λ _. record { reset = refl; read_only = refl; fits = omega arith })
-    (λ _. record { reset = refl; read_only = refl; fits = omega arith })
-    (λ _. record { reset = refl; read_only = refl; fits = omega arith })
-    (λ _. record { reset = refl; read_only = refl; fits = omega arith })
-    (λ apart. absurd (apart refl))
-    (λ _. record { reset = refl; read_only = refl; fits = omega arith })
-    (λ _. record { reset = refl; read_only = refl; fits = omega arith })
-    (λ _. record { reset = refl; read_only = refl; fits = omega arith })
-    (λ _. record { reset = refl; read_only = refl; fits = omega arith })
-    (λ _. record { reset = refl; read_only = refl; fits = omega arith })
-    (λ _. record { reset = refl; read_only = refl; fits = omega arith })
-    (λ _. record { reset = refl; read_only = refl; fits = omega arith })
-    (λ _. record { reset = refl; read_only = refl; fits = omega arith })
-    (λ _. record { reset = refl; read_only = refl; fits = omega arith })
-    (λ _. record { reset = refl; read_only = refl; fits = omega arith })
-    (λ _. record { reset = refl; read_only = refl; fits = omega arith })
-    off
-    (λ above _. rw (get_or_past {X = ℕ} ide_header off 0 above) (record { reset = sym (reset_byte-ide_past setup off above timing); read_only = writable_bits-ide_past setup off above timing; fits = omega arith }))
-    command
+    elim (cases_lt off 16) [
+      | inl below ↦ record {
+        reset = each_below (λ k. slice_index ide_header k ≡ reset_byte setup (ide k)) 16 off
+            (refl, (refl, (refl, (refl, (refl, (refl, (refl, (refl, (refl, (refl, (refl, (refl, (refl, (refl, (refl, (refl, tt)))))))))))))))) below;
+        read_only = each_below (λ k. k ≢ 0x04 → writable_bits setup (ide k) ≡ 0) 16 off
+            ((λ _. refl), ((λ _. refl), ((λ _. refl), ((λ _. refl), ((λ apart. absurd (apart refl)), ((λ _. refl), ((λ _. refl), ((λ _. refl), ((λ _. refl), ((λ _. refl), ((λ _. refl), ((λ _. refl), ((λ _. refl), ((λ _. refl), ((λ _. refl), ((λ _. refl), tt))))))))))))))))
+            below command;
+        fits = ide_header_byte off below;
+      }
+      | inr above ↦
+          rw (get_or_past {X = ℕ} ide_header off 0 above)
+          (record { reset = sym (reset_byte-ide_past setup off above timing); read_only = writable_bits-ide_past setup off above timing; fits = omega arith })
+    ]

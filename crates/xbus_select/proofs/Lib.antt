@@ -1,4 +1,3 @@
-pub mod BitLemmas
 pub mod FixedLemmas
 pub mod PiixLemmas
 pub mod PortLemmas

@@ -10,10 +10,11 @@ use Rattle.board_spec.specs.Setup.{Setup}
 use Rattle.board_spec.specs.Bits.{merged, byte}
 use Rattle.board_spec.specs.RegisterTable.{isa_bridge, ide_function, reset_byte, writable_bits}
 use Rattle.board_spec.specs.Registers.{covers, changed_byte}
-use Rattle.board_spec.specs.Decode.{Bytes, isa, ide}
+use Rattle.board_spec.specs.Decode.{Bytes}
+use Rattle.board_spec.specs.RegisterNames.{isa, ide}
+use Rattle.board_spec.proofs.MergedLemmas.{merged-none, merged-all}
 use Rattle.board_spec.proofs.StoreLemmas.{changed_byte-one_same, changed_byte-one_other}
 use Rattle.xbus_select.specs.Piix.{PiixBytes, piix_register, IsPiixRegister, is_writable, IsPiixOf}
-use Rattle.xbus_select.proofs.BitLemmas.{merged-none, merged-all}
 use Rattle.xbus_select.proofs.FixedLemmas.{IsFixedAt, isa_header, ide_header, isa_fixed, ide_fixed}
 
 -- ---- the registers that cannot be written
@@ -66,6 +67,10 @@ registers_at_reset setup =
 
 -- ---- a store of one byte
 
+pub writable_bits-xbcs : (setup : Setup) → writable_bits setup (isa 0x4E) ≡ 0xC7
+unfolding writable_bits isa_bridge
+writable_bits-xbcs setup = refl
+
 -- to a register that cannot be written, or to another
 kept_byte : (setup : Setup) (at : Reg) (written fun off old fixed : ℕ) → IsFixedAt setup (piix_register fun off) fixed → old ≡ fixed → changed_byte setup (Store at One written) (piix_register fun off) old ≡ fixed
 kept_byte setup at written fun off old fixed is_fixed is_old =
@@ -98,10 +103,9 @@ stored_to setup bytes old new at written is_piix xbcs ide_command timing_low tim
           kept_byte setup at written fun off (bytes (piix_register fun off)) (fixed_byte fun off) here (is_piix.others other fun off inside fixed ∙ sym there.reset) ∙ there.reset;
     }
 
-pub xbcs_stored : (setup : Setup) (bytes : Bytes) (old : PiixBytes) (written : ℕ) → written < 256 → IsPiixOf bytes old → IsPiixOf (λ reg. changed_byte setup (Store (isa 0x4E) One written) reg (bytes reg)) (record old { xbcs = merged 0xC7 old.xbcs written })
-unfolding writable_bits isa_bridge
+pub xbcs_stored : (setup : Setup) (bytes : Bytes) (old : PiixBytes) (written : ℕ) → written < 256 → IsPiixOf bytes old → IsPiixOf (λ reg. changed_byte setup (Store (isa 0x4E) One written) reg (bytes reg)) (record old { xbcs = merged (writable_bits setup (isa 0x4E)) old.xbcs written })
 xbcs_stored setup bytes old written below is_piix =
-    stored_to setup bytes old (record old { xbcs = merged 0xC7 old.xbcs written }) (isa 0x4E) written is_piix (sym (changed_byte-one_same setup (isa 0x4E) old.xbcs written below refl)) refl refl refl
+    stored_to setup bytes old (record old { xbcs = merged (writable_bits setup (isa 0x4E)) old.xbcs written }) (isa 0x4E) written is_piix (sym (changed_byte-one_same setup (isa 0x4E) old.xbcs written below refl)) refl refl refl
 
 pub isa_stored : (setup : Setup) (bytes : Bytes) (old : PiixBytes) (off written : ℕ) → 0x4E ≢ off → IsPiixOf bytes old → IsPiixOf (λ reg. changed_byte setup (Store (isa off) One written) reg (bytes reg)) old
 isa_stored setup bytes old off written apart is_piix =

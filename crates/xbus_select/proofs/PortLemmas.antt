@@ -13,7 +13,8 @@ use Rattle.board_base.specs.declared.target.Denial.{Denial}
 use Rattle.board_base.specs.declared.target.Denial.TheVariants.{Register}
 use Rattle.board_spec.specs.Setup.{Setup}
 use Rattle.board_spec.specs.Bits.{is_bit}
-use Rattle.board_spec.specs.Decode.{Bytes, Window, isa, ide, io_claim}
+use Rattle.board_spec.specs.Decode.{Bytes, Window, io_claim}
+use Rattle.board_spec.specs.RegisterNames.{isa, ide}
 use Rattle.board_spec.specs.Ports.{device, nobody, card_port, unselected, is_ata_port, port_target_of}
 use Rattle.xbus_select.specs.PortSelects.{AnswersAt, KeyboardAnswers, ClockAnswers, DiskAnswers}
 

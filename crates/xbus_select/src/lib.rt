@@ -7,4 +7,7 @@ mod piix;
 mod xbcs;
 
 pub use piix::Piix;
-pub use xbcs::{XBCS_RESET, rom_offset, rom_selected, xbcs_after};
+pub use xbcs::{
+    XBCS_RESET, rom_offset, rom_selected, selects_clock, selects_keyboard, sends_bios_writes,
+    xbcs_after,
+};

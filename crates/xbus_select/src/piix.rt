@@ -1,28 +1,31 @@
 //! The functions 01.0 and 01.1 of the 82371SB, and the ports whose devices they select.
-ghost use Rattle.std.specs.Prelude.{◌≡◌, ◌+◌, ◌*◌, ◌&&◌, ℕ, slice_index};
+ghost use Rattle.std.specs.Prelude.{◌≡◌, ◌+◌, ◌*◌, slice_index};
 ghost use Rattle.board_base.specs.declared.access.Width.TheVariants.{One};
 ghost use Rattle.board_spec.specs.declared.map_change.MapChange.TheVariants.{Store};
 ghost use Rattle.board_spec.specs.Setup.{Setup};
-ghost use Rattle.board_spec.specs.Bits.{is_bit};
 ghost use Rattle.board_spec.specs.RegisterTable.{reset_byte};
 ghost use Rattle.board_spec.specs.Registers.{changed_byte};
-ghost use Rattle.board_spec.specs.Decode.{Bytes, isa, ide};
-ghost use Rattle.xbus_select.specs.Piix.{IsPiixRegister, piix_register, IsPiixOf, is_selected};
+ghost use Rattle.board_spec.specs.Decode.{Bytes};
+ghost use Rattle.board_spec.specs.RegisterNames.{isa, ide};
+ghost use Rattle.xbus_select.specs.Piix.{IsPiixRegister, piix_register, IsPiixOf, is_ide_decoded, is_selected};
 
 use crate::xbcs::{XBCS_RESET, selects_clock, selects_keyboard, xbcs_after};
-use board_spec::bits::merged;
+use board_spec::bits::{is_set, merged};
 use board_spec::offset::{COMMAND, IDETIM, IDETIM_HIGH, ISA_BRIDGE, XBCS};
+use board_spec::port::{
+    CLOCK_DATA, CLOCK_INDEX, DISK_CONTROL, DISK_DATA, DISK_STATUS, KEYBOARD_COMMAND, KEYBOARD_DATA,
+};
 use std::marker::Model;
 
 /// The bit of the IDE command that lets the function answer at its ports.
-const IO_SPACE_ENABLE: u8 = 1 << 0;
+const IO_SPACE_ENABLE: u32 = 0;
 /// The bit of the IDE command that lets the function be a bus master.
-const BUS_MASTER_ENABLE: u8 = 1 << 2;
+const BUS_MASTER_ENABLE: u32 = 2;
 /// The bit of IDETIM's high byte, bit 15 of the register, that decodes the ports of the channel.
-const IDE_DECODE_ENABLE: u8 = 1 << 7;
+const IDE_DECODE_ENABLE: u32 = 7;
 
 /// The bits of the IDE command that can be written. The others read 0.
-const COMMAND_WRITABLE: u8 = IO_SPACE_ENABLE | BUS_MASTER_ENABLE;
+const COMMAND_WRITABLE: u8 = 1 << IO_SPACE_ENABLE | 1 << BUS_MASTER_ENABLE;
 
 /// The header of the ISA bridge, offsets 00h to 0Fh. It cannot be written.
 const ISA_BRIDGE_HEADER: [u8; 16] = [
@@ -40,7 +43,7 @@ const IDE_HEADER: [u8; 16] = [
     0x00, 0x00, 0x00, 0x00, // header type
 ];
 
-/// The registers of 01.0 and 01.1 but those that route interrupts, 60h to 63h of 01.0. Contracts see
+/// The registers of 01.0 and 01.1 but those that route interrupts. Contracts see
 /// the bytes that can be written; the others are fixed.
 #[derive(Drop)]
 pub struct Piix {
@@ -169,15 +172,15 @@ impl Piix {
         u16::from_le_bytes([self.timing_low, self.timing_high])
     }
 
-    /// Whether the device at a port is selected: the keyboard controller at 60h and 64h, the clock at
-    /// 70h and 71h, the disk at 1F0h to 1F7h and 3F6h. False at all other ports.
+    /// Whether the device at a port is selected: the keyboard controller, the clock or the disk at its ports. False
+    /// at all other ports.
     pub fn selects(&self, port: u16) -> bool
         ensures selects { (bytes : Bytes) → IsPiixOf bytes self.now → result ≡ is_selected bytes port }
     {
         match port {
-            0x60 | 0x64 => selects_keyboard(self.xbcs),
-            0x70 | 0x71 => selects_clock(self.xbcs),
-            0x1F0..=0x1F7 | 0x3F6 => self.decodes_ide(),
+            KEYBOARD_DATA | KEYBOARD_COMMAND => selects_keyboard(self.xbcs),
+            CLOCK_INDEX | CLOCK_DATA => selects_clock(self.xbcs),
+            DISK_DATA..=DISK_STATUS | DISK_CONTROL => self.decodes_ide(),
             _ => false,
         }
     }
@@ -185,9 +188,10 @@ impl Piix {
     /// Whether the IDE function answers at the ports of the primary channel.
     fn decodes_ide(&self) -> bool
         ensures decodes { (bytes : Bytes) → IsPiixOf bytes self.now
-            → result ≡ (is_bit (bytes (ide 0x04)) 0 && is_bit (bytes (ide 0x41)) 7) }
+            → result ≡ is_ide_decoded bytes }
     {
-        self.ide_command & IO_SPACE_ENABLE != 0 && self.timing_high & IDE_DECODE_ENABLE != 0
+        is_set(self.ide_command.into(), IO_SPACE_ENABLE)
+            && is_set(self.timing_high.into(), IDE_DECODE_ENABLE)
     }
 }
 

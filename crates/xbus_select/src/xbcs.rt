@@ -1,65 +1,60 @@
-//! The X-Bus chip select register, XBCS (82371SB, offset 4Eh of 01.0), and the BIOS ranges that it selects.
-ghost use Rattle.std.specs.Prelude.{◌≡◌, ◌<◌, ◌%◌, ◌↔◌, ℕ, false, IsNone, IfSome};
+//! The X-Bus chip select register, XBCS of the 82371SB, and the BIOS ranges that it selects.
+ghost use Rattle.std.specs.Prelude.{◌≡◌, ◌<◌, ◌%◌, ◌↔◌, false, IsNone, IfSome};
+ghost use Rattle.board_spec.specs.Setup.{Setup};
 ghost use Rattle.board_spec.specs.Bits.{is_bit, merged};
+ghost use Rattle.board_spec.specs.RegisterNames.{xbcs as select_register};
+ghost use Rattle.board_spec.specs.RegisterTable.{writable_bits};
 ghost use Rattle.board_spec.specs.Decode.{is_rom_selected};
 
-use board_spec::bits::merged;
+use board_spec::bits::{is_set, merged};
+use board_spec::range::{EXTENDED_BIOS, HIGH_BIOS, LOWER_BIOS, LOWER_HIGH_BIOS, SYSTEM_BIOS};
 
-/// The bit that selects the real-time clock at ports 70h and 71h.
-const CLOCK_SELECT: u8 = 1 << 0;
-/// The bit that selects the keyboard controller at ports 60h and 64h.
-const KEYBOARD_SELECT: u8 = 1 << 1;
+/// The bit that selects the real-time clock at its two ports.
+const CLOCK_SELECT: u32 = 0;
+/// The bit that selects the keyboard controller at its two ports.
+const KEYBOARD_SELECT: u32 = 1;
 /// The bit that lets writes to the BIOS reach its chip.
-const BIOS_WRITE_ENABLE: u8 = 1 << 2;
-/// The bit that selects the lower BIOS, E0000h to EFFFFh and FFFE0000h to FFFEFFFFh.
-const LOWER_BIOS_ENABLE: u8 = 1 << 6;
-/// The bit that selects the extended BIOS, FFF80000h to FFFDFFFFh.
-const EXTENDED_BIOS_ENABLE: u8 = 1 << 7;
+const BIOS_WRITE_ENABLE: u32 = 2;
+/// The bit that selects the lower BIOS, below 1 MiB and below 4 GiB.
+const LOWER_BIOS_ENABLE: u32 = 6;
+/// The bit that selects the extended BIOS.
+const EXTENDED_BIOS_ENABLE: u32 = 7;
 
 /// The register after a reset: the keyboard controller and the clock are selected.
-pub const XBCS_RESET: u8 = KEYBOARD_SELECT | CLOCK_SELECT;
+pub const XBCS_RESET: u8 = 1 << KEYBOARD_SELECT | 1 << CLOCK_SELECT;
 /// The bits that can be written. The others read 0.
-const WRITABLE: u8 = CLOCK_SELECT
-    | KEYBOARD_SELECT
-    | BIOS_WRITE_ENABLE
-    | LOWER_BIOS_ENABLE
-    | EXTENDED_BIOS_ENABLE;
+const WRITABLE: u8 = 1 << CLOCK_SELECT
+    | 1 << KEYBOARD_SELECT
+    | 1 << BIOS_WRITE_ENABLE
+    | 1 << LOWER_BIOS_ENABLE
+    | 1 << EXTENDED_BIOS_ENABLE;
 
 /// The register after a byte is written to it.
 pub fn xbcs_after(old: u8, written: u8) -> u8
-    ensures merged { result ≡ merged 0xC7 old written }
+    ensures merged { (setup : Setup) → result ≡ merged (writable_bits setup select_register) old written }
 {
     merged(WRITABLE, old, written)
 }
 
 /// Whether XBCS selects the real-time clock.
-pub(crate) fn selects_clock(xbcs: u8) -> bool
+pub fn selects_clock(xbcs: u8) -> bool
     ensures clock { result ≡ is_bit xbcs 0 }
 {
-    xbcs & CLOCK_SELECT != 0
+    is_set(xbcs.into(), CLOCK_SELECT)
 }
 
 /// Whether XBCS selects the keyboard controller.
-#[tactic(auto, using(crate::proofs::BitLemmas::and_bit_1))]
-pub(crate) fn selects_keyboard(xbcs: u8) -> bool
+pub fn selects_keyboard(xbcs: u8) -> bool
     ensures keyboard { result ≡ is_bit xbcs 1 }
 {
-    xbcs & KEYBOARD_SELECT != 0
+    is_set(xbcs.into(), KEYBOARD_SELECT)
 }
 
-/// Whether XBCS selects the lower BIOS.
-#[tactic(auto, using(crate::proofs::BitLemmas::and_bit_6))]
-fn selects_lower_bios(xbcs: u8) -> bool
-    ensures lower { result ≡ is_bit xbcs 6 }
+/// Whether XBCS lets writes to the BIOS reach its chip.
+pub fn sends_bios_writes(xbcs: u8) -> bool
+    ensures writes { result ≡ is_bit xbcs 2 }
 {
-    xbcs & LOWER_BIOS_ENABLE != 0
-}
-
-/// Whether XBCS selects the extended BIOS.
-fn selects_extended_bios(xbcs: u8) -> bool
-    ensures extended { result ≡ is_bit xbcs 7 }
-{
-    xbcs & EXTENDED_BIOS_ENABLE != 0
+    is_set(xbcs.into(), BIOS_WRITE_ENABLE)
 }
 
 /// Whether an address lies in a BIOS range that XBCS selects. The ranges of 64 KiB below 1 MiB and
@@ -67,12 +62,14 @@ fn selects_extended_bios(xbcs: u8) -> bool
 pub fn rom_selected(xbcs: u8, addr: u32) -> bool
     ensures selected { result ≡ is_rom_selected xbcs addr }
 {
-    match addr {
-        0x000F_0000..=0x000F_FFFF | 0xFFFF_0000..=0xFFFF_FFFF => true,
-        0x000E_0000..=0x000E_FFFF | 0xFFFE_0000..=0xFFFE_FFFF => selects_lower_bios(xbcs),
-        0xFFF8_0000..=0xFFFD_FFFF => selects_extended_bios(xbcs),
-        _ => false,
+    let selects = u32::from(xbcs);
+    if SYSTEM_BIOS.contains(addr) || HIGH_BIOS.contains(addr) {
+        return true;
     }
+    if LOWER_BIOS.contains(addr) || LOWER_HIGH_BIOS.contains(addr) {
+        return is_set(selects, LOWER_BIOS_ENABLE);
+    }
+    EXTENDED_BIOS.contains(addr) && is_set(selects, EXTENDED_BIOS_ENABLE)
 }
 
 /// The offset of an address in a BIOS image of `size` bytes, which repeats through the selected

@@ -1,46 +1,46 @@
-ghost use Rattle.std.specs.Prelude.{◌≡◌, false};
-ghost use Rattle.pit_8254.specs.Pit.{TerminalCount, OneShot, RateGenerator, SquareWave, SoftwareStrobe, HardwareStrobe, load, load_with, count_down, count_to_end, count_to_reload, half_end, count_half, count_to_strobe, is_counting, pulse_by_mode, pulse};
+ghost use Rattle.std.specs.Prelude.{◌≡◌, true, false};
+ghost use Rattle.device_spec.specs.Pit.{TerminalCount, OneShot, RateGenerator, SquareWave, SoftwareStrobe, HardwareStrobe, load, load_with, count_down, count_to_end, count_to_reload, half_end, count_half, count_to_strobe, is_counting, pulse_by_mode, pulse};
 
 use super::Counter;
 use crate::word::CountingMode;
 
 impl Counter {
-    /// One pulse of the counter's clock, by the datasheet's description of its mode.
-    #[tactic(auto, unfolding(crate::specs::Pit::pulse, crate::specs::Pit::pulse_by_mode))]
-    pub fn pulse(&mut self)
-        ensures state { self.new ≡ pulse self.old }
+    /// One pulse of the counter's clock with its gate at this level, by the datasheet's description of its mode.
+    #[tactic(auto, unfolding(device_spec::specs::Pit::pulse, device_spec::specs::Pit::pulse_by_mode))]
+    pub fn pulse(&mut self, gate: bool)
+        ensures state { self.new ≡ pulse gate self.old }
     {
         let triggered = self.trigger && self.count.is_some();
         self.trigger = false;
         match self.mode {
-            CountingMode::TerminalCount => self.pulse_terminal_count(),
+            CountingMode::TerminalCount => self.pulse_terminal_count(gate),
             CountingMode::OneShot => self.pulse_one_shot(triggered),
-            CountingMode::RateGenerator => self.pulse_rate_generator(triggered),
-            CountingMode::SquareWave => self.pulse_square_wave(triggered),
-            CountingMode::SoftwareStrobe => self.pulse_software_strobe(),
+            CountingMode::RateGenerator => self.pulse_rate_generator(gate, triggered),
+            CountingMode::SquareWave => self.pulse_square_wave(gate, triggered),
+            CountingMode::SoftwareStrobe => self.pulse_software_strobe(gate),
             CountingMode::HardwareStrobe => self.pulse_hardware_strobe(triggered),
         }
     }
 
     /// A pulse in mode 0: OUT is 0 until the count ends.
-    #[tactic(auto, unfolding(crate::specs::Pit::pulse_by_mode))]
-    fn pulse_terminal_count(&mut self)
-        ensures state { self.new ≡ pulse_by_mode TerminalCount false self.old }
+    #[tactic(auto, unfolding(device_spec::specs::Pit::pulse_by_mode))]
+    fn pulse_terminal_count(&mut self, gate: bool)
+        ensures state { self.new ≡ pulse_by_mode TerminalCount gate false self.old }
     {
         if self.stopped {
             return;
         }
         if self.load_asked {
             self.load();
-        } else if self.is_counting() {
+        } else if self.is_counting(gate) {
             self.count_to_end();
         }
     }
 
     /// A pulse in mode 1: OUT is 0 from the trigger until the count ends, whatever the gate.
-    #[tactic(auto, unfolding(crate::specs::Pit::pulse_by_mode))]
+    #[tactic(auto, unfolding(device_spec::specs::Pit::pulse_by_mode))]
     fn pulse_one_shot(&mut self, triggered: bool)
-        ensures state { self.new ≡ pulse_by_mode OneShot triggered self.old }
+        ensures state { self.new ≡ pulse_by_mode OneShot true triggered self.old }
     {
         if triggered {
             self.load_with(false);
@@ -50,46 +50,46 @@ impl Counter {
     }
 
     /// A pulse in mode 2: OUT is 0 for one pulse of each period.
-    #[tactic(auto, unfolding(crate::specs::Pit::pulse_by_mode))]
-    fn pulse_rate_generator(&mut self, triggered: bool)
-        ensures state { self.new ≡ pulse_by_mode RateGenerator triggered self.old }
+    #[tactic(auto, unfolding(device_spec::specs::Pit::pulse_by_mode))]
+    fn pulse_rate_generator(&mut self, gate: bool, triggered: bool)
+        ensures state { self.new ≡ pulse_by_mode RateGenerator gate triggered self.old }
     {
         if self.load_asked || triggered {
             self.load_with(true);
-        } else if self.is_counting() {
+        } else if self.is_counting(gate) {
             self.count_to_reload();
         }
     }
 
     /// A pulse in mode 3: OUT is 1 for half of each period, and 0 for the other.
-    #[tactic(auto, unfolding(crate::specs::Pit::pulse_by_mode))]
-    fn pulse_square_wave(&mut self, triggered: bool)
-        ensures state { self.new ≡ pulse_by_mode SquareWave triggered self.old }
+    #[tactic(auto, unfolding(device_spec::specs::Pit::pulse_by_mode))]
+    fn pulse_square_wave(&mut self, gate: bool, triggered: bool)
+        ensures state { self.new ≡ pulse_by_mode SquareWave gate triggered self.old }
     {
         if self.load_asked || triggered {
             self.load_with(true);
-        } else if self.is_counting() {
+        } else if self.is_counting(gate) {
             self.count_half();
         }
     }
 
     /// A pulse in mode 4: OUT is 0 for the one pulse at which the count ends.
-    #[tactic(auto, unfolding(crate::specs::Pit::pulse_by_mode))]
-    fn pulse_software_strobe(&mut self)
-        ensures state { self.new ≡ pulse_by_mode SoftwareStrobe false self.old }
+    #[tactic(auto, unfolding(device_spec::specs::Pit::pulse_by_mode))]
+    fn pulse_software_strobe(&mut self, gate: bool)
+        ensures state { self.new ≡ pulse_by_mode SoftwareStrobe gate false self.old }
     {
         self.out = true;
         if self.load_asked {
             self.load();
-        } else if self.is_counting() {
+        } else if self.is_counting(gate) {
             self.count_to_strobe();
         }
     }
 
     /// A pulse in mode 5: as in mode 4, with the trigger for the load asked, whatever the gate.
-    #[tactic(auto, unfolding(crate::specs::Pit::pulse_by_mode))]
+    #[tactic(auto, unfolding(device_spec::specs::Pit::pulse_by_mode))]
     fn pulse_hardware_strobe(&mut self, triggered: bool)
-        ensures state { self.new ≡ pulse_by_mode HardwareStrobe triggered self.old }
+        ensures state { self.new ≡ pulse_by_mode HardwareStrobe true triggered self.old }
     {
         self.out = true;
         if triggered {
@@ -99,15 +99,15 @@ impl Counter {
         }
     }
 
-    /// Whether the counter was started and its gate lets it count.
-    fn is_counting(&self) -> bool
-        ensures counting { result ≡ is_counting self.now }
+    /// Whether the counter was started and its gate, at this level, lets it count.
+    fn is_counting(&self, gate: bool) -> bool
+        ensures counting { result ≡ is_counting gate self.now }
     {
-        self.started && self.gate
+        self.started && gate
     }
 
     /// Loads the count written last, which starts the counter; in mode 3 the even number at or below it.
-    #[tactic(auto, unfolding(crate::specs::Pit::load))]
+    #[tactic(auto, unfolding(device_spec::specs::Pit::load))]
     fn load(&mut self)
         ensures state { self.new ≡ load self.old }
     {
@@ -131,7 +131,7 @@ impl Counter {
     }
 
     /// Counts: CE less 1, where 0 becomes M - 1.
-    #[tactic(auto, unfolding(crate::specs::Pit::count_down))]
+    #[tactic(auto, unfolding(device_spec::specs::Pit::count_down))]
     fn count_down(&mut self)
         ensures state { self.new ≡ count_down self.old }
     {
@@ -142,7 +142,7 @@ impl Counter {
     }
 
     /// Counts, and sets OUT to 1 where 0 is reached.
-    #[tactic(auto, unfolding(crate::specs::Pit::count_to_end))]
+    #[tactic(auto, unfolding(device_spec::specs::Pit::count_to_end))]
     fn count_to_end(&mut self)
         ensures state { self.new ≡ count_to_end self.old }
     {
@@ -153,7 +153,7 @@ impl Counter {
     }
 
     /// Counts, and sets OUT to 0 where 1 is reached; from 1 it loads.
-    #[tactic(auto, unfolding(crate::specs::Pit::count_to_reload))]
+    #[tactic(auto, unfolding(device_spec::specs::Pit::count_to_reload))]
     fn count_to_reload(&mut self)
         ensures state { self.new ≡ count_to_reload self.old }
     {
@@ -168,7 +168,7 @@ impl Counter {
     }
 
     /// Takes CE down by 2; at the end of a half OUT flips and the counter loads.
-    #[tactic(auto, unfolding(crate::specs::Pit::count_half))]
+    #[tactic(auto, unfolding(device_spec::specs::Pit::count_half))]
     fn count_half(&mut self)
         ensures state { self.new ≡ count_half self.old }
     {
@@ -191,7 +191,7 @@ impl Counter {
     }
 
     /// Counts, and sets OUT to 0 where 0 is reached for the first time since the load.
-    #[tactic(auto, unfolding(crate::specs::Pit::count_to_strobe))]
+    #[tactic(auto, unfolding(device_spec::specs::Pit::count_to_strobe))]
     fn count_to_strobe(&mut self)
         ensures state { self.new ≡ count_to_strobe self.old }
     {

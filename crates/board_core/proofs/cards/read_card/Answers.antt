@@ -1,6 +1,6 @@
 use Rattle.std.proofs.Common.{◌≡◌, ◌∙◌, ap, sym, ℕ}
 use Rattle.board_spec.specs.Setup.{IsCard}
-use Rattle.board_spec.specs.Decode.{card_register}
+use Rattle.board_spec.specs.RegisterNames.{card_register}
 use Rattle.pci_bars.specs.Cards.{IsCardOf}
 use Rattle.board_core.proofs.CardLemmas.{found, no_card}
 use Rattle.board_core.proofs.cards.read_card.Goals as goal

@@ -1,5 +1,5 @@
 use Rattle.std.proofs.Common.{◌≡◌, ◌≢◌, ℕ, subst, sym, inl, rules}
-use Rattle.board_spec.specs.Decode.{card_register}
+use Rattle.board_spec.specs.RegisterNames.{card_register}
 use Rattle.pci_bars.specs.Cards.{IsCardOf}
 use Rattle.addr_decode.specs.MapRegs.{stored}
 use Rattle.board_core.proofs.CardLemmas.{card_beside}

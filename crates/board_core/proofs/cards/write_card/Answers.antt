@@ -1,6 +1,6 @@
 use Rattle.std.proofs.Common.{◌≡◌, ◌∙◌, subst, sym, ap, List, refl, arith}
 use Rattle.std.specs.Prelude.{slice_index_or}
-use Rattle.board_spec.specs.Decode.{card_register}
+use Rattle.board_spec.specs.RegisterNames.{card_register}
 use Rattle.pci_bars.specs.Cards.{CardBytes, IsCardOf, AreCardsOf}
 use Rattle.addr_decode.specs.MapRegs.{AreFitted, stored}
 use Rattle.addr_decode.proofs.CardLemmas.{fitted_same}

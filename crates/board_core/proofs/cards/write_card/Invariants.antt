@@ -1,6 +1,7 @@
 use Rattle.std.proofs.Common.{◌≡◌, ◌<◌, ◌≤◌, ℕ, get_or, length}
 use Rattle.board_spec.specs.Setup.{Setup}
-use Rattle.board_spec.specs.Decode.{Bytes, card_register}
+use Rattle.board_spec.specs.Decode.{Bytes}
+use Rattle.board_spec.specs.RegisterNames.{card_register}
 use Rattle.pci_bars.specs.Cards.{CardBytes, IsCardOf, AreCardsOf, cards_of}
 use Rattle.addr_decode.specs.MapRegs.{stored}
 use Rattle.board_core.proofs.cards.write_card.Given as goal

@@ -1,5 +1,5 @@
 use Rattle.std.proofs.Common.{◌≡◌, ◌≤◌}
-use Rattle.pit_8254.specs.Pit.{pulses, rises}
+use Rattle.device_spec.specs.Pit.{pulses, rises}
 use Rattle.pit_8254.proofs.Pit.pulses.Given as goal
 
 abbrev pub invariant-loop : goal.invariant-loop

@@ -1,6 +1,6 @@
 use Rattle.std.proofs.Common.{arith, inl}
 use Rattle.addr_decode.specs.MapRegs.{map_bytes, stored}
-use Rattle.board_spec.specs.Decode.{bridge}
+use Rattle.board_spec.specs.RegisterNames.{bridge}
 use Rattle.addr_decode.proofs.StandsLemmas.{stands-same, row_stored, hole_stored, smram_stored, beside_stored}
 use Rattle.addr_decode.proofs.regs.MapRegs.store_bridge.Goals as goal
 

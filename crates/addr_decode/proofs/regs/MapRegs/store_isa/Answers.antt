@@ -1,5 +1,5 @@
 use Rattle.addr_decode.specs.MapRegs.{map_bytes, stored}
-use Rattle.board_spec.specs.Decode.{isa}
+use Rattle.board_spec.specs.RegisterNames.{isa}
 use Rattle.addr_decode.proofs.StandsLemmas.{stands-same, xbcs_stored, isa_beside}
 use Rattle.addr_decode.proofs.regs.MapRegs.store_isa.Goals as goal
 

@@ -1,5 +1,5 @@
 -- At first the whole order is left.
-use Rattle.pic_pair.proofs.ChipLemmas.{first_blocking-is}
+use Rattle.device_spec.proofs.Priorities.{first_blocking-is}
 use Rattle.pic_pair.proofs.chip.Pic.first_blocking.Goals as goal
 
 pub loop-served-init : goal.loop-served-init

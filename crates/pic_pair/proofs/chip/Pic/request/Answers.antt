@@ -1,6 +1,6 @@
 -- The search ends at a level that asks, gives up behind one that blocks, and else goes on.
 use Rattle.std.proofs.Common.{sym, ◌∙◌, arith}
-use Rattle.pic_pair.proofs.ChipLemmas.{request-is, scan-found, scan-blocked, scan-past, scan-end}
+use Rattle.device_spec.proofs.Priorities.{scan-found, scan-blocked, scan-past, scan-end, request-is}
 use Rattle.pic_pair.proofs.chip.Pic.request.Goals as goal
 
 pub loop-level-init : goal.loop-level-init

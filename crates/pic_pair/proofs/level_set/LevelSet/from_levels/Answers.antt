@@ -1,6 +1,6 @@
 -- Each level that is true joins the set.
 use Rattle.std.proofs.Common.{◌∙◌, ap, arith}
-use Rattle.pic_pair.specs.Levels.{with_level}
+use Rattle.device_spec.specs.Levels.{with_level}
 use Rattle.pic_pair.proofs.LevelLemmas.{front_levels-none, front_levels-with, front_levels-without, front_levels-all}
 use Rattle.pic_pair.proofs.level_set.LevelSet.from_levels.Goals as goal
 use Rattle.pic_pair.proofs.level_set.LevelSet.from_levels.Goals.{then-is_in, else-is_in}

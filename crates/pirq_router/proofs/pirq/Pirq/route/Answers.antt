@@ -1,8 +1,8 @@
 -- No line is held at first; then each pin adds its own.
 use Rattle.std.proofs.Common.{◌≡◌, false, get_or, length, Some, None, length-set, refl, sym, ap, ◌∙◌, arith}
 use Rattle.std.proofs.lemmas.List.{get_or-replicate}
-use Rattle.pirq_router.specs.Routing.{line_of_route}
-use Rattle.pirq_router.proofs.RouteLemmas.{drives_among-none, drives_among-routed, drives_among-unrouted, line-raised}
+use Rattle.device_spec.specs.Routing.{line_of_route, is_line_driven}
+use Rattle.pirq_router.proofs.RouteLemmas.{drives_among, drives_among-all, drives_among-none, drives_among-routed, drives_among-unrouted, line-raised}
 use Rattle.pirq_router.proofs.pirq.Pirq.route.Goals as goal
 use Rattle.pirq_router.proofs.pirq.Pirq.route.Goals.{in-Some, in-None}
 
@@ -37,3 +37,13 @@ loop-pin-preserved c =
             cc;
       }
     ]
+
+pub returns : goal.returns
+returns c =
+    let all : c.loop-pin.pin ≡ 4 = omega (arith, c.loop-pin-test.false, c.loop-pin.auto.pin-end) in
+    record {
+      lines = λ line h.
+          c.loop-pin.invariant.driven line h
+          ∙ (ap (λ k. drives_among k c.self.inside.bytes c.args.pins line) all ∙ drives_among-all c.self.inside.bytes c.args.pins line
+          ∙ ap (λ bytes. is_line_driven bytes c.args.pins line) c.self.view_is);
+    }

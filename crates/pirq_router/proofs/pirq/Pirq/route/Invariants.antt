@@ -1,6 +1,6 @@
 -- The lines so far are those that the pins so far hold at 1.
 use Rattle.std.proofs.Common.{◌≡◌, ℕ, ◌<◌, length, slice_index_or, false}
-use Rattle.pirq_router.specs.Routing.{drives_among}
+use Rattle.pirq_router.proofs.RouteLemmas.{drives_among}
 use Rattle.pirq_router.proofs.pirq.Pirq.route.Given as goal
 
 abbrev pub invariant-loop-pin : goal.invariant-loop-pin

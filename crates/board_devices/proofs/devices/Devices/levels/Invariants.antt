@@ -1,0 +1,15 @@
+-- The lines so far have the levels of the history.
+use Rattle.std.proofs.Common.{◌≡◌, ℕ, ◌<◌, List, length, slice_index_or, false}
+use Rattle.board_spec.specs.declared.event.Entry.{Entry}
+use Rattle.board_spec.specs.Setup.{Setup}
+use Rattle.board_spec.specs.Devices.{timer_of}
+use Rattle.board_spec.specs.Interrupts.{level_with}
+use Rattle.board_devices.specs.Devices.{AreAfter, AreRoutesOf}
+use Rattle.board_devices.proofs.devices.Devices.levels.Given as goal
+
+abbrev pub invariant-loop-line : goal.invariant-loop-line
+invariant-loop-line l = record {
+  size : length l.levels ≡ 16;
+  each : (setup : Setup) (history : List Entry) → AreAfter setup history l.self → AreRoutesOf setup history l.routes →
+      (k : ℕ) → k < l.line → slice_index_or l.levels k false ≡ level_with setup history (timer_of history) k;
+}

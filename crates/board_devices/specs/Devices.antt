@@ -1,0 +1,52 @@
+-- The devices as they stand are those that a history left.
+use Rattle.std.specs.Prelude.{ℕ, ◌≡◌, ◌<◌, ◌≤◌, ◌&&◌, Bool, false, List, map, slice_index_or, Option}
+use Rattle.device_spec.specs.Pit.{PitState}
+use Rattle.device_spec.specs.Pair.{Pair}
+use Rattle.device_spec.specs.Clock.{Clock}
+use Rattle.device_spec.specs.Elcr.{Triggers}
+use Rattle.device_spec.specs.Ata.State.{Disk}
+use Rattle.board_spec.specs.declared.event.Entry.{Entry}
+use Rattle.board_spec.specs.Setup.{Setup}
+use Rattle.board_spec.specs.InRange.{is_free_line}
+use Rattle.board_spec.specs.Devices.{SystemPort, triggers_of, system_of, timer_of, clock_of, disk_of, wire_of, irq_of}
+use Rattle.board_spec.specs.Interrupts.{routes_of, pair_of}
+
+-- what the devices hold: the machines, port 61h, INTA# of the cards by device, and the lines that `irq` set
+pub record DevicesValue : Type 0 where
+  pub pair : Pair
+  pub timer : PitState
+  pub clock : Clock
+  pub disk : Option Disk
+  pub triggers : Triggers
+  pub system : SystemPort
+  pub wires : List Bool
+  pub irqs : List Bool
+
+-- the levels of INTA# of the cards are those after a history
+abbrev pub AreWiresOf : List Entry → List Bool → Type 0
+AreWiresOf history wires =
+    (dev : ℕ) → 2 ≤ dev → dev ≤ 9 → slice_index_or wires dev false ≡ wire_of history dev
+
+-- the levels that were set from outside are those after a history, for the lines that can be set so
+abbrev pub AreIrqsOf : List Entry → List Bool → Type 0
+AreIrqsOf history irqs =
+    (line : ℕ) → line < 16 → slice_index_or irqs line false ≡ (is_free_line line && irq_of history line)
+
+-- all but the pair are those after a history
+pub record AreAfter (setup : Setup) (history : List Entry) (devices : DevicesValue) : Type 0 where
+  pub timer : devices.timer ≡ timer_of history
+  pub clock : devices.clock ≡ clock_of history
+  pub disk : devices.disk ≡ disk_of setup history
+  pub triggers : devices.triggers ≡ triggers_of history
+  pub system : devices.system ≡ system_of history
+  pub wires : AreWiresOf history devices.wires
+  pub irqs : AreIrqsOf history devices.irqs
+
+-- and so is the pair, which has seen the lines
+pub record AreDevicesOf (setup : Setup) (history : List Entry) (devices : DevicesValue) : Type 0 where
+  pub others : AreAfter setup history devices
+  pub pair : devices.pair ≡ pair_of setup history
+
+-- these are the bytes of PIRQRCA to PIRQRCD after a history
+abbrev pub AreRoutesOf : Setup → List Entry → List ℕ → Type 0
+AreRoutesOf setup history routes = routes ≡ routes_of setup history

@@ -1,0 +1,4 @@
+pub mod Devices
+pub mod Events
+pub mod Steps
+pub mod Laws

@@ -1,0 +1,58 @@
+-- What an access at a port does to the devices, before the lines reach the pair.
+use Rattle.std.specs.Prelude.{ℕ, ◌+◌, ◌%◌, ◌==◌, not, if◌then◌else◌, Option, option_map}
+use Rattle.std.specs.Option.{option_map_or}
+use Rattle.board_base.specs.declared.access.Width.{Width}
+use Rattle.board_base.specs.declared.access.PortAccess.{PortAccess}
+use Rattle.board_base.specs.declared.target.Dev.{Dev}
+use Rattle.board_base.specs.declared.target.Dev.TheVariants.{Pic0, Pic1, Pit, System, Clock, Elcr, Ata}
+use Rattle.board_base.specs.Access.{largest_of}
+use Rattle.device_spec.specs.Pair.{pair_after_read, pair_after_write, port_byte}
+use Rattle.device_spec.specs.Pit.{port_read, port_write, set_gate2}
+use Rattle.device_spec.specs.Clock.{read_value, after_read as clock_after_read, after_write as clock_after_write}
+use Rattle.device_spec.specs.Elcr.{trigger_byte, triggers_after_write}
+use Rattle.device_spec.specs.Ata.Steps.{read_of, after_read as disk_after_read, after_write as disk_after_write}
+use Rattle.board_spec.specs.Bits.{is_bit}
+use Rattle.board_spec.specs.PortNames.{elcr_ports}
+use Rattle.board_spec.specs.Interrupts.{system_value}
+use Rattle.board_devices.specs.Devices.{DevicesValue}
+
+-- what a read gives
+unfoldable pub value_read : Dev → PortAccess → DevicesValue → ℕ
+value_read Pic0 access devices = port_byte devices.pair access.port
+value_read Pic1 access devices = port_byte devices.pair access.port
+value_read Pit access devices = (port_read access.port devices.timer).0
+value_read System access devices = system_value devices.system devices.timer
+value_read Clock access devices = read_value devices.clock access.port
+value_read Elcr access devices = trigger_byte devices.triggers (access.port == elcr_ports.1)
+value_read Ata access devices =
+    option_map_or (λ disk. read_of access.port access.width disk) devices.disk (largest_of access.width)
+value_read _ access devices = largest_of access.width
+
+-- the devices after a read
+unfoldable pub after_read : Dev → PortAccess → DevicesValue → DevicesValue
+after_read Pic0 access devices = record devices { pair = pair_after_read devices.pair access.port }
+after_read Pic1 access devices = record devices { pair = pair_after_read devices.pair access.port }
+after_read Pit access devices = record devices { timer = (port_read access.port devices.timer).1 }
+after_read System access devices =
+    record devices { system = record devices.system { flip = not devices.system.flip } }
+after_read Clock access devices = record devices { clock = clock_after_read devices.clock access.port }
+after_read Ata access devices =
+    record devices { disk = option_map (λ disk. disk_after_read access.port access.width disk) devices.disk }
+after_read _ access devices = devices
+
+-- the devices after a write
+unfoldable pub after_write : Dev → PortAccess → DevicesValue → DevicesValue
+after_write Pic0 access devices = record devices { pair = pair_after_write devices.pair access.port access.value }
+after_write Pic1 access devices = record devices { pair = pair_after_write devices.pair access.port access.value }
+after_write Pit access devices = record devices { timer = port_write access.port access.value devices.timer }
+after_write System access devices =
+    record devices {
+      system = record devices.system { kept = access.value % 4 };
+      timer = set_gate2 (is_bit access.value 0) devices.timer;
+    }
+after_write Clock access devices = record devices { clock = clock_after_write devices.clock access.port access.value }
+after_write Elcr access devices =
+    record devices { triggers = triggers_after_write devices.triggers (access.port == elcr_ports.1) access.value }
+after_write Ata access devices =
+    record devices { disk = option_map (λ disk. disk_after_write access.port access.width access.value disk) devices.disk }
+after_write _ access devices = devices

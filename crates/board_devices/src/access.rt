@@ -1,0 +1,165 @@
+//! Accesses at the ports of the devices.
+
+ghost use Rattle.std.specs.Prelude.{◌≡◌, ◌∷◌, ◌≤◌, List, true, false};
+ghost use Rattle.board_base.specs.Access.{bytes_of, largest_of};
+ghost use Rattle.board_spec.specs.declared.event.Entry.{Entry};
+ghost use Rattle.board_spec.specs.Setup.{Setup};
+ghost use Rattle.board_spec.specs.Interrupts.{device_value, vector_of, acknowledged_by};
+ghost use Rattle.board_spec.specs.declared.event.Event.TheVariants.{Ack as AckEvent};
+ghost use Rattle.std.specs.Prelude.{◌%◌, option_map};
+ghost use Rattle.std.specs.Option.{option_map_or};
+ghost use Rattle.device_spec.specs.Pair.{answer_of, pair_after_acknowledge};
+ghost use Rattle.device_spec.specs.Pit.{set_gate2};
+ghost use Rattle.device_spec.specs.Ata.Steps.{read_of, after_read as disk_after_read, after_write as disk_after_write};
+ghost use Rattle.board_spec.specs.Bits.{is_bit};
+ghost use Rattle.board_spec.specs.Ports.{is_ata_port};
+ghost use Rattle.board_spec.specs.Interrupts.{who_answered};
+ghost use Rattle.pic_pair.specs.View.{answer_shown};
+ghost use Rattle.board_devices.specs.Steps.{value_read, after_read, after_write};
+ghost use Rattle.board_devices.specs.Devices.{AreDevicesOf, AreRoutesOf};
+ghost use Rattle.board_devices.specs.Events.{is_port_of, Reaches, Asks};
+
+use crate::devices::Devices;
+use board_base::{Dev, PortAccess};
+use board_spec::bits::is_set;
+use board_spec::port::ELCR_HIGH;
+use pic_pair::Ack;
+use pirq_router::Pirq;
+
+/// The bit of port 61h that is the gate of counter 2.
+const GATE_2: u32 = 0;
+
+impl Devices {
+    /// Reads a port of a device, which may change its state, and then the lines reach the pair. A port of the disk reads
+    /// all ones where none is fitted.
+    pub fn read(&mut self, routes: &Pirq, dev: Dev, access: &PortAccess) -> u32
+        requires port { is_port_of dev access.now.port (bytes_of access.now.width) ≡ true }
+        ensures value { (setup : Setup) (history : List Entry) → AreDevicesOf setup history self.old
+            → result ≡ device_value setup history dev access.now.port access.now.width }
+        ensures devices { (setup : Setup) (history : List Entry) (entry : Entry) → AreDevicesOf setup history self.old
+            → Reaches history entry dev access.now → access.now.write ≡ false
+            → AreRoutesOf setup (entry ∷ history) routes.now → AreDevicesOf setup (entry ∷ history) self.new }
+    {
+        let value = self.read_port(dev, access);
+        self.settle(routes);
+        value
+    }
+
+    /// Writes a port of a device, and then the lines reach the pair.
+    pub fn write(&mut self, routes: &Pirq, dev: Dev, access: &PortAccess)
+        requires port { is_port_of dev access.now.port (bytes_of access.now.width) ≡ true }
+        requires fits { access.now.value ≤ largest_of access.now.width }
+        ensures devices { (setup : Setup) (history : List Entry) (entry : Entry) → AreDevicesOf setup history self.old
+            → Reaches history entry dev access.now → access.now.write ≡ true
+            → AreRoutesOf setup (entry ∷ history) routes.now → AreDevicesOf setup (entry ∷ history) self.new }
+    {
+        self.write_port(dev, access);
+        self.settle(routes);
+    }
+
+    /// Acknowledges an interrupt: the vector, and who gives it. Then the lines reach the pair.
+    pub fn acknowledge(&mut self, routes: &Pirq) -> (u8, Dev)
+        ensures vector { (setup : Setup) (history : List Entry) → AreDevicesOf setup history self.old
+            → result.0 ≡ vector_of setup history }
+        ensures who { (setup : Setup) (history : List Entry) → AreDevicesOf setup history self.old
+            → result.1 ≡ acknowledged_by setup history }
+        ensures devices { (setup : Setup) (history : List Entry) (entry : Entry) → AreDevicesOf setup history self.old
+            → Asks history entry AckEvent → AreRoutesOf setup (entry ∷ history) routes.now
+            → AreDevicesOf setup (entry ∷ history) self.new }
+    {
+        let ack = self.answer();
+        self.settle(routes);
+        (ack.vector, who_answered(&ack))
+    }
+
+    /// The pair's answer to an acknowledge.
+    fn answer(&mut self) -> Ack
+        ensures answer { answer_shown result ≡ answer_of self.old.pair }
+        ensures after { self.new ≡ record self.old { pair = pair_after_acknowledge self.old.pair } }
+    {
+        self.pair.acknowledge()
+    }
+
+    /// Reads a port of a device.
+    #[tactic(auto, unfolding(crate::specs::Steps::value_read, crate::specs::Steps::after_read))]
+    fn read_port(&mut self, dev: Dev, access: &PortAccess) -> u32
+        requires port { is_port_of dev access.now.port (bytes_of access.now.width) ≡ true }
+        ensures value { result ≡ value_read dev access.now self.old }
+        ensures after { self.new ≡ after_read dev access.now self.old }
+    {
+        match dev {
+            Dev::Pic0 => u32::from(self.pair.port_read(access.port)),
+            Dev::Pic1 => u32::from(self.pair.port_read(access.port)),
+            Dev::Pit => u32::from(self.timer.port_read(access.port)),
+            Dev::System => u32::from(self.system.read(self.timer.out(2))),
+            Dev::Clock => u32::from(self.clock.port_read(access.port)),
+            Dev::Elcr => u32::from(self.triggers.read(access.port == ELCR_HIGH)),
+            Dev::Ata => self.read_disk(access),
+            _ => access.width.largest(),
+        }
+    }
+
+    /// Reads a port of the disk. Without one it reads all ones.
+    fn read_disk(&mut self, access: &PortAccess) -> u32
+        requires port { is_ata_port access.now.port (bytes_of access.now.width) ≡ true }
+        ensures value { result ≡ option_map_or (λ disk. read_of access.now.port access.now.width disk) self.old.disk (largest_of access.now.width) }
+        ensures after { self.new ≡ record self.old { disk = option_map (λ disk. disk_after_read access.now.port access.now.width disk) self.old.disk } }
+    {
+        match &mut self.disk {
+            Some(disk) => disk.port_read(access.port, access.width),
+            None => access.width.largest(),
+        }
+    }
+
+    /// Writes a port of a device.
+    #[tactic(auto, unfolding(crate::specs::Steps::after_write))]
+    fn write_port(&mut self, dev: Dev, access: &PortAccess)
+        requires port { is_port_of dev access.now.port (bytes_of access.now.width) ≡ true }
+        requires fits { access.now.value ≤ largest_of access.now.width }
+        ensures after { self.new ≡ after_write dev access.now self.old }
+    {
+        match dev {
+            Dev::Pic0 => self.pair.port_write(access.port, access.value as u8),
+            Dev::Pic1 => self.pair.port_write(access.port, access.value as u8),
+            Dev::Pit => self.timer.port_write(access.port, access.value as u8),
+            Dev::System => self.write_system(access.value as u8),
+            Dev::Clock => self.clock.port_write(access.port, access.value as u8),
+            Dev::Elcr => self
+                .triggers
+                .write(access.port == ELCR_HIGH, access.value as u8),
+            Dev::Ata => self.write_disk(access),
+            _ => {}
+        }
+    }
+
+    /// Writes port 61h, whose bit 0 is the gate of counter 2.
+    fn write_system(&mut self, byte: u8)
+        ensures after { self.new ≡ record self.old {
+          system = record self.old.system { kept = byte % 4 };
+          timer = set_gate2 (is_bit byte 0) self.old.timer;
+        } }
+    {
+        self.system.write(byte);
+        self.timer.gate2(is_set(byte.into(), GATE_2));
+    }
+
+    /// Writes a port of the disk, where one is fitted.
+    fn write_disk(&mut self, access: &PortAccess)
+        requires port { is_ata_port access.now.port (bytes_of access.now.width) ≡ true }
+        ensures after { self.new ≡ record self.old { disk = option_map (λ disk. disk_after_write access.now.port access.now.width access.now.value disk) self.old.disk } }
+    {
+        if let Some(disk) = &mut self.disk {
+            disk.port_write(access.port, access.width, access.value);
+        }
+    }
+}
+
+/// Who gave the answer to an acknowledge.
+fn who_answered(ack: &Ack) -> Dev
+    ensures who { result ≡ who_answered (answer_shown ack.now) }
+{
+    if ack.spurious {
+        return Dev::Spurious(ack.chip);
+    }
+    Dev::Vector(ack.chip)
+}

@@ -1,0 +1,149 @@
+//! The devices, and what a hard reset does to them.
+
+ghost use Rattle.std.specs.Prelude.{◌≡◌, ◌↔◌, ◌∷◌, List, [], Err, IfOk, option_map, true};
+ghost use Rattle.board_spec.specs.declared.event.Entry.{Entry};
+ghost use Rattle.board_spec.specs.Setup.{Setup, IsDisk};
+ghost use Rattle.board_spec.specs.Registers.{is_hard_reset};
+ghost use Rattle.device_spec.specs.Pit.{reset as timer_at_reset};
+ghost use Rattle.device_spec.specs.Pair.{pair_at_reset};
+ghost use Rattle.device_spec.specs.Clock.{after_reset as clock_after_reset};
+ghost use Rattle.device_spec.specs.Elcr.{triggers_at_reset};
+ghost use Rattle.device_spec.specs.Ata.Steps.{after_reset as disk_after_reset};
+ghost use Rattle.board_spec.specs.Devices.{system_at_reset, disk_of};
+ghost use Rattle.board_devices.specs.Devices.{AreDevicesOf, AreRoutesOf};
+
+use crate::system::SystemPort;
+use ata_pio::{Ata, AtaOpen};
+use cmos_clock::Cmos;
+use pic_pair::PicPair;
+use pirq_router::{Elcr, Pirq};
+use pit_8254::Pit;
+use std::alloc::Global;
+use std::marker::Model;
+
+/// Device numbers on the bus end below this one: cards have 2 to 9.
+pub(crate) const DEVICE_COUNT: usize = 10;
+/// The lines of the 8259A pair.
+pub(crate) const LINE_COUNT: usize = 16;
+
+/// The devices of the board. Contracts see the state of each machine.
+#[derive(Drop)]
+pub struct Devices {
+    pub(crate) pair: PicPair,
+    pub(crate) timer: Pit,
+    pub(crate) clock: Cmos,
+    pub(crate) disk: Option<Ata>,
+    pub(crate) triggers: Elcr,
+    pub(crate) system: SystemPort,
+    /// INTA# of each card, by its device number.
+    pub(crate) wires: [bool; DEVICE_COUNT],
+    /// The levels that were set from outside, by line.
+    pub(crate) irqs: [bool; LINE_COUNT],
+}
+
+impl Model for Devices {
+    ghost use Rattle.board_devices.specs.Devices.{DevicesValue};
+
+    ghost Value = { DevicesValue };
+
+    ghost view = { λ d. record {
+      pair = d.pair;
+      timer = d.timer;
+      clock = d.clock;
+      disk = d.disk;
+      triggers = d.triggers;
+      system = d.system;
+      wires = d.wires;
+      irqs = d.irqs;
+    } };
+}
+
+impl Devices {
+    /// The devices at power-on, with a disk of these bytes where one is fitted. BadLength exactly where it is not 1 to
+    /// 65,536 whole sectors.
+    pub fn open(alloc: Global, disk: Option<&[u8]>) -> Result<Devices, AtaOpen>
+        ensures fresh { IfOk result (λ devices. (setup : Setup) → setup.disk ≡ option_map (λ bytes. bytes.now) disk.entry
+            → AreDevicesOf setup [] devices) }
+        ensures bad { (result ≡ Err AtaOpen.BadLength) ↔ ¬ IsDisk (option_map (λ bytes. bytes.now) disk.entry) }
+    {
+        let disk = open_disk(alloc, disk)?;
+        Ok(Devices::at_power_on(disk))
+    }
+
+    /// The devices at power-on with this disk.
+    fn at_power_on(disk: Option<Ata>) -> Devices
+        ensures fresh { (setup : Setup) → disk ≡ disk_of setup [] → AreDevicesOf setup [] result }
+    {
+        Devices {
+            pair: PicPair::new(),
+            timer: Pit::new(),
+            clock: Cmos::new(),
+            disk,
+            triggers: Elcr::new(),
+            system: SystemPort::new(),
+            wires: [false; DEVICE_COUNT],
+            irqs: [false; LINE_COUNT],
+        }
+    }
+
+    /// A hard reset: each device takes its reset state, and then the pair with the levels of that moment. The levels
+    /// set from outside stay, and so do the disk's sectors and the clock's memory. `routes` are as the reset left them.
+    pub fn reset(&mut self, routes: &Pirq)
+        ensures reset { (setup : Setup) (history : List Entry) (entry : Entry) → AreDevicesOf setup history self.old
+            → is_hard_reset history entry.event ≡ true → AreRoutesOf setup (entry ∷ history) routes.now
+            → AreDevicesOf setup (entry ∷ history) self.new }
+    {
+        self.reset_machines();
+        let levels = self.levels(routes);
+        self.reset_pair(levels);
+        self.settle(routes);
+    }
+
+    /// Each machine but the pair takes its reset state.
+    fn reset_machines(&mut self)
+        ensures after { self.new ≡ record self.old {
+          timer = timer_at_reset;
+          clock = clock_after_reset self.old.clock;
+          disk = option_map (λ disk. disk_after_reset disk) self.old.disk;
+          triggers = triggers_at_reset;
+          system = system_at_reset;
+        } }
+    {
+        self.timer.reset();
+        self.clock.reset();
+        self.reset_disk();
+        self.triggers.reset();
+        self.system = SystemPort::new();
+    }
+
+    /// Resets the disk, where one is fitted.
+    fn reset_disk(&mut self)
+        ensures after { self.new ≡ record self.old { disk = option_map (λ disk. disk_after_reset disk) self.old.disk } }
+    {
+        if let Some(disk) = &mut self.disk {
+            disk.reset();
+        }
+    }
+
+    /// Resets the pair with its lines at these levels.
+    fn reset_pair(&mut self, levels: [bool; LINE_COUNT])
+        ensures after { self.new ≡ record self.old { pair = pair_at_reset levels } }
+    {
+        self.pair.reset(levels);
+    }
+}
+
+/// The disk of these bytes at power-on, where one is fitted.
+fn open_disk(alloc: Global, disk: Option<&[u8]>) -> Result<Option<Ata>, AtaOpen>
+    ensures fresh { IfOk result (λ opened. (setup : Setup) → setup.disk ≡ option_map (λ bytes. bytes.now) disk.entry
+        → opened ≡ disk_of setup []) }
+    ensures bad { (result ≡ Err AtaOpen.BadLength) ↔ ¬ IsDisk (option_map (λ bytes. bytes.now) disk.entry) }
+{
+    match disk {
+        Some(bytes) => match Ata::open(alloc, bytes) {
+            Ok(disk) => Ok(Some(disk)),
+            Err(fault) => Err(fault),
+        },
+        None => Ok(None),
+    }
+}

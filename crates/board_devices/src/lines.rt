@@ -1,0 +1,113 @@
+//! The sixteen interrupt lines.
+
+ghost use Rattle.std.specs.Prelude.{◌≡◌, ◌+◌, ◌*◌, ◌<◌, ◌∷◌, ◌||◌, List, slice_index_or, false};
+ghost use Rattle.std.specs.Option.{option_map_or};
+ghost use Rattle.device_spec.specs.Ata.State.{is_interrupt};
+ghost use Rattle.device_spec.specs.Pair.{pair_after_lines};
+ghost use Rattle.board_spec.specs.Devices.{timer_of};
+ghost use Rattle.board_spec.specs.declared.event.Entry.{Entry};
+ghost use Rattle.board_spec.specs.Setup.{Setup};
+ghost use Rattle.board_spec.specs.Interrupts.{pirq_levels, own_level, levels_of, elcr_of};
+ghost use Rattle.board_devices.specs.Devices.{AreWiresOf, AreAfter, AreDevicesOf, AreRoutesOf};
+ghost use Rattle.board_devices.specs.Events.{Leaves};
+ghost use Rattle.board_devices.specs.Laws.{LeavesDevices};
+
+use crate::devices::{Devices, LINE_COUNT};
+use board_spec::laws::devices::law_pair;
+use pirq_router::Pirq;
+
+/// The line of the timer, that of the clock, and that of the disk.
+pub(crate) const TIMER_LINE: usize = 0;
+
+pub(crate) const CLOCK_LINE: usize = 8;
+
+pub(crate) const DISK_LINE: usize = 14;
+
+impl Devices {
+    /// PIRQA to PIRQD: INTA# of the card at device d goes to number (d - 1) mod 4, and each is the or of its wires.
+    fn pins(&self) -> [bool; 4]
+        ensures pins { (history : List Entry) → AreWiresOf history self.now.wires → result ≡ pirq_levels history }
+    {
+        let wires = &self.wires;
+        [
+            wires[5] | wires[9],
+            wires[2] | wires[6],
+            wires[3] | wires[7],
+            wires[4] | wires[8],
+        ]
+    }
+
+    /// The level of a line, where the PCI interrupts hold these at 1.
+    fn level(&self, routed: &[bool; LINE_COUNT], line: usize) -> bool
+        requires line { line < 16 }
+        ensures level { (setup : Setup) (history : List Entry) → AreAfter setup history self.now
+            → result ≡ (own_level setup history (timer_of history) line || slice_index_or routed.now line false) }
+    {
+        let own = match line {
+            TIMER_LINE => self.timer.out(0),
+            CLOCK_LINE => self.clock.irq(),
+            DISK_LINE => self.disk_irq(),
+            _ => self.irqs[line],
+        };
+        own | routed[line]
+    }
+
+    /// The level of the disk's line, which is 0 without a disk.
+    fn disk_irq(&self) -> bool
+        ensures level { result ≡ option_map_or (λ disk. is_interrupt disk.drive) self.now.disk false }
+    {
+        match &self.disk {
+            Some(disk) => disk.irq(),
+            None => false,
+        }
+    }
+
+    /// The levels of the lines, with the PCI interrupts routed so.
+    pub(crate) fn levels(&self, routes: &Pirq) -> [bool; LINE_COUNT]
+        ensures levels { (setup : Setup) (history : List Entry) → AreAfter setup history self.now
+            → AreRoutesOf setup history routes.now → result ≡ levels_of setup history }
+    {
+        let routed = routes.route(self.pins());
+        let mut levels = [false; LINE_COUNT];
+        for line in 0..LINE_COUNT {
+            levels[line] = self.level(&routed, line);
+        }
+        levels
+    }
+
+    /// Gives the lines to the pair as they stand, and with them the edge and level control.
+    pub(crate) fn settle(&mut self, routes: &Pirq)
+        ensures pair { (setup : Setup) (history : List Entry) → AreAfter setup history self.old
+            → AreRoutesOf setup history routes.now
+            → self.new.pair ≡ pair_after_lines self.old.pair (levels_of setup history) (elcr_of history) }
+        ensures others { self.new ≡ record self.old { pair = self.new.pair } }
+    {
+        let levels = self.levels(routes);
+        let elcr = self.elcr();
+        self.pair.lines(levels, elcr);
+    }
+
+    /// The bits of the edge and level control, one a line.
+    pub(crate) fn elcr(&self) -> u16
+        ensures bits { result ≡ self.now.triggers.low + 0x100 * self.now.triggers.high }
+    {
+        u16::from_le_bytes([self.triggers.read(false), self.triggers.read(true)])
+    }
+
+    /// The routes have changed by a configuration write, which itself reached no device: the lines reach the pair.
+    pub fn reroute(&mut self, routes: &Pirq)
+        ensures devices { (setup : Setup) (history : List Entry) (entry : Entry) → AreDevicesOf setup history self.old
+            → Leaves history entry → AreRoutesOf setup (entry ∷ history) routes.now
+            → AreDevicesOf setup (entry ∷ history) self.new }
+    {
+        self.settle(routes);
+    }
+}
+
+/// An event that reaches no device and moves no route leaves every device, and the pair too, since the lines stand as
+/// it saw them.
+pub fn law_left_alone()
+    ensures left { LeavesDevices }
+{
+    law_pair();
+}

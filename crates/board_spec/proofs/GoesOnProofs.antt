@@ -1,0 +1,308 @@
+-- A begun history that is not complete goes on by a statement of the phase where it stands.
+use Rattle.std.proofs.Common.{◌≡◌, ◌≢◌, ℕ, suc, ◌+◌, ◌≤◌, ◌<◌, inl, inr, List, [], ◌∷◌, ◌++◌, length, take, drop, min, refl, sym, ◌∙◌, ap, subst, arith}
+use Rattle.std.specs.Prelude.{◌==◌, map}
+use Rattle.std.specs.List.{AllByRecursion}
+use Rattle.std.proofs.Math.ListN.{drop_of_length-le}
+use Rattle.std.proofs.lemmas.List.{take-append-le, drop-append-le, length-append, length-take, take_all}
+use Rattle.std.proofs.lemmas.List.Elements.{recursion_from_All}
+use Rattle.std.proofs.lemmas.Bool.{cases_eq, cases_lt, cond-true, cond-false, eq-eqb, ne_eqb}
+use Rattle.board_spec.specs.declared.event.Event.{Event}
+use Rattle.board_spec.specs.declared.event.Entry.{Entry}
+use Rattle.board_spec.specs.declared.event.Reply.{Reply}
+use Rattle.board_spec.specs.declared.event.Statement.{Statement}
+use Rattle.board_spec.specs.Legal.{entries_by}
+use Rattle.board_spec.specs.Orders.{statements_of, events_by, BeginsWith, IsWholePhase, IsFrontOfPhase, HasPhases, HasPhasesSoFar}
+use Rattle.board_spec.specs.Laws.{IsAddressed}
+use Rattle.board_spec.specs.OrderLaws.{in_file_order, BegunGoesOn}
+use Rattle.board_spec.proofs.ReplayLaws.{some_answer}
+use Rattle.board_spec.proofs.OrderLawProofs.{statements-newest}
+
+abbrev AllAddressed : List Statement → Type 0
+AllAddressed statements = AllByRecursion (λ (statement : Statement). IsAddressed statement.event) statements
+
+events-own :
+    (actor : ℕ) (first : Statement) (later : List Statement) → first.actor ≡ actor →
+    events_by actor (first ∷ later) ≡ first.event ∷ events_by actor later
+events-own actor first later own =
+    ap (map (λ (statement : Statement). statement.event))
+    (cond-true (first.actor == actor) _ _ (eq-eqb first.actor actor own))
+
+events-other :
+    (actor : ℕ) (first : Statement) (later : List Statement) → first.actor ≢ actor →
+    events_by actor (first ∷ later) ≡ events_by actor later
+events-other actor first later other =
+    ap (map (λ (statement : Statement). statement.event))
+    (cond-false (first.actor == actor) _ _ (ne_eqb first.actor actor other))
+
+-- two lists with the same first statement agree for an actor where their rests do
+events-same :
+    (actor : ℕ) (first : Statement) (left right : List Statement) → events_by actor left ≡ events_by actor right →
+    events_by actor (first ∷ left) ≡ events_by actor (first ∷ right)
+events-same actor first left right same =
+    elim (cases_eq first.actor actor) [
+      | inl own ↦
+          events-own actor first left own ∙ ap (λ (events : List Event). first.event ∷ events) same
+          ∙ sym (events-own actor first right own)
+      | inr other ↦ events-other actor first left other ∙ same ∙ sym (events-other actor first right other)
+    ]
+
+-- a phase without the first statement of an actor
+record Without (actor : ℕ) (event : Event) (phase : List Statement) : Type 0 where
+  pub rest : List Statement
+  pub size : length phase ≡ suc (length rest)
+  pub own : events_by actor phase ≡ event ∷ events_by actor rest
+  pub others : (other : ℕ) → actor ≢ other → events_by other phase ≡ events_by other rest
+  pub addressed : AllAddressed phase → AllAddressed rest
+
+without_first :
+    (actor : ℕ) (event : Event) (events : List Event) (phase : List Statement) →
+    events_by actor phase ≡ event ∷ events → Without actor event phase
+without_first actor event events [] is = cc
+without_first actor event events (first ∷ later) is =
+    elim (cases_eq first.actor actor) [
+      | inl own ↦
+          let whole : first.event ∷ events_by actor later ≡ event ∷ events =
+          sym (events-own actor first later own) ∙ is in
+          let same : first.event ≡ event = cc in
+          record {
+            rest = later;
+            size = refl;
+            own = events-own actor first later own ∙ ap (λ (e : Event). e ∷ events_by actor later) same;
+            others = λ other apart. events-other other first later (λ e. apart (sym own ∙ e));
+            addressed = λ all. all.1;
+          }
+      | inr other ↦
+          let more = without_first actor event events later (sym (events-other actor first later other) ∙ is) in
+          record {
+            rest = first ∷ more.rest;
+            size = ap suc more.size;
+            own =
+                events-other actor first later other ∙ more.own
+                ∙ ap (λ (es : List Event). event ∷ es) (sym (events-other actor first more.rest other));
+            others = λ another apart. events-same another first later more.rest (more.others another apart);
+            addressed = λ all. (all.0, more.addressed all.1);
+          }
+    ]
+
+abbrev Begins : (phase part : List Statement) → Type 0
+Begins phase part = (actor : ℕ) → BeginsWith (events_by actor phase) (events_by actor part)
+
+-- what is left of the phase after the first statement of a part
+first_taken :
+    (phase part : List Statement) (first : Statement) → Begins phase (first ∷ part) →
+    Without first.actor first.event phase
+first_taken phase part first begins =
+    let here = begins first.actor in
+    without_first first.actor first.event (events_by first.actor part ++ here.rest) phase
+    (here.whole ∙ ap (λ (events : List Event). events ++ here.rest) (events-own first.actor first part refl))
+
+begins_left :
+    (phase part : List Statement) (first : Statement) (taken : Without first.actor first.event phase) →
+    Begins phase (first ∷ part) → Begins taken.rest part
+begins_left phase part first taken begins actor =
+    elim (cases_eq first.actor actor) [
+      | inl own ↦
+          let here = begins actor in
+          let mine : events_by actor phase ≡ first.event ∷ events_by actor taken.rest =
+          subst (λ (a : ℕ). events_by a phase ≡ first.event ∷ events_by a taken.rest) own taken.own in
+          let whole : first.event ∷ events_by actor taken.rest ≡ first.event ∷ (events_by actor part ++ here.rest) =
+          sym mine ∙ here.whole ∙ ap (λ (events : List Event). events ++ here.rest) (events-own actor first part own) in
+          record { rest = here.rest; whole = cc }
+      | inr other ↦
+          let here = begins actor in
+          record {
+            rest = here.rest;
+            whole =
+                sym (taken.others actor other) ∙ here.whole
+                ∙ ap (λ (events : List Event). events ++ here.rest) (events-other actor first part other);
+          }
+    ]
+
+begins_again :
+    (phase part : List Statement) (first : Statement) (taken : Without first.actor first.event phase) →
+    Begins taken.rest part → Begins phase (first ∷ part)
+begins_again phase part first taken begins actor =
+    let here = begins actor in
+    elim (cases_eq first.actor actor) [
+      | inl own ↦
+          let mine : events_by actor phase ≡ first.event ∷ events_by actor taken.rest =
+          subst (λ (a : ℕ). events_by a phase ≡ first.event ∷ events_by a taken.rest) own taken.own in
+          record {
+            rest = here.rest;
+            whole =
+                mine ∙ ap (λ (events : List Event). first.event ∷ events) here.whole
+                ∙ ap (λ (events : List Event). events ++ here.rest) (sym (events-own actor first part own));
+          }
+      | inr other ↦
+          record {
+            rest = here.rest;
+            whole =
+                taken.others actor other ∙ here.whole
+                ∙ ap (λ (events : List Event). events ++ here.rest) (sym (events-other actor first part other));
+          }
+    ]
+
+-- a front that is shorter than its phase has a next statement
+record Next (phase part : List Statement) : Type 0 where
+  pub statement : Statement
+  pub addressed : IsAddressed statement.event
+  pub begins : Begins phase (part ++ statement ∷ [])
+
+alone_begins : (first : Statement) (later : List Statement) → Begins (first ∷ later) (first ∷ [])
+alone_begins first later actor =
+    elim (cases_eq first.actor actor) [
+      | inl own ↦ record {
+        rest = events_by actor later;
+        whole =
+            events-own actor first later own
+            ∙ ap (λ (events : List Event). events ++ events_by actor later) (sym (events-own actor first [] own));
+      }
+      | inr other ↦ record {
+        rest = events_by actor (first ∷ later);
+        whole =
+            ap (λ (events : List Event). events ++ events_by actor (first ∷ later))
+            (sym (events-other actor first [] other));
+      }
+    ]
+
+next_of :
+    (part phase : List Statement) → AllAddressed phase → Begins phase part → length part < length phase →
+    Next phase part
+next_of [] [] addressed begins short = absurd (omega arith)
+next_of [] (first ∷ later) addressed begins short =
+    record { statement = first; addressed = addressed.0; begins = alone_begins first later }
+next_of (first ∷ part) phase addressed begins short =
+    let taken = first_taken phase part first begins in
+    let size : length phase ≡ suc (length taken.rest) = taken.size in
+    let more =
+    next_of part taken.rest (taken.addressed addressed) (begins_left phase part first taken begins)
+    (omega arith) in
+    record {
+      statement = more.statement;
+      addressed = more.addressed;
+      begins = begins_again phase (part ++ more.statement ∷ []) first taken more.begins;
+    }
+
+-- a front as long as its phase is the whole of it
+full_front :
+    (part phase : List Statement) → Begins phase part → length part ≡ length phase → (actor : ℕ) →
+    events_by actor part ≡ events_by actor phase
+full_front [] [] begins same actor = refl
+full_front [] (first ∷ later) begins same actor = absurd (omega arith)
+full_front (first ∷ part) phase begins same actor =
+    let taken = first_taken phase part first begins in
+    let size : length phase ≡ suc (length taken.rest) = taken.size in
+    let rest = full_front part taken.rest (begins_left phase part first taken begins) (omega arith) actor in
+    elim (cases_eq first.actor actor) [
+      | inl own ↦
+          let mine : events_by actor phase ≡ first.event ∷ events_by actor taken.rest =
+          subst (λ (a : ℕ). events_by a phase ≡ first.event ∷ events_by a taken.rest) own taken.own in
+          events-own actor first part own ∙ ap (λ (events : List Event). first.event ∷ events) rest ∙ sym mine
+      | inr other ↦ events-other actor first part other ∙ rest ∙ sym (taken.others actor other)
+    ]
+
+-- ---- the phases
+
+all_left : (first later : List Statement) → AllAddressed (first ++ later) → AllAddressed first
+all_left [] later all = tt
+all_left (statement ∷ first) later all = (all.0, all_left first later all.1)
+
+all_right : (first later : List Statement) → AllAddressed (first ++ later) → AllAddressed later
+all_right [] later all = all
+all_right (statement ∷ first) later all = all_right first later all.1
+
+pub none_so_far : (phases : List (List Statement)) → HasPhasesSoFar phases []
+none_so_far [] = refl
+none_so_far (phase ∷ later) =
+    inl (record { size = omega arith; each = λ actor. record { rest = events_by actor phase; whole = refl } })
+
+pub record NextSoFar (phases : List (List Statement)) (statements : List Statement) : Type 0 where
+  pub statement : Statement
+  pub addressed : IsAddressed statement.event
+  pub begun : HasPhasesSoFar phases (statements ++ statement ∷ [])
+
+in_front :
+    (phase : List Statement) (later : List (List Statement)) (statements : List Statement) →
+    length statements < length phase → Next phase statements → NextSoFar (phase ∷ later) statements
+in_front phase later statements short next = record {
+  statement = next.statement;
+  addressed = next.addressed;
+  begun = inl (record {
+    size =
+        let e : length (statements ++ next.statement ∷ [])
+        ≡ length statements + 1 = length-append statements (next.statement ∷ []) in omega arith;
+    each = next.begins;
+  });
+}
+
+past_phase :
+    (phase : List Statement) (later : List (List Statement)) (statements : List Statement) →
+    length phase ≤ length statements → IsWholePhase phase (take (length phase) statements) →
+    NextSoFar later (drop (length phase) statements) → NextSoFar (phase ∷ later) statements
+past_phase phase later statements full whole more = record {
+  statement = more.statement;
+  addressed = more.addressed;
+  begun = inr (
+    subst (IsWholePhase phase) (sym (take-append-le (length phase) statements (more.statement ∷ []) full)) whole,
+    subst (HasPhasesSoFar later) (sym (drop-append-le (length phase) statements (more.statement ∷ []) full)) more.begun,
+  );
+}
+
+-- a front of the first phase that is as long as it is the whole of it, and nothing follows
+pub whole_front :
+    (phase statements : List Statement) → IsFrontOfPhase phase statements → length phase ≤ length statements →
+    IsWholePhase phase (take (length phase) statements)
+whole_front phase statements front full =
+    let size : length statements ≡ length phase = let s = front.size in omega arith in
+    subst (IsWholePhase phase) (sym (take_all (length phase) statements (omega arith)))
+    (record { size = size; each = full_front statements phase front.each size })
+
+pub nothing_left :
+    (phase statements : List Statement) → IsFrontOfPhase phase statements → length phase ≤ length statements →
+    drop (length phase) statements ≡ []
+nothing_left phase statements front full = drop_of_length-le statements front.size
+
+pub next_so_far :
+    (phases : List (List Statement)) (statements : List Statement) → AllAddressed (in_file_order phases) →
+    HasPhasesSoFar phases statements → ¬ HasPhases phases statements → NextSoFar phases statements
+next_so_far [] statements addressed begun open_still = absurd (open_still begun)
+next_so_far (phase ∷ later) statements addressed (inl front) open_still =
+    elim (cases_lt (length statements) (length phase)) [
+      | inl short ↦
+          in_front phase later statements short
+          (next_of statements phase (all_left phase (in_file_order later) addressed) front.each short)
+      | inr full ↦
+          let whole = whole_front phase statements front full in
+          let nothing : drop (length phase) statements ≡ [] = nothing_left phase statements front full in
+          past_phase phase later statements full whole
+          (subst (NextSoFar later) (sym nothing)
+          (next_so_far later [] (all_right phase (in_file_order later) addressed) (none_so_far later)
+          (λ complete. open_still (whole, subst (HasPhases later) (sym nothing) complete))))
+    ]
+next_so_far (phase ∷ later) statements addressed (inr whole) open_still =
+    let size : length (take (length phase) statements) ≡ length phase = whole.0.size in
+    let taken : length (take (length phase) statements) ≡ min (length phase) (length statements) =
+    length-take (length phase) statements in
+    let full : length phase ≤ length statements = omega arith in
+    past_phase phase later statements full whole.0
+    (next_so_far later (drop (length phase) statements) (all_right phase (in_file_order later) addressed) whole.1
+    (λ complete. open_still (whole.0, complete)))
+
+entry_made : ℕ → ℕ → Event → Reply → Entry
+entry_made actor seq event reply = record { actor = actor; seq = seq; event = event; reply = reply }
+
+pub begun_goes_on : BegunGoesOn
+unfolding entry_made
+begun_goes_on setup phases history addressed legal begun open_still =
+    let next = next_so_far phases (statements_of history)
+    (recursion_from_All (λ (statement : Statement). IsAddressed statement.event)
+    (in_file_order phases) addressed) begun open_still in
+    let answered = some_answer setup history next.statement.event next.addressed in
+    let entry : Entry =
+    entry_made next.statement.actor
+    (length (entries_by next.statement.actor history) + 1) next.statement.event answered.reply in
+    record {
+      entry = entry;
+      next = record { number = refl; answer = answered.answer };
+      begun = subst (HasPhasesSoFar phases) (sym (statements-newest entry history)) next.begun;
+    }

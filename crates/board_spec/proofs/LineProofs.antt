@@ -1,0 +1,44 @@
+-- The lines at power-on, and those that nothing drives.
+use Rattle.std.proofs.Common.{◌≡◌, ℕ, Bool, true, false, ◌||◌, List, [], ◌∷◌, ◌++◌, Option, Some, None, refl, ap}
+use Rattle.std.specs.Prelude.{option_map, replicate}
+use Rattle.std.specs.Option.{option_map_or}
+use Rattle.device_spec.specs.Routing.{is_line_driven}
+use Rattle.device_spec.specs.RoutingLaws.{ReservedLinesRest}
+use Rattle.device_spec.specs.Pit.{reset as timer_at_reset, out_of, programmed}
+use Rattle.device_spec.specs.Clock.{power_on as clock_at_power_on}
+use Rattle.device_spec.specs.Ata.State.{is_interrupt}
+use Rattle.board_spec.specs.Setup.{Setup}
+use Rattle.board_spec.specs.RegisterTable.{isa_bridge, reset_byte}
+use Rattle.board_spec.specs.Registers.{byte_of}
+use Rattle.board_spec.specs.Devices.{wire_of, irq_of, timer_of, clock_of, disk_with, disk_of}
+use Rattle.board_spec.specs.Interrupts.{levels_with, routes_of, pirq_levels}
+use Rattle.board_spec.specs.DeviceLaws.{FirstLevels, UndrivenLines}
+
+-- no route reaches the lines 2 and 13, and no device drives them
+pub undriven_lines : ReservedLinesRest → UndrivenLines
+unfolding levels_with
+undriven_lines rest setup history = (
+  rest (routes_of setup history) (pirq_levels history) 2 refl,
+  rest (routes_of setup history)
+      (pirq_levels history) 13 refl,
+)
+
+-- a disk at power-on asks for no interrupt
+no_interrupt :
+    (bytes : Option (List ℕ)) →
+    option_map_or (λ disk. is_interrupt disk.drive) (option_map (λ b. disk_with b []) bytes) false ≡ false
+unfolding disk_with
+no_interrupt None = refl
+no_interrupt (Some bytes) = refl
+
+first_disk : (setup : Setup) → option_map_or (λ disk. is_interrupt disk.drive) (disk_of setup []) false ≡ false
+first_disk setup = no_interrupt setup.disk
+
+-- the sixteen lines, where the disk's stands so
+with_disk : Bool → List Bool
+with_disk disk = true ∷ replicate 13 false ++ (disk || false) ∷ false ∷ []
+
+pub first_levels : FirstLevels
+unfolding levels_with timer_of clock_of wire_of irq_of byte_of reset_byte isa_bridge timer_at_reset out_of
+    clock_at_power_on is_line_driven programmed with_disk
+first_levels setup = ap with_disk (first_disk setup)

@@ -1,0 +1,73 @@
+-- Lists of numbers that follow one another, and tests on them.
+use Rattle.std.proofs.Common.{◌≡◌, ℕ, zero, suc, ◌+◌, ◌≤◌, ◌<◌, Bool, true, false, ◌||◌, List, [], ◌∷◌, get_or, Some, refl, sym, ◌∙◌, ap, subst, inl, inr, arith}
+use Rattle.std.specs.Prelude.{find, map}
+use Rattle.std.specs.List.{list_any}
+use Rattle.std.proofs.lemmas.Bool.{cases_Bool, cases_eq, cond-true, cond-false, false≢true}
+
+-- the numbers from one on, so many
+unfoldable pub numbers_from : (from count : ℕ) → List ℕ
+numbers_from from zero = []
+numbers_from from (suc count) = from ∷ numbers_from (from + 1) count
+
+-- the first that passes
+pub find-number :
+    (test : ℕ → Bool) (from count n : ℕ) → from ≤ n → n < from + count → test n ≡ true →
+    ((k : ℕ) → k < n → test k ≡ false) → find test (numbers_from from count) ≡ Some n
+unfolding numbers_from
+find-number test from zero n above below here before = absurd (omega arith)
+find-number test from (suc count) n above below here before =
+    elim (cases_eq from n) [
+      | inl first ↦
+          cond-true (test from) (Some from) _ (subst (λ (k : ℕ). test k ≡ true) (sym first) here)
+          ∙ ap (λ (k : ℕ). Some k) first
+      | inr apart ↦
+          cond-false (test from) (Some from) _ (before from (omega arith))
+          ∙ find-number test (from + 1) count n (omega arith) (omega arith) here before
+    ]
+
+-- what a function gives at a place
+pub map-number :
+    {X : Type 0} (f : ℕ → X) (from count place n : ℕ) (otherwise : X) → place < count → n ≡ from + place →
+    get_or (map f (numbers_from from count)) place otherwise ≡ f n
+unfolding numbers_from
+map-number f from zero place n otherwise below is = absurd (omega arith)
+map-number f from (suc count) zero n otherwise below is = let e : from ≡ n = omega arith in ap f e
+map-number f from (suc count) (suc place) n otherwise below is =
+    map-number f (from + 1) count place n otherwise (omega arith) (omega arith)
+
+either : (a b : Bool) → b ≡ true → (a || b) ≡ true
+either true b holds = refl
+either false b holds = holds
+
+-- some number passes
+pub any-number :
+    (test : ℕ → Bool) (from count n : ℕ) → from ≤ n → n < from + count → test n ≡ true →
+    list_any test (numbers_from from count) ≡ true
+unfolding numbers_from
+any-number test from zero n above below here = absurd (omega arith)
+any-number test from (suc count) n above below here =
+    elim (cases_eq from n) [
+      | inl first ↦ rw (subst (λ (k : ℕ). test k ≡ true) (sym first) here) refl
+      | inr apart ↦ either (test from) _ (any-number test (from + 1) count n (omega arith) (omega arith) here)
+    ]
+
+pub record Passes (test : ℕ → Bool) (from count : ℕ) : Type 0 where
+  pub number : ℕ
+  pub above : from ≤ number
+  pub below : number < from + count
+  pub passes : test number ≡ true
+
+pub passing :
+    (test : ℕ → Bool) (from count : ℕ) → list_any test (numbers_from from count) ≡ true → Passes test from count
+unfolding numbers_from
+passing test from zero any = absurd (false≢true any)
+passing test from (suc count) any =
+    elim (cases_Bool (test from)) [
+      | inl here ↦ record { number = from; above = omega arith; below = omega arith; passes = here }
+      | inr not_here ↦
+          let rest : list_any test (numbers_from (from + 1) count) ≡ true = rw not_here at any in
+          let later = passing test (from + 1) count rest in
+          let above : from + 1 ≤ later.number = later.above in
+          let below : later.number < from + 1 + count = later.below in
+          record { number = later.number; above = omega arith; below = omega arith; passes = later.passes }
+    ]

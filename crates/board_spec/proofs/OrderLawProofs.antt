@@ -1,0 +1,106 @@
+-- The orders in which a script may run: complete, begun, and how a begun history goes on.
+use Rattle.std.proofs.Common.{◌≡◌, ◌≢◌, ℕ, ◌+◌, inl, inr, List, [], ◌∷◌, ◌++◌, length, take, drop, refl, sym, ◌∙◌, ap, subst, arith, append_assoc}
+use Rattle.std.specs.Prelude.{map, reverse, filter, ◌==◌}
+use Rattle.std.proofs.Math.Seq.{take-append_seam, drop-append_seam}
+use Rattle.std.proofs.lemmas.List.{take-append-le, drop-append-le, length-append, take_all, map-append, append-nil, reverse-append}
+use Rattle.std.proofs.lemmas.List.Elements.{filter-append}
+use Rattle.std.proofs.lemmas.Bool.{cases_lt}
+use Rattle.board_spec.specs.declared.event.Event.{Event}
+use Rattle.board_spec.specs.declared.event.Entry.{Entry}
+use Rattle.board_spec.specs.declared.event.Statement.{Statement}
+use Rattle.board_spec.specs.Orders.{statement_of, statements_of, events_by, BeginsWith, IsWholePhase, IsFrontOfPhase, HasPhases, HasPhasesSoFar}
+use Rattle.board_spec.specs.OrderLaws.{in_file_order, ReplayIsComplete, CompleteIsBegun, FrontIsBegun}
+
+-- ---- complete
+
+same_whole : (phase part : List Statement) → part ≡ phase → IsWholePhase phase part
+same_whole phase part same = record { size = ap length same; each = λ actor. ap (events_by actor) same }
+
+file_order : (phases : List (List Statement)) → HasPhases phases (in_file_order phases)
+file_order [] = refl
+file_order (phase ∷ later) = (
+  same_whole phase (take (length phase) (phase ++ in_file_order later)) (take-append_seam phase (in_file_order later)),
+  subst (HasPhases later) (sym (drop-append_seam phase (in_file_order later))) (file_order later),
+)
+
+pub replay_is_complete : ReplayIsComplete
+replay_is_complete setup phases history replay = subst (HasPhases phases) (sym replay.same) (file_order phases)
+
+-- ---- begun
+
+so_far :
+    (phases : List (List Statement)) (statements : List Statement) → HasPhases phases statements →
+    HasPhasesSoFar phases statements
+so_far [] statements whole = whole
+so_far (phase ∷ later) statements whole = inr (whole.0, so_far later (drop (length phase) statements) whole.1)
+
+pub complete_is_begun : CompleteIsBegun
+complete_is_begun phases history complete = so_far phases (statements_of history) complete
+
+-- ---- one statement more
+
+events-append :
+    (actor : ℕ) (first later : List Statement) →
+    events_by actor (first ++ later) ≡ events_by actor first ++ events_by actor later
+events-append actor first later =
+    ap (map (λ (statement : Statement). statement.event))
+    (filter-append (λ (statement : Statement). statement.actor == actor) first later)
+    ∙ map-append (λ (statement : Statement). statement.event)
+    (filter (λ (statement : Statement). statement.actor == actor) first)
+    (filter (λ (statement : Statement). statement.actor == actor) later)
+
+pub statements-newest :
+    (entry : Entry) (before : List Entry) →
+    statements_of (entry ∷ before) ≡ statements_of before ++ statement_of entry ∷ []
+statements-newest entry before =
+    ap (map statement_of) (reverse-append (entry ∷ []) before) ∙ map-append statement_of (reverse before) (entry ∷ [])
+
+shorter_front : (longer first later : List Event) → BeginsWith longer (first ++ later) → BeginsWith longer first
+shorter_front longer first later begins =
+    record { rest = later ++ begins.rest; whole = begins.whole ∙ append_assoc first later begins.rest }
+
+shorter_phase :
+    (phase first later : List Statement) → IsFrontOfPhase phase (first ++ later) → IsFrontOfPhase phase first
+shorter_phase phase first later front = record {
+  size =
+      let e : length (first ++ later)
+      ≡ length first + length later = length-append first later in let s = front.size in omega arith;
+  each = λ actor. shorter_front (events_by actor phase) (events_by actor first) (events_by actor later)
+      (subst (BeginsWith (events_by actor phase)) (events-append actor first later) (front.each actor));
+}
+
+whole_is_front : (phase : List Statement) (part : List Statement) → IsWholePhase phase part → IsFrontOfPhase phase part
+whole_is_front phase part whole = record {
+  size = let s = whole.size in omega arith;
+  each = λ actor. record { rest = []; whole = sym (whole.each actor) ∙ sym (append-nil (events_by actor part)) };
+}
+
+no_statement_more : (statements : List Statement) (statement : Statement) → statements ++ statement ∷ [] ≢ []
+no_statement_more [] statement e = cc
+no_statement_more (first ∷ later) statement e = cc
+
+shorter_so_far :
+    (phases : List (List Statement)) (statements : List Statement) (last : Statement) →
+    HasPhasesSoFar phases (statements ++ last ∷ []) → HasPhasesSoFar phases statements
+shorter_so_far [] statements last whole = absurd (no_statement_more statements last whole)
+shorter_so_far (phase ∷ later) statements last (inl front) = inl (shorter_phase phase statements (last ∷ []) front)
+shorter_so_far (phase ∷ later) statements last (inr whole) =
+    elim (cases_lt (length statements) (length phase)) [
+      | inl short ↦
+          let added : length (statements ++ last ∷ []) ≡ length statements + 1 = length-append statements (last ∷ []) in
+          let all : take (length phase) (statements ++ last ∷ []) ≡ statements ++ last ∷ [] =
+          take_all (length phase) (statements ++ last ∷ []) (omega arith) in
+          inl (shorter_phase phase statements (last ∷ [])
+          (whole_is_front phase (statements ++ last ∷ []) (subst (IsWholePhase phase) all whole.0)))
+      | inr full ↦
+          inr (
+            subst (IsWholePhase phase) (take-append-le (length phase) statements (last ∷ []) full) whole.0,
+            shorter_so_far later (drop (length phase) statements) last
+                (subst (HasPhasesSoFar later) (drop-append-le (length phase) statements (last ∷ []) full) whole.1),
+          )
+    ]
+
+pub front_is_begun : FrontIsBegun
+front_is_begun phases entry before begun =
+    shorter_so_far phases (statements_of before) (statement_of entry)
+    (subst (HasPhasesSoFar phases) (statements-newest entry before) begun)

@@ -1,0 +1,134 @@
+-- The parts of a wide access cover it, and their values joined are its value.
+use Rattle.std.proofs.Common.{◌≡◌, ℕ, zero, suc, ◌+◌, ◌-◌, ◌*◌, ◌/◌, ◌%◌, ◌^◌, ◌≤◌, ◌<◌, Bool, true, false, List, [], ◌∷◌, length, refl, sym, ◌∙◌, ap, subst, arith}
+use Rattle.std.specs.Prelude.{All}
+use Rattle.std.proofs.Math.Nat.{zero-div, zero-mod, div-div-eq-div-mul, mul_comm, div-one, mod-eq_of_lt}
+use Rattle.std.proofs.Math.Arith.{mod-mul}
+use Rattle.std.proofs.lemmas.Nat.{pow-add}
+use Rattle.std.proofs.lemmas.List.Elements.{All-nil, All-cons}
+use Rattle.board_base.specs.declared.access.Width.{Width}
+use Rattle.board_base.specs.declared.access.Width.TheVariants.{One, Two, Four}
+use Rattle.board_base.specs.declared.access.WideAccess.{WideAccess}
+use Rattle.board_base.specs.Access.{bytes_of}
+use Rattle.board_spec.specs.InRange.{FitsAccess, FitsBytes}
+use Rattle.board_spec.specs.WideParts.{part_at, joined}
+use Rattle.board_spec.specs.Stored.{is_write}
+use Rattle.board_spec.specs.PartLaws.{Covers, IsPart, AreParts, CutIntoParts}
+use Rattle.board_spec.proofs.PartLemmas.{made, total, Aligned, is_cut}
+
+-- ---- places
+
+length-made : (access : WideAccess) (from : ℕ) (widths : List Width) → length (made access from widths) ≡ length widths
+unfolding made
+length-made access from [] = refl
+length-made access from (width ∷ later) = ap suc (length-made access (from + bytes_of width) later)
+
+covers-made :
+    (access : WideAccess) (from end : ℕ) (widths : List Width) → from + total widths ≡ end →
+    Covers from end (made access from widths)
+unfolding made
+covers-made access from end [] sum = let e : from + 0 ≡ end = sum in omega arith
+covers-made access from end (width ∷ later) sum =
+    (refl, covers-made access (from + bytes_of width) end later (omega arith))
+
+-- ---- values
+
+part_fits :
+    (writes : Bool) (width : Width) (bytes value places : ℕ) → FitsBytes writes bytes value →
+    FitsAccess writes width (value / places % 256 ^ bytes_of width)
+part_fits true One bytes value places fits = omega arith
+part_fits true Two bytes value places fits = omega arith
+part_fits true Four bytes value places fits = omega arith
+part_fits false width bytes value places fits =
+    ap (λ (n : ℕ). n / places % 256 ^ bytes_of width) fits
+    ∙ ap (λ (n : ℕ). n % 256 ^ bytes_of width) (zero-div places)
+    ∙ zero-mod (256 ^ bytes_of width)
+
+is_part :
+    (access : WideAccess) (from : ℕ) (width : Width) → FitsBytes (is_write access.kind) access.bytes access.value →
+    from % bytes_of width ≡ 0 → IsPart access (part_at access from width)
+is_part access from width fits aligned = record {
+  kind = refl;
+  smm = refl;
+  legal =
+      record {
+        aligned = aligned;
+        fits = part_fits (is_write access.kind) width access.bytes access.value
+            (256 ^ (from - access.addr)) fits;
+      };
+}
+
+each-made :
+    (access : WideAccess) (from : ℕ) (widths : List Width) →
+    FitsBytes (is_write access.kind) access.bytes access.value → Aligned from widths →
+    All (IsPart access) (made access from widths)
+unfolding made
+each-made access from [] fits aligned = All-nil (IsPart access)
+each-made access from (width ∷ later) fits aligned =
+    All-cons (IsPart access) (part_at access from width) (made access (from + bytes_of width) later)
+    (is_part access from width fits aligned.0)
+    (each-made access (from + bytes_of width) later fits aligned.1)
+
+pub some_power : (n : ℕ) → 0 < 256 ^ n
+some_power zero = omega arith
+some_power (suc n) =
+    let below : 0 < 256 ^ n = some_power n in
+    let product : 256 ^ (n + 1) ≡ 256 ^ n * 256 = pow-add 256 n 1 in
+    let same : suc n ≡ n + 1 = omega arith in
+    subst (λ (k : ℕ). 0 < 256 ^ k) (sym same) (omega arith)
+
+-- the digits of a number past a place, taken in two steps
+pub further : (value d w : ℕ) → value / 256 ^ (d + w) ≡ value / 256 ^ d / 256 ^ w
+further value d w = ap (λ (n : ℕ). value / n) (pow-add 256 d w) ∙ sym (div-div-eq-div-mul value (256 ^ d) (256 ^ w))
+
+add_turned : (a b : ℕ) → a + b ≡ b + a
+add_turned a b = omega arith
+
+two_digits : (x w t : ℕ) → x % 256 ^ w + 256 ^ w * (x / 256 ^ w % 256 ^ t) ≡ x % 256 ^ (w + t)
+two_digits x w t =
+    let whole : x % (256 ^ t * 256 ^ w) ≡ (x / 256 ^ w % 256 ^ t) * 256 ^ w + x % 256 ^ w =
+    mod-mul x (some_power t) (some_power w) in
+    let power : 256 ^ (w + t) ≡ 256 ^ t * 256 ^ w = pow-add 256 w t ∙ mul_comm (256 ^ w) (256 ^ t) in
+    let turned : 256 ^ w * (x / 256 ^ w % 256 ^ t) ≡ (x / 256 ^ w % 256 ^ t) * 256 ^ w =
+    mul_comm (256 ^ w) (x / 256 ^ w % 256 ^ t) in
+    rw (turned, power, whole) (add_turned (x % 256 ^ w) ((x / 256 ^ w % 256 ^ t) * 256 ^ w))
+
+-- the parts from a place d on give the digits of the value from there
+joined-made :
+    (access : WideAccess) (from d : ℕ) (widths : List Width) → from ≡ access.addr + d →
+    joined (λ part. part.value) (made access from widths) ≡ access.value / 256 ^ d % 256 ^ total widths
+unfolding made
+joined-made access from d [] here = omega arith
+joined-made access from d (width ∷ later) here =
+    let place : from - access.addr ≡ d = omega arith in
+    let rest : joined (λ part. part.value) (made access (from + bytes_of width) later)
+    ≡ access.value / 256 ^ d / 256 ^ bytes_of width % 256 ^ total later =
+    joined-made access (from + bytes_of width) (d + bytes_of width) later (omega arith)
+    ∙ ap (λ (n : ℕ). n % 256 ^ total later) (further access.value d (bytes_of width)) in
+    ap (λ (k : ℕ). access.value / 256 ^ k % 256 ^ bytes_of width
+    + 256 ^ bytes_of width * joined (λ part. part.value) (made access (from + bytes_of width) later)) place
+    ∙ ap (λ (n : ℕ). access.value / 256 ^ d % 256 ^ bytes_of width + 256 ^ bytes_of width * n) rest
+    ∙ two_digits (access.value / 256 ^ d) (bytes_of width) (total later)
+
+value_fits : (writes : Bool) (bytes value : ℕ) → FitsBytes writes bytes value → value < 256 ^ bytes
+value_fits true bytes value fits = fits
+value_fits false bytes value none = subst (λ (n : ℕ). n < 256 ^ bytes) (sym none) (some_power bytes)
+
+whole_value : (value bytes sum : ℕ) → sum ≡ bytes → value < 256 ^ bytes → value / 256 ^ 0 % 256 ^ sum ≡ value
+whole_value value bytes sum same fits =
+    ap (λ (n : ℕ). n % 256 ^ sum) (div-one value) ∙ ap (λ (n : ℕ). value % 256 ^ n) same ∙ mod-eq_of_lt fits
+
+pub cut_into_parts : CutIntoParts
+cut_into_parts access legal =
+    let cut = is_cut access legal in
+    subst (AreParts access) (sym cut.parts) (record {
+      least = subst (λ (n : ℕ). 2 ≤ n) (sym (length-made access access.addr cut.widths)) cut.least;
+      most = subst (λ (n : ℕ). n ≤ 4) (sym (length-made access access.addr cut.widths)) cut.most;
+      covers =
+          covers-made access access.addr (access.addr + access.bytes) cut.widths
+          (ap (λ (n : ℕ). access.addr + n) cut.total_is);
+      each = each-made access access.addr cut.widths legal.fits cut.aligned;
+      value =
+          joined-made access access.addr 0 cut.widths (omega arith)
+          ∙ whole_value access.value access.bytes (total cut.widths) cut.total_is
+          (value_fits (is_write access.kind) access.bytes access.value legal.fits);
+    })

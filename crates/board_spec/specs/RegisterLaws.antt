@@ -1,0 +1,34 @@
+-- Which entries change registers in configuration space.
+use Rattle.std.specs.Prelude.{◌≡◌, ◌+◌, ◌<◌, ◌≤◌, false, List, ◌∷◌}
+use Rattle.board_base.specs.declared.target.Reg.{Reg}
+use Rattle.board_base.specs.declared.target.Target.{Target}
+use Rattle.board_base.specs.declared.target.Target.TheVariants.{Config}
+use Rattle.board_spec.specs.declared.event.Reply.{Reply}
+use Rattle.board_spec.specs.declared.event.Reply.TheVariants.{Bus}
+use Rattle.board_spec.specs.declared.event.Entry.{Entry}
+use Rattle.board_spec.specs.Setup.{Setup}
+use Rattle.board_spec.specs.Registers.{is_hard_reset, byte_of}
+use Rattle.board_spec.specs.Legal.{IsNext}
+
+-- an access to a register can reach this one too: it lies in the same function, at most three bytes after
+pub record IsNear (named reg : Reg) : Type 0 where
+  pub dev : named.dev ≡ reg.dev
+  pub fun : named.fun ≡ reg.fun
+  pub from : named.off ≤ reg.off
+  pub below : reg.off < named.off + 4
+
+abbrev pub TargetReaches : Target → Reg → Type 0
+TargetReaches (Config named) reg = IsNear named reg
+TargetReaches _ reg = ⊥
+
+-- the reply names a register from which an access reaches this one
+abbrev pub Reaches : Reply → Reg → Type 0
+Reaches (Bus value target denial) reg = TargetReaches target reg
+Reaches _ reg = ⊥
+
+-- without a hard reset no other entry changes a register
+abbrev pub RegistersStay : Type 0
+RegistersStay =
+    (setup : Setup) (before : List Entry) (entry : Entry) (reg : Reg) → IsNext setup before entry →
+    is_hard_reset before entry.event ≡ false → ¬ Reaches entry.reply reg →
+    byte_of setup (entry ∷ before) reg ≡ byte_of setup before reg

@@ -1,0 +1,44 @@
+-- What a hard reset leaves.
+use Rattle.std.specs.Prelude.{ℕ, ◌≡◌, true, List, ◌∷◌}
+use Rattle.board_base.specs.declared.target.Reg.{Reg}
+use Rattle.device_spec.specs.Elcr.{triggers_at_reset}
+use Rattle.device_spec.specs.Pit.{reset as timer_at_reset}
+use Rattle.device_spec.specs.Clock.{after_reset as clock_after_reset}
+use Rattle.device_spec.specs.Ata.Steps.{after_reset as disk_after_reset}
+use Rattle.device_spec.specs.Pair.{pair_at_reset}
+use Rattle.board_spec.specs.declared.event.Entry.{Entry}
+use Rattle.board_spec.specs.Setup.{Setup}
+use Rattle.board_spec.specs.RegisterTable.{reset_byte}
+use Rattle.board_spec.specs.Registers.{is_hard_reset, reset_control, config_address, byte_of}
+use Rattle.board_spec.specs.Stored.{Cell, stored_of}
+use Rattle.board_spec.specs.Devices.{wire_of, irq_of, triggers_of, system_at_reset, system_of, timer_of, clock_of, disk_with}
+use Rattle.board_spec.specs.Interrupts.{levels_of, pair_of}
+use Rattle.board_spec.specs.Legal.{IsNext}
+
+-- every register and device is in its reset state, and the pair sees the lines as they stand
+pub record IsReset (setup : Setup) (before history : List Entry) : Type 0 where
+  pub registers : (reg : Reg) → byte_of setup history reg ≡ reset_byte setup reg
+  pub address : config_address history ≡ 0
+  pub control : reset_control history ≡ 0
+  pub triggers : triggers_of history ≡ triggers_at_reset
+  pub system : system_of history ≡ system_at_reset
+  pub timer : timer_of history ≡ timer_at_reset
+  pub clock : clock_of history ≡ clock_after_reset (clock_of before)
+  pub disk : (bytes : List ℕ) → disk_with bytes history ≡ disk_after_reset (disk_with bytes before)
+  pub pair : pair_of setup history ≡ pair_at_reset (levels_of setup history)
+
+-- the bytes of DRAM and of the cards, and the levels from outside, are as before
+pub record IsKept (before history : List Entry) : Type 0 where
+  pub cells : (cell : Cell) → stored_of history cell ≡ stored_of before cell
+  pub wires : (dev : ℕ) → wire_of history dev ≡ wire_of before dev
+  pub lines : (line : ℕ) → irq_of history line ≡ irq_of before line
+
+abbrev pub HardResetResets : Type 0
+HardResetResets =
+    (setup : Setup) (before : List Entry) (entry : Entry) →
+    is_hard_reset before entry.event ≡ true → IsReset setup before (entry ∷ before)
+
+abbrev pub HardResetKeeps : Type 0
+HardResetKeeps =
+    (setup : Setup) (before : List Entry) (entry : Entry) → IsNext setup before entry →
+    is_hard_reset before entry.event ≡ true → IsKept before (entry ∷ before)

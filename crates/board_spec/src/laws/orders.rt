@@ -1,0 +1,26 @@
+//! Laws of the orders in which a script may run.
+
+ghost use Rattle.board_spec.specs.OrderLaws.{BegunGoesOn, BegunIsBounded, CompleteIsBegun, CompleteIsWhole, FrontIsBegun, ReplayIsComplete, WholeIsComplete};
+
+/// The replay of a script is one of its complete histories.
+pub fn law_replay_is_complete()
+    ensures complete { ReplayIsComplete }
+{}
+
+/// A history is begun where it is complete, and where a longer one is begun.
+pub fn law_begun()
+    ensures complete { CompleteIsBegun }
+    ensures front { FrontIsBegun }
+{}
+
+/// A legal history that is begun and not complete goes on.
+pub fn law_goes_on()
+    ensures goes_on { BegunGoesOn }
+{}
+
+/// A begun history has at most as many entries as the script has statements, and as many where it is complete.
+pub fn law_begun_by_length()
+    ensures bounded { BegunIsBounded }
+    ensures complete { WholeIsComplete }
+    ensures whole { CompleteIsWhole }
+{}

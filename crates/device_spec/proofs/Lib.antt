@@ -1,0 +1,19 @@
+pub mod Levels
+pub mod Priorities
+mod ClockLaws
+mod ExampleClock
+mod ExampleDisk
+mod ExamplePair
+mod ExampleRouting
+mod ExampleTimer
+mod PairLaws
+mod PicLaws
+mod PicPlaces
+mod PitBytes
+mod PitCounts
+mod PitLatches
+mod PitPeriods
+mod PitPulses
+mod PitReadBacks
+mod PitWaiting
+pub mod RoutingLaws

@@ -1,0 +1,126 @@
+-- The pair: levels that are given again, and a read of one chip.
+use Rattle.std.proofs.Common.{lit<, ◌≡◌, ℕ, Bool, true, false, not, cond, eqb, ◌||◌, ◌&&◌, Option, Some, None, List, [], ◌∷◌, ◌++◌, refl, sym, ap, ◌∙◌, inl, inr, is_some}
+use Rattle.std.proofs.lemmas.Bool.{cases_Bool}
+use Rattle.device_spec.specs.Levels.{Levels, has, levels_where, with_level}
+use Rattle.device_spec.specs.Pic.{Chip, pending, first_selectable, request, interrupt, chip_after_inputs, latches_after, acknowledged_if, chip_after_read}
+use Rattle.device_spec.specs.Pair.{Pair, settled, is_slave_port, pair_after_lines, pair_read, pair_after_read}
+use Rattle.device_spec.specs.PicLaws.{SameLevelsAgain, ReadsOne, ReadsLeaveTheOther}
+use Rattle.device_spec.proofs.Levels.{levels_where-same, has-levels_where}
+
+-- ---- the same levels again
+
+no-edge : (latched level : Bool) → ((latched || (level && not level)) && not (level && not level)) ≡ latched
+no-edge true true = refl
+no-edge true false = refl
+no-edge false true = refl
+no-edge false false = refl
+
+latches-stay : (test : ℕ → Bool) (inputs : Levels) → latches_after (levels_where test) inputs inputs ≡ levels_where test
+latches-stay test inputs =
+    levels_where-same _ test (λ level small. rw (has-levels_where test level small) (no-edge (test level) (has inputs level)))
+
+set-already : (level two : ℕ) (latches : Levels) → (eqb level two || (eqb level two || has latches level)) ≡ (eqb level two || has latches level)
+set-already level two latches = elim (cases_Bool (eqb level two)) [ inl e ↦ rw e refl | inr e ↦ rw e refl ]
+
+set-again : (latches : Levels) (two : ℕ) → with_level (with_level latches two) two ≡ with_level latches two
+set-again latches two =
+    levels_where-same _ _ (λ level small. rw (has-levels_where (λ l. eqb l two || has latches l) level small) (set-already level two latches))
+
+inputs-again : (chip : Chip) (inputs triggers : Levels) → chip_after_inputs (chip_after_inputs chip inputs triggers) inputs triggers ≡ chip_after_inputs chip inputs triggers
+inputs-again chip inputs triggers =
+    ap (λ l. record chip { latches = l; inputs = inputs; triggers = triggers }) (latches-stay _ inputs)
+
+cascade-again : (chip : Chip) (inputs triggers : Levels) (two : ℕ) →
+    let now = chip_after_inputs chip inputs triggers in
+    chip_after_inputs (record now { latches = with_level now.latches two }) inputs triggers ≡ record now { latches = with_level now.latches two }
+cascade-again chip inputs triggers two =
+    ap (λ l. record chip { latches = l; inputs = inputs; triggers = triggers }) (latches-stay _ inputs)
+
+pair-equal : {a b c d : Chip} → a ≡ c → b ≡ d → ◌≡◌ {A = Pair} (record { master = a; slave = b }) (record { master = c; slave = d })
+pair-equal p q = rw (p, q) refl
+
+-- a pair whose slave asks, with its request latched at the master
+abbrev latched : Pair → Pair
+latched pair = record pair { master = record pair.master { latches = with_level pair.master.latches 2 } }
+
+settled-asks : (pair : Pair) → is_some (interrupt pair.slave) ≡ true → settled pair ≡ latched pair
+settled-asks pair asks = ap (λ b. cond b (latched pair) pair) asks
+
+settled-quiet : (pair : Pair) → is_some (interrupt pair.slave) ≡ false → settled pair ≡ pair
+settled-quiet pair quiet = ap (λ b. cond b (latched pair) pair) quiet
+
+-- the two chips after new inputs
+abbrev given : Pair → Levels → Levels → Levels → Levels → Pair
+given pair low low_triggers high high_triggers = record {
+  master = chip_after_inputs pair.master low low_triggers;
+  slave = chip_after_inputs pair.slave high high_triggers;
+}
+
+given-again : (pair : Pair) (low low_triggers high high_triggers : Levels) →
+    let now = given pair low low_triggers high high_triggers in
+    settled (given (settled now) low low_triggers high high_triggers) ≡ settled now
+given-again pair low low_triggers high high_triggers =
+    let now = given pair low low_triggers high high_triggers in
+    let same_slave = inputs-again pair.slave high high_triggers in
+    elim (cases_Bool (is_some (interrupt now.slave))) [
+      | inl asks ↦
+          let is = settled-asks now asks in
+          let again : given (latched now) low low_triggers high high_triggers ≡ latched now = pair-equal (cascade-again pair.master low low_triggers 2) same_slave in
+          let once : latched (latched now) ≡ latched now = ap (λ l. record now { master = record now.master { latches = l } }) (set-again now.master.latches 2) in
+          ap (λ p. settled (given p low low_triggers high high_triggers)) is
+          ∙ (ap settled again ∙ (settled-asks (latched now) asks ∙ (once ∙ sym is)))
+      | inr quiet ↦
+          let is = settled-quiet now quiet in
+          ap (λ p. settled (given p low low_triggers high high_triggers)) is
+          ∙ ap settled (pair-equal (inputs-again pair.master low low_triggers) same_slave)
+    ]
+
+pub same-levels : SameLevelsAgain
+same-levels pair levels elcr = given-again pair _ _ _ _
+
+-- ---- a read of one chip
+
+-- polling has no part in what INT stands for
+first-unpolled : (chip : Chip) (higher order : List ℕ) → first_selectable (record chip { polls = false }) higher order ≡ first_selectable chip higher order
+unfolding first_selectable pending
+first-unpolled chip higher [] = refl
+first-unpolled chip higher (level ∷ lower) = rw (first-unpolled chip (higher ++ level ∷ []) lower) refl
+
+interrupt-unpolled : (chip : Chip) → interrupt (record chip { polls = false }) ≡ interrupt chip
+unfolding request
+interrupt-unpolled chip = rw (first-unpolled chip [] _) refl
+
+-- a chip that does not ask does not ask after a read
+still-quiet : (chip : Chip) → interrupt chip ≡ None → interrupt (chip_after_read chip) ≡ None
+unfolding chip_after_read
+still-quiet chip quiet =
+    let after : Bool → Option ℕ → Chip = λ b o. cond b (record (acknowledged_if chip o) { polls = false }) chip in
+    elim (cases_Bool chip.polls) [
+      | inl polls ↦ ap (λ b. interrupt (after b (interrupt chip))) polls ∙ (ap (λ o. interrupt (after true o)) quiet ∙ (interrupt-unpolled chip ∙ quiet))
+      | inr not_polls ↦ ap (λ b. interrupt (after b (interrupt chip))) not_polls ∙ quiet
+    ]
+
+settled-slave-is : (pair : Pair) → (settled pair).slave ≡ pair.slave
+settled-slave-is pair = elim (cases_Bool (is_some (interrupt pair.slave))) [
+  | inl asks ↦ ap (λ p. p.slave) (settled-asks pair asks)
+  | inr quiet ↦ ap (λ p. p.slave) (settled-quiet pair quiet)
+]
+
+-- another slave leaves a master alone that has latched the request of the one before, or had none to latch
+other-slave : (pair : Pair) (slave : Chip) (o : Option ℕ) → interrupt pair.slave ≡ o → settled pair ≡ pair → (interrupt pair.slave ≡ None → interrupt slave ≡ None) → (settled (record pair { slave = slave })).master ≡ pair.master
+other-slave pair slave None e is quiet =
+    ap (λ p. p.master) (settled-quiet (record pair { slave = slave }) (ap is_some (quiet e)))
+other-slave pair slave (Some level) e is quiet =
+    let held : (latched pair).master ≡ pair.master = ap (λ p. p.master) (sym (settled-asks pair (ap is_some e)) ∙ is) in
+    elim (cases_Bool (is_some (interrupt slave))) [
+      | inl asks ↦ ap (λ p. p.master) (settled-asks (record pair { slave = slave }) asks) ∙ held
+      | inr none ↦ ap (λ p. p.master) (settled-quiet (record pair { slave = slave }) none)
+    ]
+
+pub reads-leave : ReadsLeaveTheOther
+reads-leave pair port = record {
+  slave = λ e. settled-slave-is (pair_read pair port) ∙ ap (λ b. (cond b (record pair { slave = chip_after_read pair.slave }) (record pair { master = chip_after_read pair.master })).slave) e;
+  master = λ e is.
+      ap (λ b. (settled (cond b (record pair { slave = chip_after_read pair.slave }) (record pair { master = chip_after_read pair.master }))).master) e
+      ∙ other-slave pair (chip_after_read pair.slave) (interrupt pair.slave) refl is (still-quiet pair.slave);
+}

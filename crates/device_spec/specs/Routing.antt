@@ -1,0 +1,56 @@
+-- The routing of the four PCI interrupt pins to the sixteen interrupt lines: the PIRQ route control
+-- registers of the PIIX3 (PIRQRC[A:D], offsets 60h to 63h of its function 0).
+use Rattle.std.specs.Prelude.{ℕ, Bool, false, Option, Some, None, List, [], ◌∷◌, ◌-◌, ◌%◌, ◌==◌, ◌&&◌, ◌||◌, not, nat_lt, nat_le, if◌then◌else◌, slice_index, slice_index_or, slice_set}
+use Rattle.std.specs.List.{list_any}
+use Rattle.device_spec.specs.Bits.{merged}
+
+-- the bits of a route control register that can be written: 7, and 3 to 0
+abbrev pub route_mask : ℕ
+route_mask = 0x8F
+
+-- the routing disabled, as after a reset
+abbrev pub route_reset : ℕ
+route_reset = 0x80
+
+-- The registers are the list of their four bytes, A to D.
+abbrev pub Routes : Type 0
+Routes = List ℕ
+
+-- whether an offset of the function's configuration space is that of a route control register
+abbrev pub is_route_offset : ℕ → Bool
+is_route_offset offset = nat_le 0x60 offset && nat_lt offset 0x64
+
+-- the byte at an offset: 0 where no register is
+abbrev pub route_byte : Routes → ℕ → ℕ
+route_byte routes offset = if is_route_offset offset then slice_index routes (offset - 0x60) else 0
+
+-- the registers after a write at an offset
+abbrev pub routes_after_write : Routes → ℕ → ℕ → Routes
+routes_after_write routes offset byte =
+    if is_route_offset offset
+    then slice_set routes (offset - 0x60) (merged route_mask (route_byte routes offset) byte)
+    else routes
+
+-- the lines that no pin can be routed to: the timer's, the keyboard's, the cascade, the clock's and 13
+abbrev pub is_reserved_line : ℕ → Bool
+is_reserved_line line = line == 0 || line == 1 || line == 2 || line == 8 || line == 13
+
+-- The line that a route control byte routes its pin to: the one in bits 3 to 0, where bit 7 is 0 and
+-- that line is not reserved.
+abbrev pub line_of_route : ℕ → Option ℕ
+line_of_route byte =
+    if nat_lt byte 0x80 && not (is_reserved_line (byte % 16)) then Some (byte % 16) else None
+
+-- whether a pin at this level, with this route, holds the line at 1
+abbrev pub drives : Option ℕ → Bool → ℕ → Bool
+drives None level line = false
+drives (Some routed) level line = level && (routed == line)
+
+-- the pins, PIRQA# to PIRQD#
+abbrev pub all_pins : List ℕ
+all_pins = 0 ∷ 1 ∷ 2 ∷ 3 ∷ []
+
+-- whether the pins, at these levels, hold the line at 1: where a pin that is routed to it is 1
+unfoldable pub is_line_driven : Routes → List Bool → ℕ → Bool
+is_line_driven routes pins line =
+    list_any (λ pin. drives (line_of_route (slice_index routes pin)) (slice_index_or pins pin false) line) all_pins

@@ -1,0 +1,312 @@
+//! Worked examples of the machines, each computed from the definitions alone. Each function does nothing:
+//! its clause is the example.
+
+ghost use Rattle.device_spec.specs.ExamplePair.{NobodyIsReady, SpuriousAnswers, ALevelStays, AnEdgeIsKept, TheHigherEndsFirst, ANewBeginning, AShortSequence, SpecialMask, ChosenRegisters, Polls, PollsOfOne, ResetAtLevels, EachCommand, AutomaticEnd, ModesEnd, FullyNested, Cascaded};
+ghost use Rattle.device_spec.specs.ExampleTimer.{AfterReset, ReadBackOf0, Counters1And2, OnePeriod, EachMode, EachCount, EachGate, BytesAndLatches};
+ghost use Rattle.device_spec.specs.ExampleClock.{AnAlarmStays, AHardReset, AMoment, HourForms, Alarms, Interrupts, EachByte};
+ghost use Rattle.device_spec.specs.ExampleRouting.{RouteBytes, LinesDriven, TriggerBytes};
+ghost use Rattle.device_spec.specs.ExampleDisk.{PastTheEnd, BadInTheMiddle, ReadToItsEnd, BadIsWritten, WrittenIsGood, WordsOfSector3, LowByteFirst, CommandEnds, Writes, Resets, Commands, Addresses, Identify, Lengths};
+
+// The 8259A pair
+
+/// A chip that was never initialised holds INT at 0.
+#[tactic(auto, using(crate::proofs::ExamplePair::nobody_is_ready))]
+pub fn nobody_is_ready()
+    ensures example { NobodyIsReady }
+{}
+
+/// Spurious answers come from both chips, and leave alone the chip that gives them.
+#[tactic(auto, using(crate::proofs::ExamplePair::spurious_answers))]
+pub fn spurious_answers()
+    ensures example { SpuriousAnswers }
+{}
+
+/// A level triggered line of the slave is pending until it falls.
+#[tactic(auto, using(crate::proofs::ExamplePair::a_level_stays))]
+pub fn a_level_stays()
+    ensures example { ALevelStays }
+{}
+
+/// A rise is latched whatever ELCR says.
+#[tactic(auto, using(crate::proofs::ExamplePair::an_edge_is_kept))]
+pub fn an_edge_is_kept()
+    ensures example { AnEdgeIsKept }
+{}
+
+/// A higher level interrupts a lower one, and is the first to end.
+#[tactic(auto, using(crate::proofs::ExamplePair::the_higher_ends_first))]
+pub fn the_higher_ends_first()
+    ensures example { TheHigherEndsFirst }
+{}
+
+/// What ICW1 clears.
+#[tactic(auto, using(crate::proofs::ExamplePair::a_new_beginning))]
+pub fn a_new_beginning()
+    ensures example { ANewBeginning }
+{}
+
+/// A sequence without ICW3.
+#[tactic(auto, using(crate::proofs::ExamplePair::a_short_sequence))]
+pub fn a_short_sequence()
+    ensures example { AShortSequence }
+{}
+
+/// Special mask mode.
+#[tactic(auto, using(crate::proofs::ExamplePair::special_mask))]
+pub fn special_mask()
+    ensures example { SpecialMask }
+{}
+
+/// Reads of the pending levels, of those in service and of the mask.
+#[tactic(auto, using(crate::proofs::ExamplePair::chosen_registers))]
+pub fn chosen_registers()
+    ensures example { ChosenRegisters }
+{}
+
+/// A poll of the master.
+#[tactic(auto, using(crate::proofs::ExamplePair::polls))]
+pub fn polls()
+    ensures example { Polls }
+{}
+
+/// A poll of one chip, and what the other still has.
+#[tactic(auto, using(crate::proofs::ExamplePair::polls_of_one))]
+pub fn polls_of_one()
+    ensures example { PollsOfOne }
+{}
+
+/// A reset with lines at 1.
+#[tactic(auto, using(crate::proofs::ExamplePair::reset_at_levels))]
+pub fn reset_at_levels()
+    ensures example { ResetAtLevels }
+{}
+
+/// The eight commands of OCW2.
+#[tactic(auto, using(crate::proofs::ExamplePair::each_command))]
+pub fn each_command()
+    ensures example { EachCommand }
+{}
+
+/// Automatic end of interrupt.
+#[tactic(auto, using(crate::proofs::ExamplePair::automatic_end))]
+pub fn automatic_end()
+    ensures example { AutomaticEnd }
+{}
+
+/// Special fully nested mode.
+#[tactic(auto, using(crate::proofs::ExamplePair::fully_nested))]
+pub fn fully_nested()
+    ensures example { FullyNested }
+{}
+
+/// The slave's lines, and line 2.
+#[tactic(auto, using(crate::proofs::ExamplePair::cascaded))]
+pub fn cascaded()
+    ensures example { Cascaded }
+{}
+
+/// ICW1 ends each mode.
+#[tactic(auto, using(crate::proofs::ExamplePair::modes_end))]
+pub fn modes_end()
+    ensures example { ModesEnd }
+{}
+
+// The 8254
+
+/// The outputs and the status of each counter after a reset.
+#[tactic(auto, using(crate::proofs::ExampleTimer::after_reset))]
+pub fn after_reset()
+    ensures example { AfterReset }
+{}
+
+/// A square wave of five, read back.
+#[tactic(auto, using(crate::proofs::ExampleTimer::read_back_of_0))]
+pub fn read_back_of_0()
+    ensures example { ReadBackOf0 }
+{}
+
+/// Ports, outputs and control words of the other counters.
+#[tactic(auto, using(crate::proofs::ExampleTimer::counters_1_and_2))]
+pub fn counters_1_and_2()
+    ensures example { Counters1And2 }
+{}
+
+/// One period of a square wave of five, and the rises of OUT 0.
+#[tactic(auto, using(crate::proofs::ExampleTimer::one_period))]
+pub fn one_period()
+    ensures example { OnePeriod }
+{}
+
+/// The counting element and OUT in each mode.
+#[tactic(auto, using(crate::proofs::ExampleTimer::each_mode))]
+pub fn each_mode()
+    ensures example { EachMode }
+{}
+
+/// The least counts, the greatest, and decimal ones.
+#[tactic(auto, using(crate::proofs::ExampleTimer::each_count))]
+pub fn each_count()
+    ensures example { EachCount }
+{}
+
+/// What the gate does in each mode.
+#[tactic(auto, using(crate::proofs::ExampleTimer::each_gate))]
+pub fn each_gate()
+    ensures example { EachGate }
+{}
+
+/// The bytes of counts and latches, in their order.
+#[tactic(auto, using(crate::proofs::ExampleTimer::bytes_and_latches))]
+pub fn bytes_and_latches()
+    ensures example { BytesAndLatches }
+{}
+
+// The clock
+
+/// An alarm that rang, until register C is read.
+#[tactic(auto, using(crate::proofs::ExampleClock::an_alarm_stays))]
+pub fn an_alarm_stays()
+    ensures example { AnAlarmStays }
+{}
+
+/// A hard reset clears the index, the flags and the interrupts.
+#[tactic(auto, using(crate::proofs::ExampleClock::a_hard_reset))]
+pub fn a_hard_reset()
+    ensures example { AHardReset }
+{}
+
+/// The bytes of a moment.
+#[tactic(auto, using(crate::proofs::ExampleClock::a_moment))]
+pub fn a_moment()
+    ensures example { AMoment }
+{}
+
+/// Hours in the four forms.
+#[tactic(auto, using(crate::proofs::ExampleClock::hour_forms))]
+pub fn hour_forms()
+    ensures example { HourForms }
+{}
+
+/// When an alarm rings.
+#[tactic(auto, using(crate::proofs::ExampleClock::alarms))]
+pub fn alarms()
+    ensures example { Alarms }
+{}
+
+/// What raises the interrupt line.
+#[tactic(auto, using(crate::proofs::ExampleClock::interrupts))]
+pub fn interrupts()
+    ensures example { Interrupts }
+{}
+
+/// What a write and a hard reset leave of each byte.
+#[tactic(auto, using(crate::proofs::ExampleClock::each_byte))]
+pub fn each_byte()
+    ensures example { EachByte }
+{}
+
+// The routing
+
+/// The bytes of the route control registers.
+#[tactic(auto, using(crate::proofs::ExampleRouting::route_bytes))]
+pub fn route_bytes()
+    ensures example { RouteBytes }
+{}
+
+/// The lines that routed pins hold at 1.
+#[tactic(auto, using(crate::proofs::ExampleRouting::lines_driven))]
+pub fn lines_driven()
+    ensures example { LinesDriven }
+{}
+
+/// The bytes of the edge/level control registers.
+#[tactic(auto, using(crate::proofs::ExampleRouting::trigger_bytes))]
+pub fn trigger_bytes()
+    ensures example { TriggerBytes }
+{}
+
+// The disk
+
+/// A read past the end of the disk.
+#[tactic(auto, using(crate::proofs::ExampleDisk::past_the_end))]
+pub fn past_the_end()
+    ensures example { PastTheEnd }
+{}
+
+/// A read that meets a bad sector.
+#[tactic(auto, using(crate::proofs::ExampleDisk::bad_in_the_middle))]
+pub fn bad_in_the_middle()
+    ensures example { BadInTheMiddle }
+{}
+
+/// A read of two sectors.
+#[tactic(auto, using(crate::proofs::ExampleDisk::read_to_its_end))]
+pub fn read_to_its_end()
+    ensures example { ReadToItsEnd }
+{}
+
+/// A write over a bad sector begins.
+#[tactic(auto, using(crate::proofs::ExampleDisk::bad_is_written))]
+pub fn bad_is_written()
+    ensures example { BadIsWritten }
+{}
+
+/// A bad sector that was written is read back.
+#[tactic(auto, using(crate::proofs::ExampleDisk::written_is_good))]
+pub fn written_is_good()
+    ensures example { WrittenIsGood }
+{}
+
+/// The words of a sector.
+#[tactic(auto, using(crate::proofs::ExampleDisk::words_of_sector_3))]
+pub fn words_of_sector_3()
+    ensures example { WordsOfSector3 }
+{}
+
+/// The order of bytes and words.
+#[tactic(auto, using(crate::proofs::ExampleDisk::low_byte_first))]
+pub fn low_byte_first()
+    ensures example { LowByteFirst }
+{}
+
+/// A command that ends a transfer.
+#[tactic(auto, using(crate::proofs::ExampleDisk::command_ends))]
+pub fn command_ends()
+    ensures example { CommandEnds }
+{}
+
+/// Writes past the end and to their end.
+#[tactic(auto, using(crate::proofs::ExampleDisk::writes))]
+pub fn writes()
+    ensures example { Writes }
+{}
+
+/// SRST, and drive 1.
+#[tactic(auto, using(crate::proofs::ExampleDisk::resets))]
+pub fn resets()
+    ensures example { Resets }
+{}
+
+/// The other commands, the registers and a hard reset.
+#[tactic(auto, using(crate::proofs::ExampleDisk::commands))]
+pub fn commands()
+    ensures example { Commands }
+{}
+
+/// Cylinders, heads and sectors.
+#[tactic(auto, using(crate::proofs::ExampleDisk::addresses))]
+pub fn addresses()
+    ensures example { Addresses }
+{}
+
+/// The words of IDENTIFY DEVICE.
+#[tactic(auto, using(crate::proofs::ExampleDisk::identify))]
+pub fn identify()
+    ensures example { Identify }
+{}
+
+/// Which disks there are.
+#[tactic(auto, using(crate::proofs::ExampleDisk::lengths))]
+pub fn lengths()
+    ensures example { Lengths }
+{}

@@ -1,2 +1,0 @@
-pub mod Elcr
-pub mod Routing

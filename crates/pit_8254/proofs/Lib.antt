@@ -1,5 +1,0 @@
-mod Bytes
-mod Latches
-mod Periods
-mod Pulses
-mod ReadBacks
