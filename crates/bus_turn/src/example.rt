@@ -42,7 +42,7 @@ impl Kept for Sheet {
 impl Sheet {
     /// A sheet without marks.
     pub fn new(alloc: Global) -> Sheet
-        ensures { result.marks.items ≡ [] }
+        ensures empty { result.marks.items ≡ [] }
     {
         Sheet {
             marks: Vec::new(alloc),
@@ -51,7 +51,7 @@ impl Sheet {
 
     /// Makes a mark, unless the sheet is full or there is no memory.
     pub fn mark(&mut self, number: u8) -> bool
-        ensures { MatchBool result (self.new.marks.items ≡ self.old.marks.items ++ number ∷ []) (self.new.marks.items ≡ self.old.marks.items) }
+        ensures marked { MatchBool result (self.new.marks.items ≡ self.old.marks.items ++ number ∷ []) (self.new.marks.items ≡ self.old.marks.items) }
     {
         if self.marks.len() >= MOST {
             return false;

@@ -20,5 +20,5 @@ pub trait Kept {
 
     /// How many entries there are.
     fn count(&self) -> u32
-        ensures { result ≡ length (entries self.now) };
+        ensures count { result ≡ length (entries self.now) };
 }

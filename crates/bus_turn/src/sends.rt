@@ -6,41 +6,41 @@ use crate::turn::{Held, Turn};
 use crate::view::Pass;
 
 fn sent<X: Send>(x: X) -> X
-    ensures { result ≡ x }
+    ensures same { result ≡ x }
 {
     x
 }
 
 fn shared<X: Sync>(x: &X) -> &X
-    ensures { result.now ≡ x.now }
+    ensures same { result.now ≡ x.now }
 {
     x
 }
 
 /// A turn may go to another thread.
 pub fn send_turn<T: Kept + Send>(turn: Turn<T>) -> Turn<T>
-    ensures { result ≡ turn }
+    ensures same { result ≡ turn }
 {
     sent(turn)
 }
 
 /// Threads may share a turn.
 pub fn share_turn<T: Kept + Send>(turn: &Turn<T>) -> &Turn<T>
-    ensures { result.now ≡ turn.now }
+    ensures same { result.now ≡ turn.now }
 {
     shared(turn)
 }
 
 /// A pass may go to another thread.
 pub fn send_pass<T: Kept + Send>(pass: Pass<T>) -> Pass<T>
-    ensures { result ≡ pass }
+    ensures same { result ≡ pass }
 {
     sent(pass)
 }
 
 /// A value may go to another thread while the turn is held.
 pub fn send_held<T: Kept + Send>(held: Held<T>) -> Held<T>
-    ensures { result ≡ held }
+    ensures same { result ≡ held }
 {
     sent(held)
 }
