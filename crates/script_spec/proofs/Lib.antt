@@ -1,1 +1,5 @@
+pub mod Digits
+pub mod Fields
+pub mod EventReading
+pub mod LineReading
 mod ExampleRuns
