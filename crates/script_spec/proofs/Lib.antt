@@ -2,4 +2,5 @@ pub mod Digits
 pub mod Fields
 pub mod EventReading
 pub mod LineReading
+pub mod ReadingLaws
 mod ExampleRuns
