@@ -3,4 +3,5 @@ pub mod Fields
 pub mod EventReading
 pub mod LineReading
 pub mod ReadingLaws
+pub mod ScriptLaws
 mod ExampleRuns
