@@ -4,4 +4,5 @@ pub mod EventReading
 pub mod LineReading
 pub mod ReadingLaws
 pub mod ScriptLaws
+pub mod CheckLaws
 mod ExampleRuns
