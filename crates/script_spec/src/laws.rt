@@ -1,1 +1,25 @@
 //! Laws of the definitions. Each function does nothing: its clause is the law.
+
+ghost use Rattle.script_spec.specs.Laws.{NotBoth, OneBadLog, OneDifference, OneItem, OneRefusal, OneScript};
+
+/// A line of a script says at most one thing, whatever the case of its digits.
+pub fn law_one_item()
+    ensures one { OneItem }
+{}
+
+/// A text says at most one script.
+pub fn law_one_script()
+    ensures one { OneScript }
+{}
+
+/// A text that says a script is not bad, and one that is bad is so at one line, for one reason.
+pub fn law_one_refusal()
+    ensures not_both { NotBoth }
+    ensures one { OneRefusal }
+{}
+
+/// A text is a bad log at one line, and differs from the logs of a script at one line.
+pub fn law_one_line()
+    ensures log { OneBadLog }
+    ensures script { OneDifference }
+{}
