@@ -1,14 +1,14 @@
 -- A text leaves a kind of texts at one line.
 use Rattle.std.proofs.Common.{ℕ, zero, suc, ◌≡◌, ◌≢◌, ◌+◌, ◌⊎◌, Bool, true, false, not, eqb, List, [], ◌∷◌, ◌++◌, length, All, flat_map, refl, sym, ap, ◌∙◌, inl, inr, append_assoc, arith}
-use Rattle.std.proofs.lemmas.Bool.{ne_eqb}
+use Rattle.std.proofs.lemmas.Bool.{ne_eqb, eqb-false}
 use Rattle.std.proofs.lemmas.Grind.{flat_map-append}
-use Rattle.std.proofs.lemmas.List.Elements.{All-head, All-tail}
+use Rattle.std.proofs.lemmas.List.Elements.{All-nil, All-cons, All-head, All-tail}
 use Rattle.board_spec.specs.Text.{line_feed}
 use Rattle.script_spec.specs.Lines.{text_of_lines, IsOneLine}
 use Rattle.script_spec.specs.Checks.{AreBegun, LeavesAt, IsSomeLog, IsLogOf}
 use Rattle.script_spec.specs.Laws.{OneBadLog, OneDifference}
 use Rattle.script_spec.proofs.Digits.{lacks}
-use Rattle.script_spec.proofs.Fields.{front, back, front-field, back-field}
+use Rattle.script_spec.proofs.Fields.{front, back, front-field, back-field, lacks-first, lacks-later}
 
 pub lacks-line : (line : List ℕ) → IsOneLine line → lacks line_feed line ≡ true
 lacks-line [] each = refl
@@ -17,6 +17,12 @@ lacks-line (c ∷ cs) each =
       ne_eqb c line_feed (All-head (λ byte. byte ≢ line_feed) c cs each),
       lacks-line cs (All-tail (λ byte. byte ≢ line_feed) c cs each),
     ) refl
+
+pub one_line : (line : List ℕ) → lacks line_feed line ≡ true → IsOneLine line
+one_line [] lack = All-nil (λ byte. byte ≢ line_feed)
+one_line (c ∷ cs) lack =
+    All-cons (λ byte. byte ≢ line_feed) c cs (eqb-false c line_feed (lacks-first line_feed c cs lack))
+    (one_line cs (lacks-later line_feed c cs lack))
 
 -- lines go on as other lines do
 record GoesOn (lines : List (List ℕ)) (rest : List ℕ) (others : List (List ℕ)) (after : List ℕ) : Type 0 where
@@ -75,20 +81,20 @@ compared (line ∷ lines) rest [] after each all same =
     }))
 compared (line ∷ lines) rest (other ∷ others) after each all same =
     let cut : line ++ line_feed ∷ (text_of_lines lines ++ rest) ≡ other ++ line_feed ∷ (text_of_lines others ++ after) =
-      sym (line_parts line (text_of_lines lines) rest) ∙ same ∙ line_parts other (text_of_lines others) after
+    sym (line_parts line (text_of_lines lines) rest) ∙ same ∙ line_parts other (text_of_lines others) after
     in
     let lack : lacks line_feed line ≡ true = lacks-line line (All-head IsOneLine line lines each) in
     let lacking : lacks line_feed other ≡ true = lacks-line other (All-head IsOneLine other others all) in
     let first : line ≡ other =
-      sym (front-field line_feed line (text_of_lines lines ++ rest) lack) ∙ ap (front line_feed) cut
-      ∙ front-field line_feed other (text_of_lines others ++ after) lacking
+    sym (front-field line_feed line (text_of_lines lines ++ rest) lack) ∙ ap (front line_feed) cut
+    ∙ front-field line_feed other (text_of_lines others ++ after) lacking
     in
     let later : text_of_lines lines ++ rest ≡ text_of_lines others ++ after =
-      sym (back-field line_feed line (text_of_lines lines ++ rest) lack) ∙ ap (back line_feed) cut
-      ∙ back-field line_feed other (text_of_lines others ++ after) lacking
+    sym (back-field line_feed line (text_of_lines lines ++ rest) lack) ∙ ap (back line_feed) cut
+    ∙ back-field line_feed other (text_of_lines others ++ after) lacking
     in
     rw first (compared_more other lines rest others after
-      (compared lines rest others after (All-tail IsOneLine line lines each) (All-tail IsOneLine other others all) later))
+    (compared lines rest others after (All-tail IsOneLine line lines each) (All-tail IsOneLine other others all) later))
 
 -- where longer lines begin a text, so do their first ones
 begun_front :
@@ -96,8 +102,8 @@ begun_front :
     AreBegun IsText (lines ++ this ∷ more) → AreBegun IsText (lines ++ this ∷ [])
 begun_front IsText lines this more begun =
     let parts : text_of_lines (lines ++ this ∷ more) ≡ text_of_lines (lines ++ this ∷ []) ++ text_of_lines more =
-      ap text_of_lines (sym (append_assoc lines (this ∷ []) more))
-      ∙ flat_map-append (λ line. line ++ line_feed ∷ []) (lines ++ this ∷ []) more
+    ap text_of_lines (sym (append_assoc lines (this ∷ []) more))
+    ∙ flat_map-append (λ line. line ++ line_feed ∷ []) (lines ++ this ∷ []) more
     in
     let text = rw (parts, append_assoc (text_of_lines (lines ++ this ∷ [])) (text_of_lines more) begun.later) at begun.text in
     record { later = text_of_lines more ++ begun.later; text = text }

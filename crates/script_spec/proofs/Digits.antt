@@ -66,8 +66,8 @@ nibble_of_digit d small =
     elim (cases_lt d 10) [
       | inl digit ↦ rw (lt-ltb d 10 digit, lower-below (0x30 + d) (omega arith), lt-ltb (0x30 + d) 0x3A (omega arith)) (omega arith)
       | inr letter ↦
-        rw (le-ltb d 10 letter, le-leb 0x41 (0x37 + d) (omega arith), le-leb (0x37 + d) 0x46 (omega arith), le-ltb (0x37 + d + 0x20) 0x3A (omega arith))
-        (omega arith)
+          rw (le-ltb d 10 letter, le-leb 0x41 (0x37 + d) (omega arith), le-leb (0x37 + d) 0x46 (omega arith), le-ltb (0x37 + d + 0x20) 0x3A (omega arith))
+          (omega arith)
     ]
 
 pub nibble_of_hex : (n : ℕ) → nibble_of (lower (hex_digit n)) ≡ n % 16
@@ -86,7 +86,7 @@ split_remainder n p some =
     let d : ℕ = n / p % 256 in
     let m : ℕ = n % p in
     let whole : n ≡ p * 256 * (n / p / 256) + (d * p + m) =
-      sym (div-add-mod n p) ∙ ap (λ (x : ℕ). p * x + m) (sym (div-add-mod (n / p) 256)) ∙ joined_quotients p (n / p / 256) d m
+    sym (div-add-mod n p) ∙ ap (λ (x : ℕ). p * x + m) (sym (div-add-mod (n / p) 256)) ∙ joined_quotients p (n / p / 256) d m
     in
     ap (λ (x : ℕ). x % (p * 256)) whole
     ∙ mul-add-mod_self_left (p * 256) (n / p / 256) (d * p + m)

@@ -149,10 +149,10 @@ wide_event version access form =
     elim form.wide [
       | inl eight ↦ rw (eq-eqb access.bytes 8 eight) refl
       | inr moved ↦
-        elim (cases_Bool (eqb access.bytes 8)) [
-          | inl eight ↦ rw eight refl
-          | inr other ↦ rw (other, eq-eqb version 2 form.second, ne_eqb (access.addr % access.bytes) 0 moved) refl
-        ]
+          elim (cases_Bool (eqb access.bytes 8)) [
+            | inl eight ↦ rw eight refl
+            | inr other ↦ rw (other, eq-eqb version 2 form.second, ne_eqb (access.addr % access.bytes) 0 moved) refl
+          ]
     ]
 
 width_size : (width : Width) → (s : Size) × (bytes_of width ≡ size s)
@@ -347,17 +347,17 @@ statement_read version actor (Memory access) form =
     let s : (s : Size) × (bytes_of access.width ≡ size s) = width_size access.width in
     memory_statement version actor access.kind (bytes_of access.width) access.addr access.value access.smm
     ∙ asked actor _ _ (
-      ap (memory_event version)
-      (memory_read_at access.kind s.0 (bytes_of access.width) access.addr access.value access.smm s.1 form.addr form.value)
-      ∙ narrow_event version access.kind access.width access.addr access.value access.smm form.aligned
+    ap (memory_event version)
+    (memory_read_at access.kind s.0 (bytes_of access.width) access.addr access.value access.smm s.1 form.addr form.value)
+    ∙ narrow_event version access.kind access.width access.addr access.value access.smm form.aligned
     )
 statement_read version actor (Wide access) form =
     let s : (s : Size) × (access.bytes ≡ size s) = wide_size access.bytes form.bytes in
     memory_statement version actor access.kind access.bytes access.addr access.value access.smm
     ∙ asked actor _ _ (
-      ap (memory_event version)
-      (memory_read_at access.kind s.0 access.bytes access.addr access.value access.smm s.1 form.addr form.value)
-      ∙ wide_event version access form
+    ap (memory_event version)
+    (memory_read_at access.kind s.0 access.bytes access.addr access.value access.smm s.1 form.addr form.value)
+    ∙ wide_event version access form
     )
 statement_read version actor (Port access) form =
     port_statement version actor access.write access.width access.port access.value form.port form.value
@@ -366,9 +366,9 @@ statement_read version actor Ack form = refl
 statement_read version actor (Pulses count) form = asked actor _ _ (ap Pulses (decimal_read count form))
 statement_read version actor (Time moment) form =
     asked actor _ _ (ap Time (
-      moment_read moment.year moment.month moment.day moment.hour moment.minute moment.second moment.weekday
-      form.year form.month form.day form.hour form.minute form.second
-      ∙ moment_weekday moment form
+    moment_read moment.year moment.month moment.day moment.hour moment.minute moment.second moment.weekday
+    form.year form.month form.day form.hour form.minute form.second
+    ∙ moment_weekday moment form
     ))
 statement_read version actor (Wire dev on) form = wire_read actor (codes "wire") Wire dev on form
 statement_read version actor (Line irq on) form = wire_read actor (codes "irq") Line irq on form

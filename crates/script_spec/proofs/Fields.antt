@@ -57,8 +57,8 @@ lower-stands written byte stands =
     elim stands [
       | inl same ↦ ap lower same
       | inr small ↦
-        rw (small.1, small.0)
-        (lower-above (byte + 0x20) (omega (arith, leb-true 0x41 byte ((and_parts (leb 0x41 byte) (leb byte 0x46) small.0).0))))
+          rw (small.1, small.0)
+          (lower-above (byte + 0x20) (omega (arith, leb-true 0x41 byte ((and_parts (leb 0x41 byte) (leb byte 0x46) small.0).0))))
     ]
 
 pub lowered-spelled : (line text : List ℕ) → AllZip StandsFor line text → lowered line ≡ lowered text

@@ -5,4 +5,7 @@ pub mod LineReading
 pub mod ReadingLaws
 pub mod ScriptLaws
 pub mod CheckLaws
+pub mod Spelling
 mod ExampleRuns
+mod ExampleScriptRuns
+mod ExampleLogRuns

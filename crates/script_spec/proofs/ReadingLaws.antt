@@ -133,7 +133,7 @@ one_place version (line ∷ good) [] rest after before items others why cause cu
 one_place version (line ∷ good) (line' ∷ other) rest after before items others why cause cut (inl one) (inl two) bad worse =
     let later : good ++ rest ≡ other ++ after = same_tail line line' (good ++ rest) (other ++ after) cut in
     let found : (length good ≡ length other) × (why ≡ cause) =
-      one_place version good other rest after before items others why cause later one.1 two.1 bad worse in
+    one_place version good other rest after before items others why cause later one.1 two.1 bad worse in
     (ap (λ (n : ℕ). suc n) found.0, found.1)
 one_place version (line ∷ good) (line' ∷ other) rest after before items others why cause cut (inl one) (inr two) bad worse =
     let first : line ≡ line' = same_head line line' (good ++ rest) (other ++ after) cut in
@@ -150,7 +150,7 @@ one_place version (line ∷ good) (line' ∷ other) rest after before items othe
     let same : one.0 ≡ two.0 = one_good version before line' one.0 two.0 read two.1 in
     let reads = rw same at one.2 in
     let found : (length good ≡ length other) × (why ≡ cause) =
-      one_place version good other rest after (two.0 ∷ before) items others why cause later reads two.2 bad worse in
+    one_place version good other rest after (two.0 ∷ before) items others why cause later reads two.2 bad worse in
     (ap (λ (n : ℕ). suc n) found.0, found.1)
 
 -- ---- the whole
@@ -173,11 +173,11 @@ not_both bytes script line why text (inl bad) =
 not_both bytes script line why text (inr bad) =
     let lines : first_line script.version ∷ text.later ≡ first_line bad.version ∷ (bad.good ++ bad.rest) = sym text.lines ∙ bad.cut in
     let version : script.version ≡ bad.version =
-      one_version script.version bad.version text.version bad.known
-      (same_head (first_line script.version) (first_line bad.version) text.later (bad.good ++ bad.rest) lines)
+    one_version script.version bad.version text.version bad.known
+    (same_head (first_line script.version) (first_line bad.version) text.later (bad.good ++ bad.rest) lines)
     in
     let later : text.later ≡ bad.good ++ bad.rest =
-      same_tail (first_line script.version) (first_line bad.version) text.later (bad.good ++ bad.rest) lines
+    same_tail (first_line script.version) (first_line bad.version) text.later (bad.good ++ bad.rest) lines
     in
     let read = rw (version, later) at text.read in
     not_read_bad bad.version bad.rest bad.items text.items why
@@ -188,16 +188,16 @@ one_refusal_later : (lines : List (List ℕ)) (line why place cause : ℕ) →
 one_refusal_later lines line why place cause one two =
     let whole : first_line one.version ∷ (one.good ++ one.rest) ≡ first_line two.version ∷ (two.good ++ two.rest) = sym one.cut ∙ two.cut in
     let version : one.version ≡ two.version =
-      one_version one.version two.version one.known two.known
-      (same_head (first_line one.version) (first_line two.version) (one.good ++ one.rest) (two.good ++ two.rest) whole)
+    one_version one.version two.version one.known two.known
+    (same_head (first_line one.version) (first_line two.version) (one.good ++ one.rest) (two.good ++ two.rest) whole)
     in
     let later : one.good ++ one.rest ≡ two.good ++ two.rest =
-      same_tail (first_line one.version) (first_line two.version) (one.good ++ one.rest) (two.good ++ two.rest) whole
+    same_tail (first_line one.version) (first_line two.version) (one.good ++ one.rest) (two.good ++ two.rest) whole
     in
     let read = rw version at one.read in
     let bad = rw version at one.bad in
     let found : (length one.good ≡ length two.good) × (why ≡ cause) =
-      one_place two.version one.good two.good one.rest two.rest [] one.items two.items why cause later read two.read bad two.bad
+    one_place two.version one.good two.good one.rest two.rest [] one.items two.items why cause later read two.read bad two.bad
     in
     (one.place ∙ ap (λ (n : ℕ). n + 2) found.0 ∙ sym two.place, found.1)
 

@@ -36,35 +36,35 @@ rising_same [] (y ∷ ys) one two there back = absurd (All-head (In []) y ys bac
 rising_same (x ∷ xs) [] one two there back = absurd (All-head (In []) x xs there)
 rising_same (x ∷ xs) (y ∷ ys) one two there back =
     let same : x ≡ y =
-      elim (All-head (In (y ∷ ys)) x xs there) [
-        | inl is ↦ is
-        | inr after ↦
+    elim (All-head (In (y ∷ ys)) x xs there) [
+      | inl is ↦ is
+      | inr after ↦
           elim (All-head (In (x ∷ xs)) y ys back) [
             | inl is ↦ sym is
             | inr before ↦
-              let up : y.dev < x.dev = in_all (λ other. y.dev < other.dev) ys x two.0 after in
-              let down : x.dev < y.dev = in_all (λ other. x.dev < other.dev) xs y one.0 before in
-              let none : ⊥ = omega (arith, up, down) in absurd none
+                let up : y.dev < x.dev = in_all (λ other. y.dev < other.dev) ys x two.0 after in
+                let down : x.dev < y.dev = in_all (λ other. x.dev < other.dev) xs y one.0 before in
+                let none : ⊥ = omega (arith, up, down) in absurd none
           ]
-      ]
+    ]
     in
     let there_later : All (In ys) xs = λ k d below.
-      elim (All-tail (In (y ∷ ys)) x xs there k d below) [
-        | inl is ↦
+    elim (All-tail (In (y ∷ ys)) x xs there k d below) [
+      | inl is ↦
           let above : x.dev < (get_or xs k d).dev = one.0 k d below in
           let equal : (get_or xs k d).dev ≡ x.dev = ap (λ card. card.dev) (is ∙ sym same) in
           let none : ⊥ = omega (arith, above, equal) in absurd none
-        | inr after ↦ after
-      ]
+      | inr after ↦ after
+    ]
     in
     let back_later : All (In xs) ys = λ k d below.
-      elim (All-tail (In (x ∷ xs)) y ys back k d below) [
-        | inl is ↦
+    elim (All-tail (In (x ∷ xs)) y ys back k d below) [
+      | inl is ↦
           let above : y.dev < (get_or ys k d).dev = two.0 k d below in
           let equal : (get_or ys k d).dev ≡ y.dev = ap (λ card. card.dev) (is ∙ same) in
           let none : ⊥ = omega (arith, above, equal) in absurd none
-        | inr after ↦ after
-      ]
+      | inr after ↦ after
+    ]
     in
     let later : xs ≡ ys = rising_same xs ys one.1 two.1 there_later back_later in
     λ i. same i ∷ later i
@@ -94,8 +94,8 @@ phases_cut : (phases : List (List Statement)) → cut_phases (phase_items phases
 phases_cut [] = refl
 phases_cut (phase ∷ later) =
     let rest : cut_phases (map Ask phase ++ phase_items later) ≡ (phase ++ [], later) =
-      cut_statements phase (phase_items later)
-      ∙ ap (λ (p : List Statement × List (List Statement)). (phase ++ p.0, p.1)) (phases_cut later)
+    cut_statements phase (phase_items later)
+    ∙ ap (λ (p : List Statement × List (List Statement)). (phase ++ p.0, p.1)) (phases_cut later)
     in
     ap (λ (p : List Statement × List (List Statement)). ([], p.0 ∷ p.1)) rest
     ∙ ap (λ (p : List Statement). ([], p ∷ later)) (append-nil phase)
@@ -143,8 +143,8 @@ pub one_script : OneScript
 one_script bytes script other one two =
     let lines : first_line script.version ∷ one.later ≡ first_line other.version ∷ two.later = sym one.lines ∙ two.lines in
     let version : script.version ≡ other.version =
-      one_version script.version other.version one.version two.version
-      (same_head (first_line script.version) (first_line other.version) one.later two.later lines)
+    one_version script.version other.version one.version two.version
+    (same_head (first_line script.version) (first_line other.version) one.later two.later lines)
     in
     let later : one.later ≡ two.later = same_tail (first_line script.version) (first_line other.version) one.later two.later lines in
     let read = rw (version, later) at one.read in

@@ -6,4 +6,5 @@ pub mod ScriptRange
 pub mod WellFormed
 pub mod Checks
 pub mod Laws
-pub mod ExampleTexts
+pub mod ExampleScripts
+pub mod ExampleLogs
