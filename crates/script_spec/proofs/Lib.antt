@@ -6,6 +6,9 @@ pub mod ReadingLaws
 pub mod ScriptLaws
 pub mod CheckLaws
 pub mod Spelling
+pub mod GoodItems
+pub mod EventRange
+pub mod RangeLaws
 mod ExampleRuns
 mod ExampleScriptRuns
 mod ExampleLogRuns

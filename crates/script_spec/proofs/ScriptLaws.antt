@@ -105,7 +105,7 @@ one_cutting left right e = ap (λ p. p.1) (sym (phases_cut left) ∙ ap cut_phas
 
 -- ---- scripts
 
-abbrev count_of : Option Item → ℕ
+abbrev pub count_of : Option Item → ℕ
 count_of (Some (SetCpus count)) = count
 count_of (Some (SetMemory mib)) = mib
 count_of _ = 0
