@@ -1,6 +1,6 @@
 //! Laws of the definitions. Each function does nothing: its clause is the law.
 
-ghost use Rattle.script_spec.specs.Laws.{NotBoth, OneBadLog, OneDifference, OneItem, OneRefusal, OneScript};
+ghost use Rattle.script_spec.specs.Laws.{NotBoth, OneBadLog, OneDifference, OneItem, OneRefusal, OneScript, ScriptsAreInRange};
 
 /// A line of a script says at most one thing, whatever the case of its digits.
 pub fn law_one_item()
@@ -22,4 +22,9 @@ pub fn law_one_refusal()
 pub fn law_one_line()
     ensures log { OneBadLog }
     ensures script { OneDifference }
+{}
+
+/// What a text says is in range: what a board can be fitted with, and be asked.
+pub fn law_in_range()
+    ensures each { ScriptsAreInRange }
 {}
