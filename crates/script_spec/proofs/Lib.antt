@@ -9,6 +9,7 @@ pub mod Spelling
 pub mod GoodItems
 pub mod EventRange
 pub mod RangeLaws
+pub mod Decisions
 mod ExampleRuns
 mod ExampleScriptRuns
 mod ExampleLogRuns
