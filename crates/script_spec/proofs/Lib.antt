@@ -10,6 +10,7 @@ pub mod GoodItems
 pub mod EventRange
 pub mod RangeLaws
 pub mod Decisions
+pub mod ReadingExists
 mod ExampleRuns
 mod ExampleScriptRuns
 mod ExampleLogRuns

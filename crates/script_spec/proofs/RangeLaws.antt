@@ -118,7 +118,7 @@ all_asks P (phase ∷ later) all =
 
 -- ---- cards
 
-none_any : {X : Type 0} (p : X → Bool) (xs : List X) → list_any p xs ≡ false → All (λ x. p x ≡ false) xs
+pub none_any : {X : Type 0} (p : X → Bool) (xs : List X) → list_any p xs ≡ false → All (λ x. p x ≡ false) xs
 none_any p [] none = All-nil (λ x. p x ≡ false)
 none_any p (x ∷ xs) none =
     let both : (p x ≡ false) × (list_any p xs ≡ false) = or_parts (p x) (list_any p xs) none in

@@ -1,6 +1,6 @@
 //! Laws of the definitions. Each function does nothing: its clause is the law.
 
-ghost use Rattle.script_spec.specs.Laws.{NotBoth, OneBadLog, OneDifference, OneItem, OneRefusal, OneScript, ScriptsAreInRange};
+ghost use Rattle.script_spec.specs.Laws.{NotBoth, OneBadLog, OneDifference, OneItem, OneRefusal, OneScript, ScriptsAreInRange, SomeReading};
 
 /// A line of a script says at most one thing, whatever the case of its digits.
 pub fn law_one_item()
@@ -12,8 +12,9 @@ pub fn law_one_script()
     ensures one { OneScript }
 {}
 
-/// A text that says a script is not bad, and one that is bad is so at one line, for one reason.
-pub fn law_one_refusal()
+/// Each text either says a script or is bad, and one that is bad is so at one line, for one reason.
+pub fn law_one_reading()
+    ensures some { SomeReading }
     ensures not_both { NotBoth }
     ensures one { OneRefusal }
 {}
