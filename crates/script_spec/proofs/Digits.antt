@@ -102,7 +102,7 @@ next_digits high a b p r = grind arith
 halves : (d : ℕ) → d < 256 → d / 16 % 16 * 16 + d % 16 ≡ d
 halves d small = omega arith
 
-hex_after_number : (bytes n high : ℕ) → hex_after high (lowered (hex_number bytes n)) ≡ high * 256 ^ bytes + n % 256 ^ bytes
+pub hex_after_number : (bytes n high : ℕ) → hex_after high (lowered (hex_number bytes n)) ≡ high * 256 ^ bytes + n % 256 ^ bytes
 hex_after_number zero n high = omega arith
 hex_after_number (suc bytes) n high =
     let p : ℕ = 256 ^ bytes in

@@ -11,6 +11,7 @@ pub mod EventRange
 pub mod RangeLaws
 pub mod Decisions
 pub mod ReadingExists
+pub mod PlainText
 mod ExampleRuns
 mod ExampleScriptRuns
 mod ExampleLogRuns
