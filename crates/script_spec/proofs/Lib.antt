@@ -12,6 +12,7 @@ pub mod RangeLaws
 pub mod Decisions
 pub mod ReadingExists
 pub mod PlainText
+pub mod PlainLines
 mod ExampleRuns
 mod ExampleScriptRuns
 mod ExampleLogRuns

@@ -46,7 +46,7 @@ lacks-word mark (c ∷ cs) outside word =
 
 -- ---- digits
 
-digit_byte : (d : ℕ) → d < 10 → is_word_byte (0x30 + d) ≡ true
+pub digit_byte : (d : ℕ) → d < 10 → is_word_byte (0x30 + d) ≡ true
 digit_byte d small =
     or_left (is_within 0x2D 0x3A (0x30 + d)) _
     (and_from (leb 0x2D (0x30 + d)) (leb (0x30 + d) 0x3A) (le-leb 0x2D (0x30 + d) (omega arith)) (le-leb (0x30 + d) 0x3A (omega arith)))
