@@ -13,6 +13,7 @@ pub mod Decisions
 pub mod ReadingExists
 pub mod PlainText
 pub mod PlainLines
+pub mod ReplyReading
 mod ExampleRuns
 mod ExampleScriptRuns
 mod ExampleLogRuns

@@ -51,11 +51,11 @@ rom_words (Some bits) = (codes "x" ++ decimal bits) ∷ []
 abbrev card_words : List Base → Option ℕ → List (List ℕ)
 card_words bases rom = map base_word bases ++ rom_words rom
 
-abbrev spaced : List ℕ → List ℕ
+abbrev pub spaced : List ℕ → List ℕ
 spaced word = space ∷ word
 
 -- a word stands before the rest of its line
-split_word :
+pub split_word :
     (word rest : List ℕ) (words : List (List ℕ)) → lacks space word ≡ true →
     slice_split (λ (byte : ℕ). eqb byte space) rest ≡ [] ∷ words →
     slice_split (λ (byte : ℕ). eqb byte space) (word ++ rest) ≡ word ∷ words
@@ -63,10 +63,10 @@ split_word [] rest words lack after = after
 split_word (c ∷ cs) rest words lack after =
     rw (lacks-first space c cs lack, split_word cs rest words (lacks-later space c cs lack) after) refl
 
-abbrev IsWord : List ℕ → Type 0
+abbrev pub IsWord : List ℕ → Type 0
 IsWord word = lacks space word ≡ true
 
-split_words :
+pub split_words :
     (words : List (List ℕ)) → All IsWord words →
     slice_split (λ (byte : ℕ). eqb byte space) (flat_map spaced words) ≡ [] ∷ words
 split_words [] each = refl
@@ -148,7 +148,7 @@ card_rest_read version dev vga bases rom each form =
       rom_read version bases rom form,
     ) refl
 
-four_parts : (a b c d : List ℕ) → a ++ b ++ c ++ d ≡ a ++ (b ++ (c ++ d))
+pub four_parts : (a b c d : List ℕ) → a ++ b ++ c ++ d ≡ a ++ (b ++ (c ++ d))
 four_parts a b c d = append_assoc (a ++ b) c d ∙ append_assoc a b (c ++ d)
 
 card_read : (version : ℕ) (dev : ℕ) (vga : Bool) (bases : List Base) (rom : Option ℕ) →
