@@ -1,5 +1,5 @@
 -- A text leaves a kind of texts at one line.
-use Rattle.std.proofs.Common.{ℕ, zero, suc, ◌≡◌, ◌≢◌, ◌+◌, ◌⊎◌, Bool, true, false, not, eqb, List, [], ◌∷◌, ◌++◌, length, All, flat_map, refl, sym, ap, ◌∙◌, inl, inr, append_assoc, arith}
+use Rattle.std.proofs.Common.{ℕ, ◌≡◌, ◌≢◌, ◌+◌, ◌⊎◌, true, List, [], ◌∷◌, ◌++◌, length, All, refl, sym, ap, ◌∙◌, inl, inr, append_assoc}
 use Rattle.std.proofs.lemmas.Bool.{ne_eqb, eqb-false}
 use Rattle.std.proofs.lemmas.Grind.{flat_map-append}
 use Rattle.std.proofs.lemmas.List.Elements.{All-nil, All-cons, All-head, All-tail}
@@ -25,14 +25,14 @@ one_line (c ∷ cs) lack =
     (one_line cs (lacks-later line_feed c cs lack))
 
 -- lines go on as other lines do
-record GoesOn (lines : List (List ℕ)) (rest : List ℕ) (others : List (List ℕ)) (after : List ℕ) : Type 0 where
-  this : List ℕ
-  more : List (List ℕ)
-  is : others ≡ lines ++ this ∷ more
-  one : IsOneLine this
-  whole : rest ≡ this ++ line_feed ∷ (text_of_lines more ++ after)
+pub record GoesOn (lines : List (List ℕ)) (rest : List ℕ) (others : List (List ℕ)) (after : List ℕ) : Type 0 where
+  pub this : List ℕ
+  pub more : List (List ℕ)
+  pub is : others ≡ lines ++ this ∷ more
+  pub one : IsOneLine this
+  pub whole : rest ≡ this ++ line_feed ∷ (text_of_lines more ++ after)
 
-abbrev Compared : List (List ℕ) → List ℕ → List (List ℕ) → List ℕ → Type 0
+abbrev pub Compared : List (List ℕ) → List ℕ → List (List ℕ) → List ℕ → Type 0
 Compared lines rest others after =
     (lines ≡ others) ⊎ GoesOn lines rest others after ⊎ GoesOn others after lines rest
 
@@ -58,7 +58,7 @@ line_parts : (line text rest : List ℕ) → (line ++ line_feed ∷ []) ++ text 
 line_parts line text rest =
     append_assoc (line ++ line_feed ∷ []) text rest ∙ append_assoc line (line_feed ∷ []) (text ++ rest)
 
-compared :
+pub compared :
     (lines : List (List ℕ)) (rest : List ℕ) (others : List (List ℕ)) (after : List ℕ) →
     All IsOneLine lines → All IsOneLine others → text_of_lines lines ++ rest ≡ text_of_lines others ++ after →
     Compared lines rest others after

@@ -1,8 +1,8 @@
 -- Whether a line has a form is decided by what is read from it.
-use Rattle.std.proofs.Common.{ℕ, zero, suc, ◌≡◌, ◌≢◌, ◌+◌, ◌%◌, ◌^◌, ◌<◌, ◌≤◌, ◌⊎◌, Bool, true, false, Option, Some, None, List, [], ◌∷◌, length, take, All, refl, sym, ap, ◌∙◌, inl, inr, arith}
+use Rattle.std.proofs.Common.{ℕ, ◌≡◌, ◌≢◌, ◌%◌, ◌^◌, ◌<◌, ◌≤◌, ◌⊎◌, Bool, true, false, Option, Some, None, List, [], ◌∷◌, length, take, All, refl, sym, inl, inr, arith}
 use Rattle.std.specs.Prelude.{codes}
-use Rattle.std.specs.List.{AllZip, list_all}
-use Rattle.std.proofs.lemmas.Bool.{true≢false, false≢true, cases_lt, cases_eq, cases_Bool}
+use Rattle.std.specs.List.{list_all}
+use Rattle.std.proofs.lemmas.Bool.{false≢true, cases_lt, cases_eq}
 use Rattle.std.proofs.lemmas.List.Elements.{All-nil, All-cons, All-head, All-tail}
 use Rattle.board_base.specs.declared.access.Access.{Access}
 use Rattle.board_base.specs.declared.access.WideAccess.{WideAccess}
@@ -12,11 +12,10 @@ use Rattle.board_base.specs.Access.{bytes_of}
 use Rattle.board_base.specs.Calendar.{weekday_of}
 use Rattle.board_spec.specs.declared.event.Event.{Event}
 use Rattle.board_spec.specs.declared.event.Event.TheVariants.{Memory, Wide, Port, Look as LookAt, Ack, Pulses, Time, Wire, Line, BadSector}
-use Rattle.board_spec.specs.declared.event.Statement.{Statement}
 use Rattle.board_spec.specs.Setup.{Base, MemoryBase, IoBase, FittedCard}
 use Rattle.board_spec.specs.Stored.{is_write}
 use Rattle.board_spec.specs.InRange.{FitsBytes}
-use Rattle.script_spec.specs.Grammar.{Item, SetCpus, SetMemory, SetRom, SetDisk, FitCard, BeginPhase, Ask, AskLevel, StandsFor, Says, IsDecimal, IsName, is_name_start, is_name_byte, IsBaseForm, IsRomForm, IsCardForm, IsMemoryForm, IsWideForm, IsPortForm, IsMomentForm, IsEventForm, IsLevelForm, IsForm, HasForm, item_text}
+use Rattle.script_spec.specs.Grammar.{Item, SetCpus, SetMemory, SetRom, SetDisk, FitCard, BeginPhase, Ask, AskLevel, Says, IsDecimal, IsName, is_name_start, is_name_byte, IsBaseForm, IsRomForm, IsCardForm, IsMemoryForm, IsWideForm, IsPortForm, IsMomentForm, IsEventForm, IsLevelForm, IsForm, HasForm, item_text}
 use Rattle.script_spec.proofs.LineReading.{item_of, item_read}
 use Rattle.script_spec.proofs.ReadingLaws.{same_head, same_tail, not_nil}
 use Rattle.script_spec.proofs.Spelling.{spells, spelled, spells_so}
@@ -36,17 +35,17 @@ both (inr no_p) q = inr (λ pair. no_p pair.0)
 either : {P Q : Type 0} → Decided P → Decided Q → Decided (P ⊎ Q)
 either (inl p) q = inl (inl p)
 either (inr no_p) (inl q) = inl (inr q)
-either (inr no_p) (inr no_q) = inr (λ sum. elim sum [ | inl p ↦ no_p p | inr q ↦ no_q q ])
+either (inr no_p) (inr no_q) = inr (λ sum. elim sum [ inl p ↦ no_p p | inr q ↦ no_q q ])
 
 unless : {P : Type 0} → Decided P → Decided (¬ P)
 unless (inl p) = inr (λ no_p. no_p p)
 unless (inr no_p) = inl no_p
 
 less : (m n : ℕ) → Decided (m < n)
-less m n = elim (cases_lt m n) [ | inl is ↦ inl is | inr above ↦ inr (λ is. let none : ⊥ = omega (arith, is, above) in none) ]
+less m n = elim (cases_lt m n) [ inl is ↦ inl is | inr above ↦ inr (λ is. let none : ⊥ = omega (arith, is, above) in none) ]
 
 within : (m n : ℕ) → Decided (m ≤ n)
-within m n = elim (cases_lt n m) [ | inl above ↦ inr (λ is. let none : ⊥ = omega (arith, is, above) in none) | inr is ↦ inl is ]
+within m n = elim (cases_lt n m) [ inl above ↦ inr (λ is. let none : ⊥ = omega (arith, is, above) in none) | inr is ↦ inl is ]
 
 equal : (m n : ℕ) → Decided (m ≡ n)
 equal m n = cases_eq m n

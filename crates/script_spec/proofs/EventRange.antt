@@ -1,5 +1,5 @@
 -- Events that have a form, and that there is no reason to refuse, are in range.
-use Rattle.std.proofs.Common.{ℕ, suc, ◌≡◌, ◌+◌, ◌-◌, ◌%◌, ◌^◌, ◌<◌, ◌≤◌, Bool, true, false, ◌&&◌, leb, eqb, List, [], ◌∷◌, refl, arith}
+use Rattle.std.proofs.Common.{ℕ, ◌≡◌, ◌+◌, ◌%◌, ◌≤◌, Bool, true, false, ◌&&◌, leb, List, refl, arith}
 use Rattle.std.specs.Prelude.{is_some}
 use Rattle.std.proofs.lemmas.Bool.{false≢true, and_parts, leb-true, eqb-true}
 use Rattle.board_base.specs.declared.access.Width.{Width}
@@ -40,10 +40,10 @@ six true true true true true true test = (refl, refl, refl, refl, refl, refl)
 moment_there : (m : Moment) → IsMomentForm m → is_moment m ≡ true → IsMoment m
 moment_there m form test =
     let parts : (is_within 1980 2099 m.year ≡ true) × (is_within 1 12 m.month ≡ true)
-        × (is_within 1 (days_in_month m.year m.month) m.day ≡ true) × (leb m.hour 23 ≡ true) × (leb m.minute 59 ≡ true)
-        × (leb m.second 59 ≡ true) =
-      six (is_within 1980 2099 m.year) (is_within 1 12 m.month) (is_within 1 (days_in_month m.year m.month) m.day)
-      (leb m.hour 23) (leb m.minute 59) (leb m.second 59) test
+    × (is_within 1 (days_in_month m.year m.month) m.day ≡ true) × (leb m.hour 23 ≡ true) × (leb m.minute 59 ≡ true)
+    × (leb m.second 59 ≡ true) =
+    six (is_within 1980 2099 m.year) (is_within 1 12 m.month) (is_within 1 (days_in_month m.year m.month) m.day)
+    (leb m.hour 23) (leb m.minute 59) (leb m.second 59) test
     in
     let year : (1980 ≤ m.year) × (m.year ≤ 2099) = within 1980 2099 m.year parts.0 in
     let month : (1 ≤ m.month) × (m.month ≤ 12) = within 1 12 m.month parts.1 in

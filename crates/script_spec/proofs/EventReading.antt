@@ -1,8 +1,8 @@
 -- The events of statements are read back from their lowered text.
-use Rattle.std.proofs.Common.{ℕ, zero, suc, ◌≡◌, ◌≢◌, ◌+◌, ◌-◌, ◌*◌, ◌/◌, ◌%◌, ◌^◌, ◌<◌, ◌≤◌, ◌⊎◌, Bool, true, false, not, ◌&&◌, ◌||◌, cond, eqb, ltb, List, [], ◌∷◌, ◌++◌, take, drop, refl, sym, ap, ◌∙◌, inl, inr, arith}
+use Rattle.std.proofs.Common.{ℕ, ◌≡◌, ◌+◌, ◌-◌, ◌*◌, ◌/◌, ◌%◌, ◌^◌, ◌<◌, ◌≤◌, ◌⊎◌, Bool, true, false, not, ◌&&◌, ◌||◌, cond, eqb, ltb, List, [], ◌∷◌, ◌++◌, take, drop, refl, sym, ap, ◌∙◌, inl, inr, arith}
 use Rattle.std.specs.Prelude.{codes, decimal}
 use Rattle.std.specs.Str.Parse.{digits_value}
-use Rattle.std.proofs.lemmas.Bool.{ne_eqb, eq-eqb, lt-ltb, le-ltb, eqb-true, cases_Bool}
+use Rattle.std.proofs.lemmas.Bool.{ne_eqb, eq-eqb, le-ltb, eqb-true, cases_Bool}
 use Rattle.board_base.specs.declared.access.Kind.{Kind}
 use Rattle.board_base.specs.declared.access.Kind.TheVariants.{Fetch, Read, Write}
 use Rattle.board_base.specs.declared.access.Width.{Width}
@@ -15,12 +15,11 @@ use Rattle.board_base.specs.Access.{bytes_of}
 use Rattle.board_base.specs.Calendar.{moment_of}
 use Rattle.board_spec.specs.declared.event.Event.{Event}
 use Rattle.board_spec.specs.declared.event.Event.TheVariants.{Memory, Wide, Port, Look as LookAt, Ack, Pulses, Time, Wire, Line, BadSector}
-use Rattle.board_spec.specs.declared.event.Statement.{Statement}
 use Rattle.board_spec.specs.Stored.{is_write}
 use Rattle.board_spec.specs.InRange.{FitsBytes}
 use Rattle.board_spec.specs.Text.{space, hex_word, hex_long}
 use Rattle.board_spec.specs.LogText.{memory_text, kind_text, width_text, written_text, smm_text, level_text, moment_text, port_text, event_text}
-use Rattle.script_spec.specs.Grammar.{Item, Ask, AskLevel, IsDecimal, IsMemoryForm, IsWideForm, IsPortForm, IsMomentForm, IsEventForm, IsLevelForm}
+use Rattle.script_spec.specs.Grammar.{Item, Ask, AskLevel, IsDecimal, IsWideForm, IsMomentForm, IsEventForm, IsLevelForm}
 use Rattle.script_spec.proofs.Digits.{lower, lowered, lacks, lower-below, value_of_decimal, hex_of, value_of_hex}
 use Rattle.script_spec.proofs.Fields.{front, back, front-field, back-field, lacks-decimal, lowered-field, lowered-decimal}
 

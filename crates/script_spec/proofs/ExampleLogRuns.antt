@@ -1,5 +1,5 @@
 -- The worked texts of logs.
-use Rattle.std.specs.Prelude.{ℕ, suc, ◌≡◌, ◌≢◌, ◌+◌, ◌<◌, ◌≤◌, ◌==◌, Bool, List, [], ◌∷◌, ◌++◌, length, All, codes, decimal, refl, if◌then◌else◌}
+use Rattle.std.specs.Prelude.{ℕ, suc, ◌≡◌, ◌+◌, ◌≤◌, ◌==◌, List, [], ◌∷◌, ◌++◌, length, codes, decimal, refl, if◌then◌else◌}
 use Rattle.std.proofs.Common.{get_or, take, drop, arith, inl, inr, sym, ap, ◌∙◌}
 use Rattle.std.specs.Fmt.{digits}
 use Rattle.std.proofs.lemmas.Grind.{common_steps}
@@ -14,9 +14,8 @@ use Rattle.board_spec.specs.ExampleOrders.{phases, look_last, LookLast}
 use Rattle.script_spec.specs.Lines.{text_of_lines, IsOneLine}
 use Rattle.script_spec.specs.ScriptText.{IsVersion}
 use Rattle.script_spec.specs.WellFormed.{IsWellFormed}
-use Rattle.script_spec.specs.Checks.{AreBegun, LeavesAt, IsLogText, IsSomeLog, IsLogOf}
+use Rattle.script_spec.specs.Checks.{AreBegun, IsSomeLog, IsLogOf}
 use Rattle.script_spec.specs.ExampleLogs.{NoEntries, NoSuchVersion, EmptyLog, EmptyLogDiffers, CutLogDiffers}
-use Rattle.script_spec.proofs.Digits.{lacks}
 use Rattle.script_spec.proofs.Fields.{front, front-field}
 use Rattle.script_spec.proofs.CheckLaws.{lacks-line, one_line}
 

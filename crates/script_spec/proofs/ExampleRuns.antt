@@ -1,16 +1,16 @@
 -- The worked texts, each line by its item.
-use Rattle.std.specs.Prelude.{ℕ, ◌≡◌, ◌+◌, ◌<◌, ◌≤◌, ◌⊎◌, Bool, true, false, List, [], ◌∷◌, ◌++◌, length, Option, Some, None, codes, refl}
-use Rattle.std.proofs.Common.{get_or, arith, inl, inr, sym, ap, ◌∙◌}
+use Rattle.std.specs.Prelude.{ℕ, ◌≡◌, ◌+◌, ◌≤◌, false, List, [], ◌∷◌, ◌++◌, length, Some, None, codes, refl}
+use Rattle.std.proofs.Common.{get_or, arith, inl, inr, ap}
 use Rattle.std.specs.Fmt.{digits}
 use Rattle.std.proofs.lemmas.Bool.{false≢true}
 use Rattle.std.proofs.lemmas.List.Elements.{All-nil}
 use Rattle.board_base.specs.Calendar.{weekday_of, days_since_1980, days_of_years, days_of_months}
 use Rattle.board_spec.specs.LogText.{event_text}
 use Rattle.script_spec.specs.Lines.{lines_of, text_of_lines}
-use Rattle.script_spec.specs.Grammar.{Item, IsBaseForm, SetCpus, SetMemory, SetRom, SetDisk, FitCard, BeginPhase, Ask, AskLevel, Says, HasForm, IsForm, IsName, item_text}
+use Rattle.script_spec.specs.Grammar.{Item, IsBaseForm, SetCpus, SetMemory, SetRom, BeginPhase, AskLevel, Says, IsForm, IsName, item_text}
 use Rattle.script_spec.specs.Reasons.{least_reason}
-use Rattle.script_spec.specs.ScriptText.{most_bytes, is_skipped, IsGoodLine, IsRefusedLine, IsFormless, IsBadLine, AreRead, EndsBadly, IsVersion, IsScriptBad, first_line}
-use Rattle.script_spec.specs.ExampleScripts.{IsBadAt, IsBadSixth, small_setup, EmptyFile, CommentFirst, PhaseTooEarly, RepeatedCpus, EndTooEarly, SevenDigits, SetupAfterPhase, NoSuchDay, OddAddress, SecondProcessor, TwoReasons, HighLevel, EightBytesInVersion1, PastTheEnd, RomInVersion1, SmallRom, NoName}
+use Rattle.script_spec.specs.ScriptText.{most_bytes, is_skipped, IsGoodLine, IsBadLine, AreRead, EndsBadly, IsVersion, first_line}
+use Rattle.script_spec.specs.ExampleScripts.{IsBadAt, small_setup, EmptyFile, CommentFirst, PhaseTooEarly, RepeatedCpus, EndTooEarly, SevenDigits, SetupAfterPhase, NoSuchDay, OddAddress, SecondProcessor, TwoReasons, HighLevel, EightBytesInVersion1, PastTheEnd, RomInVersion1, SmallRom, NoName}
 use Rattle.script_spec.proofs.LineReading.{item_of, item_read}
 use Rattle.script_spec.proofs.ReadingLaws.{same_head, not_nil}
 use Rattle.script_spec.proofs.Spelling.{spelled, spells_so}

@@ -1,8 +1,7 @@
 -- The worked scripts, each line by its item.
-use Rattle.std.specs.Prelude.{ℕ, ◌≡◌, ◌<◌, ◌≤◌, Bool, true, false, List, [], ◌∷◌, length, All, Option, Some, None, codes, refl}
+use Rattle.std.specs.Prelude.{◌<◌, true, false, List, [], ◌∷◌, All, Some, None, codes, refl}
 use Rattle.std.proofs.Common.{arith, inl, inr}
 use Rattle.std.specs.Fmt.{digits}
-use Rattle.std.specs.List.{AllZip}
 use Rattle.std.proofs.lemmas.List.Elements.{All-nil, All-cons}
 use Rattle.std.proofs.lemmas.List.Sorted.{IsPermutation-refl}
 use Rattle.board_base.specs.declared.access.Kind.TheVariants.{Fetch, Read, Write}
@@ -11,9 +10,8 @@ use Rattle.board_spec.specs.declared.event.Event.TheVariants.{Wide, Port, Look a
 use Rattle.board_spec.specs.Setup.{MemoryBase, IoBase, FittedCard}
 use Rattle.board_spec.specs.LogText.{event_text}
 use Rattle.script_spec.specs.Lines.{lines_of}
-use Rattle.script_spec.specs.Grammar.{Item, SetCpus, SetMemory, SetRom, SetDisk, FitCard, BeginPhase, Ask, IsForm, IsBaseForm, IsName, Says, item_text}
+use Rattle.script_spec.specs.Grammar.{Item, SetCpus, SetMemory, SetRom, SetDisk, FitCard, BeginPhase, Ask, IsBaseForm, item_text}
 use Rattle.script_spec.specs.Reasons.{cards_of, least_reason}
-use Rattle.script_spec.specs.ScriptText.{IsSkipped}
 use Rattle.script_spec.specs.ExampleScripts.{states, accesses, TwoProcessors, TwoOrders, WideScript}
 use Rattle.script_spec.proofs.Spelling.{spelled}
 use Rattle.script_spec.proofs.ExampleRuns.{good, small_name}

@@ -1,10 +1,9 @@
 -- A text is cut at a byte, and the spelling of a line is lowered away.
-use Rattle.std.proofs.Common.{ℕ, ◌≡◌, ◌+◌, ◌<◌, ◌≤◌, ◌⊎◌, Bool, true, false, not, ◌&&◌, cond, eqb, leb, List, [], ◌∷◌, ◌++◌, map, refl, sym, ap, ◌∙◌, inl, inr, ⊎_elim, arith}
+use Rattle.std.proofs.Common.{ℕ, ◌≡◌, ◌+◌, ◌<◌, ◌⊎◌, true, false, not, cond, eqb, leb, List, [], ◌∷◌, ◌++◌, refl, ap, ◌∙◌, inl, inr, arith}
 use Rattle.std.specs.Prelude.{decimal}
 use Rattle.std.specs.List.{AllZip}
-use Rattle.std.proofs.lemmas.Bool.{eq-eqb, and_parts, and_from, leb-true, not-true}
+use Rattle.std.proofs.lemmas.Bool.{eq-eqb, and_parts, leb-true, not-true}
 use Rattle.std.proofs.lemmas.List.{map-append}
-use Rattle.board_spec.specs.Text.{space}
 use Rattle.script_spec.specs.Grammar.{IsDecimal, StandsFor}
 use Rattle.script_spec.proofs.Digits.{lower, lowered, lower-above, lacks, lacks-digits, digits_of_decimal, lowered-digits}
 

@@ -1,16 +1,12 @@
 -- What holds of items that were read.
-use Rattle.std.proofs.Common.{ℕ, zero, suc, ◌≡◌, ◌+◌, ◌<◌, ◌≤◌, ◌⊎◌, Bool, true, false, not, ◌&&◌, ◌||◌, cond, leb, ltb, eqb, Option, Some, None, List, [], ◌∷◌, length, All, filter, refl, sym, ap, ◌∙◌, inl, inr, arith}
+use Rattle.std.proofs.Common.{ℕ, ◌≡◌, Bool, true, false, not, ◌&&◌, Option, Some, None, List, [], ◌∷◌, refl, sym, ap, inl, inr}
 use Rattle.std.specs.Prelude.{unwrap_or}
 use Rattle.std.specs.Option.{option_map}
-use Rattle.std.specs.List.{find, list_any, sum_by}
-use Rattle.std.proofs.lemmas.Bool.{true≢false, false≢true, not-false, or_parts, or_right, or_left, and_parts, cases_Bool, ltb-true, ltb-false, leb-true, eqb-true}
+use Rattle.std.specs.List.{find}
+use Rattle.std.proofs.lemmas.Bool.{not-false, cases_Bool}
 use Rattle.std.proofs.lemmas.Option.{none-some}
-use Rattle.std.proofs.lemmas.List.Elements.{All-nil, All-cons}
-use Rattle.board_spec.specs.declared.event.Event.{Event}
-use Rattle.board_spec.specs.declared.event.Statement.{Statement}
-use Rattle.board_spec.specs.Setup.{FittedCard, memory_of_cards}
-use Rattle.script_spec.specs.Grammar.{Item, SetCpus, SetMemory, SetRom, SetDisk, FitCard, BeginPhase, Ask, AskLevel, IsForm, IsEventForm, HasForm}
-use Rattle.script_spec.specs.Reasons.{Reason, reason, reasons, is_phase, is_statement, is_setup, is_cpus, is_cpus_above, has_card, cards_of, is_misplaced, is_repeated, lacks_setup, is_in_range, is_placed, is_there, is_event_in_range, is_event_placed, is_card_there, pulses_of, passes_limits, least_reason}
+use Rattle.script_spec.specs.Grammar.{Item, IsForm}
+use Rattle.script_spec.specs.Reasons.{reason, is_phase, is_misplaced, is_repeated, lacks_setup, is_in_range, is_placed, is_there, passes_limits, least_reason}
 use Rattle.script_spec.specs.ScriptText.{AreRead}
 
 -- there is no reason to refuse an item behind these
@@ -44,10 +40,10 @@ pub no_reason : (before : List Item) (item : Item) → least_reason before item 
 unfolding least_reason
 no_reason before item none =
     let fail : (is_misplaced before item ≡ false) × (is_repeated before item ≡ false)
-        × ((is_phase item && lacks_setup before) ≡ false) × (not (is_in_range item) ≡ false) × (not (is_placed item) ≡ false)
-        × (not (is_there before item) ≡ false) × (passes_limits (item ∷ before) ≡ false) =
-      all_fail (is_misplaced before item) (is_repeated before item) (is_phase item && lacks_setup before)
-      (not (is_in_range item)) (not (is_placed item)) (not (is_there before item)) (passes_limits (item ∷ before)) none
+    × ((is_phase item && lacks_setup before) ≡ false) × (not (is_in_range item) ≡ false) × (not (is_placed item) ≡ false)
+    × (not (is_there before item) ≡ false) × (passes_limits (item ∷ before) ≡ false) =
+    all_fail (is_misplaced before item) (is_repeated before item) (is_phase item && lacks_setup before)
+    (not (is_in_range item)) (not (is_placed item)) (not (is_there before item)) (passes_limits (item ∷ before)) none
     in
     record {
       place = fail.0;
@@ -80,10 +76,10 @@ found_good version [] test item good found = absurd (none-some item found)
 found_good version (first ∷ before) test item good found =
     elim (cases_Bool (test first)) [
       | inl passes ↦
-        let here = rw passes at found in
-        let same : first ≡ item = ap (λ o. unwrap_or o first) here in
-        (rw (← same) good.0, rw (← same) good.1.range)
+          let here = rw passes at found in
+          let same : first ≡ item = ap (λ o. unwrap_or o first) here in
+          (rw (← same) good.0, rw (← same) good.1.range)
       | inr fails ↦
-        let later = rw fails at found in
-        found_good version before test item good.2 later
+          let later = rw fails at found in
+          found_good version before test item good.2 later
     ]

@@ -14,6 +14,7 @@ pub mod ReadingExists
 pub mod PlainText
 pub mod PlainLines
 pub mod ReplyReading
+pub mod LogLaws
 mod ExampleRuns
 mod ExampleScriptRuns
 mod ExampleLogRuns

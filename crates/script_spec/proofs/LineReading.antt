@@ -1,21 +1,20 @@
 -- What a line says is read back from it, so a line says at most one thing.
-use Rattle.std.proofs.Common.{ℕ, zero, suc, ◌≡◌, ◌+◌, ◌-◌, ◌<◌, ◌≤◌, ◌⊎◌, Bool, true, false, not, ◌&&◌, cond, eqb, leb, Option, Some, None, List, [], ◌∷◌, ◌++◌, length, map, drop, All, flat_map, refl, sym, ap, ◌∙◌, inl, inr, append_assoc, append-nil, arith}
+use Rattle.std.proofs.Common.{ℕ, ◌≡◌, ◌<◌, Bool, true, false, cond, eqb, Option, Some, None, List, [], ◌∷◌, ◌++◌, length, map, drop, All, flat_map, refl, sym, ap, ◌∙◌, inl, append_assoc, append-nil, arith}
 use Rattle.std.specs.Prelude.{codes, decimal}
-use Rattle.std.specs.List.{AllZip, slice_split, onto_first}
+use Rattle.std.specs.List.{slice_split}
 use Rattle.std.specs.Str.Parse.{AllDigits, digits_value}
 use Rattle.std.proofs.lemmas.Bool.{le-leb}
 use Rattle.std.proofs.lemmas.Str.Parse.{digit_from_value}
 use Rattle.std.proofs.lemmas.Fmt.{decimal_nonempty}
 use Rattle.std.proofs.lemmas.List.Elements.{All-nil, All-head, All-tail, All-cons}
-use Rattle.board_spec.specs.declared.event.Statement.{Statement}
 use Rattle.board_spec.specs.Setup.{Base, MemoryBase, IoBase, FittedCard}
 use Rattle.board_spec.specs.Bits.{is_within}
 use Rattle.board_spec.specs.Text.{space}
 use Rattle.board_spec.specs.LogText.{event_text}
-use Rattle.script_spec.specs.Grammar.{Item, SetCpus, SetMemory, SetRom, SetDisk, FitCard, BeginPhase, Ask, AskLevel, IsDecimal, IsForm, IsBaseForm, IsRomForm, IsCardForm, IsLevelForm, HasForm, StandsFor, Says, base_text, rom_text, card_text, item_text}
+use Rattle.script_spec.specs.Grammar.{Item, SetCpus, SetMemory, SetRom, SetDisk, FitCard, BeginPhase, Ask, AskLevel, IsDecimal, IsForm, IsBaseForm, IsRomForm, IsCardForm, HasForm, Says, base_text, rom_text, card_text, item_text}
 use Rattle.script_spec.specs.Laws.{OneItem}
 use Rattle.script_spec.proofs.Digits.{lowered, lacks, lacks-digits, value_of_decimal, digits_of_decimal}
-use Rattle.script_spec.proofs.Fields.{front, back, lacks-first, lacks-later, lacks-append, front-field, back-field, lacks-decimal, lowered-field, lowered-spelled}
+use Rattle.script_spec.proofs.Fields.{front, back, lacks-first, lacks-later, front-field, back-field, lacks-decimal, lowered-field, lowered-spelled}
 use Rattle.script_spec.proofs.EventReading.{statement_of, statement_read, level_read}
 
 -- ---- cards

@@ -1,5 +1,5 @@
 -- Statements and replies are words and spaces.
-use Rattle.std.proofs.Common.{ℕ, zero, suc, ◌≡◌, ◌+◌, ◌/◌, ◌%◌, ◌<◌, ◌≤◌, Bool, true, false, ◌&&◌, ◌||◌, eqb, Option, Some, None, List, [], ◌∷◌, ◌++◌, flat_map, refl, sym, ap, ◌∙◌, inl, inr, arith}
+use Rattle.std.proofs.Common.{ℕ, ◌≡◌, ◌+◌, ◌/◌, ◌%◌, ◌<◌, Bool, true, false, ◌||◌, eqb, Option, Some, None, List, [], ◌∷◌, ◌++◌, flat_map, refl, inl, inr, arith}
 use Rattle.std.specs.Prelude.{codes, decimal, if◌then◌else◌}
 use Rattle.std.proofs.lemmas.Bool.{cases_Bool, or_right, and_from}
 use Rattle.board_base.specs.declared.access.Kind.{Kind}
@@ -35,14 +35,14 @@ size_plain bytes =
     elim (cases_Bool (eqb bytes 1)) [
       | inl one ↦ rw one refl
       | inr not_one ↦
-        elim (cases_Bool (eqb bytes 2)) [
-          | inl two ↦ rw (not_one, two) refl
-          | inr not_two ↦
-            elim (cases_Bool (eqb bytes 4)) [
-              | inl four ↦ rw (not_one, not_two, four) refl
-              | inr other ↦ rw (not_one, not_two, other) refl
-            ]
-        ]
+          elim (cases_Bool (eqb bytes 2)) [
+            | inl two ↦ rw (not_one, two) refl
+            | inr not_two ↦
+                elim (cases_Bool (eqb bytes 4)) [
+                  | inl four ↦ rw (not_one, not_two, four) refl
+                  | inr other ↦ rw (not_one, not_two, other) refl
+                ]
+          ]
     ]
 
 written_plain : (writes : Bool) (bytes value : ℕ) → is_plain (written_text writes bytes value) ≡ true

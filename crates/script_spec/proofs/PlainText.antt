@@ -1,14 +1,10 @@
 -- The bytes of the log's words: spaces, letters, digits and a few marks, but no line feed and no `=`.
-use Rattle.std.proofs.Common.{ℕ, zero, suc, ◌≡◌, ◌+◌, ◌-◌, ◌*◌, ◌/◌, ◌%◌, ◌^◌, ◌<◌, ◌≤◌, ◌⊎◌, Bool, true, false, not, ◌&&◌, ◌||◌, cond, eqb, leb, ltb, Option, Some, None, List, [], ◌∷◌, ◌++◌, flat_map, refl, sym, ap, ◌∙◌, inl, inr, arith}
+use Rattle.std.proofs.Common.{ℕ, zero, suc, ◌≡◌, ◌+◌, ◌/◌, ◌%◌, ◌<◌, Bool, true, false, ◌||◌, cond, eqb, leb, ltb, Option, Some, None, List, [], ◌∷◌, ◌++◌, refl, sym, ap, ◌∙◌, inl, inr, arith}
 use Rattle.std.specs.Prelude.{codes, decimal}
 use Rattle.std.specs.Fmt.{digits, digits_onto, digit_glyph}
 use Rattle.std.specs.List.{list_all}
-use Rattle.std.proofs.lemmas.Bool.{le-leb, lt-leb, lt-ltb, le-ltb, ne_eqb, cases_lt, cases_Bool, and_from, and_parts, or_cases, or_right, or_left, leb-true, eqb-true, true≢false, false≢true}
+use Rattle.std.proofs.lemmas.Bool.{le-leb, lt-ltb, le-ltb, ne_eqb, cases_lt, cases_Bool, and_from, and_parts, or_right, or_left, true≢false}
 use Rattle.std.proofs.lemmas.List.Folds.{list_all-append}
-use Rattle.board_base.specs.declared.access.Kind.{Kind}
-use Rattle.board_base.specs.declared.access.Kind.TheVariants.{Fetch, Read, Write}
-use Rattle.board_base.specs.declared.access.Width.{Width}
-use Rattle.board_base.specs.declared.access.Width.TheVariants.{One, Two, Four}
 use Rattle.board_base.specs.declared.target.Reg.{Reg}
 use Rattle.board_base.specs.declared.target.Dev.{Dev}
 use Rattle.board_base.specs.declared.target.Dev.TheVariants as devices
@@ -56,10 +52,10 @@ hex_byte_word d small =
     elim (cases_lt d 10) [
       | inl digit ↦ rw (lt-ltb d 10 digit) (digit_byte d digit)
       | inr letter ↦
-        rw (le-ltb d 10 letter) (
+          rw (le-ltb d 10 letter) (
           or_right (is_within 0x2D 0x3A (0x37 + d)) (is_within 0x41 0x7A (0x37 + d))
           (and_from (leb 0x41 (0x37 + d)) (leb (0x37 + d) 0x7A) (le-leb 0x41 (0x37 + d) (omega arith)) (le-leb (0x37 + d) 0x7A (omega arith)))
-        )
+          )
     ]
 
 pub hex_digit_word : (n : ℕ) → is_word_byte (hex_digit n) ≡ true
@@ -78,7 +74,7 @@ digits_word : (count n : ℕ) (after : List ℕ) → is_word after ≡ true → 
 digits_word zero n after word = word
 digits_word (suc count) n after word =
     let more : is_word (digit_glyph false (n % 10) ∷ after) ≡ true =
-      word-more (digit_glyph false (n % 10)) after (glyph_word (n % 10) (omega arith)) word
+    word-more (digit_glyph false (n % 10)) after (glyph_word (n % 10) (omega arith)) word
     in
     elim (cases_Bool (eqb (n / 10) 0)) [
       | inl last ↦ rw last more
@@ -168,7 +164,7 @@ pub lacks-plain : (mark : ℕ) (xs : List ℕ) → (eqb mark space || is_word_by
 lacks-plain mark [] outside plain = refl
 lacks-plain mark (c ∷ cs) outside plain =
     let parts : ((eqb c space || is_word_byte c) ≡ true) × (is_plain cs ≡ true) =
-      and_parts (eqb c space || is_word_byte c) (is_plain cs) plain
+    and_parts (eqb c space || is_word_byte c) (is_plain cs) plain
     in
     rw (
       ne_eqb c mark (λ same. true≢false (sym parts.0 ∙ ap (λ (b : ℕ). eqb b space || is_word_byte b) same ∙ outside)),

@@ -1,22 +1,21 @@
 -- What a text says is in range.
-use Rattle.std.proofs.Common.{ℕ, zero, suc, ◌≡◌, ◌+◌, ◌-◌, ◌*◌, ◌<◌, ◌≤◌, ◌⊎◌, Bool, true, false, not, ◌&&◌, ◌||◌, cond, ltb, Option, Some, None, List, [], ◌∷◌, ◌++◌, length, map, reverse, All, filter, flat_map, refl, sym, ap, ◌∙◌, inl, inr, get_or, add-one, arith}
+use Rattle.std.proofs.Common.{ℕ, ◌≡◌, ◌+◌, ◌-◌, ◌*◌, ◌<◌, ◌≤◌, Bool, true, false, not, ◌&&◌, ◌||◌, cond, ltb, Option, Some, None, List, [], ◌∷◌, ◌++◌, length, map, reverse, All, filter, flat_map, refl, sym, ap, ◌∙◌, inl, inr, get_or, add-one, arith}
 use Rattle.std.specs.Prelude.{is_some, ◌==◌}
 use Rattle.std.specs.Option.{option_map}
-use Rattle.std.specs.List.{find, list_any, list_all, sum_by, count_by}
+use Rattle.std.specs.List.{find, list_any, list_all, sum_by}
 use Rattle.std.specs.List.Sorted.{IsPermutation}
-use Rattle.std.proofs.lemmas.Bool.{true≢false, false≢true, or_parts, or_cases, or_right, and_parts, cases_Bool, ltb-true, ltb-false, leb-true}
-use Rattle.std.proofs.lemmas.Option.{none-some}
+use Rattle.std.proofs.lemmas.Bool.{true≢false, false≢true, or_parts, or_cases, or_right, and_parts, cases_Bool, ltb-true, ltb-false}
 use Rattle.std.proofs.lemmas.List.Elements.{All-nil, All-cons, All-head, All-tail, All-append, All-filter}
 use Rattle.std.proofs.lemmas.List.Folds.{list_any_none}
 use Rattle.std.proofs.lemmas.List.Sums.{sum_by-cons, sum_by-append, length-filter}
 use Rattle.std.proofs.lemmas.List.Sorted.{All-permutation, IsPermutation-sym, IsPermutation-reverse, sum_by-IsPermutation}
 use Rattle.board_spec.specs.declared.event.Statement.{Statement}
-use Rattle.board_spec.specs.Setup.{Setup, Base, MemoryBase, IoBase, FittedCard, IsBase, IsExpansionRom, IsCard, IsCardList, Rises, card_at, memory_size, memory_of_cards}
+use Rattle.board_spec.specs.Setup.{Setup, Base, MemoryBase, IoBase, FittedCard, IsBase, IsExpansionRom, IsCard, Rises, memory_size, memory_of_cards}
 use Rattle.board_spec.specs.Bits.{is_within}
 use Rattle.board_spec.specs.InRange.{IsScripted}
-use Rattle.script_spec.specs.Grammar.{Item, SetCpus, SetMemory, SetRom, SetDisk, FitCard, BeginPhase, Ask, AskLevel, IsForm, IsName}
-use Rattle.script_spec.specs.Reasons.{is_phase, is_statement, is_setup, is_cpus, is_memory, is_rom, is_disk, is_cpus_above, has_card, cards_of, is_base_in_range, is_rom_in_range, pulses_of, pulses_of_event, passes_limits, is_card_there}
-use Rattle.script_spec.specs.ScriptText.{Script, IsVersion, phase_items, IsSaidBy, IsScriptText}
+use Rattle.script_spec.specs.Grammar.{Item, SetCpus, SetMemory, SetRom, SetDisk, FitCard, BeginPhase, Ask, AskLevel, IsForm}
+use Rattle.script_spec.specs.Reasons.{is_phase, is_statement, is_setup, is_cpus, is_memory, is_rom, is_disk, is_cpus_above, has_card, cards_of, is_base_in_range, is_rom_in_range, pulses_of, pulses_of_event, is_card_there}
+use Rattle.script_spec.specs.ScriptText.{Script, IsVersion, phase_items, IsSaidBy}
 use Rattle.script_spec.specs.ScriptRange.{IsDiskName, statements_in, IsInRangeScript}
 use Rattle.script_spec.specs.Laws.{ScriptsAreInRange}
 use Rattle.script_spec.proofs.GoodItems.{NoReason, AreGood, read_good, found_good}
@@ -65,7 +64,7 @@ scripted :
     IsForm version item → NoReason before item → OnAsk (IsScripted setup version cpus) item
 scripted version cpus setup before (Ask statement) above cards form none =
     let there : (list_any (is_cpus_above statement.actor) before ≡ true) × (is_card_there before statement.event ≡ true) =
-      and_parts (list_any (is_cpus_above statement.actor) before) (is_card_there before statement.event) none.there
+    and_parts (list_any (is_cpus_above statement.actor) before) (is_card_there before statement.event) none.there
     in
     record {
       actor = above statement.actor there.0;
@@ -88,7 +87,7 @@ all_scripted :
 all_scripted version cpus setup [] above cards good = All-nil (OnAsk (IsScripted setup version cpus))
 all_scripted version cpus setup (item ∷ before) above cards good =
     let above_before : (actor : ℕ) → list_any (is_cpus_above actor) before ≡ true → actor < cpus =
-      λ actor any. above actor (or_right (is_cpus_above actor item) (list_any (is_cpus_above actor) before) any)
+    λ actor any. above actor (or_right (is_cpus_above actor item) (list_any (is_cpus_above actor) before) any)
     in
     let cards_before : HasCards before setup = λ dev has. cards dev (has_card_more item before dev has) in
     All-cons (OnAsk (IsScripted setup version cpus)) item before
@@ -102,7 +101,7 @@ phase_asks :
 phase_asks P [] later all = (All-nil P, all)
 phase_asks P (statement ∷ phase) later all =
     let rest : All P phase × All (OnAsk P) later =
-      phase_asks P phase later (All-tail (OnAsk P) (Ask statement) (map Ask phase ++ later) all)
+    phase_asks P phase later (All-tail (OnAsk P) (Ask statement) (map Ask phase ++ later) all)
     in
     (All-cons P statement phase (All-head (OnAsk P) (Ask statement) (map Ask phase ++ later) all) rest.0, rest.1)
 
@@ -112,7 +111,7 @@ all_asks :
 all_asks P [] all = All-nil P
 all_asks P (phase ∷ later) all =
     let both : All P phase × All (OnAsk P) (phase_items later) =
-      phase_asks P phase (phase_items later) (All-tail (OnAsk P) BeginPhase (map Ask phase ++ phase_items later) all)
+    phase_asks P phase (phase_items later) (All-tail (OnAsk P) BeginPhase (map Ask phase ++ phase_items later) all)
     in
     All-append P phase (flat_map (λ phase. phase) later) both.0 (all_asks P later both.1)
 
@@ -129,10 +128,10 @@ any_permutation p xs ys same any =
     elim (cases_Bool (list_any p ys)) [
       | inl some ↦ some
       | inr none ↦
-        let all : All (λ x. p x ≡ false) xs =
+          let all : All (λ x. p x ≡ false) xs =
           All-permutation (λ x. p x ≡ false) ys xs (IsPermutation-sym xs ys same) (none_any p ys none)
-        in
-        absurd (true≢false (sym any ∙ list_any_none p xs all))
+          in
+          absurd (true≢false (sym any ∙ list_any_none p xs all))
     ]
 
 found_some : {X : Type 0} (p : X → Bool) (xs : List X) → list_any p xs ≡ true → is_some (find p xs) ≡ true
@@ -141,7 +140,7 @@ found_some p (x ∷ xs) any =
     elim (cases_Bool (p x)) [
       | inl passes ↦ rw passes refl
       | inr fails ↦
-        let later = rw fails at any in rw fails (found_some p xs later)
+          let later = rw fails at any in rw fails (found_some p xs later)
     ]
 
 has_cards :
@@ -154,12 +153,12 @@ all_bases : (bases : List Base) → list_all is_base_in_range bases ≡ true →
 all_bases [] test = All-nil IsBase
 all_bases (MemoryBase bits ∷ bases) test =
     let both : (is_within 4 24 bits ≡ true) × (list_all is_base_in_range bases ≡ true) =
-      and_parts (is_within 4 24 bits) (list_all is_base_in_range bases) test
+    and_parts (is_within 4 24 bits) (list_all is_base_in_range bases) test
     in
     All-cons IsBase (MemoryBase bits) bases (within 4 24 bits both.0) (all_bases bases both.1)
 all_bases (IoBase bits ∷ bases) test =
     let both : (is_within 2 8 bits ≡ true) × (list_all is_base_in_range bases ≡ true) =
-      and_parts (is_within 2 8 bits) (list_all is_base_in_range bases) test
+    and_parts (is_within 2 8 bits) (list_all is_base_in_range bases) test
     in
     All-cons IsBase (IoBase bits) bases (within 2 8 bits both.0) (all_bases bases both.1)
 
@@ -177,7 +176,7 @@ all_cards : (version : ℕ) (items : List Item) → AreGood version items → Al
 all_cards version [] good = All-nil IsCard
 all_cards version (FitCard card ∷ before) good =
     let parts : (is_within 2 9 card.dev ≡ true) × (list_all is_base_in_range card.bases ≡ true) × (is_rom_in_range card.rom ≡ true) =
-      three (is_within 2 9 card.dev) (list_all is_base_in_range card.bases) (is_rom_in_range card.rom) good.1.range
+    three (is_within 2 9 card.dev) (list_all is_base_in_range card.bases) (is_rom_in_range card.rom) good.1.range
     in
     let dev : (2 ≤ card.dev) × (card.dev ≤ 9) = within 2 9 card.dev parts.0 in
     All-cons IsCard card (cards_of before)
@@ -205,8 +204,8 @@ few_cards low (card ∷ later) below rises from each =
     let first : low ≤ card.dev = All-head (λ card. low ≤ card.dev) card later from in
     let last : card.dev ≤ 9 = (All-head IsCard card later each).last in
     let rest : length later ≤ 10 - (card.dev + 1) =
-      few_cards (card.dev + 1) later (omega (arith, last)) rises.1 (λ k d at_k. let up : card.dev < (get_or later k d).dev = rises.0 k d at_k in omega (arith, up))
-      (All-tail IsCard card later each)
+    few_cards (card.dev + 1) later (omega (arith, last)) rises.1 (λ k d at_k. let up : card.dev < (get_or later k d).dev = rises.0 k d at_k in omega (arith, up))
+    (All-tail IsCard card later each)
     in
     let count : length (card ∷ later) ≡ length later + 1 = sym (add-one (length later)) in
     omega (arith, first, last, rest, count)
@@ -242,9 +241,9 @@ within_limits version [] good = record { statements = omega arith; phases = omeg
 within_limits version (item ∷ before) good =
     let items : List Item = item ∷ before in
     let parts : (ltb 250_000 (length (filter is_statement items)) ≡ false) × (ltb 1_000 (length (filter is_phase items)) ≡ false)
-        × (ltb 100_000_000 (sum_by pulses_of items) ≡ false) × (ltb 0x400_0000 (memory_of_cards (cards_of items)) ≡ false) =
-      four (ltb 250_000 (length (filter is_statement items))) (ltb 1_000 (length (filter is_phase items)))
-      (ltb 100_000_000 (sum_by pulses_of items)) (ltb 0x400_0000 (memory_of_cards (cards_of items))) good.1.limits
+    × (ltb 100_000_000 (sum_by pulses_of items) ≡ false) × (ltb 0x400_0000 (memory_of_cards (cards_of items)) ≡ false) =
+    four (ltb 250_000 (length (filter is_statement items))) (ltb 1_000 (length (filter is_phase items)))
+    (ltb 100_000_000 (sum_by pulses_of items)) (ltb 0x400_0000 (memory_of_cards (cards_of items))) good.1.limits
     in
     record {
       statements = ltb-false 250_000 (length (filter is_statement items)) parts.0;
@@ -263,11 +262,11 @@ sum_kept f (item ∷ before) none =
     elim (cases_Bool (is_setup item)) [
       | inl setup ↦ rw setup (omega (arith, sum_kept f before none, none item setup, sum_by-cons f item before))
       | inr other ↦
-        rw other (
+          rw other (
           sum_by-cons f item (filter (λ i. not (is_setup i)) before)
           ∙ ap (λ (n : ℕ). f item + n) (sum_kept f before none)
           ∙ sym (sum_by-cons f item before)
-        )
+          )
     ]
 
 sum_asks :
@@ -286,13 +285,13 @@ sum_phases :
 sum_phases f g [] same = omega arith
 sum_phases f g (phase ∷ later) same =
     let whole : sum_by f (phase_items (phase ∷ later)) ≡ f BeginPhase + sum_by f (map Ask phase ++ phase_items later) =
-      sum_by-cons f BeginPhase (map Ask phase ++ phase_items later)
+    sum_by-cons f BeginPhase (map Ask phase ++ phase_items later)
     in
     let parts : sum_by f (map Ask phase ++ phase_items later) ≡ sum_by f (map Ask phase) + sum_by f (phase_items later) =
-      sum_by-append f (map Ask phase) (phase_items later)
+    sum_by-append f (map Ask phase) (phase_items later)
     in
     let joined : sum_by g (phase ++ flat_map (λ p. p) later) ≡ sum_by g phase + sum_by g (flat_map (λ p. p) later) =
-      sum_by-append g phase (flat_map (λ p. p) later)
+    sum_by-append g phase (flat_map (λ p. p) later)
     in
     grind (arith, whole, parts, joined, sum_asks f g phase same, sum_phases f g later same)
 
@@ -342,32 +341,32 @@ in_range : (items : List Item) (script : Script) → AreGood script.version item
     IsInRangeScript script
 in_range items script good version said =
     let cpus : IsForm script.version (SetCpus script.cpus) × (is_within 1 8 script.cpus ≡ true) =
-      found_good script.version items is_cpus (SetCpus script.cpus) good said.cpus
+    found_good script.version items is_cpus (SetCpus script.cpus) good said.cpus
     in
     let count : (1 ≤ script.cpus) × (script.cpus ≤ 8) = within 1 8 script.cpus cpus.1 in
     let memory : IsForm script.version (SetMemory script.mib) × (is_within 1 64 script.mib ≡ true) =
-      found_good script.version items is_memory (SetMemory script.mib) good said.memory
+    found_good script.version items is_memory (SetMemory script.mib) good said.memory
     in
     let mib : (1 ≤ script.mib) × (script.mib ≤ 64) = within 1 64 script.mib memory.1 in
     let limits : IsWithinLimits items = within_limits script.version items good in
     let cards : All IsCard script.cards =
-      All-permutation IsCard (cards_of items) script.cards said.cards (all_cards script.version items good)
+    All-permutation IsCard (cards_of items) script.cards said.cards (all_cards script.version items good)
     in
     let kept : List Item = filter (λ item. not (is_setup item)) items in
     let phases : List (List Statement) = script.phases in
     let statements : length (filter is_statement items) ≡ length (statements_in script) =
-      length-filter is_statement items
-      ∙ sum_items (λ item. cond {A = ℕ} (is_statement item) 1 0) (λ statement. 1) items phases no_statement (λ statement. refl) said.phases
-      ∙ omega (arith, sum_of_ones (statements_in script))
+    length-filter is_statement items
+    ∙ sum_items (λ item. cond {A = ℕ} (is_statement item) 1 0) (λ statement. 1) items phases no_statement (λ statement. refl) said.phases
+    ∙ omega (arith, sum_of_ones (statements_in script))
     in
     let phase_count : length (filter is_phase items) ≡ length phases =
-      length-filter is_phase items
-      ∙ sum_items (λ item. cond {A = ℕ} (is_phase item) 1 0) (λ statement. 0) items phases no_phase (λ statement. refl) said.phases
-      ∙ omega (arith, sum_of_zeros (statements_in script))
+    length-filter is_phase items
+    ∙ sum_items (λ item. cond {A = ℕ} (is_phase item) 1 0) (λ statement. 0) items phases no_phase (λ statement. refl) said.phases
+    ∙ omega (arith, sum_of_zeros (statements_in script))
     in
     let pulses : sum_by pulses_of items ≡ sum_by (λ statement. pulses_of_event statement.event) (statements_in script) =
-      sum_items pulses_of (λ statement. pulses_of_event statement.event) items phases no_pulses (λ statement. refl) said.phases
-      ∙ omega arith
+    sum_items pulses_of (λ statement. pulses_of_event statement.event) items phases no_pulses (λ statement. refl) said.phases
+    ∙ omega arith
     in
     record {
       version = version;
@@ -384,18 +383,18 @@ in_range items script good version said =
       };
       windows = omega (arith, same_memory (cards_of items) script.cards said.cards, limits.memory);
       each = λ setup is.
-        let P : Statement → Type 0 = IsScripted setup script.version script.cpus in
-        let all : All (OnAsk P) items =
+          let P : Statement → Type 0 = IsScripted setup script.version script.cpus in
+          let all : All (OnAsk P) items =
           all_scripted script.version script.cpus setup items
           (λ actor any. cpus_above script.version actor script.cpus items good said.cpus any)
           (has_cards items script.cards setup said.cards is) good
-        in
-        let turned : All (OnAsk P) (reverse kept) =
+          in
+          let turned : All (OnAsk P) (reverse kept) =
           All-permutation (OnAsk P) kept (reverse kept) (IsPermutation-reverse kept)
           (All-filter (λ item. not (is_setup item)) (OnAsk P) items all)
-        in
-        let asked = rw said.phases at turned in
-        all_asks P phases asked;
+          in
+          let asked = rw said.phases at turned in
+          all_asks P phases asked;
       statements = omega (arith, statements, limits.statements);
       phases = omega (arith, phase_count, limits.phases);
       pulses = omega (arith, pulses, limits.pulses);

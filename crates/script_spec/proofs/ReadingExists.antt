@@ -1,10 +1,10 @@
 -- Each text is a script's, or bad.
-use Rattle.std.proofs.Common.{ℕ, zero, suc, ◌≡◌, ◌≢◌, ◌+◌, ◌<◌, ◌≤◌, ◌⊎◌, Bool, true, false, not, ◌&&◌, ◌||◌, cond, ltb, Option, Some, None, List, [], ◌∷◌, ◌++◌, length, map, reverse, get_or, All, filter, flat_map, refl, sym, ap, ◌∙◌, inl, inr, append_assoc, append-nil, arith}
+use Rattle.std.proofs.Common.{ℕ, ◌≡◌, ◌≢◌, ◌+◌, ◌<◌, ◌≤◌, ◌⊎◌, Bool, true, false, not, ◌&&◌, ◌||◌, cond, ltb, Option, Some, None, List, [], ◌∷◌, ◌++◌, length, map, reverse, get_or, All, filter, refl, sym, ap, ◌∙◌, inl, inr, append_assoc, append-nil, arith}
 use Rattle.std.specs.Prelude.{◌==◌}
 use Rattle.std.specs.Option.{option_map}
 use Rattle.std.specs.List.{find, list_any}
 use Rattle.std.specs.List.Sorted.{IsPermutation}
-use Rattle.std.proofs.lemmas.Bool.{true≢false, false≢true, or_parts, or_cases, or_right, or_left, or_from, and_parts, and_from, and_left, not_from_true, not_from_false, cases_Bool, cases_lt, ltb-true, ltb-false, eqb-false}
+use Rattle.std.proofs.lemmas.Bool.{true≢false, false≢true, or_right, or_from, and_parts, and_from, cases_Bool, cases_lt, ltb-true, ltb-false, eqb-false}
 use Rattle.std.proofs.lemmas.Grind.{flat_map-append}
 use Rattle.std.proofs.lemmas.List.{map-append, reverse-append}
 use Rattle.std.proofs.lemmas.List.Elements.{All-nil, All-cons, All-head, All-tail}
@@ -13,13 +13,13 @@ use Rattle.board_spec.specs.declared.event.Statement.{Statement}
 use Rattle.board_spec.specs.Setup.{FittedCard, Rises}
 use Rattle.script_spec.specs.Lines.{lines_of}
 use Rattle.script_spec.specs.Grammar.{Item, SetCpus, SetMemory, SetRom, SetDisk, FitCard, BeginPhase, Ask, AskLevel, HasForm}
-use Rattle.script_spec.specs.Reasons.{is_phase, is_statement, is_setup, is_cpus, is_memory, is_rom, is_disk, has_card, cards_of, has_setup, lacks_setup, least_reason}
-use Rattle.script_spec.specs.ScriptText.{Script, most_bytes, is_skipped, IsSkipped, IsGoodLine, IsFormless, IsRefusedLine, IsBadLine, AreRead, EndsBadly, IsVersion, first_line, phase_items, IsSaidBy, IsScriptText, BeginsBadly, IsBadLater, IsScriptBad}
+use Rattle.script_spec.specs.Reasons.{is_phase, is_setup, is_cpus, is_memory, is_rom, is_disk, cards_of, has_setup, lacks_setup, least_reason}
+use Rattle.script_spec.specs.ScriptText.{Script, most_bytes, is_skipped, IsSkipped, IsGoodLine, IsBadLine, AreRead, IsVersion, first_line, phase_items, IsSaidBy, IsScriptText, BeginsBadly, IsScriptBad}
 use Rattle.script_spec.specs.Laws.{SomeReading}
 use Rattle.script_spec.proofs.ReadingLaws.{same_head, not_nil}
 use Rattle.script_spec.proofs.GoodItems.{NoReason, AreGood, read_good}
 use Rattle.script_spec.proofs.RangeLaws.{none_any}
-use Rattle.script_spec.proofs.Decisions.{Decided, same_list, decided_form}
+use Rattle.script_spec.proofs.Decisions.{same_list, decided_form}
 
 -- ---- one line
 
@@ -39,14 +39,14 @@ read_line version before line =
     elim (cases_lt most_bytes (length line)) [
       | inl long ↦ inr (inr (2, inl (long, refl)))
       | inr short ↦
-        elim (cases_Bool (is_skipped line)) [
-          | inl skipped ↦ inl (record { short = short; skipped = skipped })
-          | inr read ↦
-            elim (decided_form version line) [
-              | inl has ↦ judged version before line has.0 short read has.1 (least_reason before has.0) refl
-              | inr none ↦ inr (inr (3, inr (inl (record { short = short; read = read; none = none }, refl))))
-            ]
-        ]
+          elim (cases_Bool (is_skipped line)) [
+            | inl skipped ↦ inl (record { short = short; skipped = skipped })
+            | inr read ↦
+                elim (decided_form version line) [
+                  | inl has ↦ judged version before line has.0 short read has.1 (least_reason before has.0) refl
+                  | inr none ↦ inr (inr (3, inr (inl (record { short = short; read = read; none = none }, refl))))
+                ]
+          ]
     ]
 
 -- ---- the lines after the first
@@ -67,33 +67,33 @@ read_lines version [] before = inl (before, refl)
 read_lines version (line ∷ later) before =
     elim (read_line version before line) [
       | inl skipped ↦
-        elim (read_lines version later before) [
-          | inl read ↦ inl (read.0, inl (skipped, read.1))
-          | inr stops ↦ inr (record {
-            good = line ∷ stops.good;
-            line = stops.line;
-            later = stops.later;
-            cut = ap (λ ls. line ∷ ls) stops.cut;
-            items = stops.items;
-            read = inl (skipped, stops.read);
-            why = stops.why;
-            bad = stops.bad;
-          })
-        ]
+          elim (read_lines version later before) [
+            | inl read ↦ inl (read.0, inl (skipped, read.1))
+            | inr stops ↦ inr (record {
+              good = line ∷ stops.good;
+              line = stops.line;
+              later = stops.later;
+              cut = ap (λ ls. line ∷ ls) stops.cut;
+              items = stops.items;
+              read = inl (skipped, stops.read);
+              why = stops.why;
+              bad = stops.bad;
+            })
+          ]
       | inr (inl good) ↦
-        elim (read_lines version later (good.0 ∷ before)) [
-          | inl read ↦ inl (read.0, inr (good.0, good.1, read.1))
-          | inr stops ↦ inr (record {
-            good = line ∷ stops.good;
-            line = stops.line;
-            later = stops.later;
-            cut = ap (λ ls. line ∷ ls) stops.cut;
-            items = stops.items;
-            read = inr (good.0, good.1, stops.read);
-            why = stops.why;
-            bad = stops.bad;
-          })
-        ]
+          elim (read_lines version later (good.0 ∷ before)) [
+            | inl read ↦ inl (read.0, inr (good.0, good.1, read.1))
+            | inr stops ↦ inr (record {
+              good = line ∷ stops.good;
+              line = stops.line;
+              later = stops.later;
+              cut = ap (λ ls. line ∷ ls) stops.cut;
+              items = stops.items;
+              read = inr (good.0, good.1, stops.read);
+              why = stops.why;
+              bad = stops.bad;
+            })
+          ]
       | inr (inr bad) ↦ inr (record {
         good = [];
         line = line;
@@ -168,11 +168,11 @@ inserted_same card (first ∷ later) =
     elim (cases_Bool (ltb card.dev first.dev)) [
       | inl less ↦ rw less (IsPermutation-refl (card ∷ first ∷ later))
       | inr above ↦
-        rw above (
+          rw above (
           IsPermutation-trans (card ∷ first ∷ later) (first ∷ card ∷ later) (first ∷ inserted card later)
           (IsPermutation-sym (first ∷ card ∷ later) (card ∷ first ∷ later) (IsPermutation-middle (first ∷ []) card later))
           (IsPermutation-cons first (card ∷ later) (inserted card later) (inserted_same card later))
-        )
+          )
     ]
 
 all_inserted : (P : FittedCard → Type 0) (card : FittedCard) (cards : List FittedCard) → P card → All P cards → All P (inserted card cards)
@@ -184,20 +184,20 @@ inserted_rises card [] rises apart = (All-nil (λ other. card.dev < other.dev), 
 inserted_rises card (first ∷ later) rises apart =
     elim (cases_Bool (ltb card.dev first.dev)) [
       | inl less ↦
-        let below : card.dev < first.dev = ltb-true card.dev first.dev less in
-        rw less (
-          All-cons (λ other. card.dev < other.dev) first later below
-          (λ k d inside. let up : first.dev < (get_or later k d).dev = rises.0 k d inside in omega (arith, below, up)),
-          rises
-        )
+          let below : card.dev < first.dev = ltb-true card.dev first.dev less in
+          rw less (
+            All-cons (λ other. card.dev < other.dev) first later below
+                (λ k d inside. let up : first.dev < (get_or later k d).dev = rises.0 k d inside in omega (arith, below, up)),
+            rises,
+          )
       | inr above ↦
-        let other : first.dev ≢ card.dev = All-head (λ c. c.dev ≢ card.dev) first later apart in
-        let least : first.dev ≤ card.dev = ltb-false card.dev first.dev above in
-        let before : first.dev < card.dev = omega (arith, other, least) in
-        rw above (
-          all_inserted (λ c. first.dev < c.dev) card later before rises.0,
-          inserted_rises card later rises.1 (All-tail (λ c. c.dev ≢ card.dev) first later apart)
-        )
+          let other : first.dev ≢ card.dev = All-head (λ c. c.dev ≢ card.dev) first later apart in
+          let least : first.dev ≤ card.dev = ltb-false card.dev first.dev above in
+          let before : first.dev < card.dev = omega (arith, other, least) in
+          rw above (
+            all_inserted (λ c. first.dev < c.dev) card later before rises.0,
+            inserted_rises card later rises.1 (All-tail (λ c. c.dev ≢ card.dev) first later apart),
+          )
     ]
 
 record InOrder (cards : List FittedCard) : Type 0 where
@@ -210,15 +210,15 @@ in_order version [] good = record { ordered = []; same = IsPermutation-refl []; 
 in_order version (FitCard card ∷ before) good =
     let rest : InOrder (cards_of before) = in_order version before good.2 in
     let apart : All (λ other. (other.dev == card.dev) ≡ false) rest.ordered =
-      All-permutation (λ other. (other.dev == card.dev) ≡ false) (cards_of before) rest.ordered rest.same
-      (none_any (λ other. other.dev == card.dev) (cards_of before) good.1.first)
+    All-permutation (λ other. (other.dev == card.dev) ≡ false) (cards_of before) rest.ordered rest.same
+    (none_any (λ other. other.dev == card.dev) (cards_of before) good.1.first)
     in
     record {
       ordered = inserted card rest.ordered;
       same = IsPermutation-trans (card ∷ cards_of before) (card ∷ rest.ordered) (inserted card rest.ordered)
-        (IsPermutation-cons card (cards_of before) rest.ordered rest.same) (inserted_same card rest.ordered);
+          (IsPermutation-cons card (cards_of before) rest.ordered rest.same) (inserted_same card rest.ordered);
       rises = inserted_rises card rest.ordered rest.rises
-        (λ k d inside. eqb-false (get_or rest.ordered k d).dev card.dev (apart k d inside));
+          (λ k d inside. eqb-false (get_or rest.ordered k d).dev card.dev (apart k d inside));
     }
 in_order version (SetCpus count ∷ before) good = in_order version before good.2
 in_order version (SetMemory mib ∷ before) good = in_order version before good.2
@@ -262,7 +262,7 @@ begin_phase before (inr some) = inr (record {
   front = some.front ++ some.last ∷ [];
   last = [];
   is = reverse_more BeginPhase (filter (λ item. not (is_setup item)) before)
-    ∙ ap (λ (items : List Item). items ++ BeginPhase ∷ []) (some.is ∙ sym (phases_more some.front some.last));
+      ∙ ap (λ (items : List Item). items ++ BeginPhase ∷ []) (some.is ∙ sym (phases_more some.front some.last));
 })
 
 ask_more : (before : List Item) (statement : Statement) → NoReason before (Ask statement) → Run before → Run (Ask statement ∷ before)
@@ -272,9 +272,9 @@ ask_more before statement none (inr some) = inr (record {
   front = some.front;
   last = some.last ++ statement ∷ [];
   is = reverse_more (Ask statement) (filter (λ item. not (is_setup item)) before)
-    ∙ ap (λ (items : List Item). items ++ Ask statement ∷ []) some.is
-    ∙ append_assoc (phase_items some.front) (BeginPhase ∷ map Ask some.last) (Ask statement ∷ [])
-    ∙ ap (λ (items : List Item). phase_items some.front ++ BeginPhase ∷ items) (sym (map-append Ask some.last (statement ∷ [])));
+      ∙ ap (λ (items : List Item). items ++ Ask statement ∷ []) some.is
+      ∙ append_assoc (phase_items some.front) (BeginPhase ∷ map Ask some.last) (Ask statement ∷ [])
+      ∙ ap (λ (items : List Item). phase_items some.front ++ BeginPhase ∷ items) (sym (map-append Ask some.last (statement ∷ [])));
 })
 
 setup_more : (item : Item) (before : List Item) → is_phase item ≡ false → run_of (item ∷ before) ≡ run_of before → Run before → Run (item ∷ before)
@@ -302,21 +302,20 @@ said_by : (version : ℕ) (items : List Item) → AreGood version items → lack
     (script : Script) × (script.version ≡ version) × IsSaidBy script items
 said_by version items good whole =
     let parts : (list_any is_cpus items && list_any is_memory items && list_any is_rom items) ≡ true =
-      whole_setup version items good whole
+    whole_setup version items good whole
     in
     let outer : ((list_any is_cpus items && list_any is_memory items) ≡ true) × (list_any is_rom items ≡ true) =
-      and_parts (list_any is_cpus items && list_any is_memory items) (list_any is_rom items) parts
+    and_parts (list_any is_cpus items && list_any is_memory items) (list_any is_rom items) parts
     in
     let inner : (list_any is_cpus items ≡ true) × (list_any is_memory items ≡ true) =
-      and_parts (list_any is_cpus items) (list_any is_memory items) outer.0
+    and_parts (list_any is_cpus items) (list_any is_memory items) outer.0
     in
     let cpus : (count : ℕ) × (find is_cpus items ≡ Some (SetCpus count)) = found_cpus items inner.0 in
     let memory : (mib : ℕ) × (find is_memory items ≡ Some (SetMemory mib)) = found_memory items inner.1 in
     let rom : (name : List ℕ) × (find is_rom items ≡ Some (SetRom name)) = found_rom items outer.1 in
     let disk : (disk : Option (List ℕ)) × (find is_disk items ≡ option_map SetDisk disk) = found_disk items in
     let cards : InOrder (cards_of items) = in_order version items good in
-    let phases : (phases : List (List Statement)) × (run_of items ≡ phase_items phases) = phases_there items (run version items good) in
-    (
+    let phases : (phases : List (List Statement)) × (run_of items ≡ phase_items phases) = phases_there items (run version items good) in (
       record { version = version; cpus = cpus.0; mib = memory.0; rom = rom.0; disk = disk.0; cards = cards.ordered; phases = phases.0 },
       refl,
       record {
@@ -337,45 +336,56 @@ read_later : (bytes : List ℕ) (version : ℕ) (later : List (List ℕ)) → Is
     Reading bytes
 read_later bytes version later known lines =
     elim (read_lines version later []) [
-      | inr stops ↦ inr (length stops.good + 2, stops.why, inr (record {
-        version = version;
-        known = known;
-        good = stops.good;
-        rest = stops.line ∷ stops.later;
-        cut = lines ∙ ap (λ ls. first_line version ∷ ls) stops.cut;
-        items = stops.items;
-        read = stops.read;
-        bad = stops.bad;
-        place = refl;
-      }))
+      | inr stops ↦ inr (
+        length stops.good + 2,
+        stops.why,
+        inr (record {
+          version = version;
+          known = known;
+          good = stops.good;
+          rest = stops.line ∷ stops.later;
+          cut = lines ∙ ap (λ ls. first_line version ∷ ls) stops.cut;
+          items = stops.items;
+          read = stops.read;
+          bad = stops.bad;
+          place = refl;
+        }),
+      )
       | inl read ↦
-        elim (cases_Bool (lacks_setup read.0)) [
-          | inl lacks ↦ inr (length later + 2, 6, inr (record {
-            version = version;
-            known = known;
-            good = later;
-            rest = [];
-            cut = lines ∙ ap (λ ls. first_line version ∷ ls) (sym (append-nil later));
-            items = read.0;
-            read = read.1;
-            bad = (lacks, refl);
-            place = refl;
-          }))
-          | inr whole ↦
-            let said : (script : Script) × (script.version ≡ version) × IsSaidBy script read.0 =
-              said_by version read.0 (read_good version later [] read.0 read.1 tt) whole
-            in
-            let same : version ≡ said.0.version = sym said.1 in
-            inl (said.0, record {
-              version = rw (← same) known;
-              later = later;
-              lines = rw (← same) lines;
-              items = read.0;
-              read = rw (← same) read.1;
-              whole = whole;
-              said = said.2;
-            })
-        ]
+          elim (cases_Bool (lacks_setup read.0)) [
+            | inl lacks ↦ inr (
+              length later + 2,
+              6,
+              inr (record {
+                version = version;
+                known = known;
+                good = later;
+                rest = [];
+                cut = lines ∙ ap (λ ls. first_line version ∷ ls) (sym (append-nil later));
+                items = read.0;
+                read = read.1;
+                bad = (lacks, refl);
+                place = refl;
+              }),
+            )
+            | inr whole ↦
+                let said : (script : Script) × (script.version ≡ version) × IsSaidBy script read.0 =
+                said_by version read.0 (read_good version later [] read.0 read.1 tt) whole
+                in
+                let same : version ≡ said.0.version = sym said.1 in
+                inl (
+                  said.0,
+                  record {
+                    version = rw (← same) known;
+                    later = later;
+                    lines = rw (← same) lines;
+                    items = read.0;
+                    read = rw (← same) read.1;
+                    whole = whole;
+                    said = said.2;
+                  },
+                )
+          ]
     ]
 
 not_begun : (lines : List (List ℕ)) → ((later : List (List ℕ)) → lines ≢ first_line 1 ∷ later) → ((later : List (List ℕ)) → lines ≢ first_line 2 ∷ later) →
@@ -390,16 +400,20 @@ read_first bytes (line ∷ later) is =
     elim (same_list line (first_line 1)) [
       | inl one ↦ read_later bytes 1 later (inl refl) (is ∙ ap (λ l. l ∷ later) one)
       | inr not_one ↦
-        elim (same_list line (first_line 2)) [
-          | inl two ↦ read_later bytes 2 later (inr refl) (is ∙ ap (λ l. l ∷ later) two)
-          | inr not_two ↦
-            inr (1, 1, inl (
-              not_begun (lines_of bytes) (λ others e. not_one (same_head line (first_line 1) later others (sym is ∙ e)))
-              (λ others e. not_two (same_head line (first_line 2) later others (sym is ∙ e))),
-              refl,
-              refl,
-            ))
-        ]
+          elim (same_list line (first_line 2)) [
+            | inl two ↦ read_later bytes 2 later (inr refl) (is ∙ ap (λ l. l ∷ later) two)
+            | inr not_two ↦
+                inr (
+                  1,
+                  1,
+                  inl (
+                    not_begun (lines_of bytes) (λ others e. not_one (same_head line (first_line 1) later others (sym is ∙ e)))
+                        (λ others e. not_two (same_head line (first_line 2) later others (sym is ∙ e))),
+                    refl,
+                    refl,
+                  ),
+                )
+          ]
     ]
 
 pub some_reading : SomeReading

@@ -1,13 +1,13 @@
 -- A text says at most one script, and is bad at one line for one reason, but not both.
-use Rattle.std.proofs.Common.{ℕ, zero, suc, ◌≡◌, ◌+◌, ◌<◌, ◌≤◌, ◌⊎◌, Bool, true, false, not, Option, Some, None, List, [], ◌∷◌, ◌++◌, length, get_or, drop, refl, sym, ap, ◌∙◌, inl, inr, arith}
-use Rattle.std.specs.Prelude.{codes, unwrap_or}
+use Rattle.std.proofs.Common.{ℕ, suc, ◌≡◌, ◌+◌, ◌≤◌, false, Some, List, [], ◌∷◌, ◌++◌, length, get_or, drop, refl, sym, ap, ◌∙◌, inl, inr, arith}
+use Rattle.std.specs.Prelude.{unwrap_or}
 use Rattle.std.specs.Fmt.{digits}
-use Rattle.std.proofs.lemmas.Bool.{true≢false, false≢true}
+use Rattle.std.proofs.lemmas.Bool.{true≢false}
 use Rattle.std.proofs.lemmas.Option.{none-some}
 use Rattle.script_spec.specs.Lines.{lines_of}
-use Rattle.script_spec.specs.Grammar.{Item, HasForm}
+use Rattle.script_spec.specs.Grammar.{Item}
 use Rattle.script_spec.specs.Reasons.{lacks_setup, least_reason}
-use Rattle.script_spec.specs.ScriptText.{Script, most_bytes, is_skipped, IsSkipped, IsGoodLine, IsFormless, IsRefusedLine, IsBadLine, AreRead, EndsBadly, IsVersion, first_line, IsScriptText, BeginsBadly, IsBadLater, IsScriptBad}
+use Rattle.script_spec.specs.ScriptText.{most_bytes, IsSkipped, IsGoodLine, IsBadLine, AreRead, EndsBadly, IsVersion, first_line, IsBadLater}
 use Rattle.script_spec.specs.Laws.{NotBoth, OneRefusal}
 use Rattle.script_spec.proofs.LineReading.{one_item}
 

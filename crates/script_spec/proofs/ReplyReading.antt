@@ -1,5 +1,5 @@
 -- Replies are read back from their text.
-use Rattle.std.proofs.Common.{ℕ, zero, suc, ◌≡◌, ◌+◌, ◌-◌, ◌*◌, ◌/◌, ◌%◌, ◌^◌, ◌<◌, ◌≤◌, ◌⊎◌, Bool, true, false, cond, eqb, ltb, Option, Some, None, List, [], ◌∷◌, ◌++◌, length, drop, All, flat_map, refl, sym, ap, ◌∙◌, inl, inr, append_assoc, arith}
+use Rattle.std.proofs.Common.{ℕ, zero, suc, ◌≡◌, ◌+◌, ◌*◌, ◌/◌, ◌%◌, ◌^◌, ◌<◌, ◌⊎◌, Bool, true, false, cond, eqb, ltb, Option, Some, None, List, [], ◌∷◌, ◌++◌, drop, All, flat_map, refl, ap, ◌∙◌, inl, inr, append_assoc, arith}
 use Rattle.std.specs.Prelude.{codes, decimal}
 use Rattle.std.specs.List.{slice_split}
 use Rattle.std.specs.Str.Parse.{digits_value}
@@ -14,7 +14,6 @@ use Rattle.board_base.specs.declared.target.Target.{Target}
 use Rattle.board_base.specs.declared.target.Target.TheVariants as targets
 use Rattle.board_base.specs.declared.target.Denial.{Denial}
 use Rattle.board_base.specs.declared.target.Denial.TheVariants.{Register, Confadd, NoRegister}
-use Rattle.board_spec.specs.declared.event.Look.{Look}
 use Rattle.board_spec.specs.declared.event.Part.{Part}
 use Rattle.board_spec.specs.declared.event.Parts.{Parts}
 use Rattle.board_spec.specs.declared.event.Parts.TheVariants.{Two as TwoParts, Three as ThreeParts, Four as FourParts}
@@ -22,10 +21,9 @@ use Rattle.board_spec.specs.declared.event.Reply.{Reply}
 use Rattle.board_spec.specs.declared.event.Reply.TheVariants.{Bus, Parts as InParts, Saw}
 use Rattle.board_spec.specs.Bits.{byte}
 use Rattle.board_spec.specs.WideParts.{parts_list}
-use Rattle.board_spec.specs.Text.{space, hex_digit, hex_byte, hex_number, hex_long, hex_offset, register_text, area_text, device_text, target_text, denial_text}
-use Rattle.board_spec.specs.LogText.{value_text, answered_text, look_text, reply_text}
-use Rattle.script_spec.specs.Grammar.{IsDecimal}
-use Rattle.script_spec.specs.WellFormed.{FitsReg, FitsArea, FitsDevice, FitsTarget, FitsDenial, FitsPart, FitsLook, IsReplyValue, IsBusReply, IsWideReply, IsLookReply}
+use Rattle.board_spec.specs.Text.{space, hex_digit, hex_byte, hex_long, hex_offset, register_text, area_text, device_text, target_text, denial_text}
+use Rattle.board_spec.specs.LogText.{value_text, answered_text, reply_text}
+use Rattle.script_spec.specs.WellFormed.{FitsArea, FitsDevice, FitsTarget, FitsDenial, FitsPart, IsReplyValue, IsBusReply, IsWideReply, IsLookReply}
 use Rattle.script_spec.proofs.Digits.{lower, lowered, lacks, value_of_decimal, nibble_of, nibble_of_hex, hex_of, hex_after_number, value_of_hex}
 use Rattle.script_spec.proofs.Fields.{front, back, front-field, back-field, lacks-decimal}
 use Rattle.script_spec.proofs.LineReading.{spaced, IsWord, split_word, split_words, four_parts}
@@ -115,10 +113,10 @@ area_read areas.Smram fits = refl
 area_read areas.Rom fits = refl
 area_read (areas.Card dev base) fits =
     let parts : (decimal dev ++ codes ".") ++ decimal base ≡ decimal dev ++ 0x2E ∷ decimal base =
-      append_assoc (decimal dev) (codes ".") (decimal base)
+    append_assoc (decimal dev) (codes ".") (decimal base)
     in
     let cut : (front 0x2E (decimal dev ++ 0x2E ∷ decimal base) ≡ decimal dev) × (back 0x2E (decimal dev ++ 0x2E ∷ decimal base) ≡ decimal base) =
-      dotted dev (decimal base) fits.0
+    dotted dev (decimal base) fits.0
     in
     ap card_area_of parts ∙ rw (cut.0, cut.1, small_read dev fits.0, small_read base fits.1) refl
 area_read areas.Abort fits = refl
@@ -194,8 +192,8 @@ card_read : (dev base off : ℕ) → dev < 10 → base < 10 → off < 2 ^ 32 →
     card_of (decimal dev ++ 0x2E ∷ (decimal base ++ 0x3A ∷ hex_long off)) ≡ targets.Card dev base off
 card_read dev base off one two three =
     let cut : (front 0x2E (decimal dev ++ 0x2E ∷ (decimal base ++ 0x3A ∷ hex_long off)) ≡ decimal dev)
-        × (back 0x2E (decimal dev ++ 0x2E ∷ (decimal base ++ 0x3A ∷ hex_long off)) ≡ decimal base ++ 0x3A ∷ hex_long off) =
-      dotted dev (decimal base ++ 0x3A ∷ hex_long off) one
+    × (back 0x2E (decimal dev ++ 0x2E ∷ (decimal base ++ 0x3A ∷ hex_long off)) ≡ decimal base ++ 0x3A ∷ hex_long off) =
+    dotted dev (decimal base ++ 0x3A ∷ hex_long off) one
     in
     let lack : lacks 0x3A (decimal base) ≡ true = lacks-decimal 0x3A base (inr (omega arith)) (omega arith) in
     rw (
@@ -215,10 +213,10 @@ target_read targets.Smram fits = refl
 target_read (targets.Rom off) fits = ap (λ (n : ℕ). targets.Rom n) (offset_read off fits)
 target_read (targets.Card dev base off) fits =
     let parts : ((decimal dev ++ codes ".") ++ decimal base) ++ codes ":" ++ hex_long off
-        ≡ decimal dev ++ 0x2E ∷ (decimal base ++ 0x3A ∷ hex_long off) =
-      append_assoc ((decimal dev ++ codes ".") ++ decimal base) (codes ":") (hex_long off)
-      ∙ append_assoc (decimal dev ++ codes ".") (decimal base) (0x3A ∷ hex_long off)
-      ∙ append_assoc (decimal dev) (codes ".") (decimal base ++ 0x3A ∷ hex_long off)
+    ≡ decimal dev ++ 0x2E ∷ (decimal base ++ 0x3A ∷ hex_long off) =
+    append_assoc ((decimal dev ++ codes ".") ++ decimal base) (codes ":") (hex_long off)
+    ∙ append_assoc (decimal dev ++ codes ".") (decimal base) (0x3A ∷ hex_long off)
+    ∙ append_assoc (decimal dev) (codes ".") (decimal base ++ 0x3A ∷ hex_long off)
     in
     ap card_of parts ∙ card_read dev base off fits.0 fits.1 fits.2
 target_read (targets.Device dev) fits = device_read dev fits
@@ -333,7 +331,7 @@ parts_read [] each = refl
 parts_read (part ∷ later) each =
     let fits : FitsPart part = All-head FitsPart part later each in
     let first : ◌≡◌ {A = Part} (record { target = target_of (target_text part.target); denial = denial_of (denial_text part.denial) }) part =
-      part_built part.target _ part.denial _ (target_read part.target fits.0) (denial_read part.denial fits.1)
+    part_built part.target _ part.denial _ (target_read part.target fits.0) (denial_read part.denial fits.1)
     in
     let rest : parts_of_words (words_of later) ≡ later = parts_read later (All-tail FitsPart part later each) in
     λ i. first i ∷ rest i
@@ -366,7 +364,7 @@ wide_read writes bytes parts (InParts value replies) some fits =
     let words : List (List ℕ) = words_of list in
     let first : lacks space (value_text bytes value) ≡ true = lacks-word space (value_text bytes value) refl (value_word bytes value) in
     let split : slice_split (λ (byte : ℕ). eqb byte space) (value_text bytes value ++ flat_map spaced words) ≡ value_text bytes value ∷ words =
-      split_word (value_text bytes value) (flat_map spaced words) words first (split_words words (words_lack list))
+    split_word (value_text bytes value) (flat_map spaced words) words first (split_words words (words_lack list))
     in
     ap (λ (rest : List ℕ). wide_of (value_text bytes value ++ rest)) (parts_spaced list)
     ∙ ap wide_words split

@@ -1,17 +1,16 @@
 -- A text says at most one script.
-use Rattle.std.proofs.Common.{ℕ, zero, suc, ◌≡◌, ◌+◌, ◌<◌, ◌≤◌, ◌⊎◌, Bool, true, false, not, Option, Some, None, List, [], ◌∷◌, ◌++◌, length, get_or, map, All, refl, sym, ap, ◌∙◌, inl, inr, append-nil, arith}
+use Rattle.std.proofs.Common.{ℕ, ◌≡◌, ◌<◌, ◌⊎◌, Option, Some, None, List, [], ◌∷◌, ◌++◌, get_or, map, All, refl, sym, ap, ◌∙◌, inl, inr, append-nil, arith}
 use Rattle.std.specs.Option.{option_map}
-use Rattle.std.specs.List.{find}
 use Rattle.std.specs.List.Sorted.{IsPermutation}
 use Rattle.std.proofs.lemmas.List.Elements.{All-head, All-tail, All-nil, All-cons}
 use Rattle.std.proofs.lemmas.List.Sorted.{All-permutation, IsPermutation-sym}
 use Rattle.board_spec.specs.declared.event.Statement.{Statement}
 use Rattle.board_spec.specs.Setup.{FittedCard, Rises}
-use Rattle.script_spec.specs.Grammar.{Item, SetCpus, SetMemory, SetRom, SetDisk, FitCard, BeginPhase, Ask, AskLevel}
+use Rattle.script_spec.specs.Grammar.{Item, SetCpus, SetMemory, SetRom, SetDisk, BeginPhase, Ask}
 use Rattle.script_spec.specs.Reasons.{cards_of}
-use Rattle.script_spec.specs.ScriptText.{Script, phase_items, IsSaidBy, first_line, IsScriptText}
+use Rattle.script_spec.specs.ScriptText.{Script, phase_items, IsSaidBy, first_line}
 use Rattle.script_spec.specs.Laws.{OneScript}
-use Rattle.script_spec.proofs.ReadingLaws.{same_head, same_tail, same_some, read_once, one_version}
+use Rattle.script_spec.proofs.ReadingLaws.{same_head, same_tail, read_once, one_version}
 
 -- ---- cards in rising order
 

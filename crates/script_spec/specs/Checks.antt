@@ -18,8 +18,8 @@ pub record AreBegun (IsText : List ℕ → Type 0) (lines : List (List ℕ)) : T
   pub later : List ℕ
   pub text : IsText (text_of_lines lines ++ later)
 
--- with this line the bytes leave all texts of a kind: the lines before it begin one, and with this line, where it is there
--- and has its line feed, they begin none. What is no such text leaves them at one line
+-- with this line the bytes leave all texts of a kind: they are none, the lines before this one begin one, and with this
+-- line, where it is there and has its line feed, they begin none. There is at most one such line (`law_one_line`)
 pub record LeavesAt (IsText : List ℕ → Type 0) (bytes : List ℕ) (line : ℕ) : Type 0 where
   pub before : List (List ℕ)
   pub each : All IsOneLine before

@@ -1,5 +1,5 @@
 -- Texts of logs, and texts that are none.
-use Rattle.std.specs.Prelude.{ℕ, List, [], ◌∷◌, codes}
+use Rattle.std.specs.Prelude.{[], ◌∷◌, codes}
 use Rattle.board_spec.specs.Examples.{small_board}
 use Rattle.board_spec.specs.ExampleOrders.{phases}
 use Rattle.script_spec.specs.Lines.{text_of_lines}

@@ -1,15 +1,15 @@
 -- Texts of scripts, and what they say; and texts that are bad, each with its line and the least reason.
-use Rattle.std.specs.Prelude.{ℕ, ◌≡◌, false, true, List, [], ◌∷◌, ◌++◌, length, Option, Some, None, codes}
+use Rattle.std.specs.Prelude.{ℕ, false, true, List, [], ◌∷◌, ◌++◌, Some, None, codes}
 use Rattle.board_base.specs.declared.access.Kind.{Kind}
 use Rattle.board_base.specs.declared.access.Kind.TheVariants.{Fetch, Read, Write}
-use Rattle.board_base.specs.declared.access.Width.TheVariants.{One, Two, Four}
-use Rattle.board_spec.specs.declared.event.Event.TheVariants.{Memory, Wide, Port, Look as LookAt, Wire, Line}
+use Rattle.board_base.specs.declared.access.Width.TheVariants.{One}
+use Rattle.board_spec.specs.declared.event.Event.TheVariants.{Memory, Wide, Wire, Line}
 use Rattle.board_spec.specs.declared.event.Event.{Event}
 use Rattle.board_spec.specs.declared.event.Statement.{Statement}
 use Rattle.board_spec.specs.Setup.{MemoryBase, IoBase}
 use Rattle.board_spec.specs.ExampleOrders.{phases}
 use Rattle.script_spec.specs.Lines.{text_of_lines}
-use Rattle.script_spec.specs.ScriptText.{Script, IsScriptText, IsScriptBad}
+use Rattle.script_spec.specs.ScriptText.{IsScriptText, IsScriptBad}
 
 -- ---- bad texts
 

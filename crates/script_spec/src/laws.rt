@@ -1,6 +1,6 @@
 //! Laws of the definitions. Each function does nothing: its clause is the law.
 
-ghost use Rattle.script_spec.specs.Laws.{NotBoth, OneBadLog, OneDifference, OneItem, OneRefusal, OneScript, ScriptsAreInRange, SomeReading};
+ghost use Rattle.script_spec.specs.Laws.{LineSaysEntry, LogSaysAll, NotBoth, OneBadLog, OneDifference, OneItem, OneRefusal, OneScript, ScriptsAreInRange, SomeReading};
 
 /// A line of a script says at most one thing, whatever the case of its digits.
 pub fn law_one_item()
@@ -28,4 +28,10 @@ pub fn law_one_line()
 /// What a text says is in range: what a board can be fitted with, and be asked.
 pub fn law_in_range()
     ensures each { ScriptsAreInRange }
+{}
+
+/// A line of a log says its entry, and a whole log its version and its history.
+pub fn law_log_says_all()
+    ensures line { LineSaysEntry }
+    ensures log { LogSaysAll }
 {}
