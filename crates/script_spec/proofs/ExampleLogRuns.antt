@@ -27,15 +27,25 @@ no_entries = record { known = inr refl; each = All-nil (IsWellFormed 2); text = 
 some_begun : AreBegun IsSomeLog []
 some_begun = record {
   later = log_text 1 [];
-  text = record { version = 1; entries = []; log = record { known = inl refl; each = All-nil (IsWellFormed 1); text = refl } };
+  text = record {
+    version = 1;
+    entries = [];
+    log = record {
+      known = inl refl;
+      each = All-nil (IsWellFormed 1);
+      text = refl;
+    };
+  };
 }
 
 nothing_whole : (this after : List ℕ) → [] ≡ this ++ line_feed ∷ after → ⊥
 nothing_whole [] after e = let counts : 0 ≡ suc (length after) = ap length e in omega (arith, counts)
-nothing_whole (c ∷ cs) after e = let counts : 0 ≡ suc (length (cs ++ line_feed ∷ after)) = ap length e in omega (arith, counts)
+nothing_whole (c ∷ cs) after e = let counts : 0 ≡ suc (length (cs ++ line_feed ∷ after)) = ap length e in omega
+    (arith, counts)
 
 no_log : (version : ℕ) (entries : List Entry) → [] ≡ log_text version entries → ⊥
-no_log version entries e = let counts : 0 ≡ suc (length (drop 1 (log_text version entries))) = ap length e in omega (arith, counts)
+no_log version entries e = let counts : 0 ≡ suc (length (drop 1
+    (log_text version entries))) = ap length e in omega (arith, counts)
 
 pub empty_log : EmptyLog
 unfolding EmptyLog
@@ -51,7 +61,8 @@ empty_log = record {
 }
 
 -- the heading of a log has the version 1 or 2
-heading_byte : (version : ℕ) (entries : List Entry) → IsVersion version → get_or (log_text version entries) 11 0 ≡ 0x33 → ⊥
+heading_byte : (version : ℕ) (entries : List Entry) → IsVersion version →
+    get_or (log_text version entries) 11 0 ≡ 0x33 → ⊥
 unfolding digits
 heading_byte version entries (inl one) e =
     let byte : 0x31 ≡ 0x33 = ap (λ (v : ℕ). get_or (log_text v entries) 11 0) (sym one) ∙ e in omega (arith, byte)
@@ -68,10 +79,13 @@ no_such_version = record {
   place = refl;
   begun = some_begun;
   leaves = λ this after one whole begun.
-      let first : codes "access log 3" ≡ this = ap (front line_feed) whole ∙ front-field line_feed this after (lacks-line this one) in
+      let first : codes "access log 3" ≡ this = ap (front line_feed) whole ∙ front-field line_feed this after
+      (lacks-line this one) in
       let text = rw (← first) at begun.text.log.text in
-      heading_byte begun.text.version begun.text.entries begun.text.log.known (sym (ap (λ (l : List ℕ). get_or l 11 0) text));
-  other = λ log. heading_byte log.version log.entries log.log.known (sym (ap (λ (l : List ℕ). get_or l 11 0) log.log.text));
+      heading_byte begun.text.version begun.text.entries begun.text.log.known (sym (ap (λ
+      (l : List ℕ). get_or l 11 0) text));
+  other = λ log. heading_byte log.version log.entries log.log.known (sym (ap (λ
+      (l : List ℕ). get_or l 11 0) log.log.text));
 }
 
 -- ---- held against a script
@@ -131,7 +145,8 @@ abbrev first_lines : List (List ℕ)
 first_lines = codes "access log 1" ∷ codes "1 0.1 out d 0CF8 80000058 = - confadd -" ∷ []
 
 abbrev last_lines : List (List ℕ)
-last_lines = codes "2 0.2 out b 0CFD 10 = - config:00.0.59 -" ∷ codes "3 1.1 look r 000F0000 = 1 000F0000 000FFFFF shadow:0" ∷ []
+last_lines =
+    codes "2 0.2 out b 0CFD 10 = - config:00.0.59 -" ∷ codes "3 1.1 look r 000F0000 = 1 000F0000 000FFFFF shadow:0" ∷ []
 
 whole_log : text_of_lines first_lines ++ text_of_lines last_lines ≡ log_text 1 look_last
 unfolding digits event_text reply_text line_text lines_text

@@ -163,7 +163,7 @@ WideScript = IsScriptText
       disk = None;
       cards = record { dev = 2; vga = false; bases = MemoryBase 12 ∷ []; rom = Some 11 } ∷ [];
       phases =
-          (states 0 (Wide (record { kind = Write; addr = 0x1000; bytes = 8; smm = false; value = 0x0807_0605_0403_0201 }))
+          (states 0 (Wide (record { kind = Write; addr = 0x1000; bytes = 8; smm = false; value = 0x807060504030201 }))
           ∷ states 0 (Wide (record { kind = Read; addr = 0x9_FFFF; bytes = 2; smm = true; value = 0 }))
           ∷ states 0 (accesses Read 0xF_0010)
           ∷ [])
