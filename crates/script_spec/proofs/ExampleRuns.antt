@@ -1,5 +1,5 @@
 -- The worked texts, each line by its item.
-use Rattle.std.specs.Prelude.{ℕ, ◌≡◌, ◌+◌, ◌≤◌, false, List, [], ◌∷◌, ◌++◌, length, Some, None, codes, refl}
+use Rattle.std.specs.Prelude.{ℕ, ◌≡◌, ◌+◌, ◌≤◌, false, List, [], ◌∷◌, ◌++◌, length, Some, None, replicate, codes, refl}
 use Rattle.std.proofs.Common.{get_or, arith, inl, inr, ap}
 use Rattle.std.specs.Fmt.{digits}
 use Rattle.std.proofs.lemmas.Bool.{false≢true}
@@ -10,7 +10,7 @@ use Rattle.script_spec.specs.Lines.{lines_of, text_of_lines}
 use Rattle.script_spec.specs.Grammar.{Item, IsBaseForm, SetCpus, SetMemory, SetRom, BeginPhase, AskLevel, Says, IsForm, IsName, item_text}
 use Rattle.script_spec.specs.Reasons.{least_reason}
 use Rattle.script_spec.specs.ScriptText.{most_bytes, is_skipped, IsGoodLine, IsBadLine, AreRead, EndsBadly, IsVersion, first_line}
-use Rattle.script_spec.specs.ExampleScripts.{IsBadAt, small_setup, EmptyFile, CommentFirst, PhaseTooEarly, RepeatedCpus, EndTooEarly, SevenDigits, SetupAfterPhase, NoSuchDay, OddAddress, SecondProcessor, TwoReasons, HighLevel, EightBytesInVersion1, PastTheEnd, RomInVersion1, SmallRom, NoName}
+use Rattle.script_spec.specs.ExampleScripts.{IsBadAt, small_setup, EmptyFile, CommentFirst, LongComment, PhaseTooEarly, RepeatedCpus, EndTooEarly, SevenDigits, SetupAfterPhase, NoSuchDay, OddAddress, SecondProcessor, TwoReasons, HighLevel, EightBytesInVersion1, PastTheEnd, RomInVersion1, SmallRom, NoName}
 use Rattle.script_spec.proofs.LineReading.{item_of, item_read}
 use Rattle.script_spec.proofs.ReadingLaws.{same_head, not_nil}
 use Rattle.script_spec.proofs.Spelling.{spelled, spells_so}
@@ -126,6 +126,11 @@ comment_first = inl (
   refl,
   refl,
 )
+
+pub long_comment : LongComment
+unfolding LongComment lines_of digits
+long_comment =
+    bad_later 1 [] (replicate 121 0x23 ∷ []) [] 2 (inl refl) refl refl (inl (omega arith, refl))
 
 pub phase_too_early : PhaseTooEarly
 unfolding PhaseTooEarly lines_of digits item_text least_reason

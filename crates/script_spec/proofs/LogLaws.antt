@@ -216,7 +216,7 @@ lines_joined (entry ∷ before) =
     ∙ sym (flat_map-append (λ l. l ++ line_feed ∷ []) (log_lines before) (line ∷ []))
 
 -- a line of the log is one line
-line_whole : (n : ℕ) (entry : Entry) → IsOneLine (line_text n entry)
+pub line_whole : (n : ℕ) (entry : Entry) → IsOneLine (line_text n entry)
 unfolding line_text
 line_whole n entry =
     let event : List ℕ = event_text entry.event in

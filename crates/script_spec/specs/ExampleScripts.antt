@@ -1,5 +1,5 @@
 -- Texts of scripts, and what they say; and texts that are bad, each with its line and the least reason.
-use Rattle.std.specs.Prelude.{ℕ, false, true, List, [], ◌∷◌, ◌++◌, Some, None, codes}
+use Rattle.std.specs.Prelude.{ℕ, false, true, List, [], ◌∷◌, ◌++◌, Some, None, replicate, codes}
 use Rattle.board_base.specs.declared.access.Kind.{Kind}
 use Rattle.board_base.specs.declared.access.Kind.TheVariants.{Fetch, Read, Write}
 use Rattle.board_base.specs.declared.access.Width.TheVariants.{One}
@@ -22,6 +22,10 @@ EmptyFile = IsBadAt [] 1 1
 -- a comment is no line 1
 unfoldable pub CommentFirst : Type 0
 CommentFirst = IsBadAt (codes "# a script" ∷ codes "board 1" ∷ []) 1 1
+
+-- a comment has at most 120 bytes too
+unfoldable pub LongComment : Type 0
+LongComment = IsBadAt (codes "board 1" ∷ replicate 121 0x23 ∷ []) 2 2
 
 unfoldable pub PhaseTooEarly : Type 0
 PhaseTooEarly = IsBadAt (codes "board 1" ∷ codes "cpus 1" ∷ codes "phase" ∷ []) 3 6
