@@ -144,7 +144,8 @@ feeds-lines (entry ∷ before) =
 feeds-log : (history : List Entry) → feeds (log_text 1 history) ≡ length history + 1
 unfolding digits
 feeds-log history =
-    let parts : feeds (log_text 1 history) ≡ feeds (codes "access log " ++ decimal 1) + feeds (line_feed ∷ lines_text history) =
+    let parts : feeds (log_text 1 history)
+    ≡ feeds (codes "access log " ++ decimal 1) + feeds (line_feed ∷ lines_text history) =
     feeds-append (codes "access log " ++ decimal 1) (line_feed ∷ lines_text history)
     in
     let heading : feeds (codes "access log " ++ decimal 1) ≡ 0 = refl in
@@ -173,7 +174,8 @@ whole_log = refl
 one_order_line : All IsOneLine order_lines
 one_order_line =
     All-cons IsOneLine (codes "access log 1")
-    (codes "1 0.1 out d 0CF8 80000058 = - confadd -" ∷ codes "2 0.2 out b 0CFD 10 = - config:00.0.59 -" ∷ []) (one_line (codes "access log 1") refl)
+    (codes "1 0.1 out d 0CF8 80000058 = - confadd -" ∷ codes "2 0.2 out b 0CFD 10 = - config:00.0.59 -" ∷ [])
+    (one_line (codes "access log 1") refl)
     (All-cons IsOneLine (codes "1 0.1 out d 0CF8 80000058 = - confadd -")
     (codes "2 0.2 out b 0CFD 10 = - config:00.0.59 -" ∷ [])
     (one_line (codes "1 0.1 out d 0CF8 80000058 = - confadd -") refl)
@@ -203,7 +205,8 @@ cut_log_differs last = record {
 -- a line feed counts
 whole_feeds : (this after : List ℕ) → 1 ≤ feeds (this ++ line_feed ∷ after)
 whole_feeds this after =
-    let parts : feeds (this ++ line_feed ∷ after) ≡ feeds this + feeds (line_feed ∷ after) = feeds-append this (line_feed ∷ after) in
+    let parts : feeds (this ++ line_feed ∷ after) ≡ feeds this + feeds (line_feed ∷ after) =
+    feeds-append this (line_feed ∷ after) in
     let own : feeds (line_feed ∷ after) ≡ 1 + feeds after = refl in
     omega (arith, parts, own)
 
@@ -243,7 +246,8 @@ fifth_line this begun =
     feeds-append (text_of_lines whole_lines) (text_of_lines (this ∷ []))
     in
     let own : feeds (text_of_lines whole_lines) ≡ 4 = refl in
-    let more : feeds (text_of_lines (this ∷ [])) ≡ feeds (this ++ line_feed ∷ []) = ap feeds (append-nil (this ++ line_feed ∷ [])) in
+    let more : feeds (text_of_lines (this ∷ [])) ≡ feeds (this ++ line_feed ∷ []) =
+    ap feeds (append-nil (this ++ line_feed ∷ [])) in
     omega (arith, four, outer, parts, inner, own, more, whole_feeds this [])
 
 pub long_log_differs : LookLast → LongLogDiffers

@@ -150,7 +150,6 @@ pub fn empty_log()
 {}
 
 /// Logs that are too short for the script of the worked orders, and one that is too long.
-#[tactic(auto, using(crate::proofs::ExampleLogRuns::empty_log_differs, crate::proofs::ExampleLogRuns::cut_log_differs, crate::proofs::ExampleLogRuns::open_log_differs, crate::proofs::ExampleLogRuns::long_log_differs))]
 pub fn logs_that_differ()
     ensures empty { EmptyLogDiffers }
     ensures cut { CutLogDiffers }
