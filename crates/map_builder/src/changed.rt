@@ -6,7 +6,7 @@ ghost use Rattle.board_spec.specs.Decode.{Bytes};
 ghost use Rattle.board_spec.specs.MapWrites.{reg_after};
 ghost use Rattle.pci_bars.specs.Bases.{base_of};
 ghost use Rattle.pci_bars.specs.Cards.{AreCards};
-ghost use Rattle.addr_decode.specs.MapRegs.{AreFitted, StandsFor, map_bytes};
+ghost use Rattle.addr_decode.specs.MapRegs.{StandsFor, map_bytes};
 ghost use Rattle.map_builder.specs.Changed.{bridge_windows, isa_windows, windows_of, windows_covered, bounds, joined as joined_by, from_to};
 ghost use Rattle.map_builder.specs.Held.{block, held_by, held_from, held_at, vga_held, card_held, device_held};
 
@@ -14,7 +14,7 @@ use crate::range::Changed;
 use addr_decode::{MapChange, MapRegs};
 use board_base::{Reg, Width};
 use board_spec::offset::{
-    BASES, BASES_END, COMMAND, DRB0, DRB7, FDHC, HOST_BRIDGE, PAM0, PAM6, SMRAM, SOUTH_BRIDGE, XBCS,
+    BASE0, BASE5_END, COMMAND, DRB0, DRB7, FDHC, HOST_BRIDGE, PAM0, PAM6, SMRAM, SOUTH_BRIDGE, XBCS,
 };
 use pci_bars::{BaseSpec, CardRegs};
 
@@ -182,7 +182,7 @@ fn card_bounds(card: &CardRegs, off: u8) -> Option<Changed>
 {
     match off {
         COMMAND => command_bounds(card),
-        BASES..=BASES_END => base_bounds(card, usize::from((off - BASES) / 4)),
+        BASE0..=BASE5_END => base_bounds(card, usize::from((off - BASE0) / 4)),
         _ => None,
     }
 }

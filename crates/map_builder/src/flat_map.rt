@@ -6,7 +6,7 @@ ghost use Rattle.board_spec.specs.Registers.{changed_byte};
 ghost use Rattle.board_spec.specs.Decode.{Bytes};
 ghost use Rattle.board_spec.specs.FlatMap.{address_count, six_areas, Tiles, IsFlatMapOf, IsSpan};
 ghost use Rattle.pci_bars.specs.Cards.{cards_of};
-ghost use Rattle.addr_decode.specs.MapRegs.{AreFitted, StandsFor, map_bytes};
+ghost use Rattle.addr_decode.specs.MapRegs.{StandsFor, map_bytes};
 ghost use Rattle.map_builder.specs.Map.{range_of, HasBoard, IsMapOf};
 ghost use Rattle.map_builder.specs.Build.{IsMapOutside};
 ghost use Rattle.map_builder.specs.Changed.{after, changed_windows, bounds_or_zero, IsOutside};
