@@ -1,5 +1,5 @@
 -- The ports in the order of the code are those of the definitions.
-use Rattle.std.proofs.Common.{◌≡◌, ◌≢◌, ℕ, List, ◌/◌, ◌%◌, Bool, true, false, ◌&&◌, ◌||◌, Option, Some, None, refl, inl, inr, ◌∙◌, sym, ap, arith}
+use Rattle.std.proofs.Common.{◌≡◌, ◌≢◌, ℕ, List, ◌/◌, Bool, true, false, ◌&&◌, ◌||◌, Option, Some, None, refl, inl, inr, ◌∙◌, sym, ap}
 use Rattle.std.specs.Prelude.{[], ◌∷◌, ◌==◌, is_some, option_map, if◌then◌else◌}
 use Rattle.std.proofs.lemmas.Bool.{cases_Bool, cond-false, ne_eqb}
 use Rattle.board_base.specs.declared.access.Width.{Width}
