@@ -24,7 +24,8 @@ use Rattle.script_text.specs.Numbers.{digit_value, digit_of, number_after, hex_o
 use Rattle.script_text.specs.StatementText.{width_of, kind_of, address_of, port_of, value_of, smm_of, read_of, write_of, in_of, out_of, look_of, event_of_fields}
 use Rattle.board_spec.specs.ToCome.{is_device_port, names_routing}
 use Rattle.script_text.specs.Forms.{is_aligned, is_taken_access, is_taken_port, is_taken}
-use Rattle.script_text.specs.Lines.{lines_of, fields_of}
+use Rattle.script_spec.specs.Lines.{lines_of}
+use Rattle.script_text.specs.Lines.{fields_of}
 use Rattle.script_text.specs.ScriptText.{Said, ◌>>=◌, most_statements, on_line, front_line, fixed_line, mib_of, mib_in_range, memory_line, is_name, rom_of, rom_line, statement_of, next_statement, cards_from, statements_from, script_from}
 use Rattle.script_text.specs.declared.fault.ScriptFault.{ScriptFault}
 use Rattle.script_text.specs.declared.script.Script.{Script}
