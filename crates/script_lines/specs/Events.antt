@@ -1,5 +1,5 @@
 -- What a statement asks, by the fields of its line behind the processor's number: the reader's way through the forms.
-use Rattle.std.specs.Prelude.{ℕ, ◌+◌, ◌*◌, ◌%◌, ◌^◌, ◌<◌, ◌≡◌, ◌⊎◌, ◌==◌, Bool, true, false, not, ◌&&◌, ◌||◌, List, [], ◌∷◌, if◌then◌else◌, Option, Some, None, option_map, codes, bytes_eq}
+use Rattle.std.specs.Prelude.{ℕ, ◌*◌, ◌%◌, ◌≡◌, ◌⊎◌, ◌==◌, Bool, true, false, not, ◌&&◌, ◌||◌, List, [], ◌∷◌, if◌then◌else◌, Option, Some, None, codes, bytes_eq}
 use Rattle.std.specs.Option.{option_and_then}
 use Rattle.board_base.specs.declared.access.Width.{Width}
 use Rattle.board_base.specs.declared.access.Width.TheVariants.{One, Two, Four}
@@ -134,10 +134,9 @@ pulses_of words = option_and_then (λ count. Some (Pulses count)) (number_in wor
 abbrev pub sector_of : List (List ℕ) → Option Event
 sector_of words = option_and_then (λ sector. Some (BadSector sector)) (number_in words)
 
--- the first field says what is asked
-unfoldable pub event_of : (version : ℕ) → List (List ℕ) → Option Event
-event_of version [] = None
-event_of version (verb ∷ words) =
+-- the verb says what is asked
+unfoldable pub event_of : (version : ℕ) → (verb : List ℕ) → (words : List (List ℕ)) → Option Event
+event_of version verb words =
     if bytes_eq verb (codes "r") then read_of version Read words else
     if bytes_eq verb (codes "f") then read_of version Fetch words else
     if bytes_eq verb (codes "w") then write_of version words else

@@ -249,21 +249,21 @@ fn sector_of(words: &[&[u8]]) -> Option<Event>
     Some(Event::BadSector(sector))
 }
 
-/// What a statement asks that is no moment and sets no line.
+/// What a statement asks that is no moment and sets no line, by its verb and the fields behind it.
 #[tactic(auto, unfolding(crate::specs::Events::event_of))]
-pub(crate) fn event_of(version: u8, words: &[&[u8]]) -> Option<Event>
-    ensures event { result ≡ event_of version (map (λ field. field.now) words.now) }
+pub(crate) fn event_of(version: u8, verb: &[u8], words: &[&[u8]]) -> Option<Event>
+    ensures event { result ≡ event_of version verb.now (map (λ field. field.now) words.now) }
 {
-    match words {
-        [b"r", words @ ..] => read_of(version, Kind::Read, words),
-        [b"f", words @ ..] => read_of(version, Kind::Fetch, words),
-        [b"w", words @ ..] => write_of(version, words),
-        [b"in", words @ ..] => in_of(words),
-        [b"out", words @ ..] => out_of(words),
-        [b"look", words @ ..] => look_of(words),
-        [b"ack", words @ ..] => ack_of(words),
-        [b"pulse", words @ ..] => pulses_of(words),
-        [b"bad", words @ ..] => sector_of(words),
+    match verb {
+        b"r" => read_of(version, Kind::Read, words),
+        b"f" => read_of(version, Kind::Fetch, words),
+        b"w" => write_of(version, words),
+        b"in" => in_of(words),
+        b"out" => out_of(words),
+        b"look" => look_of(words),
+        b"ack" => ack_of(words),
+        b"pulse" => pulses_of(words),
+        b"bad" => sector_of(words),
         _ => None,
     }
 }

@@ -1,6 +1,13 @@
 //! One line of a script: its fields, and the item that it says.
 #![tactic(auto)]
 
+mod card;
 mod event;
 mod fields;
+mod item;
+mod moment;
 mod numbers;
+
+pub use card::{BaseField, CardFields};
+pub use item::{Asked, Item};
+pub use moment::MomentFields;
