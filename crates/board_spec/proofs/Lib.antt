@@ -1,6 +1,7 @@
 pub mod MergedLemmas
 pub mod StoreLemmas
 pub mod TableLemmas
+mod WideLemmas
 pub mod MapByteLaws
 pub mod MapWriteLaws
 mod FlatMapLaws

@@ -1,10 +1,12 @@
--- The bits of a byte that is merged under a mask.
-use Rattle.std.proofs.Common.{◌≡◌, ℕ, ◌-◌, ◌<◌, min, max, cond, eqb, ◌∙◌, ap, arith}
+-- The bits of a byte that is merged under a mask, and one that is merged under no bits and under all.
+use Rattle.std.proofs.Common.{◌≡◌, ℕ, ◌-◌, ◌%◌, ◌^◌, ◌<◌, min, max, cond, eqb, ◌∙◌, ap, arith}
 use Rattle.std.proofs.lemmas.Bool.Decides.{nat_tests}
 use Rattle.std.proofs.lemmas.Nat.Bits.{bit_at_and, bit_at_or, bit_at_not, bit_at-lt}
 use Rattle.std.specs.Int.{w8}
-use Rattle.std.specs.Int.RustNames.{bit_and}
-use Rattle.board_spec.specs.Bits.{bit}
+use Rattle.std.proofs.lemmas.Nat.{and_mask}
+use Rattle.std.specs.Int.Bits.{and_zero_r, or_zero_l, or_zero_r}
+use Rattle.std.specs.Int.RustNames.{bit_and, bit_or}
+use Rattle.board_spec.specs.Bits.{bit, merged}
 use Rattle.board_spec.specs.MergedBits.{MergedBits}
 
 -- one bit of the mask chooses between two bits
@@ -17,3 +19,17 @@ merged_bits mask old written k below_mask below_old below_written below_k =
     ∙ ap (λ n. max n (bit (bit_and old (255 - mask)) k)) (bit_at_and written mask k)
     ∙ ap (λ n. max (min (bit written k) (bit mask k)) n) (bit_at_and old (255 - mask) k)
     ∙ chosen_bit (bit mask k) (bit (255 - mask) k) (bit old k) (bit written k) (bit_at_not w8 mask k below_mask below_k) (bit_at-lt mask k) (bit_at-lt old k) (bit_at-lt written k)
+
+pub merged-all : (old written : ℕ) → written < 256 → merged 0xFF old written ≡ written
+merged-all old written below =
+    ap (λ n. bit_or n (bit_and old 0)) (and_mask written 8)
+    ∙ ap (λ n. bit_or (written % 2 ^ 8) n) (and_zero_r old)
+    ∙ or_zero_r (written % 2 ^ 8)
+    ∙ omega arith
+
+pub merged-none : (old written : ℕ) → old < 256 → merged 0 old written ≡ old
+merged-none old written below =
+    ap (λ n. bit_or n (bit_and old 0xFF)) (and_zero_r written)
+    ∙ or_zero_l (bit_and old 0xFF)
+    ∙ and_mask old 8
+    ∙ omega arith

@@ -12,7 +12,7 @@ use Rattle.board_base.specs.declared.access.Width.TheVariants.{Four}
 use Rattle.board_spec.specs.Setup.{Base, MemoryBase, IoBase, FittedCard, Setup}
 use Rattle.board_spec.specs.Bits.{is_bit, is_within, wide}
 use Rattle.board_spec.specs.RegisterNames.{bridge, pam, drb, fdhc, smram, xbcs, card_register, card_command, base_register, expansion_rom}
-use Rattle.board_spec.specs.Ranges.{lies_in, smram_range, expansion_range, system_bios, shadow_range, upper_memory, hole_at_512_kib, hole_at_15_mib, high_bios, lower_bios, lower_high_bios, extended_bios, selectable_bios, largest_top}
+use Rattle.board_spec.specs.Ranges.{lies_in, smram_range, expansion_range, system_bios, shadow_range, upper_memory, hole_at_512_kib, hole_at_15_mib, high_bios, lower_bios, lower_high_bios, extended_bios, selectable_bios, largest_top, boundary_unit}
 
 -- what the registers hold
 abbrev pub Bytes : Type 0
@@ -33,7 +33,7 @@ line_where false answer = None
 
 -- the address at which a row of DRAM ends: its boundary register counts 8 MiB
 abbrev pub boundary : Bytes → ℕ → ℕ
-boundary bytes row = bytes (drb row) * 0x80_0000
+boundary bytes row = bytes (drb row) * boundary_unit
 
 -- the top of DRAM is the last boundary
 abbrev pub top_of : Bytes → ℕ

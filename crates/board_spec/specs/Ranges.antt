@@ -50,3 +50,7 @@ selectable_bios = (extended_bios.0, lower_high_bios.1)
 -- the largest top that the boundary registers can set, 255 times 8 MiB
 abbrev pub largest_top : ℕ
 largest_top = 0x7F80_0000
+
+-- how many bytes a boundary register counts
+abbrev pub boundary_unit : ℕ
+boundary_unit = 0x80_0000

@@ -10,6 +10,7 @@ mod map_change;
 pub mod offset;
 pub mod port;
 pub mod range;
+pub mod wide;
 
 pub use event::{Entry, Event, Look, Part, Parts, Reply, Statement};
 pub use map_change::MapChange;

@@ -6,7 +6,8 @@ ghost use Rattle.board_spec.specs.declared.map_change.MapChange.TheVariants.{Sto
 ghost use Rattle.board_spec.specs.Setup.{Setup};
 ghost use Rattle.board_spec.specs.Bits.{bit, is_bit, merged};
 ghost use Rattle.board_spec.specs.RegisterTable.{writable_bits};
-ghost use Rattle.board_spec.specs.Registers.{is_smram_register, changed_byte};
+ghost use Rattle.board_spec.specs.Registers.{changed_byte};
+ghost use Rattle.board_spec.specs.RegisterNames.{smram, is_same};
 ghost use Rattle.cfg_ports.specs.Space.{byte_at, mask_at, reset_at, SameTable};
 
 use board_spec::bits::merged;
@@ -58,7 +59,7 @@ impl Space {
 
         // For the registers of a function that the registers' table lists, this is a store of one byte.
         ensures stored { (setup : Setup) (reg : Reg) → mask_at self.old reg.off ≡ writable_bits setup reg
-            → is_smram_register reg ≡ false
+            → is_same reg smram ≡ false
             → byte_at self.new reg.off
             ≡ changed_byte setup (Store (record reg { off = off }) One byte) reg (byte_at self.old reg.off) }
     {

@@ -3,13 +3,13 @@ ghost use Rattle.std.specs.Prelude.{◌≡◌, ◌≤◌, ◌<◌, ◌+◌, ◌-
 ghost use Rattle.board_base.specs.Access.{bytes_of, largest_of};
 ghost use Rattle.board_base.specs.declared.target.Target.TheVariants.{Dram as DramTarget};
 ghost use Rattle.board_spec.specs.declared.event.Entry.{Entry};
-ghost use Rattle.board_spec.specs.Setup.{Setup};
+ghost use Rattle.board_spec.specs.Setup.{Setup, installed};
 ghost use Rattle.board_spec.specs.Bits.{byte, wide};
 ghost use Rattle.board_spec.specs.Stored.{DramCell, byte_put, entry_put, dram_byte};
 ghost use Rattle.dram_store.specs.Dram.{dram_at, IsDramOf};
 
-use crate::wide::{put_at, value_of};
 use board_base::{NoMemory, Width};
+use board_spec::wide::{read_at, write_at};
 use std::alloc::{AllocError, Global};
 use std::marker::Model;
 
@@ -45,7 +45,7 @@ impl Dram {
     pub fn open(alloc: Global, mib: u32) -> Result<Dram, NoMemory>
         requires some { 1 ≤ mib }
         requires most { mib ≤ 64 }
-        ensures zeros { IfOk result (λ dram. dram ≡ replicate (mib * 0x10_0000) 0) }
+        ensures zeros { IfOk result (λ dram. (setup : Setup) → setup.mib ≡ mib → dram ≡ replicate (installed setup) 0) }
         ensures fresh { IfOk result (λ dram. (setup : Setup) → setup.mib ≡ mib → IsDramOf setup [] dram) }
     {
         let bytes = zeros(alloc, mib as usize * MIB)?;
@@ -60,10 +60,10 @@ impl Dram {
         ensures stored { (setup : Setup) (history : List Entry) → IsDramOf setup history self.now
             → result ≡ wide (λ at. dram_byte setup history at) addr width }
     {
-        let at = addr as usize;
-        match self.bytes.get(at..at + width.bytes() as usize) {
-            Some(bytes) => value_of(bytes, width),
-            None => width.largest(),
+        if self.holds(addr, width) {
+            read_at(&self.bytes, addr as usize, width)
+        } else {
+            width.largest()
         }
     }
 
@@ -81,11 +81,16 @@ impl Dram {
             ≡ byte_put (DramTarget 0) addr width value (DramCell at))
             → IsDramOf setup (entry ∷ history) self.new }
     {
-        let at = addr as usize;
-        let end = at + width.bytes() as usize;
-        if end <= self.bytes.len() {
-            put_at(&mut self.bytes, at, width, value);
+        if self.holds(addr, width) {
+            write_at(&mut self.bytes, addr as usize, width, value);
         }
+    }
+
+    /// Whether all bytes of an access are installed. Of an aligned access either all are, or none.
+    fn holds(&self, addr: u32, width: Width) -> bool
+        ensures holds { result ≡ nat_le (addr + bytes_of width) (length self.now) }
+    {
+        addr as usize + width.bytes() as usize <= self.bytes.len()
     }
 }
 

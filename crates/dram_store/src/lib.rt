@@ -2,6 +2,5 @@
 #![tactic(auto)]
 
 mod dram;
-mod wide;
 
 pub use dram::Dram;

@@ -6,9 +6,9 @@ use Rattle.board_spec.specs.declared.map_change.MapChange.TheVariants.{Store}
 use Rattle.board_spec.specs.Setup.{Setup}
 use Rattle.board_spec.specs.Bits.{merged}
 use Rattle.board_spec.specs.RegisterTable.{host_bridge, reset_byte, writable_bits}
-use Rattle.board_spec.specs.Registers.{is_smram_register, changed_byte}
+use Rattle.board_spec.specs.Registers.{changed_byte}
 use Rattle.board_spec.specs.Decode.{Bytes}
-use Rattle.board_spec.specs.RegisterNames.{bridge}
+use Rattle.board_spec.specs.RegisterNames.{bridge, smram, is_same}
 use Rattle.pam_windows.specs.Pam.{IsPamOffset, IsPamOf, pam_byte}
 use Rattle.board_spec.proofs.StoreLemmas.{changed_byte-one_same, changed_byte-one_other}
 
@@ -41,8 +41,8 @@ unfolding writable_bits host_bridge
 writable_bits-pam setup =
     each_offset (λ off. pam_byte pam_masks off ≡ writable_bits setup (bridge off)) refl refl refl refl refl refl refl
 
-plain_register : (off : ℕ) → IsPamOffset off → is_smram_register (bridge off) ≡ false
-plain_register = each_offset (λ off. is_smram_register (bridge off) ≡ false) refl refl refl refl refl refl refl
+plain_register : (off : ℕ) → IsPamOffset off → is_same (bridge off) smram ≡ false
+plain_register = each_offset (λ off. is_same (bridge off) smram ≡ false) refl refl refl refl refl refl refl
 
 pub zeros_at_reset : (setup : Setup) → IsPamOf (reset_byte setup) (0 ∷ 0 ∷ 0 ∷ 0 ∷ 0 ∷ 0 ∷ 0 ∷ [])
 zeros_at_reset setup off h =

@@ -9,9 +9,9 @@ use Rattle.board_spec.specs.declared.map_change.MapChange.TheVariants.{Store}
 use Rattle.board_spec.specs.Setup.{Setup}
 use Rattle.board_spec.specs.Bits.{merged}
 use Rattle.board_spec.specs.RegisterTable.{reset_byte, writable_bits}
-use Rattle.board_spec.specs.Registers.{is_smram_register, changed_byte}
+use Rattle.board_spec.specs.Registers.{changed_byte}
 use Rattle.board_spec.specs.Decode.{Bytes}
-use Rattle.board_spec.specs.RegisterNames.{bridge}
+use Rattle.board_spec.specs.RegisterNames.{bridge, smram, is_same}
 use Rattle.board_spec.proofs.StoreLemmas.{changed_byte-one_same, changed_byte-one_other}
 use Rattle.pmc_regs.specs.Pmc.{PmcBytes, IsFixedOffset, IsPmcOf}
 use Rattle.pmc_regs.proofs.TableLemmas.{header_byte, rows_at_reset, hole_at_reset, writable_bits-row, writable_bits-hole, reset_byte-header, reset_byte-blank, writable_bits-fixed}
@@ -51,7 +51,7 @@ after_store setup bytes off written reg = changed_byte setup (Store (bridge off)
 pub elsewhere : (setup : Setup) (bytes : Bytes) (off written at : ℕ) → at ≢ off → after_store setup bytes off written (bridge at) ≡ bytes (bridge at)
 elsewhere setup bytes off written at apart = changed_byte-one_other setup (bridge at) off (bytes (bridge at)) written apart
 
-plain_register : (off : ℕ) → off ≢ 0x72 → is_smram_register (bridge off) ≡ false
+plain_register : (off : ℕ) → off ≢ 0x72 → is_same (bridge off) smram ≡ false
 plain_register off apart = ne_eqb off 0x72 apart
 
 pub there : (setup : Setup) (bytes : Bytes) (off written mask : ℕ) → written < 256 → off ≢ 0x72 → writable_bits setup (bridge off) ≡ mask → after_store setup bytes off written (bridge off) ≡ merged mask (bytes (bridge off)) written

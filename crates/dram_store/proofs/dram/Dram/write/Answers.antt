@@ -1,32 +1,26 @@
 use Rattle.std.proofs.Common.{◌≡◌, ◌+◌, ◌≤◌, ℕ, List, length, take, drop, ◌++◌, refl, arith}
+use Rattle.std.proofs.lemmas.Bool.Decides.{nat_tests}
 use Rattle.board_base.specs.Access.{bytes_of}
-use Rattle.dram_store.specs.Dram.{low_bytes, with_bytes}
-use Rattle.dram_store.proofs.ByteLemmas.{written, lost, wholly_past, returned, length-written}
+use Rattle.dram_store.proofs.ByteLemmas.{written, lost, wholly_past, lent_back}
 use Rattle.dram_store.proofs.DramLemmas.{stored}
 use Rattle.dram_store.proofs.dram.Dram.write.Goals as goal
 
-pub returns-then-end-len : goal.returns-then-end-len
-returns-then-end-len c =
+pub returns-then-holds-clause-stored : goal.returns-then-holds-clause-stored
+returns-then-holds-clause-stored c =
     let items : List ℕ = c.self.inside.bytes.items in
-    let within : c.args.addr + bytes_of c.args.width ≤ length items = omega arith in
-    let new : take c.self.inside.bytes.len (c.put_at.new.dram ++ drop (length c.put_at.new.dram) items)
-    ≡ with_bytes items c.args.addr (low_bytes c.args.width c.args.value) =
-    returned items c.deref_mut.result.now c.put_at.new.dram c.self.inside.bytes.len c.args.addr c.args.width c.args.value
-    (omega arith) c.deref_mut.ensures.value c.put_at.ensures.put within in
-    let bytes = written items c.args.addr c.args.width c.args.value within in
-    let size = length-written items c.args.addr c.args.width c.args.value within in
-    rw (new, ← c.self.view_is)
-    (record {
-      bytes = bytes;
-      size = size;
-      stored = λ setup history entry. stored setup history entry items c.args.addr c.args.width c.args.value
-          (with_bytes items c.args.addr (low_bytes c.args.width c.args.value)) bytes size;
-    })
+    let lent : c.deref_mut.result.now ≡ items = c.deref_mut.ensures.value in
+    let within : c.args.addr + bytes_of c.args.width ≤ length items = grind (arith, nat_tests) in
+    let same : length c.write_at.new.bytes ≡ length items = rw (← lent) c.write_at.ensures.length in
+    let back : take c.self.inside.bytes.len (c.write_at.new.bytes ++ drop (length c.write_at.new.bytes) items) ≡ c.write_at.new.bytes =
+    lent_back c.write_at.new.bytes items c.self.inside.bytes.len (omega arith) same in
+    rw (back, ← c.self.view_is)
+    (λ setup history entry. stored setup history entry items c.args.addr c.args.width c.args.value c.write_at.new.bytes
+    (written items c.write_at.new.bytes c.args.addr c.args.width c.args.value same within (rw (← lent) c.write_at.ensures.bytes)) same)
 
-pub returns-else-end-len-clause-stored : goal.returns-else-end-len-clause-stored
-returns-else-end-len-clause-stored c =
+pub returns-else-holds-clause-stored : goal.returns-else-holds-clause-stored
+returns-else-holds-clause-stored c =
     let items : List ℕ = c.self.inside.bytes.items in
-    let past : length items ≤ c.args.addr = wholly_past c.args.width c.args.addr (length items) c.self.invariant c.requires.aligned (omega arith) in
+    let past : length items ≤ c.args.addr = wholly_past c.args.width c.args.addr (length items) c.self.invariant c.requires.aligned (grind (arith, nat_tests)) in
     rw (← c.self.view_is)
     (λ setup history entry. stored setup history entry items c.args.addr c.args.width c.args.value items
     (lost items c.args.addr c.args.width c.args.value past) refl)
