@@ -5,3 +5,5 @@ pub mod Chains
 pub mod NumberTexts
 pub mod Joins
 pub mod EventTexts
+pub mod MomentTexts
+pub mod CardTexts

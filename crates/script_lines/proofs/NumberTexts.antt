@@ -64,6 +64,18 @@ ten c d e =
         ]
     ]
 
+pub ten_is : (c d : ℕ) → digit_of 10 c ≡ Some d → (c ≡ 48 + d) × (d < 10)
+ten_is c d e =
+    let b = below 10 c d e in
+    let lt = b.1 in
+    (elim (digit_cases c d b.0) [
+      | inl low ↦ omega (arith, low.0, low.1.0, low.1.1)
+      | inr high ↦ elim high [
+          | inl upper ↦ absurd (omega (arith, upper.0, upper.1.1, lt))
+          | inr lower ↦ absurd (omega (arith, lower.0, lower.1.1, lt))
+        ]
+    ], lt)
+
 digits : (high n : ℕ) (ds : List ℕ) → number_after 10 high ds ≡ Some n → AllDigits 10 ds × (digits_value_after 10 high ds ≡ n)
 unfolding number_after
 digits high n [] e = (tt, some_is high n e)
