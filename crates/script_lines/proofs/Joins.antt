@@ -23,7 +23,7 @@ same (c ∷ cs) = (inl refl, same cs)
 pub same_as : (field text : List ℕ) → field ≡ text → Spells field text
 same_as field text is = subst (λ (t : List ℕ). Spells field t) is (same field)
 
-zipped : (xs ys us vs : List ℕ) → Spells xs ys → Spells us vs → Spells (xs ++ us) (ys ++ vs)
+pub zipped : (xs ys us vs : List ℕ) → Spells xs ys → Spells us vs → Spells (xs ++ us) (ys ++ vs)
 zipped [] [] us vs one two = two
 zipped [] (y ∷ ys) us vs one two = absurd one
 zipped (x ∷ xs) [] us vs one two = absurd one

@@ -7,3 +7,4 @@ pub mod Joins
 pub mod EventTexts
 pub mod MomentTexts
 pub mod CardTexts
+pub mod ItemTexts

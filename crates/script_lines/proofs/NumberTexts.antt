@@ -85,7 +85,7 @@ digits high n (c ∷ cs) e =
     let later = digits (high * 10 + s.0) n cs s.2 in
     ((t.0, later.0), ap (λ (d : ℕ). digits_value_after 10 (high * 10 + d) cs) (sym t.1) ∙ later.1)
 
-own : IsNumeralModel (AllDigits 10) (digits_value 10)
+pub own : IsNumeralModel (AllDigits 10) (digits_value 10)
 own = record { to = λ ds d. d; from = λ ds d. d; same = λ ds d. refl }
 
 no_zero : (field : List ℕ) → has_leading_zero field ≡ false → 1 ≤ length field → get_or field 0 0 ≡ 48 → length field ≡ 1

@@ -9,5 +9,5 @@ mod moment;
 mod numbers;
 
 pub use card::{BaseField, CardFields};
-pub use item::{Asked, Item};
+pub use item::{Asked, Item, item_of};
 pub use moment::MomentFields;
