@@ -27,20 +27,20 @@ base_read : (field : List ℕ) (base : Base) → base_of field ≡ Some base →
 unfolding base_of
 base_read [] base e = absurd cc
 base_read (letter ∷ digits) base e = elim (cases_Bool (eqb letter 0x6D)) [
-    | inl m ↦
-        let r = mapped (decimal_of digits) MemoryBase base (rw m at e) in
-        let d = decimal_read digits r.0 r.1 in
-        let first = eqb-true letter 0x6D m in
-        subst (λ (b : Base). (space ∷ letter ∷ digits ≡ base_text b) × IsBaseForm b) (sym r.2)
-        ((λ i. space ∷ first i ∷ d.0 i), d.1)
-    | inr m ↦
-        let g = guarded (eqb letter 0x69) (option_map IoBase (decimal_of digits)) base (rw m at e) in
-        let r = mapped (decimal_of digits) IoBase base g.1 in
-        let d = decimal_read digits r.0 r.1 in
-        let first = eqb-true letter 0x69 g.0 in
-        subst (λ (b : Base). (space ∷ letter ∷ digits ≡ base_text b) × IsBaseForm b) (sym r.2)
-        ((λ i. space ∷ first i ∷ d.0 i), d.1)
-  ]
+  | inl m ↦
+      let r = mapped (decimal_of digits) MemoryBase base (rw m at e) in
+      let d = decimal_read digits r.0 r.1 in
+      let first = eqb-true letter 0x6D m in
+      subst (λ (b : Base). (space ∷ letter ∷ digits ≡ base_text b) × IsBaseForm b) (sym r.2)
+      ((λ i. space ∷ first i ∷ d.0 i), d.1)
+  | inr m ↦
+      let g = guarded (eqb letter 0x69) (option_map IoBase (decimal_of digits)) base (rw m at e) in
+      let r = mapped (decimal_of digits) IoBase base g.1 in
+      let d = decimal_read digits r.0 r.1 in
+      let first = eqb-true letter 0x69 g.0 in
+      subst (λ (b : Base). (space ∷ letter ∷ digits ≡ base_text b) × IsBaseForm b) (sym r.2)
+      ((λ i. space ∷ first i ∷ d.0 i), d.1)
+]
 
 rom_read : (version : ℕ) (field : List ℕ) (bits : ℕ) → rom_of version field ≡ Some bits
     → (space ∷ field ≡ rom_text (Some bits)) × IsRomForm version (Some bits)
@@ -124,9 +124,9 @@ tail_read version before (field ∷ fields) tail few e =
           })
       | inr base ↦
           let long : length (before ++ base.base ∷ []) ≤ 6 =
-              omega (arith, length-append before (base.base ∷ []), base.room) in
+          omega (arith, length-append before (base.base ∷ []), base.room) in
           let later = tail_read version (before ++ base.base ∷ []) fields tail long
-              (subst (λ (t : Tail). with_fields version t fields ≡ Some tail) (sym base.is) s.2) in
+          (subst (λ (t : Tail). with_fields version t fields ≡ Some tail) (sym base.is) s.2) in
           let read = base_read field base.base base.read in
           record {
             more = base.base ∷ later.more;
@@ -145,11 +145,11 @@ kind_word vga = codes (if vga then "vga" else "plain")
 
 vga_read : (field : List ℕ) (vga : Bool) → vga_of field ≡ Some vga → field ≡ kind_word vga
 vga_read field vga e = elim (cases_Bool (bytes_eq field (codes "vga"))) [
-    | inl v ↦ subst (λ (b : Bool). field ≡ kind_word b) (some_is true vga (rw v at e)) (word_is field (codes "vga") v)
-    | inr v ↦
-        let p = guarded (bytes_eq field (codes "plain")) (Some false) vga (rw v at e) in
-        subst (λ (b : Bool). field ≡ kind_word b) (some_is false vga p.1) (word_is field (codes "plain") p.0)
-  ]
+  | inl v ↦ subst (λ (b : Bool). field ≡ kind_word b) (some_is true vga (rw v at e)) (word_is field (codes "vga") v)
+  | inr v ↦
+      let p = guarded (bytes_eq field (codes "plain")) (Some false) vga (rw v at e) in
+      subst (λ (b : Bool). field ≡ kind_word b) (some_is false vga p.1) (word_is field (codes "plain") p.0)
+]
 
 card_parts : (dev : ℕ) (vga : Bool) (bases : List Base) (rom : Option ℕ)
     → decimal dev ++ (space ∷ (kind_word vga ++ (flat_map base_text bases ++ rom_text rom)))
@@ -174,18 +174,19 @@ card_read version (dev ∷ kind ∷ fields) card e =
     let kind_is = vga_read kind v.0 v.1 in
     let tail = tail_read version [] fields t.0 (omega arith) t.1 in
     subst (λ (c : FittedCard). (join_with_byte space (codes "card" ∷ dev ∷ kind ∷ fields) ≡ codes "card " ++ card_text c) × IsCardForm version c)
-    (some_is _ card t.2)
-    (ap (λ (rest : List ℕ). codes "card " ++ rest) (
-    ap (λ (rest : List ℕ). dev ++ (space ∷ rest)) (line_spaced kind fields)
-    ∙ ap (λ (first : List ℕ). first ++ (space ∷ (kind ++ spaced fields))) dev_is.0
-    ∙ ap (λ (k : List ℕ). decimal d.0 ++ (space ∷ (k ++ spaced fields))) kind_is
-    ∙ ap (λ (rest : List ℕ). decimal d.0 ++ (space ∷ (kind_word v.0 ++ rest)))
-    (tail.text ∙ ap (λ (bases : List Base). flat_map base_text bases ++ rom_text t.0.rom) (sym tail.bases))
-    ∙ card_parts d.0 v.0 t.0.bases t.0.rom
-    ),
-    record {
-      dev = dev_is.1;
-      count = tail.count;
-      each = subst (All IsBaseForm) (sym tail.bases) tail.each;
-      rom = tail.rom;
-    })
+    (some_is _ card t.2) (
+      ap (λ (rest : List ℕ). codes "card " ++ rest) (
+          ap (λ (rest : List ℕ). dev ++ (space ∷ rest)) (line_spaced kind fields)
+          ∙ ap (λ (first : List ℕ). first ++ (space ∷ (kind ++ spaced fields))) dev_is.0
+          ∙ ap (λ (k : List ℕ). decimal d.0 ++ (space ∷ (k ++ spaced fields))) kind_is
+          ∙ ap (λ (rest : List ℕ). decimal d.0 ++ (space ∷ (kind_word v.0 ++ rest)))
+          (tail.text ∙ ap (λ (bases : List Base). flat_map base_text bases ++ rom_text t.0.rom) (sym tail.bases))
+          ∙ card_parts d.0 v.0 t.0.bases t.0.rom
+          ),
+      record {
+        dev = dev_is.1;
+        count = tail.count;
+        each = subst (All IsBaseForm) (sym tail.bases) tail.each;
+        rom = tail.rom;
+      },
+    )

@@ -34,48 +34,48 @@ pub record IsRead (version : ℕ) (fields : List (List ℕ)) (event : Event) : T
 size_read : (version : ℕ) (field : List ℕ) (bytes : ℕ) → size_of version field ≡ Some bytes
     → (field ≡ size_text bytes) × IsSize version bytes
 size_read version field bytes e = elim (cases_Bool (bytes_eq field (codes "b"))) [
-    | inl one ↦
-        let is : 1 ≡ bytes = some_is 1 bytes (rw one at e) in
-        subst (λ (n : ℕ). (field ≡ size_text n) × IsSize version n) is (word_is field (codes "b") one, inl refl)
-    | inr b ↦ elim (cases_Bool (bytes_eq field (codes "w"))) [
-        | inl two ↦
-            let is : 2 ≡ bytes = some_is 2 bytes (rw (b, two) at e) in
-            subst (λ (n : ℕ). (field ≡ size_text n) × IsSize version n) is (word_is field (codes "w") two, inr (inl refl))
-        | inr w ↦ elim (cases_Bool (bytes_eq field (codes "d"))) [
-            | inl four ↦
-                let is : 4 ≡ bytes = some_is 4 bytes (rw (b, w, four) at e) in
-                subst (λ (n : ℕ). (field ≡ size_text n) × IsSize version n) is (word_is field (codes "d") four, inr (inr (inl refl)))
-            | inr d ↦
-                let q = guarded (bytes_eq field (codes "q")) (quad_of version) bytes (rw (b, w, d) at e) in
-                let v = guarded (eqb version 2) (Some 8) bytes q.1 in
-                let is : 8 ≡ bytes = some_is 8 bytes v.1 in
-                subst (λ (n : ℕ). (field ≡ size_text n) × IsSize version n) is
-                (word_is field (codes "q") q.0, inr (inr (inr (refl, eqb-true version 2 v.0))))
-          ]
-      ]
+  | inl one ↦
+      let is : 1 ≡ bytes = some_is 1 bytes (rw one at e) in
+      subst (λ (n : ℕ). (field ≡ size_text n) × IsSize version n) is (word_is field (codes "b") one, inl refl)
+  | inr b ↦ elim (cases_Bool (bytes_eq field (codes "w"))) [
+    | inl two ↦
+        let is : 2 ≡ bytes = some_is 2 bytes (rw (b, two) at e) in
+        subst (λ (n : ℕ). (field ≡ size_text n) × IsSize version n) is (word_is field (codes "w") two, inr (inl refl))
+    | inr w ↦ elim (cases_Bool (bytes_eq field (codes "d"))) [
+      | inl four ↦
+          let is : 4 ≡ bytes = some_is 4 bytes (rw (b, w, four) at e) in
+          subst (λ (n : ℕ). (field ≡ size_text n) × IsSize version n) is (word_is field (codes "d") four, inr (inr (inl refl)))
+      | inr d ↦
+          let q = guarded (bytes_eq field (codes "q")) (quad_of version) bytes (rw (b, w, d) at e) in
+          let v = guarded (eqb version 2) (Some 8) bytes q.1 in
+          let is : 8 ≡ bytes = some_is 8 bytes v.1 in
+          subst (λ (n : ℕ). (field ≡ size_text n) × IsSize version n) is
+          (word_is field (codes "q") q.0, inr (inr (inr (refl, eqb-true version 2 v.0))))
+    ]
   ]
+]
 
 width_read : (field : List ℕ) (width : Width) → width_of field ≡ Some width → field ≡ width_text width
 width_read field width e = elim (cases_Bool (bytes_eq field (codes "b"))) [
-    | inl one ↦ subst (λ (w : Width). field ≡ width_text w) (some_is One width (rw one at e)) (word_is field (codes "b") one)
-    | inr b ↦ elim (cases_Bool (bytes_eq field (codes "w"))) [
-        | inl two ↦ subst (λ (w : Width). field ≡ width_text w) (some_is Two width (rw (b, two) at e)) (word_is field (codes "w") two)
-        | inr w ↦
-            let d = guarded (bytes_eq field (codes "d")) (Some Four) width (rw (b, w) at e) in
-            subst (λ (w : Width). field ≡ width_text w) (some_is Four width d.1) (word_is field (codes "d") d.0)
-      ]
+  | inl one ↦ subst (λ (w : Width). field ≡ width_text w) (some_is One width (rw one at e)) (word_is field (codes "b") one)
+  | inr b ↦ elim (cases_Bool (bytes_eq field (codes "w"))) [
+    | inl two ↦ subst (λ (w : Width). field ≡ width_text w) (some_is Two width (rw (b, two) at e)) (word_is field (codes "w") two)
+    | inr w ↦
+        let d = guarded (bytes_eq field (codes "d")) (Some Four) width (rw (b, w) at e) in
+        subst (λ (w : Width). field ≡ width_text w) (some_is Four width d.1) (word_is field (codes "d") d.0)
   ]
+]
 
 kind_read : (field : List ℕ) (kind : Kind) → kind_of field ≡ Some kind → field ≡ kind_text kind
 kind_read field kind e = elim (cases_Bool (bytes_eq field (codes "f"))) [
-    | inl f ↦ subst (λ (k : Kind). field ≡ kind_text k) (some_is Fetch kind (rw f at e)) (word_is field (codes "f") f)
-    | inr f ↦ elim (cases_Bool (bytes_eq field (codes "r"))) [
-        | inl r ↦ subst (λ (k : Kind). field ≡ kind_text k) (some_is Read kind (rw (f, r) at e)) (word_is field (codes "r") r)
-        | inr r ↦
-            let w = guarded (bytes_eq field (codes "w")) (Some Write) kind (rw (f, r) at e) in
-            subst (λ (k : Kind). field ≡ kind_text k) (some_is Write kind w.1) (word_is field (codes "w") w.0)
-      ]
+  | inl f ↦ subst (λ (k : Kind). field ≡ kind_text k) (some_is Fetch kind (rw f at e)) (word_is field (codes "f") f)
+  | inr f ↦ elim (cases_Bool (bytes_eq field (codes "r"))) [
+    | inl r ↦ subst (λ (k : Kind). field ≡ kind_text k) (some_is Read kind (rw (f, r) at e)) (word_is field (codes "r") r)
+    | inr r ↦
+        let w = guarded (bytes_eq field (codes "w")) (Some Write) kind (rw (f, r) at e) in
+        subst (λ (k : Kind). field ≡ kind_text k) (some_is Write kind w.1) (word_is field (codes "w") w.0)
   ]
+]
 
 -- ---- an access to memory is a wide one or not
 
@@ -87,25 +87,26 @@ IsAccess version kind bytes addr value smm =
 -- what is not wide is aligned in version 2
 aligned_if : (version bytes addr : ℕ) → is_wide version bytes addr ≡ false → version ≡ 2 → addr % bytes ≡ 0
 aligned_if version bytes addr narrow second = elim (cases_Bool (eqb (addr % bytes) 0)) [
-    | inl yes_aligned ↦ eqb-true (addr % bytes) 0 yes_aligned
-    | inr moved ↦ elim (cases_Bool (eqb bytes 8)) [
-        | inl eight ↦ (let f = rw (eq-eqb version 2 second, eight) at narrow in absurd (true≢false f))
-        | inr other ↦ (let f = rw (eq-eqb version 2 second, other, moved) at narrow in absurd (true≢false f))
-      ]
+  | inl yes_aligned ↦ eqb-true (addr % bytes) 0 yes_aligned
+  | inr moved ↦ elim (cases_Bool (eqb bytes 8)) [
+    | inl eight ↦ (let f = rw (eq-eqb version 2 second, eight) at narrow in absurd (true≢false f))
+    | inr other ↦ (let f = rw (eq-eqb version 2 second, other, moved) at narrow in absurd (true≢false f))
   ]
+]
 
 narrow_access : (version : ℕ) (kind : Kind) (bytes addr value : ℕ) (smm : Bool) → is_wide version bytes addr ≡ false
     → bytes_of (width_with bytes) ≡ bytes → addr < 2 ^ 32 → FitsBytes (is_write kind) bytes value
     → IsAccess version kind bytes addr value smm
 unfolding memory_event event_text
 narrow_access version kind bytes addr value smm narrow same_size small fits =
-    rw narrow
-    (ap (λ (n : ℕ). memory_text kind n addr value smm) (sym same_size),
-    record {
-      addr = small;
-      value = subst (λ (n : ℕ). FitsBytes (is_write kind) n value) (sym same_size) fits;
-      aligned = λ second. subst (λ (n : ℕ). addr % n ≡ 0) (sym same_size) (aligned_if version bytes addr narrow second);
-    })
+    rw narrow (
+      ap (λ (n : ℕ). memory_text kind n addr value smm) (sym same_size),
+      record {
+        addr = small;
+        value = subst (λ (n : ℕ). FitsBytes (is_write kind) n value) (sym same_size) fits;
+        aligned = λ second. subst (λ (n : ℕ). addr % n ≡ 0) (sym same_size) (aligned_if version bytes addr narrow second);
+      },
+    )
 
 not_aligned : (rest : ℕ) → not (eqb rest 0) ≡ true → rest ≡ 0 → ⊥
 not_aligned rest e is = let f = rw (eq-eqb rest 0 is) at e in true≢false (sym f)
@@ -117,40 +118,41 @@ unfolding memory_event event_text
 wide_access version kind bytes addr value smm wide sizes small fits =
     let parts = both (eqb version 2) (eqb bytes 8 || not (eqb (addr % bytes) 0)) wide in
     let moved : (bytes ≡ 8) ⊎ (addr % bytes ≡ 0 → ⊥) = elim (cases_Bool (eqb bytes 8)) [
-        | inl eight ↦ inl (eqb-true bytes 8 eight)
-        | inr other ↦ inr (not_aligned (addr % bytes) (rw other at parts.1))
-      ] in
-    rw wide
-    (refl,
-    record { second = eqb-true version 2 parts.0; addr = small; bytes = sizes; wide = moved; value = fits })
+      | inl eight ↦ inl (eqb-true bytes 8 eight)
+      | inr other ↦ inr (not_aligned (addr % bytes) (rw other at parts.1))
+    ] in
+    rw wide (
+      refl,
+      record { second = eqb-true version 2 parts.0; addr = small; bytes = sizes; wide = moved; value = fits },
+    )
 
 is_access : (version : ℕ) (kind : Kind) (bytes addr value : ℕ) (smm : Bool) → IsSize version bytes
     → addr < 2 ^ 32 → FitsBytes (is_write kind) bytes value → IsAccess version kind bytes addr value smm
 is_access version kind bytes addr value smm size small fits = elim (cases_Bool (is_wide version bytes addr)) [
-    | inl wide ↦ elim size [
-        | inl one ↦
-            let parts = both (eqb version 2) (eqb bytes 8 || not (eqb (addr % bytes) 0)) wide in
-            let none : eqb (addr % bytes) 0 ≡ true = eq-eqb (addr % bytes) 0 (rw one (omega arith)) in
-            let f = rw (none, one) at parts in absurd (true≢false (sym f.1))
-        | inr more ↦ elim more [
-            | inl two ↦ wide_access version kind bytes addr value smm wide (inl two) small fits
-            | inr more ↦ elim more [
-                | inl four ↦ wide_access version kind bytes addr value smm wide (inr (inl four)) small fits
-                | inr eight ↦ wide_access version kind bytes addr value smm wide (inr (inr eight.0)) small fits
-              ]
-          ]
+  | inl wide ↦ elim size [
+    | inl one ↦
+        let parts = both (eqb version 2) (eqb bytes 8 || not (eqb (addr % bytes) 0)) wide in
+        let none : eqb (addr % bytes) 0 ≡ true = eq-eqb (addr % bytes) 0 (rw one (omega arith)) in
+        let f = rw (none, one) at parts in absurd (true≢false (sym f.1))
+    | inr more ↦ elim more [
+      | inl two ↦ wide_access version kind bytes addr value smm wide (inl two) small fits
+      | inr more ↦ elim more [
+        | inl four ↦ wide_access version kind bytes addr value smm wide (inr (inl four)) small fits
+        | inr eight ↦ wide_access version kind bytes addr value smm wide (inr (inr eight.0)) small fits
       ]
-    | inr narrow ↦ elim size [
-        | inl one ↦ narrow_access version kind bytes addr value smm narrow (rw one refl) small fits
-        | inr more ↦ elim more [
-            | inl two ↦ narrow_access version kind bytes addr value smm narrow (rw two refl) small fits
-            | inr more ↦ elim more [
-                | inl four ↦ narrow_access version kind bytes addr value smm narrow (rw four refl) small fits
-                | inr eight ↦ let f = rw (eq-eqb version 2 eight.1, eq-eqb bytes 8 eight.0) at narrow in absurd (true≢false f)
-              ]
-          ]
-      ]
+    ]
   ]
+  | inr narrow ↦ elim size [
+    | inl one ↦ narrow_access version kind bytes addr value smm narrow (rw one refl) small fits
+    | inr more ↦ elim more [
+      | inl two ↦ narrow_access version kind bytes addr value smm narrow (rw two refl) small fits
+      | inr more ↦ elim more [
+        | inl four ↦ narrow_access version kind bytes addr value smm narrow (rw four refl) small fits
+        | inr eight ↦ let f = rw (eq-eqb version 2 eight.1, eq-eqb bytes 8 eight.0) at narrow in absurd (true≢false f)
+      ]
+    ]
+  ]
+]
 
 -- ---- statements
 
@@ -296,31 +298,31 @@ pub event_read : (version : ℕ) (verb : List ℕ) (words : List (List ℕ)) (ev
     → IsRead version (verb ∷ words) event
 unfolding event_of
 event_read version verb words event e = elim (cases_Bool (bytes_eq verb (codes "r"))) [
-    | inl r ↦ of_verb version verb (codes "r") words event r (read_read version Read words event refl (rw r at e))
-    | inr r ↦ elim (cases_Bool (bytes_eq verb (codes "f"))) [
-        | inl f ↦ of_verb version verb (codes "f") words event f (read_read version Fetch words event refl (rw (r, f) at e))
-        | inr f ↦ elim (cases_Bool (bytes_eq verb (codes "w"))) [
-            | inl w ↦ of_verb version verb (codes "w") words event w (write_read version words event (rw (r, f, w) at e))
-            | inr w ↦ elim (cases_Bool (bytes_eq verb (codes "in"))) [
-                | inl i ↦ of_verb version verb (codes "in") words event i (in_read version words event (rw (r, f, w, i) at e))
-                | inr i ↦ elim (cases_Bool (bytes_eq verb (codes "out"))) [
-                    | inl o ↦ of_verb version verb (codes "out") words event o (out_read version words event (rw (r, f, w, i, o) at e))
-                    | inr o ↦ elim (cases_Bool (bytes_eq verb (codes "look"))) [
-                        | inl l ↦ of_verb version verb (codes "look") words event l (look_read version words event (rw (r, f, w, i, o, l) at e))
-                        | inr l ↦ elim (cases_Bool (bytes_eq verb (codes "ack"))) [
-                            | inl a ↦ of_verb version verb (codes "ack") words event a (ack_read version words event (rw (r, f, w, i, o, l, a) at e))
-                            | inr a ↦ elim (cases_Bool (bytes_eq verb (codes "pulse"))) [
-                                | inl p ↦
-                                    of_verb version verb (codes "pulse") words event p
-                                    (pulses_read version words event (rw (r, f, w, i, o, l, a, p) at e))
-                                | inr p ↦
-                                    let b = guarded (bytes_eq verb (codes "bad")) (sector_of words) event (rw (r, f, w, i, o, l, a, p) at e) in
-                                    of_verb version verb (codes "bad") words event b.0 (sector_read version words event b.1)
-                              ]
-                          ]
-                      ]
-                  ]
+  | inl r ↦ of_verb version verb (codes "r") words event r (read_read version Read words event refl (rw r at e))
+  | inr r ↦ elim (cases_Bool (bytes_eq verb (codes "f"))) [
+    | inl f ↦ of_verb version verb (codes "f") words event f (read_read version Fetch words event refl (rw (r, f) at e))
+    | inr f ↦ elim (cases_Bool (bytes_eq verb (codes "w"))) [
+      | inl w ↦ of_verb version verb (codes "w") words event w (write_read version words event (rw (r, f, w) at e))
+      | inr w ↦ elim (cases_Bool (bytes_eq verb (codes "in"))) [
+        | inl i ↦ of_verb version verb (codes "in") words event i (in_read version words event (rw (r, f, w, i) at e))
+        | inr i ↦ elim (cases_Bool (bytes_eq verb (codes "out"))) [
+          | inl o ↦ of_verb version verb (codes "out") words event o (out_read version words event (rw (r, f, w, i, o) at e))
+          | inr o ↦ elim (cases_Bool (bytes_eq verb (codes "look"))) [
+            | inl l ↦ of_verb version verb (codes "look") words event l (look_read version words event (rw (r, f, w, i, o, l) at e))
+            | inr l ↦ elim (cases_Bool (bytes_eq verb (codes "ack"))) [
+              | inl a ↦ of_verb version verb (codes "ack") words event a (ack_read version words event (rw (r, f, w, i, o, l, a) at e))
+              | inr a ↦ elim (cases_Bool (bytes_eq verb (codes "pulse"))) [
+                | inl p ↦
+                    of_verb version verb (codes "pulse") words event p
+                    (pulses_read version words event (rw (r, f, w, i, o, l, a, p) at e))
+                | inr p ↦
+                    let b = guarded (bytes_eq verb (codes "bad")) (sector_of words) event (rw (r, f, w, i, o, l, a, p) at e) in
+                    of_verb version verb (codes "bad") words event b.0 (sector_read version words event b.1)
               ]
+            ]
           ]
+        ]
       ]
+    ]
   ]
+]

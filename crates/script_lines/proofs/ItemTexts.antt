@@ -146,30 +146,30 @@ at_least_two (suc (suc n)) a b = omega arith
 wire_level : (version n dev level : ℕ) (actor : List ℕ) → decimal_of actor ≡ Some n → IsDecimal dev → IsDecimal level
     → HasForm version (line (actor ∷ codes "wire" ∷ decimal dev ∷ decimal level ∷ [])) (wire_item n dev level)
 wire_level version n dev level actor d small few = elim (cases_Bool (eqb level 0)) [
-    | inl off ↦
-        let is = eqb-true level 0 off in
-        rw (is, zero_text) (ask_read version n actor (codes "wire") _ (Wire dev false) d (wire_read version dev false small))
-    | inr off ↦ elim (cases_Bool (eqb level 1)) [
-        | inl on ↦
-            let is = eqb-true level 1 on in
-            rw (is, one_text) (ask_read version n actor (codes "wire") _ (Wire dev true) d (wire_read version dev true small))
-        | inr on ↦ rw (off, on) (high_read version n dev level actor (codes "wire") d (inl refl) small few (at_least_two level off on))
-      ]
+  | inl off ↦
+      let is = eqb-true level 0 off in
+      rw (is, zero_text) (ask_read version n actor (codes "wire") _ (Wire dev false) d (wire_read version dev false small))
+  | inr off ↦ elim (cases_Bool (eqb level 1)) [
+    | inl on ↦
+        let is = eqb-true level 1 on in
+        rw (is, one_text) (ask_read version n actor (codes "wire") _ (Wire dev true) d (wire_read version dev true small))
+    | inr on ↦ rw (off, on) (high_read version n dev level actor (codes "wire") d (inl refl) small few (at_least_two level off on))
   ]
+]
 
 line_level : (version n irq level : ℕ) (actor : List ℕ) → decimal_of actor ≡ Some n → IsDecimal irq → IsDecimal level
     → HasForm version (line (actor ∷ codes "irq" ∷ decimal irq ∷ decimal level ∷ [])) (line_item n irq level)
 line_level version n irq level actor d small few = elim (cases_Bool (eqb level 0)) [
-    | inl off ↦
-        let is = eqb-true level 0 off in
-        rw (is, zero_text) (ask_read version n actor (codes "irq") _ (Line irq false) d (irq_read version irq false small))
-    | inr off ↦ elim (cases_Bool (eqb level 1)) [
-        | inl on ↦
-            let is = eqb-true level 1 on in
-            rw (is, one_text) (ask_read version n actor (codes "irq") _ (Line irq true) d (irq_read version irq true small))
-        | inr on ↦ rw (off, on) (high_read version n irq level actor (codes "irq") d (inr refl) small few (at_least_two level off on))
-      ]
+  | inl off ↦
+      let is = eqb-true level 0 off in
+      rw (is, zero_text) (ask_read version n actor (codes "irq") _ (Line irq false) d (irq_read version irq false small))
+  | inr off ↦ elim (cases_Bool (eqb level 1)) [
+    | inl on ↦
+        let is = eqb-true level 1 on in
+        rw (is, one_text) (ask_read version n actor (codes "irq") _ (Line irq true) d (irq_read version irq true small))
+    | inr on ↦ rw (off, on) (high_read version n irq level actor (codes "irq") d (inr refl) small few (at_least_two level off on))
   ]
+]
 
 wire_asks : (version n : ℕ) (actor : List ℕ) (words : List (List ℕ)) (item : Item) → decimal_of actor ≡ Some n
     → wire_asked n words ≡ Some item → HasForm version (line (actor ∷ codes "wire" ∷ words)) item
@@ -209,15 +209,15 @@ asked_read : (version n : ℕ) (actor verb : List ℕ) (words : List (List ℕ))
     → asked_with version n verb words ≡ Some item → HasForm version (line (actor ∷ verb ∷ words)) item
 unfolding asked_with
 asked_read version n actor verb words item d e = elim (cases_Bool (bytes_eq verb (codes "moment"))) [
-    | inl m ↦ of_verb version actor verb (codes "moment") words item m (moment_item version n actor words item d (rw m at e))
-    | inr m ↦ elim (cases_Bool (bytes_eq verb (codes "wire"))) [
-        | inl w ↦ of_verb version actor verb (codes "wire") words item w (wire_asks version n actor words item d (rw (m, w) at e))
-        | inr w ↦ elim (cases_Bool (bytes_eq verb (codes "irq"))) [
-            | inl i ↦ of_verb version actor verb (codes "irq") words item i (line_asks version n actor words item d (rw (m, w, i) at e))
-            | inr i ↦ event_asks version n actor verb words item d (rw (m, w, i) at e)
-          ]
-      ]
+  | inl m ↦ of_verb version actor verb (codes "moment") words item m (moment_item version n actor words item d (rw m at e))
+  | inr m ↦ elim (cases_Bool (bytes_eq verb (codes "wire"))) [
+    | inl w ↦ of_verb version actor verb (codes "wire") words item w (wire_asks version n actor words item d (rw (m, w) at e))
+    | inr w ↦ elim (cases_Bool (bytes_eq verb (codes "irq"))) [
+      | inl i ↦ of_verb version actor verb (codes "irq") words item i (line_asks version n actor words item d (rw (m, w, i) at e))
+      | inr i ↦ event_asks version n actor verb words item d (rw (m, w, i) at e)
+    ]
   ]
+]
 
 statement_read : (version : ℕ) (actor : List ℕ) (words : List (List ℕ)) (item : Item) → statement_of version actor words ≡ Some item
     → HasForm version (line (actor ∷ words)) item
@@ -317,24 +317,24 @@ with_read : (version : ℕ) (key : List ℕ) (words : List (List ℕ)) (item : I
     → HasForm version (line (key ∷ words)) item
 unfolding item_with
 with_read version key words item e = elim (cases_Bool (bytes_eq key (codes "phase"))) [
-    | inl p ↦ of_key version key (codes "phase") words item p (phase_read version words item (rw p at e))
-    | inr p ↦ elim (cases_Bool (bytes_eq key (codes "cpus"))) [
-        | inl c ↦ of_key version key (codes "cpus") words item c (cpus_read version words item (rw (p, c) at e))
-        | inr c ↦ elim (cases_Bool (bytes_eq key (codes "memory"))) [
-            | inl m ↦ of_key version key (codes "memory") words item m (memory_read version words item (rw (p, c, m) at e))
-            | inr m ↦ elim (cases_Bool (bytes_eq key (codes "rom"))) [
-                | inl r ↦ of_key version key (codes "rom") words item r (rom_read version words item (rw (p, c, m, r) at e))
-                | inr r ↦ elim (cases_Bool (bytes_eq key (codes "disk"))) [
-                    | inl d ↦ of_key version key (codes "disk") words item d (disk_read version words item (rw (p, c, m, r, d) at e))
-                    | inr d ↦ elim (cases_Bool (bytes_eq key (codes "card"))) [
-                        | inl k ↦ of_key version key (codes "card") words item k (fitted_read version words item (rw (p, c, m, r, d, k) at e))
-                        | inr k ↦ statement_read version key words item (rw (p, c, m, r, d, k) at e)
-                      ]
-                  ]
-              ]
+  | inl p ↦ of_key version key (codes "phase") words item p (phase_read version words item (rw p at e))
+  | inr p ↦ elim (cases_Bool (bytes_eq key (codes "cpus"))) [
+    | inl c ↦ of_key version key (codes "cpus") words item c (cpus_read version words item (rw (p, c) at e))
+    | inr c ↦ elim (cases_Bool (bytes_eq key (codes "memory"))) [
+      | inl m ↦ of_key version key (codes "memory") words item m (memory_read version words item (rw (p, c, m) at e))
+      | inr m ↦ elim (cases_Bool (bytes_eq key (codes "rom"))) [
+        | inl r ↦ of_key version key (codes "rom") words item r (rom_read version words item (rw (p, c, m, r) at e))
+        | inr r ↦ elim (cases_Bool (bytes_eq key (codes "disk"))) [
+          | inl d ↦ of_key version key (codes "disk") words item d (disk_read version words item (rw (p, c, m, r, d) at e))
+          | inr d ↦ elim (cases_Bool (bytes_eq key (codes "card"))) [
+            | inl k ↦ of_key version key (codes "card") words item k (fitted_read version words item (rw (p, c, m, r, d, k) at e))
+            | inr k ↦ statement_read version key words item (rw (p, c, m, r, d, k) at e)
           ]
+        ]
       ]
+    ]
   ]
+]
 
 fields_read : (version : ℕ) (fields : List (List ℕ)) (item : Item) → item_of version fields ≡ Some item → HasForm version (line fields) item
 unfolding item_of

@@ -8,3 +8,5 @@ pub mod EventTexts
 pub mod MomentTexts
 pub mod CardTexts
 pub mod ItemTexts
+pub mod ItemReading
+pub mod Splits

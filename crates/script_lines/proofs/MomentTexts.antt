@@ -57,12 +57,13 @@ year_read text p e =
     let century = two_read text c.0 c.1 in
     let year = two_read c.0.1 y.0 y.1 in
     let parts = halves c.0.0 y.0.0 (c.0.0 * 100 + y.0.0) century.1 year.1 refl in
-    subst (λ (p : ℕ × List ℕ). (text ≡ two_digits (p.0 / 100) ++ (two_digits (p.0 % 100) ++ p.1)) × (p.0 < 10_000)) is
-    (century.0
-    ∙ ap (λ (rest : List ℕ). two_digits c.0.0 ++ rest) year.0
-    ∙ sym (ap (λ (n : ℕ). two_digits n ++ (two_digits ((c.0.0 * 100 + y.0.0) % 100) ++ y.0.1)) parts.0
-    ∙ ap (λ (n : ℕ). two_digits c.0.0 ++ (two_digits n ++ y.0.1)) parts.1),
-    omega (arith, century.1, year.1))
+    subst (λ (p : ℕ × List ℕ). (text ≡ two_digits (p.0 / 100) ++ (two_digits (p.0 % 100) ++ p.1)) × (p.0 < 10_000)) is (
+      century.0
+          ∙ ap (λ (rest : List ℕ). two_digits c.0.0 ++ rest) year.0
+          ∙ sym (ap (λ (n : ℕ). two_digits n ++ (two_digits ((c.0.0 * 100 + y.0.0) % 100) ++ y.0.1)) parts.0
+          ∙ ap (λ (n : ℕ). two_digits c.0.0 ++ (two_digits n ++ y.0.1)) parts.1),
+      omega (arith, century.1, year.1),
+    )
 
 record IsDateRead (text : List ℕ) (d : Three) : Type 0 where
   pub text_is :
@@ -129,17 +130,18 @@ moment_read field moment e =
     let date = date_read field d.0 d.1 in
     let time = time_read d.0.rest t.0 t.1 in
     let end = with_read d.0 t.0 t.0.rest moment t.2 in
-    subst (λ (m : Moment). (field ≡ moment_text m) × IsMomentForm m) end.1
-    (date.text_is
-    ∙ ap (λ (rest : List ℕ). two_digits (d.0.first / 100) ++ (two_digits (d.0.first % 100) ++ 0x2D ∷ (two_digits d.0.second ++ 0x2D ∷ (two_digits d.0.third ++ rest))))
-    (time.text_is
-    ∙ ap (λ (rest : List ℕ). 0x54 ∷ (two_digits t.0.first ++ 0x3A ∷ (two_digits t.0.second ++ 0x3A ∷ (two_digits t.0.third ++ rest)))) end.0),
-    record {
-      year = date.year;
-      month = date.month;
-      day = date.day;
-      weekday = refl;
-      hour = time.hour;
-      minute = time.minute;
-      second = time.second;
-    })
+    subst (λ (m : Moment). (field ≡ moment_text m) × IsMomentForm m) end.1 (
+      date.text_is
+          ∙ ap (λ (rest : List ℕ). two_digits (d.0.first / 100) ++ (two_digits (d.0.first % 100) ++ 0x2D ∷ (two_digits d.0.second ++ 0x2D ∷ (two_digits d.0.third ++ rest))))
+          (time.text_is
+          ∙ ap (λ (rest : List ℕ). 0x54 ∷ (two_digits t.0.first ++ 0x3A ∷ (two_digits t.0.second ++ 0x3A ∷ (two_digits t.0.third ++ rest)))) end.0),
+      record {
+        year = date.year;
+        month = date.month;
+        day = date.day;
+        weekday = refl;
+        hour = time.hour;
+        minute = time.minute;
+        second = time.second;
+      },
+    )

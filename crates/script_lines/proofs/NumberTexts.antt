@@ -25,21 +25,21 @@ digit_cases : (c d : ℕ) → digit_value c ≡ Some d
     → ((48 ≤ c) × ((c ≤ 57) × (d ≡ c - 48)))
     ⊎ (((65 ≤ c) × ((c ≤ 70) × (d ≡ c - 65 + 10))) ⊎ ((97 ≤ c) × ((c ≤ 102) × (d ≡ c - 97 + 10))))
 digit_cases c d e = elim (cases_Bool (is_within 0x30 0x39 c)) [
-    | inl low ↦
-        let r = is_within_is 0x30 0x39 c low in
-        inl (r.0, (r.1, sym (some_is (c - 0x30) d (rw low at e))))
-    | inr other ↦ elim (cases_Bool (is_within 0x41 0x46 c)) [
-        | inl upper ↦
-            let r = is_within_is 0x41 0x46 c upper in
-            inr (inl (r.0, (r.1, sym (some_is (c - 0x41 + 10) d (rw (other, upper) at e)))))
-        | inr third ↦ elim (cases_Bool (is_within 0x61 0x66 c)) [
-            | inl lower ↦
-                let r = is_within_is 0x61 0x66 c lower in
-                inr (inr (r.0, (r.1, sym (some_is (c - 0x61 + 10) d (rw (other, third, lower) at e)))))
-            | inr none ↦ let e = rw (other, third, none) at e in absurd cc
-          ]
-      ]
+  | inl low ↦
+      let r = is_within_is 0x30 0x39 c low in
+      inl (r.0, (r.1, sym (some_is (c - 0x30) d (rw low at e))))
+  | inr other ↦ elim (cases_Bool (is_within 0x41 0x46 c)) [
+    | inl upper ↦
+        let r = is_within_is 0x41 0x46 c upper in
+        inr (inl (r.0, (r.1, sym (some_is (c - 0x41 + 10) d (rw (other, upper) at e)))))
+    | inr third ↦ elim (cases_Bool (is_within 0x61 0x66 c)) [
+      | inl lower ↦
+          let r = is_within_is 0x61 0x66 c lower in
+          inr (inr (r.0, (r.1, sym (some_is (c - 0x61 + 10) d (rw (other, third, lower) at e)))))
+      | inr none ↦ let e = rw (other, third, none) at e in absurd cc
+    ]
   ]
+]
 
 below : (base c d : ℕ) → digit_of base c ≡ Some d → (digit_value c ≡ Some d) × (d < base)
 below base c d e =
@@ -56,25 +56,27 @@ ten c d e =
     elim (digit_cases c d b.0) [
       | inl low ↦
           let is : value_of_digit c ≡ c - 48 =
-              rw (le-ltb c 48 low.0, lt-ltb c 58 (omega (arith, low.1.0))) refl in
+          rw (le-ltb c 48 low.0, lt-ltb c 58 (omega (arith, low.1.0))) refl in
           (omega (arith, is, low.1.1, b.1), omega (arith, is, low.1.1))
       | inr high ↦ let lt = b.1 in elim high [
-          | inl upper ↦ absurd (omega (arith, upper.0, upper.1.1, lt))
-          | inr lower ↦ absurd (omega (arith, lower.0, lower.1.1, lt))
-        ]
+        | inl upper ↦ absurd (omega (arith, upper.0, upper.1.1, lt))
+        | inr lower ↦ absurd (omega (arith, lower.0, lower.1.1, lt))
+      ]
     ]
 
 pub ten_is : (c d : ℕ) → digit_of 10 c ≡ Some d → (c ≡ 48 + d) × (d < 10)
 ten_is c d e =
     let b = below 10 c d e in
-    let lt = b.1 in
-    (elim (digit_cases c d b.0) [
-      | inl low ↦ omega (arith, low.0, low.1.0, low.1.1)
-      | inr high ↦ elim high [
+    let lt = b.1 in (
+      elim (digit_cases c d b.0) [
+        | inl low ↦ omega (arith, low.0, low.1.0, low.1.1)
+        | inr high ↦ elim high [
           | inl upper ↦ absurd (omega (arith, upper.0, upper.1.1, lt))
           | inr lower ↦ absurd (omega (arith, lower.0, lower.1.1, lt))
         ]
-    ], lt)
+      ],
+      lt,
+    )
 
 digits : (high n : ℕ) (ds : List ℕ) → number_after 10 high ds ≡ Some n → AllDigits 10 ds × (digits_value_after 10 high ds ≡ n)
 unfolding number_after
@@ -102,11 +104,11 @@ decimal_read field n e =
     let few = leb-true (length field) 9 k.1 in
     let read = digits 0 n field g.1 in
     let small : digits_value 10 field < 1_000_000_000 =
-        omega (arith, digits_value-lt 10 field read.0, pow-le-pow_right {n = 10} (lit< tt) few) in
+    omega (arith, digits_value-lt 10 field read.0, pow-le-pow_right {n = 10} (lit< tt) few) in
     let zero_free : has_leading_zero field ≡ false =
-        elim (cases_Bool (has_leading_zero field)) [ | inl yes_zero ↦ (let f = rw yes_zero at h in absurd cc) | inr none ↦ none ] in
+    elim (cases_Bool (has_leading_zero field)) [ inl yes_zero ↦ (let f = rw yes_zero at h in absurd cc) | inr none ↦ none ] in
     let text : decimal (digits_value 10 field) ≡ field =
-        decimal-digits_value own field read.0 (omega (arith, some)) (no_zero field zero_free some) (omega (arith, small)) in
+    decimal-digits_value own field read.0 (omega (arith, some)) (no_zero field zero_free some) (omega (arith, small)) in
     (sym text ∙ ap decimal read.1, subst (λ (x : ℕ). x < 1_000_000_000) read.1 small)
 
 -- ---- hexadecimal numbers
@@ -119,20 +121,22 @@ hex_high d le lt = let e : d % 16 ≡ d = omega arith in rw (e, le-ltb d 10 le) 
 
 digit_stands : (c d : ℕ) → digit_of 16 c ≡ Some d → StandsFor c (hex_digit d) × (d < 16)
 digit_stands c d e =
-    let b = below 16 c d e in
-    (elim (digit_cases c d b.0) [
-      | inl low ↦ inl (omega (arith, low.0, low.1.0, low.1.1, hex_low d (omega (arith, low.0, low.1.0, low.1.1))))
-      | inr high ↦ elim high [
+    let b = below 16 c d e in (
+      elim (digit_cases c d b.0) [
+        | inl low ↦ inl (omega (arith, low.0, low.1.0, low.1.1, hex_low d (omega (arith, low.0, low.1.0, low.1.1))))
+        | inr high ↦ elim high [
           | inl upper ↦
               inl (omega (arith, upper.0, upper.1.0, upper.1.1, hex_high d (omega (arith, upper.0, upper.1.1)) b.1))
           | inr lower ↦
               let is : hex_digit d ≡ 55 + d = hex_high d (omega (arith, lower.0, lower.1.1)) b.1 in
               inr (
                 rw (le-leb 0x41 (hex_digit d) (omega (arith, is, lower.0, lower.1.0, lower.1.1)), le-leb (hex_digit d) 0x46 (omega (arith, is, lower.0, lower.1.0, lower.1.1))) refl,
-                omega (arith, is, lower.0, lower.1.0, lower.1.1)
+                omega (arith, is, lower.0, lower.1.0, lower.1.1),
               )
         ]
-    ], b.1)
+      ],
+      b.1,
+    )
 
 quotient : (n p : ℕ) → n / (p * 256) ≡ n / p / 256
 quotient n p = sym (div-div-eq-div-mul n p 256)
@@ -171,10 +175,13 @@ hex_digits (suc k) high n (c ∷ d ∷ cs) long e =
     let second = digit_stands d t.0 t.1 in
     let parts = two_digits high s.0 t.0 (n / 256 ^ k) first.1 second.1 later.0 in
     let whole : n / 256 ^ suc k ≡ n / 256 ^ k / 256 =
-        ap (λ (p : ℕ). n / p) (pow-suc 256 k) ∙ quotient n (256 ^ k) in
-    (whole ∙ parts.0,
-    (subst (StandsFor c) (sym (digit_again (byte n k / 16) s.0 parts.1.0)) first.0,
-    (subst (StandsFor d) (sym (digit_again (byte n k) t.0 parts.1.1)) second.0, later.1)))
+    ap (λ (p : ℕ). n / p) (pow-suc 256 k) ∙ quotient n (256 ^ k) in (
+      whole ∙ parts.0,
+      (
+        subst (StandsFor c) (sym (digit_again (byte n k / 16) s.0 parts.1.0)) first.0,
+        (subst (StandsFor d) (sym (digit_again (byte n k) t.0 parts.1.1)) second.0, later.1),
+      ),
+    )
 
 pub hex_read : (k : ℕ) (field : List ℕ) (n : ℕ) → hex_of (2 * k) field ≡ Some n → AllZip StandsFor field (hex_number k n) × (n < 256 ^ k)
 hex_read k field n e =
