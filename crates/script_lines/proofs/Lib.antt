@@ -10,3 +10,4 @@ pub mod CardTexts
 pub mod ItemTexts
 pub mod ItemReading
 pub mod Splits
+pub mod NumberBack

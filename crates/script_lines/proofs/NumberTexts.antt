@@ -138,7 +138,7 @@ digit_stands c d e =
       b.1,
     )
 
-quotient : (n p : ℕ) → n / (p * 256) ≡ n / p / 256
+pub quotient : (n p : ℕ) → n / (p * 256) ≡ n / p / 256
 quotient n p = sym (div-div-eq-div-mul n p 256)
 
 power : (k : ℕ) → 0 < 256 ^ k
@@ -149,7 +149,7 @@ power (suc k) = omega (arith, pow-suc 256 k, power k)
 two_digits : (h a b q : ℕ) → a < 16 → b < 16 → q ≡ (h * 16 + a) * 16 + b → (q / 256 ≡ h) × ((q % 256 / 16 % 16 ≡ a) × (q % 256 % 16 ≡ b))
 two_digits h a b q la lb is = (omega arith, (omega arith, omega arith))
 
-digit_again : (n d : ℕ) → n % 16 ≡ d → hex_digit n ≡ hex_digit d
+pub digit_again : (n d : ℕ) → n % 16 ≡ d → hex_digit n ≡ hex_digit d
 digit_again n d is = let e : d % 16 ≡ d = omega (arith, is) in rw (is, e) refl
 
 below_power : (n p : ℕ) → 0 < p → n / p ≡ 0 → n < p
