@@ -1,8 +1,7 @@
 -- The events that were read are those that the fields spell.
-use Rattle.std.proofs.Common.{◌≡◌, ℕ, zero, suc, ◌+◌, ◌*◌, ◌/◌, ◌%◌, ◌^◌, ◌<◌, ◌≤◌, ◌⊎◌, inl, inr, Bool, true, false, not, cond, eqb, ◌&&◌, ◌||◌, Option, Some, None, List, [], ◌∷◌, ◌++◌, refl, sym, ap, subst, ◌∙◌, arith, lit<}
+use Rattle.std.proofs.Common.{◌≡◌, ℕ, ◌*◌, ◌%◌, ◌^◌, ◌<◌, ◌⊎◌, inl, inr, Bool, true, false, not, eqb, ◌||◌, Some, List, [], ◌∷◌, refl, sym, ap, subst, ◌∙◌, arith}
 use Rattle.std.specs.Prelude.{codes, decimal, bytes_eq}
-use Rattle.std.specs.List.{AllZip, join_with_byte}
-use Rattle.std.specs.Option.{option_and_then, option_map}
+use Rattle.std.specs.List.{join_with_byte}
 use Rattle.std.proofs.lemmas.Bool.{cases_Bool, eqb-true, eq-eqb, true≢false}
 use Rattle.board_base.specs.declared.access.Kind.{Kind}
 use Rattle.board_base.specs.declared.access.Kind.TheVariants.{Fetch, Read, Write}
@@ -10,17 +9,17 @@ use Rattle.board_base.specs.declared.access.Width.{Width}
 use Rattle.board_base.specs.declared.access.Width.TheVariants.{One, Two, Four}
 use Rattle.board_base.specs.Access.{bytes_of}
 use Rattle.board_spec.specs.declared.event.Event.{Event}
-use Rattle.board_spec.specs.declared.event.Event.TheVariants.{Memory, Wide, Port, Look as LookAt, Ack, Pulses, BadSector}
+use Rattle.board_spec.specs.declared.event.Event.TheVariants.{Ack}
 use Rattle.board_spec.specs.Stored.{is_write}
 use Rattle.board_spec.specs.InRange.{FitsBytes}
 use Rattle.board_spec.specs.Text.{space, hex_number}
 use Rattle.board_spec.specs.LogText.{size_text, width_text, kind_text, memory_text, event_text}
-use Rattle.script_spec.specs.Grammar.{IsDecimal, IsEventForm, IsMemoryForm, IsWideForm}
-use Rattle.script_lines.specs.Numbers.{hex_of, decimal_of}
+use Rattle.script_spec.specs.Grammar.{IsDecimal, IsEventForm}
+use Rattle.script_lines.specs.Numbers.{hex_of}
 use Rattle.script_lines.specs.Events.{width_of, quad_of, size_of, kind_of, smm_of, IsSize, width_with, is_wide, memory_event, read_of, write_of, in_of, out_of, look_of, ack_of, number_in, pulses_of, sector_of, event_of}
 use Rattle.script_lines.proofs.Chains.{some_is, guarded, then_said, both}
 use Rattle.script_lines.proofs.NumberTexts.{decimal_read, hex_read}
-use Rattle.script_lines.proofs.Joins.{Spells, Reads, same, same_as, word_is, smm_words, smm_read, access_joined, write_joined, look_joined, port_joined, out_joined}
+use Rattle.script_lines.proofs.Joins.{Reads, same, same_as, word_is, smm_words, smm_read, access_joined, write_joined, look_joined, port_joined, out_joined}
 
 -- fields spell an event
 pub record IsRead (version : ℕ) (fields : List (List ℕ)) (event : Event) : Type 0 where

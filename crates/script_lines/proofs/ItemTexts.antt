@@ -1,7 +1,7 @@
 -- The item that was read is the one that the line says.
-use Rattle.std.proofs.Common.{◌≡◌, ℕ, zero, suc, ◌+◌, ◌<◌, ◌≤◌, ◌⊎◌, inl, inr, Bool, true, false, cond, eqb, leb, ◌&&◌, Option, Some, None, List, [], ◌∷◌, ◌++◌, length, take, refl, sym, ap, subst, ◌∙◌, append_assoc, arith, lit<}
+use Rattle.std.proofs.Common.{◌≡◌, ℕ, zero, suc, ◌≤◌, ◌⊎◌, inl, inr, Bool, true, false, eqb, leb, ◌&&◌, Some, List, [], ◌∷◌, ◌++◌, length, take, refl, sym, ap, subst, ◌∙◌, append_assoc, arith, lit<}
 use Rattle.std.specs.Prelude.{codes, decimal, bytes_eq, if◌then◌else◌}
-use Rattle.std.specs.List.{AllZip, join_with_byte, list_all}
+use Rattle.std.specs.List.{join_with_byte, list_all}
 use Rattle.std.specs.Option.{option_map}
 use Rattle.std.proofs.lemmas.Bool.{cases_Bool, eqb-true, leb-true}
 use Rattle.std.proofs.lemmas.Fmt.{decimal-digits_value}
@@ -9,10 +9,9 @@ use Rattle.std.proofs.lemmas.List.Splits.{join_with_byte-slice_split}
 use Rattle.board_base.specs.declared.moment.Moment.{Moment}
 use Rattle.board_spec.specs.declared.event.Event.{Event}
 use Rattle.board_spec.specs.declared.event.Event.TheVariants.{Time, Wire, Line}
-use Rattle.board_spec.specs.Setup.{FittedCard}
 use Rattle.board_spec.specs.Text.{space}
 use Rattle.board_spec.specs.LogText.{event_text, moment_text}
-use Rattle.script_spec.specs.Grammar.{Item, SetCpus, SetMemory, SetRom, SetDisk, FitCard, BeginPhase, Ask, AskLevel, IsDecimal, IsName, IsForm, HasForm, Says, item_text, is_name_start, is_name_byte}
+use Rattle.script_spec.specs.Grammar.{Item, SetCpus, SetMemory, SetRom, SetDisk, FitCard, BeginPhase, AskLevel, IsDecimal, IsName, HasForm, item_text, is_name_start, is_name_byte}
 use Rattle.script_lines.specs.Fields.{fields_of}
 use Rattle.script_lines.specs.Numbers.{decimal_of}
 use Rattle.script_lines.specs.Events.{event_of, number_in}
@@ -21,7 +20,7 @@ use Rattle.script_lines.specs.Moments.{moment_in}
 use Rattle.script_lines.specs.Items.{ask, wire_item, line_item, two_numbers_in, only_moment, moment_asked, wire_asked, line_asked, event_asked, asked_with, asked_of, is_name, name_in, phase_of, statement_of, item_with, item_of}
 use Rattle.script_lines.proofs.Chains.{some_is, guarded, then_said, mapped, both}
 use Rattle.script_lines.proofs.NumberTexts.{own, decimal_read}
-use Rattle.script_lines.proofs.Joins.{Spells, Reads, same, same_as, joined, zipped, word_is}
+use Rattle.script_lines.proofs.Joins.{Spells, same, same_as, joined, zipped, word_is}
 use Rattle.script_lines.proofs.EventTexts.{IsRead, event_read, number_read}
 use Rattle.script_lines.proofs.MomentTexts.{moment_read}
 use Rattle.script_lines.proofs.CardTexts.{card_read}

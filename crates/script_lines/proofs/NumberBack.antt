@@ -1,18 +1,18 @@
 -- A field that spells a number is read as that number.
-use Rattle.std.proofs.Common.{◌≡◌, ℕ, zero, suc, ◌+◌, ◌-◌, ◌*◌, ◌/◌, ◌%◌, ◌^◌, ◌<◌, ◌≤◌, ◌⊎◌, inl, inr, Bool, true, false, not, cond, eqb, leb, ltb, ◌&&◌, Option, Some, None, List, [], ◌∷◌, ◌++◌, length, get_or, refl, sym, ap, subst, ◌∙◌, arith, pow-suc, lit<}
-use Rattle.std.specs.Prelude.{codes, decimal, bytes_eq}
-use Rattle.std.specs.List.{AllZip, list_all}
+use Rattle.std.proofs.Common.{◌≡◌, ℕ, zero, suc, ◌+◌, ◌-◌, ◌*◌, ◌/◌, ◌%◌, ◌^◌, ◌<◌, ◌≤◌, inl, inr, Bool, true, false, not, eqb, leb, Some, List, [], ◌∷◌, length, get_or, refl, sym, ap, subst, ◌∙◌, arith, pow-suc, lit<}
+use Rattle.std.specs.Prelude.{decimal}
+use Rattle.std.specs.List.{list_all}
 use Rattle.std.specs.Char.{digit_value as value_of_digit}
-use Rattle.std.specs.Str.Parse.{AllDigits, digits_value, digits_value_after}
-use Rattle.std.proofs.lemmas.Bool.{cases_Bool, cases_lt, leb-true, ltb-true, lt-ltb, le-ltb, le-leb, lt-leb, eq-eqb, eqb-true, and_parts, and_from, true≢false, not-true}
+use Rattle.std.specs.Str.Parse.{AllDigits, digits_value_after}
+use Rattle.std.proofs.lemmas.Bool.{cases_Bool, cases_lt, leb-true, lt-ltb, le-ltb, le-leb, lt-leb, eq-eqb, eqb-true, and_parts, true≢false, not-true}
 use Rattle.std.proofs.lemmas.Str.Parse.{digit_from_value}
 use Rattle.std.proofs.lemmas.Str.{digit_value_digit}
 use Rattle.std.proofs.lemmas.Fmt.{digits_decimal, digits_value-decimal, length-decimal-le, first_decimal, decimal_nonempty, decimal_digit}
 use Rattle.std.proofs.Math.Nat.{div-eq_of_lt}
 use Rattle.board_spec.specs.Bits.{byte, is_within}
-use Rattle.board_spec.specs.Text.{hex_digit, hex_byte, hex_number}
+use Rattle.board_spec.specs.Text.{hex_digit, hex_number}
 use Rattle.script_spec.specs.Grammar.{IsDecimal, StandsFor}
-use Rattle.script_lines.specs.Numbers.{digit_value, digit_of, number_after, number_of, hex_of, has_leading_zero, decimal_of}
+use Rattle.script_lines.specs.Numbers.{digit_of, number_after, number_of, hex_of, has_leading_zero, decimal_of}
 use Rattle.script_lines.proofs.NumberTexts.{own, quotient, digit_again}
 use Rattle.script_lines.proofs.Joins.{Spells}
 
@@ -28,7 +28,7 @@ plain_is (c ∷ cs) [] plain spells = absurd spells
 plain_is (c ∷ cs) (t ∷ ts) plain spells =
     let parts = and_parts (not (is_within 0x41 0x46 t)) (is_plain ts) plain in
     let low : is_within 0x41 0x46 t ≡ false = not-true (is_within 0x41 0x46 t) parts.0 in
-    let first : c ≡ t = elim spells.0 [ | inl is ↦ is | inr small ↦ absurd (true≢false (sym small.0 ∙ low)) ] in
+    let first : c ≡ t = elim spells.0 [ inl is ↦ is | inr small ↦ absurd (true≢false (sym small.0 ∙ low)) ] in
     let later = plain_is cs ts parts.1 spells.1 in
     λ i. first i ∷ later i
 
@@ -59,12 +59,12 @@ digits_of_decimal n small = digits_decimal own n (omega arith)
 
 no_leading : (field : List ℕ) → (2 ≤ length field → 48 < get_or field 0 0) → has_leading_zero field ≡ false
 no_leading field first = elim (cases_Bool (has_leading_zero field)) [
-    | inl zero_first ↦
-        let parts = and_parts (leb 2 (length field)) (eqb (get_or field 0 0) 48) zero_first in
-        let above = first (leb-true 2 (length field) parts.0) in
-        absurd (omega (arith, above, eqb-true (get_or field 0 0) 48 parts.1))
-    | inr none ↦ none
-  ]
+  | inl zero_first ↦
+      let parts = and_parts (leb 2 (length field)) (eqb (get_or field 0 0) 48) zero_first in
+      let above = first (leb-true 2 (length field) parts.0) in
+      absurd (omega (arith, above, eqb-true (get_or field 0 0) 48 parts.1))
+  | inr none ↦ none
+]
 
 first_digit : (n : ℕ) → IsDecimal n → 2 ≤ length (decimal n) → 48 < get_or (decimal n) 0 0
 first_digit zero small long = let one = ap length (decimal_digit 0 (lit< tt)) in absurd (omega (arith, long, one))
@@ -73,8 +73,8 @@ first_digit (suc n) small long = first_decimal (suc n) (omega arith) (omega (ari
 pub decimal_back : (n : ℕ) → IsDecimal n → decimal_of (decimal n) ≡ Some n
 decimal_back n small =
     let read : number_of 10 (decimal n) ≡ Some n =
-        digits_read 0 (decimal n) (digits_of_decimal n small)
-        ∙ ap (λ (x : ℕ). Some x) (digits_value-decimal own n (omega (arith, small))) in
+    digits_read 0 (decimal n) (digits_of_decimal n small)
+    ∙ ap (λ (x : ℕ). Some x) (digits_value-decimal own n (omega (arith, small))) in
     let some = decimal_nonempty n (omega (arith, small)) in
     let few = length-decimal-le 9 n (lit< tt) small (omega (arith, small)) in
     rw (
@@ -88,48 +88,48 @@ decimal_back n small =
 -- what stands for a digit of so much is read as so much
 hex_digit_read : (c d : ℕ) → d < 16 → StandsFor c (hex_digit d) → digit_of 16 c ≡ Some d
 hex_digit_read c d small stands = elim (cases_lt d 10) [
-    | inl low ↦
-        let e : d % 16 ≡ d = omega (arith, small) in
-        let text : hex_digit d ≡ 48 + d = rw (e, lt-ltb d 10 low) refl in
-        elim stands [
-          | inl is ↦
-              let c_is : c ≡ 48 + d = is ∙ text in
-              let value : c - 0x30 ≡ d = omega (arith, c_is) in
-              rw (le-leb 0x30 c (omega (arith, c_is)), le-leb c 0x39 (omega (arith, c_is, low)), value, lt-ltb d 16 small) refl
-          | inr lower ↦
-              let parts = and_parts (leb 0x41 (hex_digit d)) (leb (hex_digit d) 0x46) lower.0 in
-              absurd (omega (arith, leb-true 0x41 (hex_digit d) parts.0, text, low))
-        ]
-    | inr high ↦
-        let e : d % 16 ≡ d = omega (arith, small) in
-        let text : hex_digit d ≡ 55 + d = rw (e, le-ltb d 10 high) refl in
-        elim stands [
-          | inl is ↦
-              let c_is : c ≡ 55 + d = is ∙ text in
-              let value : c - 0x41 + 10 ≡ d = omega (arith, c_is, high) in
-              rw (
-                lt-leb c 0x39 (omega (arith, c_is, high)),
-                le-leb 0x30 c (omega (arith, c_is)),
-                le-leb 0x41 c (omega (arith, c_is, high)),
-                le-leb c 0x46 (omega (arith, c_is, small)),
-                value,
-                lt-ltb d 16 small,
-              ) refl
-          | inr lower ↦
-              let c_is : c ≡ 87 + d = omega (arith, lower.1, text) in
-              let value : c - 0x61 + 10 ≡ d = omega (arith, c_is, high) in
-              rw (
-                le-leb 0x30 c (omega (arith, c_is)),
-                lt-leb c 0x39 (omega (arith, c_is, high)),
-                le-leb 0x41 c (omega (arith, c_is)),
-                lt-leb c 0x46 (omega (arith, c_is, high)),
-                le-leb 0x61 c (omega (arith, c_is, high)),
-                le-leb c 0x66 (omega (arith, c_is, small)),
-                value,
-                lt-ltb d 16 small,
-              ) refl
-        ]
-  ]
+  | inl low ↦
+      let e : d % 16 ≡ d = omega (arith, small) in
+      let text : hex_digit d ≡ 48 + d = rw (e, lt-ltb d 10 low) refl in
+      elim stands [
+        | inl is ↦
+            let c_is : c ≡ 48 + d = is ∙ text in
+            let value : c - 0x30 ≡ d = omega (arith, c_is) in
+            rw (le-leb 0x30 c (omega (arith, c_is)), le-leb c 0x39 (omega (arith, c_is, low)), value, lt-ltb d 16 small) refl
+        | inr lower ↦
+            let parts = and_parts (leb 0x41 (hex_digit d)) (leb (hex_digit d) 0x46) lower.0 in
+            absurd (omega (arith, leb-true 0x41 (hex_digit d) parts.0, text, low))
+      ]
+  | inr high ↦
+      let e : d % 16 ≡ d = omega (arith, small) in
+      let text : hex_digit d ≡ 55 + d = rw (e, le-ltb d 10 high) refl in
+      elim stands [
+        | inl is ↦
+            let c_is : c ≡ 55 + d = is ∙ text in
+            let value : c - 0x41 + 10 ≡ d = omega (arith, c_is, high) in
+            rw (
+              lt-leb c 0x39 (omega (arith, c_is, high)),
+              le-leb 0x30 c (omega (arith, c_is)),
+              le-leb 0x41 c (omega (arith, c_is, high)),
+              le-leb c 0x46 (omega (arith, c_is, small)),
+              value,
+              lt-ltb d 16 small,
+            ) refl
+        | inr lower ↦
+            let c_is : c ≡ 87 + d = omega (arith, lower.1, text) in
+            let value : c - 0x61 + 10 ≡ d = omega (arith, c_is, high) in
+            rw (
+              le-leb 0x30 c (omega (arith, c_is)),
+              lt-leb c 0x39 (omega (arith, c_is, high)),
+              le-leb 0x41 c (omega (arith, c_is)),
+              lt-leb c 0x46 (omega (arith, c_is, high)),
+              le-leb 0x61 c (omega (arith, c_is, high)),
+              le-leb c 0x66 (omega (arith, c_is, small)),
+              value,
+              lt-ltb d 16 small,
+            ) refl
+      ]
+]
 
 next_value : (q high b : ℕ) → high ≡ q / 256 → b ≡ q % 256 → (high * 16 + b / 16) * 16 + b % 16 ≡ q
 next_value q high b one two = omega (arith, one, two)

@@ -1,11 +1,9 @@
 -- A line that spells fields has just those fields.
-use Rattle.std.proofs.Common.{◌≡◌, ℕ, suc, ◌+◌, ◌<◌, ◌≤◌, ◌⊎◌, inl, inr, Bool, true, false, not, eqb, leb, ◌&&◌, List, [], ◌∷◌, ◌++◌, length, refl, sym, ap, subst, ◌∙◌, All, arith}
-use Rattle.std.specs.Prelude.{codes}
-use Rattle.std.specs.List.{AllZip, join_with_byte, list_all, slice_split}
-use Rattle.std.proofs.lemmas.Bool.{and_parts, leb-true, ne_eqb, eqb-true, eq-eqb, true≢false, not-true}
+use Rattle.std.proofs.Common.{◌≡◌, ℕ, inl, inr, Bool, true, false, not, eqb, leb, List, [], ◌∷◌, ◌++◌, refl, sym, ap, subst, ◌∙◌, All, arith}
+use Rattle.std.specs.List.{join_with_byte, list_all}
+use Rattle.std.proofs.lemmas.Bool.{and_parts, leb-true, ne_eqb, true≢false, not-true}
 use Rattle.std.proofs.lemmas.List.Elements.{All-nil, All-cons}
 use Rattle.std.proofs.lemmas.List.Splits.{slice_split_none, slice_split_at}
-use Rattle.board_spec.specs.Bits.{is_within}
 use Rattle.board_spec.specs.Text.{space}
 use Rattle.script_spec.specs.Grammar.{StandsFor}
 use Rattle.script_lines.specs.Fields.{fields_of}

@@ -11,3 +11,6 @@ mod numbers;
 pub use card::{BaseField, CardFields};
 pub use item::{Asked, Item, item_of};
 pub use moment::MomentFields;
+
+#[cfg(test)]
+mod tests;

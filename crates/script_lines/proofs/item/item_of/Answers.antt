@@ -1,7 +1,6 @@
 use Rattle.std.proofs.Common.{◌≡◌, ◌∙◌, map, ap}
-use Rattle.std.specs.Option.{option_map}
 use Rattle.script_lines.specs.Fields.{fields_of}
-use Rattle.script_lines.specs.Items.{line_said, item_of}
+use Rattle.script_lines.specs.Items.{item_of}
 use Rattle.script_lines.proofs.ItemReading.{said}
 use Rattle.script_lines.proofs.item.item_of.Goals as goal
 
