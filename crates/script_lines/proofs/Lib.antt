@@ -11,3 +11,4 @@ pub mod ItemTexts
 pub mod ItemReading
 pub mod Splits
 pub mod NumberBack
+pub mod EventBack
