@@ -12,3 +12,4 @@ pub mod ItemReading
 pub mod Splits
 pub mod NumberBack
 pub mod EventBack
+pub mod MomentBack

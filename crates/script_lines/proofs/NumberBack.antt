@@ -40,7 +40,7 @@ plain-digits (c ∷ cs) digits =
 
 -- ---- decimals
 
-digit_so : (c d : ℕ) → 48 ≤ c → c ≤ 57 → c - 48 ≡ d → d < 10 → digit_of 10 c ≡ Some d
+pub digit_so : (c d : ℕ) → 48 ≤ c → c ≤ 57 → c - 48 ≡ d → d < 10 → digit_of 10 c ≡ Some d
 digit_so c d low high is small = rw (le-leb 0x30 c low, le-leb c 0x39 high, is, lt-ltb d 10 small) refl
 
 digit_read : (c : ℕ) → value_of_digit c < 10 → digit_of 10 c ≡ Some (value_of_digit c)
