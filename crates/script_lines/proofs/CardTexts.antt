@@ -62,7 +62,7 @@ record IsTail (version : ℕ) (before : List Base) (fields : List (List ℕ)) (t
   pub rom : IsRomForm version tail.rom
   pub count : length tail.bases ≤ 6
 
-abbrev fresh : List Base → Tail
+abbrev pub fresh : List Base → Tail
 fresh before = record { bases = before; rom = None }
 
 abbrev closed : List Base → ℕ → Tail

@@ -1,18 +1,16 @@
 -- Fields that spell an event are read as that event.
-use Rattle.std.proofs.Common.{◌≡◌, ℕ, zero, suc, ◌*◌, ◌%◌, ◌^◌, ◌<◌, ◌⊎◌, inl, inr, Bool, true, false, cond, eqb, Option, Some, None, List, [], ◌∷◌, ◌++◌, refl, sym, ap, subst, ◌∙◌, arith}
-use Rattle.std.specs.Prelude.{codes, decimal, bytes_eq}
+use Rattle.std.proofs.Common.{◌≡◌, ℕ, ◌^◌, ◌<◌, inl, inr, Bool, true, false, Some, List, [], ◌∷◌, refl, ap, ◌∙◌, arith}
+use Rattle.std.specs.Prelude.{codes}
 use Rattle.std.proofs.lemmas.Bool.{eq-eqb}
 use Rattle.board_base.specs.declared.access.Kind.{Kind}
 use Rattle.board_base.specs.declared.access.Kind.TheVariants.{Fetch, Read, Write}
 use Rattle.board_base.specs.declared.access.Width.{Width}
 use Rattle.board_base.specs.declared.access.Width.TheVariants.{One, Two, Four}
 use Rattle.board_base.specs.Access.{bytes_of}
-use Rattle.board_spec.specs.declared.event.Event.{Event}
 use Rattle.board_spec.specs.declared.event.Event.TheVariants.{Port, Look as LookAt}
 use Rattle.board_spec.specs.Text.{hex_number}
 use Rattle.board_spec.specs.LogText.{size_text, width_text, kind_text}
-use Rattle.script_lines.specs.Numbers.{hex_of}
-use Rattle.script_lines.specs.Events.{width_of, size_of, kind_of, smm_of, IsSize, memory_event, read_of, write_of, in_of, out_of, look_of, event_of}
+use Rattle.script_lines.specs.Events.{width_of, size_of, kind_of, smm_of, IsSize, memory_event, read_of, write_of, in_of, out_of, look_of}
 use Rattle.script_lines.proofs.Joins.{Spells, Reads, smm_words}
 use Rattle.script_lines.proofs.NumberBack.{plain_is, hex_back}
 

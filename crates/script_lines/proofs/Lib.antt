@@ -13,3 +13,4 @@ pub mod Splits
 pub mod NumberBack
 pub mod EventBack
 pub mod MomentBack
+pub mod CardBack

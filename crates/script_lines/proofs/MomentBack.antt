@@ -1,12 +1,12 @@
 -- A field that spells a moment is read as that moment.
-use Rattle.std.proofs.Common.{◌≡◌, ℕ, ◌+◌, ◌*◌, ◌/◌, ◌%◌, ◌<◌, Option, Some, List, [], ◌∷◌, ◌++◌, refl, sym, ap, ◌∙◌, arith}
+use Rattle.std.proofs.Common.{◌≡◌, ℕ, ◌+◌, ◌*◌, ◌/◌, ◌%◌, ◌<◌, Some, List, [], ◌∷◌, ◌++◌, refl, sym, ap, arith}
 use Rattle.std.proofs.lemmas.Bool.{eq-eqb}
 use Rattle.board_base.specs.declared.moment.Moment.{Moment}
 use Rattle.board_base.specs.Calendar.{moment_of}
 use Rattle.board_spec.specs.LogText.{two_digits, moment_text}
 use Rattle.script_spec.specs.Grammar.{IsMomentForm}
 use Rattle.script_lines.specs.Numbers.{two_digits_of, behind}
-use Rattle.script_lines.specs.Moments.{part_of, year_of, Three, date_of, time_of, moment_with, moment_in}
+use Rattle.script_lines.specs.Moments.{part_of, year_of, date_of, time_of, moment_with, moment_in}
 use Rattle.script_lines.proofs.NumberBack.{digit_so}
 
 two_back : (n : ℕ) (rest : List ℕ) → n < 100 → two_digits_of (two_digits n ++ rest) ≡ Some (n, rest)
@@ -60,7 +60,7 @@ pub moment_back : (moment : Moment) → IsMomentForm moment → moment_in (momen
 unfolding moment_in moment_with
 moment_back moment form =
     let time : List ℕ =
-        0x54 ∷ (two_digits moment.hour ++ 0x3A ∷ (two_digits moment.minute ++ 0x3A ∷ (two_digits moment.second ++ []))) in
+    0x54 ∷ (two_digits moment.hour ++ 0x3A ∷ (two_digits moment.minute ++ 0x3A ∷ (two_digits moment.second ++ []))) in
     rw (
       date_back moment.year moment.month moment.day time form.year form.month form.day,
       time_back moment.hour moment.minute moment.second form.hour form.minute form.second,
