@@ -16,4 +16,4 @@ mod PitPeriods
 mod PitPulses
 mod PitReadBacks
 mod PitWaiting
-mod RoutingLaws
+pub mod RoutingLaws
