@@ -5,7 +5,8 @@ use Rattle.board_spec.specs.declared.map_change.MapChange.{MapChange}
 use Rattle.board_spec.specs.Setup.{Setup}
 use Rattle.board_spec.specs.Decode.{Bytes}
 use Rattle.board_spec.specs.FlatMap.{address_count, six_areas, MapRange, Tiles, IsFlatMapOf}
-use Rattle.addr_decode.specs.MapRegs.{MapBytes, AreFitted, StandsFor}
+use Rattle.pci_bars.specs.Cards.{AreFitted}
+use Rattle.addr_decode.specs.MapRegs.{MapBytes, StandsFor}
 use Rattle.map_builder.specs.declared.range.Changed.{Changed}
 use Rattle.map_builder.specs.Map.{HasBoard, IsMapOf}
 use Rattle.map_builder.specs.Build.{IsMapOutside}

@@ -5,8 +5,8 @@ ghost use Rattle.board_spec.specs.Setup.{Setup};
 ghost use Rattle.board_spec.specs.Registers.{changed_byte};
 ghost use Rattle.board_spec.specs.Decode.{Bytes};
 ghost use Rattle.board_spec.specs.FlatMap.{address_count, six_areas, Tiles, IsFlatMapOf, IsSpan};
-ghost use Rattle.pci_bars.specs.Cards.{cards_of};
-ghost use Rattle.addr_decode.specs.MapRegs.{AreFitted, StandsFor, map_bytes};
+ghost use Rattle.pci_bars.specs.Cards.{AreFitted, cards_of};
+ghost use Rattle.addr_decode.specs.MapRegs.{StandsFor, map_bytes};
 ghost use Rattle.map_builder.specs.Map.{range_of, HasBoard, IsMapOf};
 ghost use Rattle.map_builder.specs.Build.{IsMapOutside};
 ghost use Rattle.map_builder.specs.Changed.{after, changed_windows, bounds_or_zero, IsOutside};
@@ -54,7 +54,7 @@ impl FlatMap {
         ensures regs { result.regs ≡ map_bytes regs }
         ensures version { result.version ≡ 0 }
         ensures map { (setup : Setup) (bytes : Bytes) → StandsFor setup bytes result.regs → IsFlatMapOf setup bytes result.ranges }
-        ensures few { length result.ranges ≤ 126 }
+        ensures few { length result.ranges ≤ 142 }
     {
         hold_widths(&regs);
         let ranges = ranges_of(&regs);
