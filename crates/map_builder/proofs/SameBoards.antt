@@ -13,7 +13,10 @@ use Rattle.board_spec.specs.Bits.{is_within}
 use Rattle.board_spec.specs.Decode.{Bytes, memory_claim, area_of}
 use Rattle.board_spec.specs.RegisterNames.{bridge, isa, card_register}
 use Rattle.board_spec.specs.FlatMap.{six_areas}
-use Rattle.board_spec.specs.MapWrites.{has_rom}
+use Rattle.board_spec.specs.MapWrites.{has_rom, touches_map}
+use Rattle.board_spec.specs.declared.map_change.MapChange.{MapChange}
+use Rattle.board_spec.proofs.MapWriteLaws.{untouched}
+use Rattle.map_builder.specs.Changed.{after}
 use Rattle.board_spec.specs.Laws.{SameMapBytes}
 use Rattle.board_spec.proofs.MapByteLaws.{map_bytes_decide}
 use Rattle.pci_bars.specs.Cards.{CardBytes, HoldsRom, DecodesAs, cards_of}
@@ -174,9 +177,19 @@ area_same regs setup setup' bytes bytes' list stands stands' addr kind smm =
     (map_bytes_decide setup bytes bytes' list (map_bytes_same regs setup setup' bytes bytes' stands stands') addr kind smm).0
     ∙ area_by_cards setup setup' bytes' addr kind smm (stands.cards.0 ∙ sym stands'.cards.0)
 
+six_same : (setup setup' : Setup) (bytes bytes' : Bytes) (addr : ℕ) →
+    ((kind : Kind) (smm : Bool) → area_of setup bytes addr kind smm ≡ area_of setup' bytes' addr kind smm) → six_areas setup bytes addr ≡ six_areas setup' bytes' addr
+six_same setup setup' bytes bytes' addr same =
+    rw (same Fetch false, same Read false, same Write false, same Fetch true, same Read true, same Write true) refl
+
 pub boards_same : (regs : MapBytes) (setup setup' : Setup) (bytes bytes' : Bytes) → IsCardList setup.cards → StandsFor setup bytes regs → StandsFor setup' bytes' regs →
     (addr : ℕ) → six_areas setup bytes addr ≡ six_areas setup' bytes' addr
 boards_same regs setup setup' bytes bytes' list stands stands' addr =
-    let same : (kind : Kind) (smm : Bool) → area_of setup bytes addr kind smm ≡ area_of setup' bytes' addr kind smm =
-    area_same regs setup setup' bytes bytes' list stands stands' addr in
-    rw (same Fetch false, same Read false, same Write false, same Fetch true, same Read true, same Write true) refl
+    six_same setup setup' bytes bytes' addr (area_same regs setup setup' bytes bytes' list stands stands' addr)
+
+-- a change that covers no byte on which the map depends keeps every area
+pub untouched_areas : (setup : Setup) (bytes : Bytes) (change : MapChange) → IsCardList setup.cards → touches_map setup change ≡ false →
+    (addr : ℕ) → six_areas setup (after setup change bytes) addr ≡ six_areas setup bytes addr
+untouched_areas setup bytes change list not addr =
+    six_same setup setup (after setup change bytes) bytes addr
+    (λ kind smm. (map_bytes_decide setup (after setup change bytes) bytes list (λ reg is. untouched setup change reg (bytes reg) is not) addr kind smm).0)

@@ -105,11 +105,16 @@ begun_front IsText lines this more begun =
     ap text_of_lines (sym (append_assoc lines (this ∷ []) more))
     ∙ flat_map-append (λ line. line ++ line_feed ∷ []) (lines ++ this ∷ []) more
     in
-    let text = rw (parts, append_assoc (text_of_lines (lines ++ this ∷ [])) (text_of_lines more) begun.later) at begun.text in
+    let text = rw (
+      parts,
+      append_assoc (text_of_lines (lines ++ this ∷ []))
+          (text_of_lines more) begun.later,
+    ) at begun.text in
     record { later = text_of_lines more ++ begun.later; text = text }
 
 not_longer :
-    (IsText : List ℕ → Type 0) (bytes : List ℕ) (line place : ℕ) (one : LeavesAt IsText bytes line) (two : LeavesAt IsText bytes place) →
+    (IsText : List ℕ → Type 0) (bytes : List ℕ) (line place : ℕ) (one : LeavesAt IsText bytes line)
+    (two : LeavesAt IsText bytes place) →
     GoesOn one.before one.rest two.before two.rest → ⊥
 not_longer IsText bytes line place one two on =
     let begun = rw on.is at two.begun in
@@ -129,4 +134,5 @@ pub one_bad_log : OneBadLog
 one_bad_log bytes line place one two = one_leaving IsSomeLog bytes line place one two
 
 pub one_difference : OneDifference
-one_difference setup version phases bytes line place one two = one_leaving (IsLogOf setup version phases) bytes line place one two
+one_difference setup version phases bytes line place one two = one_leaving
+    (IsLogOf setup version phases) bytes line place one two

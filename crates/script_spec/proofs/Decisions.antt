@@ -42,10 +42,24 @@ unless (inl p) = inr (λ no_p. no_p p)
 unless (inr no_p) = inl no_p
 
 less : (m n : ℕ) → Decided (m < n)
-less m n = elim (cases_lt m n) [ inl is ↦ inl is | inr above ↦ inr (λ is. let none : ⊥ = omega (arith, is, above) in none) ]
+less m n = elim (cases_lt m n) [
+  | inl is ↦ inl is
+  | inr above ↦ inr (λ is. let none : ⊥ = omega (
+    arith,
+    is,
+    above,
+  ) in none)
+]
 
 within : (m n : ℕ) → Decided (m ≤ n)
-within m n = elim (cases_lt n m) [ inl above ↦ inr (λ is. let none : ⊥ = omega (arith, is, above) in none) | inr is ↦ inl is ]
+within m n = elim (cases_lt n m) [
+  | inl above ↦ inr (λ is. let none : ⊥ = omega (
+    arith,
+    is,
+    above,
+  ) in none)
+  | inr is ↦ inl is
+]
 
 equal : (m n : ℕ) → Decided (m ≡ n)
 equal m n = cases_eq m n
@@ -60,7 +74,8 @@ same_list [] (y ∷ ys) = inr (not_nil y ys)
 same_list (x ∷ xs) [] = inr (λ e. not_nil x xs (sym e))
 same_list (x ∷ xs) (y ∷ ys) =
     as_well {P = (x ≡ y) × (xs ≡ ys)} {Q = x ∷ xs ≡ y ∷ ys}
-    (λ pair i. pair.0 i ∷ pair.1 i) (λ e. (same_head x y xs ys e, same_tail x y xs ys e)) (both (equal x y) (same_list xs ys))
+    (λ pair i. pair.0 i ∷ pair.1 i) (λ e. (same_head x y xs ys e, same_tail x y xs ys e)) (both (equal x y)
+    (same_list xs ys))
 
 each : {X : Type 0} (P : X → Type 0) → ((x : X) → Decided (P x)) → (xs : List X) → Decided (All P xs)
 each P one [] = inl (All-nil P)
@@ -76,7 +91,8 @@ decimal_form n = less n 1_000_000_000
 name_form : (name : List ℕ) → Decided (IsName name)
 name_form name =
     as_well
-    {P = (1 ≤ length name) × ((length name ≤ 64) × ((list_all is_name_start (take 1 name) ≡ true) × (list_all is_name_byte name ≡ true)))}
+    {P = (1 ≤ length name) × ((length name ≤ 64) × ((list_all is_name_start (take 1 name) ≡ true) ×
+    (list_all is_name_byte name ≡ true)))}
     (λ p. record { some = p.0; few = p.1.0; first = p.1.1.0; each = p.1.1.1 })
     (λ r. (r.some, (r.few, (r.first, r.each))))
     (both (within 1 (length name)) (both (within (length name) 64)
@@ -92,7 +108,8 @@ rom_form version (Some bits) = both (equal version 2) (decimal_form bits)
 
 card_form : (version : ℕ) (card : FittedCard) → Decided (IsCardForm version card)
 card_form version card =
-    as_well {P = IsDecimal card.dev × ((length card.bases ≤ 6) × (All IsBaseForm card.bases × IsRomForm version card.rom))}
+    as_well {P = IsDecimal card.dev × ((length card.bases ≤ 6) ×
+    (All IsBaseForm card.bases × IsRomForm version card.rom))}
     (λ p. record { dev = p.0; count = p.1.0; each = p.1.1.0; rom = p.1.1.1 })
     (λ r. (r.dev, (r.count, (r.each, r.rom))))
     (both (decimal_form card.dev) (both (within (length card.bases) 6)
@@ -123,7 +140,8 @@ wide_form : (version : ℕ) (access : WideAccess) → Decided (IsWideForm versio
 wide_form version access =
     as_well
     {P = (version ≡ 2) × ((access.addr < 2 ^ 32) × (((access.bytes ≡ 2) ⊎ (access.bytes ≡ 4) ⊎ (access.bytes ≡ 8))
-    × (((access.bytes ≡ 8) ⊎ (access.addr % access.bytes ≢ 0)) × FitsBytes (is_write access.kind) access.bytes access.value)))}
+    × (((access.bytes ≡ 8) ⊎ (access.addr % access.bytes ≢ 0)) × FitsBytes
+    (is_write access.kind) access.bytes access.value)))}
     (λ p. record { second = p.0; addr = p.1.0; bytes = p.1.1.0; wide = p.1.1.1.0; value = p.1.1.1.1 })
     (λ r. (r.second, (r.addr, (r.bytes, (r.wide, r.value)))))
     (both (equal version 2) (both (less access.addr (2 ^ 32))
@@ -171,7 +189,8 @@ event_form version (BadSector sector) = decimal_form sector
 level_form : (actor : ℕ) (verb : List ℕ) (number level : ℕ) → Decided (IsLevelForm actor verb number level)
 level_form actor verb number level =
     as_well
-    {P = IsDecimal actor × (((verb ≡ codes "wire") ⊎ (verb ≡ codes "irq")) × (IsDecimal number × (IsDecimal level × (2 ≤ level))))}
+    {P = IsDecimal actor × (((verb ≡ codes "wire") ⊎ (verb ≡ codes "irq")) × (IsDecimal number ×
+    (IsDecimal level × (2 ≤ level))))}
     (λ p. record { who = p.0; what = p.1.0; which = p.1.1.0; few = p.1.1.1.0; high = p.1.1.1.1 })
     (λ r. (r.who, (r.what, (r.which, (r.few, r.high)))))
     (both (decimal_form actor) (both (either (same_list verb (codes "wire")) (same_list verb (codes "irq")))
@@ -200,5 +219,8 @@ decided_form version line =
     let item : Item = item_of version line in
     elim (both (item_form version item) (says line item)) [
       | inl has ↦ inl (item, record { form = has.0; says = has.1 })
-      | inr not ↦ inr (λ other has. let own = rw (← item_read version line other has) at has in not (own.form, own.says))
+      | inr not ↦ inr (λ other has. let own = rw (← item_read version line other has) at has in not (
+        own.form,
+        own.says,
+      ))
     ]

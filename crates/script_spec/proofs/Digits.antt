@@ -46,7 +46,10 @@ lowered-digits (c ∷ cs) digits =
 pub lacks-digits : (byte : ℕ) (ds : List ℕ) → (byte < 48) ⊎ (57 < byte) → AllDigits 10 ds → lacks byte ds ≡ true
 lacks-digits byte [] outside digits = refl
 lacks-digits byte (c ∷ cs) outside digits =
-    rw (ne_eqb c byte (λ is. grind (arith, outside, is, digit_from_value c digits.0)), lacks-digits byte cs outside digits.1) refl
+    rw (
+      ne_eqb c byte (λ is. grind (arith, outside, is, digit_from_value c digits.0)),
+      lacks-digits byte cs outside digits.1,
+    ) refl
 
 -- ---- hexadecimal numbers
 
@@ -64,9 +67,19 @@ hex_of bytes = hex_after 0 bytes
 nibble_of_digit : (d : ℕ) → d < 16 → nibble_of (lower (cond (ltb d 10) (0x30 + d) (0x37 + d))) ≡ d
 nibble_of_digit d small =
     elim (cases_lt d 10) [
-      | inl digit ↦ rw (lt-ltb d 10 digit, lower-below (0x30 + d) (omega arith), lt-ltb (0x30 + d) 0x3A (omega arith)) (omega arith)
+      | inl digit ↦ rw (
+        lt-ltb d 10 digit,
+        lower-below (0x30 + d) (omega arith),
+        lt-ltb (0x30 + d) 0x3A
+            (omega arith),
+      ) (omega arith)
       | inr letter ↦
-          rw (le-ltb d 10 letter, le-leb 0x41 (0x37 + d) (omega arith), le-leb (0x37 + d) 0x46 (omega arith), le-ltb (0x37 + d + 0x20) 0x3A (omega arith))
+          rw (
+            le-ltb d 10 letter,
+            le-leb 0x41 (0x37 + d) (omega arith),
+            le-leb (0x37 + d) 0x46 (omega arith),
+            le-ltb (0x37 + d + 0x20) 0x3A (omega arith),
+          )
           (omega arith)
     ]
 
@@ -86,7 +99,8 @@ split_remainder n p some =
     let d : ℕ = n / p % 256 in
     let m : ℕ = n % p in
     let whole : n ≡ p * 256 * (n / p / 256) + (d * p + m) =
-    sym (div-add-mod n p) ∙ ap (λ (x : ℕ). p * x + m) (sym (div-add-mod (n / p) 256)) ∙ joined_quotients p (n / p / 256) d m
+    sym (div-add-mod n p) ∙ ap (λ (x : ℕ). p * x + m) (sym (div-add-mod (n / p) 256))
+    ∙ joined_quotients p (n / p / 256) d m
     in
     ap (λ (x : ℕ). x % (p * 256)) whole
     ∙ mul-add-mod_self_left (p * 256) (n / p / 256) (d * p + m)
@@ -102,13 +116,15 @@ next_digits high a b p r = grind arith
 halves : (d : ℕ) → d < 256 → d / 16 % 16 * 16 + d % 16 ≡ d
 halves d small = omega arith
 
-pub hex_after_number : (bytes n high : ℕ) → hex_after high (lowered (hex_number bytes n)) ≡ high * 256 ^ bytes + n % 256 ^ bytes
+pub hex_after_number : (bytes n high : ℕ) →
+    hex_after high (lowered (hex_number bytes n)) ≡ high * 256 ^ bytes + n % 256 ^ bytes
 hex_after_number zero n high = omega arith
 hex_after_number (suc bytes) n high =
     let p : ℕ = 256 ^ bytes in
     let d : ℕ = byte n bytes in
     let e : 256 ^ suc bytes ≡ p * 256 = pow-suc 256 bytes in
-    hex_after_number bytes n ((high * 16 + nibble_of (lower (hex_digit (d / 16)))) * 16 + nibble_of (lower (hex_digit d)))
+    hex_after_number bytes n ((high * 16 + nibble_of (lower (hex_digit (d / 16)))) * 16 + nibble_of (lower
+    (hex_digit d)))
     ∙ ap (λ (x : ℕ). ((high * 16 + x) * 16 + nibble_of (lower (hex_digit d))) * p + n % p) (nibble_of_hex (d / 16))
     ∙ ap (λ (x : ℕ). ((high * 16 + d / 16 % 16) * 16 + x) * p + n % p) (nibble_of_hex d)
     ∙ next_digits high (d / 16 % 16) (d % 16) p (n % p)

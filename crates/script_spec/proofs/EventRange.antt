@@ -21,7 +21,8 @@ within low high n test =
     let both : (leb low n ≡ true) × (leb n high ≡ true) = and_parts (leb low n) (leb n high) test in
     (leb-true low n both.0, leb-true n high both.1)
 
-fits_access : (writes : Bool) (width : Width) (value : ℕ) → FitsBytes writes (bytes_of width) value → FitsAccess writes width value
+fits_access : (writes : Bool) (width : Width) (value : ℕ) → FitsBytes writes (bytes_of width) value →
+    FitsAccess writes width value
 fits_access false width value fits = fits
 fits_access true One value fits = omega (arith, fits)
 fits_access true Two value fits = omega (arith, fits)
@@ -47,7 +48,8 @@ moment_there m form test =
     in
     let year : (1980 ≤ m.year) × (m.year ≤ 2099) = within 1980 2099 m.year parts.0 in
     let month : (1 ≤ m.month) × (m.month ≤ 12) = within 1 12 m.month parts.1 in
-    let day : (1 ≤ m.day) × (m.day ≤ days_in_month m.year m.month) = within 1 (days_in_month m.year m.month) m.day parts.2 in
+    let day : (1 ≤ m.day) × (m.day ≤ days_in_month m.year m.month) = within 1
+    (days_in_month m.year m.month) m.day parts.2 in
     record {
       date = record {
         year_low = year.0;
@@ -71,7 +73,8 @@ HasCards before setup = (dev : ℕ) → has_card before dev ≡ true → is_some
 
 pub event_in_range :
     (version : ℕ) (setup : Setup) (before : List Item) (event : Event) → IsEventForm version event →
-    is_event_in_range event ≡ true → is_event_placed event ≡ true → is_card_there before event ≡ true → HasCards before setup →
+    is_event_in_range event ≡ true → is_event_placed event ≡ true → is_card_there before event ≡ true →
+    HasCards before setup →
     IsInRange setup event
 event_in_range version setup before (Memory access) form range place there cards = record {
   aligned = eqb-true (access.addr % bytes_of access.width) 0 place;

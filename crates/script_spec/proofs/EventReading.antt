@@ -46,7 +46,14 @@ access_by Write bytes rest = record {
   smm = is_left (drop (9 + 2 * bytes) rest);
   value = hex_of (take (2 * bytes) (drop 9 rest));
 }
-access_by kind bytes rest = record { kind = kind; addr = hex_of (take 8 rest); bytes = bytes; smm = is_left (drop 8 rest); value = 0 }
+access_by kind bytes rest = record {
+  kind = kind;
+  addr = hex_of (take 8 rest);
+  bytes = bytes;
+  smm = is_left
+      (drop 8 rest);
+  value = 0;
+}
 
 abbrev access_of : List ℕ → WideAccess
 access_of (kind ∷ _ ∷ size ∷ _ ∷ rest) = access_by (kind_of kind) (size_of size) rest
@@ -136,7 +143,8 @@ not_moved version rest aligned =
     ]
 
 narrow_event :
-    (version : ℕ) (kind : Kind) (width : Width) (addr value : ℕ) (smm : Bool) → (version ≡ 2 → addr % bytes_of width ≡ 0) →
+    (version : ℕ) (kind : Kind) (width : Width) (addr value : ℕ) (smm : Bool) → (version ≡ 2 →
+    addr % bytes_of width ≡ 0) →
     memory_event version (record { kind = kind; addr = addr; bytes = bytes_of width; smm = smm; value = value })
     ≡ Memory (record { kind = kind; addr = addr; width = width; smm = smm; value = value })
 narrow_event version kind One addr value smm aligned = rw (not_moved version (addr % 1) aligned) refl
@@ -239,9 +247,18 @@ moment_built :
 moment_built year month day hour minute second y m d h n s e1 e2 e3 e4 e5 e6 = rw (e1, e2, e3, e4, e5, e6) refl
 
 moment_read :
-    (year month day hour minute second weekday : ℕ) → year < 10_000 → month < 100 → day < 100 → hour < 100 → minute < 100 →
+    (year month day hour minute second weekday : ℕ) → year < 10_000 → month < 100 → day < 100 → hour < 100 →
+    minute < 100 →
     second < 100 →
-    moment_by (lowered (moment_text (record { year = year; month = month; day = day; weekday = weekday; hour = hour; minute = minute; second = second })))
+    moment_by (lowered (moment_text (record {
+      year = year;
+      month = month;
+      day = day;
+      weekday = weekday;
+      hour = hour;
+      minute = minute;
+      second = second;
+    })))
     ≡ moment_of year month day hour minute second
 moment_read year month day hour minute second weekday y m d h n s =
     moment_built year month day hour minute second _ _ _ _ _ _
@@ -259,7 +276,8 @@ abbrev level_item : (actor : ℕ) → (verb : List ℕ) → (ℕ → Bool → Ev
 level_item actor verb event fields =
     let number : ℕ = digits_value 10 (front space fields) in
     let level : ℕ = digits_value 10 (back space fields) in
-    cond (ltb level 2) (Ask (record { actor = actor; event = event number (eqb level 1) })) (AskLevel actor verb number level)
+    cond (ltb level 2) (Ask (record { actor = actor; event = event number (eqb level 1) }))
+    (AskLevel actor verb number level)
 
 -- the event of a verb by its first two bytes
 abbrev event_by : (version first second : ℕ) → List ℕ → Event
@@ -291,13 +309,19 @@ memory_statement version actor Fetch bytes addr value smm = refl
 memory_statement version actor Read bytes addr value smm = refl
 memory_statement version actor Write bytes addr value smm = refl
 
-asked : (actor : ℕ) (event other : Event) → event ≡ other → Ask (record { actor = actor; event = event }) ≡ Ask (record { actor = actor; event = other })
+asked : (actor : ℕ) (event other : Event) → event ≡ other → Ask (record { actor = actor; event = event }) ≡ Ask
+    (record { actor = actor; event = other })
 asked actor event other same = ap (λ (e : Event). Ask (record { actor = actor; event = e })) same
 
 port_statement :
     (version actor : ℕ) (write : Bool) (width : Width) (port value : ℕ) →
     port < 2 ^ 16 → FitsBytes write (bytes_of width) value →
-    statement_of version actor (lowered (port_text (record { write = write; port = port; width = width; value = value })))
+    statement_of version actor (lowered (port_text (record {
+      write = write;
+      port = port;
+      width = width;
+      value = value;
+    })))
     ≡ Ask (record { actor = actor; event = Port (record { write = write; port = port; width = width; value = value }) })
 port_statement version actor false width port value small fits =
     asked actor _ _ (ap Port (port_read false width port value small fits))
@@ -309,10 +333,16 @@ level_fields :
     (actor : ℕ) (verb : List ℕ) (event : ℕ → Bool → Event) (number level : ℕ) (text : List ℕ) → IsDecimal number →
     digits_value 10 text ≡ level →
     level_item actor verb event (decimal number ++ space ∷ text)
-    ≡ cond (ltb level 2) (Ask (record { actor = actor; event = event number (eqb level 1) })) (AskLevel actor verb number level)
+    ≡ cond (ltb level 2) (Ask (record { actor = actor; event = event number (eqb level 1) }))
+    (AskLevel actor verb number level)
 level_fields actor verb event number level text small is =
     let lack : lacks space (decimal number) ≡ true = lacks-decimal space number (inl (omega arith)) small in
-    rw (front-field space (decimal number) text lack, back-field space (decimal number) text lack, value_of_decimal number small, is) refl
+    rw (
+      front-field space (decimal number) text lack,
+      back-field space (decimal number) text lack,
+      value_of_decimal number small,
+      is,
+    ) refl
 
 wire_read :
     (actor : ℕ) (verb : List ℕ) (event : ℕ → Bool → Event) (number : ℕ) (on : Bool) → IsDecimal number →
@@ -326,7 +356,8 @@ wire_read actor verb event number true small =
     ∙ level_fields actor verb event number 1 (codes "1") small refl
 
 high_read :
-    (actor : ℕ) (verb : List ℕ) (event : ℕ → Bool → Event) (number level : ℕ) → IsDecimal number → IsDecimal level → 2 ≤ level →
+    (actor : ℕ) (verb : List ℕ) (event : ℕ → Bool → Event) (number level : ℕ) → IsDecimal number →
+    IsDecimal level → 2 ≤ level →
     level_item actor verb event (lowered (decimal number ++ space ∷ decimal level)) ≡ AskLevel actor verb number level
 high_read actor verb event number level small few high =
     ap (level_item actor verb event)
@@ -347,7 +378,8 @@ statement_read version actor (Memory access) form =
     memory_statement version actor access.kind (bytes_of access.width) access.addr access.value access.smm
     ∙ asked actor _ _ (
     ap (memory_event version)
-    (memory_read_at access.kind s.0 (bytes_of access.width) access.addr access.value access.smm s.1 form.addr form.value)
+    (memory_read_at access.kind s.0
+    (bytes_of access.width) access.addr access.value access.smm s.1 form.addr form.value)
     ∙ narrow_event version access.kind access.width access.addr access.value access.smm form.aligned
     )
 statement_read version actor (Wide access) form =
@@ -375,7 +407,8 @@ statement_read version actor (BadSector sector) form = asked actor _ _ (ap BadSe
 
 pub level_read :
     (version actor : ℕ) (verb : List ℕ) (number level : ℕ) → IsLevelForm actor verb number level →
-    statement_of version actor (lowered (verb ++ space ∷ decimal number ++ space ∷ decimal level)) ≡ AskLevel actor verb number level
+    statement_of version actor (lowered (verb ++ space ∷ decimal number
+    ++ space ∷ decimal level)) ≡ AskLevel actor verb number level
 level_read version actor verb number level form =
     elim form.what [
       | inl wire ↦ rw wire (high_read actor (codes "wire") Wire number level form.which form.few form.high)

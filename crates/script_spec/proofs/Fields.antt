@@ -29,9 +29,11 @@ front-field byte (c ∷ cs) rest lack =
 
 pub back-field : (byte : ℕ) (field rest : List ℕ) → lacks byte field ≡ true → back byte (field ++ byte ∷ rest) ≡ rest
 back-field byte [] rest lack = rw (eq-eqb byte byte refl) refl
-back-field byte (c ∷ cs) rest lack = rw (lacks-first byte c cs lack) (back-field byte cs rest (lacks-later byte c cs lack))
+back-field byte (c ∷ cs) rest lack = rw (lacks-first byte c cs lack) (back-field byte cs rest
+    (lacks-later byte c cs lack))
 
-pub lacks-append : (byte : ℕ) (xs ys : List ℕ) → lacks byte xs ≡ true → lacks byte ys ≡ true → lacks byte (xs ++ ys) ≡ true
+pub lacks-append : (byte : ℕ) (xs ys : List ℕ) → lacks byte xs ≡ true → lacks byte ys ≡ true →
+    lacks byte (xs ++ ys) ≡ true
 lacks-append byte [] ys one two = two
 lacks-append byte (c ∷ cs) ys one two =
     rw (lacks-first byte c cs one, lacks-append byte cs ys (lacks-later byte c cs one) two) refl
@@ -57,7 +59,11 @@ lower-stands written byte stands =
       | inl same ↦ ap lower same
       | inr small ↦
           rw (small.1, small.0)
-          (lower-above (byte + 0x20) (omega (arith, leb-true 0x41 byte ((and_parts (leb 0x41 byte) (leb byte 0x46) small.0).0))))
+          (lower-above (byte + 0x20) (omega (
+            arith,
+            leb-true 0x41 byte ((and_parts (leb 0x41 byte)
+                (leb byte 0x46) small.0).0),
+          )))
     ]
 
 pub lowered-spelled : (line text : List ℕ) → AllZip StandsFor line text → lowered line ≡ lowered text

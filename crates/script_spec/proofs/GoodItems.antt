@@ -40,7 +40,8 @@ pub no_reason : (before : List Item) (item : Item) → least_reason before item 
 unfolding least_reason
 no_reason before item none =
     let fail : (is_misplaced before item ≡ false) × (is_repeated before item ≡ false)
-    × ((is_phase item && lacks_setup before) ≡ false) × (not (is_in_range item) ≡ false) × (not (is_placed item) ≡ false)
+    × ((is_phase item && lacks_setup before) ≡ false) × (not (is_in_range item) ≡ false) × (not
+    (is_placed item) ≡ false)
     × (not (is_there before item) ≡ false) × (passes_limits (item ∷ before) ≡ false) =
     all_fail (is_misplaced before item) (is_repeated before item) (is_phase item && lacks_setup before)
     (not (is_in_range item)) (not (is_placed item)) (not (is_there before item)) (passes_limits (item ∷ before)) none
@@ -70,7 +71,8 @@ read_good version (line ∷ later) before items (inr one) good =
 
 -- what a search finds is good
 pub found_good :
-    (version : ℕ) (items : List Item) (test : Item → Bool) (item : Item) → AreGood version items → find test items ≡ Some item →
+    (version : ℕ) (items : List Item) (test : Item → Bool) (item : Item) → AreGood version items →
+    find test items ≡ Some item →
     IsForm version item × (is_in_range item ≡ true)
 found_good version [] test item good found = absurd (none-some item found)
 found_good version (first ∷ before) test item good found =

@@ -23,7 +23,8 @@ abbrev words_of : List ℕ → List (List ℕ)
 words_of tail = drop 1 (slice_split (λ (byte : ℕ). eqb byte space) tail)
 
 abbrev base_of : List ℕ → Base
-base_of (letter ∷ digits) = cond (eqb letter 0x6D) (MemoryBase (digits_value 10 digits)) (IoBase (digits_value 10 digits))
+base_of (letter ∷ digits) = cond (eqb letter 0x6D) (MemoryBase (digits_value 10 digits)) (IoBase
+    (digits_value 10 digits))
 base_of [] = IoBase 0
 
 abbrev is_rom_word : List ℕ → Bool
@@ -71,11 +72,13 @@ pub split_words :
 split_words [] each = refl
 split_words (word ∷ words) each =
     ap (λ (parts : List (List ℕ)). [] ∷ parts)
-    (split_word word (flat_map spaced words) words (All-head IsWord word words each) (split_words words (All-tail IsWord word words each)))
+    (split_word word (flat_map spaced words) words (All-head IsWord word words each) (split_words words
+    (All-tail IsWord word words each)))
 
 -- the last fields of a card are its words, each after a space
 card_tail :
-    (bases : List Base) (rom : Option ℕ) → flat_map base_text bases ++ rom_text rom ≡ flat_map spaced (card_words bases rom)
+    (bases : List Base) (rom : Option ℕ) → flat_map base_text bases ++ rom_text rom ≡ flat_map spaced
+    (card_words bases rom)
 card_tail [] None = refl
 card_tail [] (Some bits) = sym (append-nil _)
 card_tail (MemoryBase bits ∷ bases) rom =
@@ -92,7 +95,8 @@ lacks-words version [] None each form = All-nil IsWord
 lacks-words version [] (Some bits) each form =
     All-cons IsWord _ [] (lacks-decimal space bits (inl (omega arith)) form.1) (All-nil IsWord)
 lacks-words version (MemoryBase bits ∷ bases) rom each form =
-    All-cons IsWord _ _ (lacks-decimal space bits (inl (omega arith)) (All-head IsBaseForm (MemoryBase bits) bases each))
+    All-cons IsWord _ _ (lacks-decimal space bits (inl (omega arith)) (All-head IsBaseForm
+    (MemoryBase bits) bases each))
     (lacks-words version bases rom (All-tail IsBaseForm (MemoryBase bits) bases each) form)
 lacks-words version (IoBase bits ∷ bases) rom each form =
     All-cons IsWord _ _ (lacks-decimal space bits (inl (omega arith)) (All-head IsBaseForm (IoBase bits) bases each))
@@ -124,7 +128,8 @@ abbrev card_rest : (dev : ℕ) → (vga : Bool) → List ℕ → FittedCard
 card_rest dev vga tail = record { dev = dev; vga = vga; bases = bases_of (words_of tail); rom = rom_of (words_of tail) }
 
 abbrev card_kind : (dev : ℕ) → List ℕ → FittedCard
-card_kind dev (first ∷ rest) = cond (eqb first 0x76) (card_rest dev true (drop 2 rest)) (card_rest dev false (drop 4 rest))
+card_kind dev (first ∷ rest) = cond (eqb first 0x76) (card_rest dev true (drop 2 rest)) (card_rest dev false
+    (drop 4 rest))
 card_kind dev [] = card_rest dev false []
 
 abbrev card_of : List ℕ → FittedCard
@@ -134,11 +139,20 @@ card_fields :
     (dev : ℕ) (kind : List ℕ) → IsDecimal dev → card_of (decimal dev ++ space ∷ kind) ≡ card_kind dev kind
 card_fields dev kind small =
     let lack : lacks space (decimal dev) ≡ true = lacks-decimal space dev (inl (omega arith)) small in
-    rw (front-field space (decimal dev) kind lack, back-field space (decimal dev) kind lack, value_of_decimal dev small) refl
+    rw (
+      front-field space (decimal dev) kind lack,
+      back-field space (decimal dev) kind lack,
+      value_of_decimal dev small,
+    ) refl
 
 card_rest_read :
     (version dev : ℕ) (vga : Bool) (bases : List Base) (rom : Option ℕ) → All IsBaseForm bases → IsRomForm version rom →
-    card_rest dev vga (flat_map base_text bases ++ rom_text rom) ≡ record { dev = dev; vga = vga; bases = bases; rom = rom }
+    card_rest dev vga (flat_map base_text bases ++ rom_text rom) ≡ record {
+      dev = dev;
+      vga = vga;
+      bases = bases;
+      rom = rom;
+    }
 card_rest_read version dev vga bases rom each form =
     rw (
       card_tail bases rom,
@@ -167,7 +181,8 @@ card_read version dev false bases rom form =
 
 abbrev setup_by : (first second : ℕ) → List ℕ → Item
 setup_by first second rest =
-    cond (eqb first 0x63) (cond (eqb second 0x70) (SetCpus (digits_value 10 (drop 3 rest))) (FitCard (card_of (drop 3 rest))))
+    cond (eqb first 0x63) (cond (eqb second 0x70) (SetCpus (digits_value 10 (drop 3 rest))) (FitCard (card_of
+    (drop 3 rest))))
     (cond (eqb first 0x6D) (SetMemory (digits_value 10 (drop 5 rest)))
     (cond (eqb first 0x72) (SetRom (drop 2 rest))
     (cond (eqb first 0x64) (SetDisk (drop 3 rest)) BeginPhase)))
@@ -180,7 +195,8 @@ setup_of _ = BeginPhase
 abbrev item_by : (version : ℕ) → (line : List ℕ) → List ℕ → Item
 item_by version line [] = BeginPhase
 item_by version line (first ∷ rest) =
-    cond (is_within 0x30 0x39 first) (statement_of version (digits_value 10 (front space (first ∷ rest))) (back space (first ∷ rest)))
+    cond (is_within 0x30 0x39 first) (statement_of version (digits_value 10 (front space (first ∷ rest)))
+    (back space (first ∷ rest)))
     (setup_of line)
 
 abbrev pub item_of : (version : ℕ) → List ℕ → Item
@@ -201,11 +217,13 @@ numbered version line (c ∷ cs) text digits some =
 
 -- a line whose lowered form has an actor first
 statement_line :
-    (version actor : ℕ) (line text : List ℕ) → IsDecimal actor → lowered line ≡ lowered (decimal actor ++ space ∷ text) →
+    (version actor : ℕ) (line text : List ℕ) → IsDecimal actor → lowered line ≡ lowered (decimal actor
+    ++ space ∷ text) →
     item_of version line ≡ statement_of version actor (lowered text)
 statement_line version actor line text small is =
     ap (item_by version line) (is ∙ lowered-field actor (space ∷ text) small)
-    ∙ numbered version line (decimal actor) (lowered text) (digits_of_decimal actor small) (decimal_nonempty actor (omega arith))
+    ∙ numbered version line (decimal actor) (lowered text) (digits_of_decimal actor small) (decimal_nonempty actor
+    (omega arith))
     ∙ ap (λ (a : ℕ). statement_of version a (lowered text)) (value_of_decimal actor small)
 
 level_parts :

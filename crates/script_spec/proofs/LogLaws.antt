@@ -63,8 +63,10 @@ reply_read :
 reply_read version (Memory access) reply form shape =
     bus_read (is_write access.kind) (bytes_of access.width) reply (some_bytes access.width) shape
 reply_read version (Wide access) reply form shape =
-    wide_read (is_write access.kind) access.bytes (length (parts_of access)) reply (wide_bytes access.bytes form.bytes) shape
-reply_read version (Port access) reply form shape = bus_read access.write (bytes_of access.width) reply (some_bytes access.width) shape
+    wide_read (is_write access.kind) access.bytes (length (parts_of access)) reply
+    (wide_bytes access.bytes form.bytes) shape
+reply_read version (Port access) reply form shape = bus_read access.write (bytes_of access.width) reply
+    (some_bytes access.width) shape
 reply_read version (LookAt kind addr smm) reply form shape = look_read 1 reply shape
 reply_read version Ack reply form shape = bus_read false 1 reply (omega arith) shape
 reply_read version (Pulses count) reply form shape = sym shape
@@ -119,7 +121,8 @@ seven_parts a b c d e f g =
     ∙ append_assoc a b (c ++ (d ++ (e ++ (f ++ g))))
 
 last_built :
-    (version actor seq : ℕ) (event e : Event) (text : List ℕ) (reply : Reply) → e ≡ event → reply_of event text ≡ reply →
+    (version actor seq : ℕ) (event e : Event) (text : List ℕ) (reply : Reply) → e ≡ event →
+    reply_of event text ≡ reply →
     ◌≡◌ {A = Entry} (record { actor = actor; seq = seq; event = e; reply = reply_of e text })
     (record { actor = actor; seq = seq; event = event; reply = reply })
 last_built version actor seq event e text reply one two = rw (one, two) refl
@@ -146,22 +149,35 @@ last_read version entry formed =
     in
     let replied : reply_of entry.event (drop 1 (back 0x3D (event ++ (codes " = " ++ reply)))) ≡ entry.reply =
     ap (λ (text : List ℕ). reply_of entry.event (drop 1 (back 0x3D text))) parts
-    ∙ ap (λ (text : List ℕ). reply_of entry.event (drop 1 text)) (back-field 0x3D (event ++ space ∷ []) (space ∷ reply) lack)
+    ∙ ap (λ (text : List ℕ). reply_of entry.event (drop 1 text)) (back-field 0x3D (event ++ space ∷ [])
+    (space ∷ reply) lack)
     ∙ reply_read version entry.event entry.reply formed.form formed.shape
     in
-    last_built version entry.actor entry.seq entry.event _ (drop 1 (back 0x3D (event ++ (codes " = " ++ reply)))) entry.reply asked replied
+    last_built version entry.actor entry.seq entry.event _ (drop 1 (back 0x3D (event ++ (codes " = "
+    ++ reply)))) entry.reply asked replied
 
-actor_read : (version actor : ℕ) (text : List ℕ) → IsDecimal actor → actor_of version (decimal actor ++ 0x2E ∷ text) ≡ seq_of version actor text
+actor_read : (version actor : ℕ) (text : List ℕ) → IsDecimal actor → actor_of version (decimal actor
+    ++ 0x2E ∷ text) ≡ seq_of version actor text
 actor_read version actor text small =
     let lack : lacks 0x2E (decimal actor) ≡ true = lacks-decimal 0x2E actor (inl (omega arith)) small in
-    rw (front-field 0x2E (decimal actor) text lack, back-field 0x2E (decimal actor) text lack, value_of_decimal actor small) refl
+    rw (
+      front-field 0x2E (decimal actor) text lack,
+      back-field 0x2E (decimal actor) text lack,
+      value_of_decimal actor small,
+    ) refl
 
-seq_read : (version actor seq : ℕ) (text : List ℕ) → IsDecimal seq → seq_of version actor (decimal seq ++ space ∷ text) ≡ last_of version actor seq text
+seq_read : (version actor seq : ℕ) (text : List ℕ) → IsDecimal seq → seq_of version actor (decimal seq
+    ++ space ∷ text) ≡ last_of version actor seq text
 seq_read version actor seq text small =
     let lack : lacks space (decimal seq) ≡ true = lacks-decimal space seq (inl (omega arith)) small in
-    rw (front-field space (decimal seq) text lack, back-field space (decimal seq) text lack, value_of_decimal seq small) refl
+    rw (
+      front-field space (decimal seq) text lack,
+      back-field space (decimal seq) text lack,
+      value_of_decimal seq small,
+    ) refl
 
-pub entry_read : (version n : ℕ) (entry : Entry) → IsWellFormed version entry → entry_of version (line_text n entry) ≡ entry
+pub entry_read : (version n : ℕ) (entry : Entry) → IsWellFormed version entry →
+    entry_of version (line_text n entry) ≡ entry
 unfolding line_text
 entry_read version n entry formed =
     let event : List ℕ = event_text entry.event in
@@ -169,9 +185,11 @@ entry_read version n entry formed =
     let later : List ℕ = event ++ (codes " = " ++ reply) in
     let numbered : List ℕ = decimal entry.seq ++ space ∷ later in
     ap (entry_of version)
-    (seven_parts (decimal n) (space ∷ decimal entry.actor) (codes ".") (decimal entry.seq) (space ∷ event) (codes " = ") reply)
+    (seven_parts (decimal n) (space ∷ decimal entry.actor) (codes ".") (decimal entry.seq) (space ∷ event)
+    (codes " = ") reply)
     ∙ ap (actor_of version)
-    (back-field space (decimal n) (decimal entry.actor ++ 0x2E ∷ numbered) (lacks-word space (decimal n) refl (decimal_word n)))
+    (back-field space (decimal n) (decimal entry.actor ++ 0x2E ∷ numbered) (lacks-word space (decimal n) refl
+    (decimal_word n)))
     ∙ actor_read version entry.actor numbered (omega (arith, formed.actor))
     ∙ seq_read version entry.actor entry.seq later formed.seq
     ∙ last_read version entry formed
@@ -198,7 +216,7 @@ lines_joined (entry ∷ before) =
     ∙ sym (flat_map-append (λ l. l ++ line_feed ∷ []) (log_lines before) (line ∷ []))
 
 -- a line of the log is one line
-line_whole : (n : ℕ) (entry : Entry) → IsOneLine (line_text n entry)
+pub line_whole : (n : ℕ) (entry : Entry) → IsOneLine (line_text n entry)
 unfolding line_text
 line_whole n entry =
     let event : List ℕ = event_text entry.event in
@@ -206,7 +224,8 @@ line_whole n entry =
     let one : List ℕ = decimal n ++ space ∷ decimal entry.actor in
     let two : List ℕ = one ++ codes "." ++ decimal entry.seq in
     let three : List ℕ = two ++ space ∷ event ++ codes " = " in
-    let number : (m : ℕ) → lacks line_feed (decimal m) ≡ true = λ m. lacks-word line_feed (decimal m) refl (decimal_word m) in
+    let number : (m : ℕ) → lacks line_feed (decimal m) ≡ true = λ m. lacks-word line_feed (decimal m) refl
+    (decimal_word m) in
     one_line (three ++ reply)
     (lacks-append line_feed three reply
     (lacks-append line_feed (two ++ space ∷ event) (codes " = ")
@@ -222,16 +241,19 @@ line_whole n entry =
 lines_whole : (history : List Entry) → All IsOneLine (log_lines history)
 lines_whole [] = All-nil IsOneLine
 lines_whole (entry ∷ before) =
-    All-push IsOneLine (log_lines before) (line_text (length before + 1) entry) (lines_whole before) (line_whole (length before + 1) entry)
+    All-push IsOneLine (log_lines before) (line_text (length before + 1) entry) (lines_whole before) (line_whole
+    (length before + 1) entry)
 
 nothing_more : (this after : List ℕ) → [] ≡ this ++ line_feed ∷ after → ⊥
 nothing_more [] after e = not_nil line_feed after e
 nothing_more (c ∷ cs) after e = not_nil c (cs ++ line_feed ∷ after) e
 
 -- whole lines say where they are cut
-same_lines : (lines others : List (List ℕ)) → All IsOneLine lines → All IsOneLine others → text_of_lines lines ≡ text_of_lines others → lines ≡ others
+same_lines : (lines others : List (List ℕ)) → All IsOneLine lines → All IsOneLine others →
+    text_of_lines lines ≡ text_of_lines others → lines ≡ others
 same_lines lines others each all same =
-    elim (compared lines [] others [] each all (append-nil (text_of_lines lines) ∙ same ∙ sym (append-nil (text_of_lines others)))) [
+    elim (compared lines [] others [] each all (append-nil (text_of_lines lines) ∙ same
+    ∙ sym (append-nil (text_of_lines others)))) [
       | inl is ↦ is
       | inr (inl on) ↦ absurd (nothing_more on.this (text_of_lines on.more ++ []) on.whole)
       | inr (inr on) ↦ absurd (nothing_more on.this (text_of_lines on.more ++ []) on.whole)
@@ -249,7 +271,8 @@ history_read version (entry ∷ before) each =
     (entry_read version (length before + 1) entry (All-head (IsWellFormed version) entry before each))
     ∙ sym (reverse-append (entry ∷ []) before)
 
-same_history : (version : ℕ) (left right : List Entry) → All (IsWellFormed version) left → All (IsWellFormed version) right →
+same_history : (version : ℕ) (left right : List Entry) → All (IsWellFormed version) left →
+    All (IsWellFormed version) right →
     lines_text left ≡ lines_text right → left ≡ right
 same_history version left right one two same =
     let lines : log_lines left ≡ log_lines right =
@@ -257,12 +280,14 @@ same_history version left right one two same =
     (sym (lines_joined left) ∙ same ∙ lines_joined right)
     in
     sym (reverse-reverse left)
-    ∙ ap reverse (sym (history_read version left one) ∙ ap (map (entry_of version)) lines ∙ history_read version right two)
+    ∙ ap reverse (sym (history_read version left one) ∙ ap (map (entry_of version)) lines
+    ∙ history_read version right two)
     ∙ reverse-reverse right
 
 versions_differ : (left right : List Entry) → log_text 1 left ≡ log_text 2 right → ⊥
 unfolding digits
-versions_differ left right same = let digit : 0x31 ≡ 0x32 = ap (λ (text : List ℕ). get_or text 11 0) same in omega (arith, digit)
+versions_differ left right same = let digit : 0x31 ≡ 0x32 = ap (λ (text : List ℕ). get_or text 11 0) same in omega
+    (arith, digit)
 
 same_version : (version other : ℕ) (left right : List Entry) → IsVersion version → IsVersion other →
     log_text version left ≡ log_text other right → version ≡ other
@@ -270,10 +295,12 @@ same_version version other left right (inl one) (inl two) same = one ∙ sym two
 same_version version other left right (inl one) (inr two) same =
     absurd (versions_differ left right (ap (λ v. log_text v left) (sym one) ∙ same ∙ ap (λ v. log_text v right) two))
 same_version version other left right (inr one) (inl two) same =
-    absurd (versions_differ right left (ap (λ v. log_text v right) (sym two) ∙ sym same ∙ ap (λ v. log_text v left) one))
+    absurd (versions_differ right left (ap (λ v. log_text v right) (sym two) ∙ sym same
+    ∙ ap (λ v. log_text v left) one))
 same_version version other left right (inr one) (inr two) same = one ∙ sym two
 
-same_rest : (version : ℕ) (left right : List Entry) → IsVersion version → log_text version left ≡ log_text version right → lines_text left ≡ lines_text right
+same_rest : (version : ℕ) (left right : List Entry) → IsVersion version →
+    log_text version left ≡ log_text version right → lines_text left ≡ lines_text right
 unfolding digits
 same_rest version left right (inl one) same =
     ap (drop 13) (ap (λ v. log_text v left) (sym one) ∙ same ∙ ap (λ v. log_text v right) one)

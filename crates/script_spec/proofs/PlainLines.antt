@@ -53,7 +53,8 @@ smm_plain : (smm : Bool) → is_plain (smm_text smm) ≡ true
 smm_plain false = refl
 smm_plain true = refl
 
-memory_plain : (kind : Kind) (bytes addr value : ℕ) (smm : Bool) → is_plain (memory_text kind bytes addr value smm) ≡ true
+memory_plain : (kind : Kind) (bytes addr value : ℕ) (smm : Bool) →
+    is_plain (memory_text kind bytes addr value smm) ≡ true
 memory_plain kind bytes addr value smm =
     let head : List ℕ = kind_text kind ++ space ∷ size_text bytes in
     let place : List ℕ = head ++ space ∷ hex_long addr in
@@ -69,7 +70,8 @@ port_plain : (write : Bool) (bytes port value : ℕ) (verb : List ℕ) → is_pl
 port_plain write bytes port value verb plain =
     let head : List ℕ = verb ++ space ∷ size_text bytes in
     plain-append (head ++ space ∷ hex_word port) (written_text write bytes value)
-    (plain-append head (space ∷ hex_word port) (plain-append verb (space ∷ size_text bytes) plain (size_plain bytes)) (hex_plain 2 port))
+    (plain-append head (space ∷ hex_word port) (plain-append verb (space ∷ size_text bytes) plain
+    (size_plain bytes)) (hex_plain 2 port))
     (written_plain write bytes value)
 
 verb_plain : (write : Bool) → is_plain (if write then codes "out" else codes "in") ≡ true
@@ -83,7 +85,8 @@ two_plain : (n : ℕ) → is_plain (two_digits n) ≡ true
 two_plain n =
     and_from (eqb (0x30 + n / 10 % 10) space || is_word_byte (0x30 + n / 10 % 10)) (is_plain ((0x30 + n % 10) ∷ []))
     (plain_digit (n / 10 % 10) (omega arith))
-    (and_from (eqb (0x30 + n % 10) space || is_word_byte (0x30 + n % 10)) true (plain_digit (n % 10) (omega arith)) refl)
+    (and_from (eqb (0x30 + n % 10) space || is_word_byte (0x30 + n % 10)) true (plain_digit (n % 10)
+    (omega arith)) refl)
 
 two_more : (n : ℕ) (rest : List ℕ) → is_plain rest ≡ true → is_plain (two_digits n ++ rest) ≡ true
 two_more n rest plain = plain-append (two_digits n) rest (two_plain n) plain
@@ -109,11 +112,13 @@ unfolding event_text
 event_plain (Memory access) = memory_plain access.kind (bytes_of access.width) access.addr access.value access.smm
 event_plain (Wide access) = memory_plain access.kind access.bytes access.addr access.value access.smm
 event_plain (Port access) =
-    port_plain access.write (bytes_of access.width) access.port access.value (if access.write then codes "out" else codes "in")
+    port_plain access.write (bytes_of access.width) access.port access.value
+    (if access.write then codes "out" else codes "in")
     (verb_plain access.write)
 event_plain (LookAt kind addr smm) =
     plain-append (codes "look " ++ kind_text kind ++ space ∷ hex_long addr) (smm_text smm)
-    (plain-append (codes "look " ++ kind_text kind) (space ∷ hex_long addr) (kind_plain kind) (hex_plain 4 addr)) (smm_plain smm)
+    (plain-append (codes "look " ++ kind_text kind) (space ∷ hex_long addr) (kind_plain kind) (hex_plain 4 addr))
+    (smm_plain smm)
 event_plain Ack = refl
 event_plain (Pulses count) = decimal_plain count
 event_plain (Time moment) = moment_plain moment
@@ -129,7 +134,8 @@ value_word bytes (Some value) = hex_number_word bytes value
 
 answered_plain : (target : Target) (denial : Option Denial) → is_plain (answered_text target denial) ≡ true
 answered_plain target denial =
-    plain-append (space ∷ target_text target) (space ∷ denial_text denial) (plain-word (target_text target) (target_word target))
+    plain-append (space ∷ target_text target) (space ∷ denial_text denial) (plain-word (target_text target)
+    (target_word target))
     (plain-word (denial_text denial) (denial_word denial))
 
 parts_plain : (parts : List Part) → is_plain (flat_map (λ part. answered_text part.target part.denial) parts) ≡ true
@@ -141,7 +147,8 @@ parts_plain (part ∷ later) =
 pub reply_plain : (bytes : ℕ) (reply : Reply) → is_plain (reply_text bytes reply) ≡ true
 unfolding reply_text
 reply_plain bytes (Bus value target denial) =
-    plain-append (value_text bytes value) (answered_text target denial) (plain-word (value_text bytes value) (value_word bytes value))
+    plain-append (value_text bytes value) (answered_text target denial) (plain-word (value_text bytes value)
+    (value_word bytes value))
     (answered_plain target denial)
 reply_plain bytes (InParts value parts) =
     plain-append (value_text bytes value) (flat_map (λ part. answered_text part.target part.denial) (parts_list parts))
@@ -150,5 +157,6 @@ reply_plain bytes (Saw look) =
     let first : List ℕ = decimal look.version ++ space ∷ hex_long look.lo in
     plain-append (first ++ space ∷ hex_long look.hi) (space ∷ area_text look.area)
     (plain-append first (space ∷ hex_long look.hi)
-    (plain-append (decimal look.version) (space ∷ hex_long look.lo) (decimal_plain look.version) (hex_plain 4 look.lo)) (hex_plain 4 look.hi))
+    (plain-append (decimal look.version) (space ∷ hex_long look.lo) (decimal_plain look.version)
+    (hex_plain 4 look.lo)) (hex_plain 4 look.hi))
     (plain-word (area_text look.area) (area_word look.area))

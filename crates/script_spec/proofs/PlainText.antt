@@ -45,7 +45,8 @@ lacks-word mark (c ∷ cs) outside word =
 pub digit_byte : (d : ℕ) → d < 10 → is_word_byte (0x30 + d) ≡ true
 digit_byte d small =
     or_left (is_within 0x2D 0x3A (0x30 + d)) _
-    (and_from (leb 0x2D (0x30 + d)) (leb (0x30 + d) 0x3A) (le-leb 0x2D (0x30 + d) (omega arith)) (le-leb (0x30 + d) 0x3A (omega arith)))
+    (and_from (leb 0x2D (0x30 + d)) (leb (0x30 + d) 0x3A) (le-leb 0x2D (0x30 + d) (omega arith)) (le-leb
+    (0x30 + d) 0x3A (omega arith)))
 
 hex_byte_word : (d : ℕ) → d < 16 → is_word_byte (cond (ltb d 10) (0x30 + d) (0x37 + d)) ≡ true
 hex_byte_word d small =
@@ -54,7 +55,8 @@ hex_byte_word d small =
       | inr letter ↦
           rw (le-ltb d 10 letter) (
           or_right (is_within 0x2D 0x3A (0x37 + d)) (is_within 0x41 0x7A (0x37 + d))
-          (and_from (leb 0x41 (0x37 + d)) (leb (0x37 + d) 0x7A) (le-leb 0x41 (0x37 + d) (omega arith)) (le-leb (0x37 + d) 0x7A (omega arith)))
+          (and_from (leb 0x41 (0x37 + d)) (leb (0x37 + d) 0x7A) (le-leb 0x41 (0x37 + d) (omega arith)) (le-leb
+          (0x37 + d) 0x7A (omega arith)))
           )
     ]
 
@@ -64,13 +66,16 @@ hex_digit_word n = hex_byte_word (n % 0x10) (omega arith)
 pub hex_number_word : (bytes n : ℕ) → is_word (hex_number bytes n) ≡ true
 hex_number_word zero n = refl
 hex_number_word (suc bytes) n =
-    word-more (hex_digit (byte n bytes / 0x10)) (hex_digit (byte n bytes) ∷ hex_number bytes n) (hex_digit_word (byte n bytes / 0x10))
-    (word-more (hex_digit (byte n bytes)) (hex_number bytes n) (hex_digit_word (byte n bytes)) (hex_number_word bytes n))
+    word-more (hex_digit (byte n bytes / 0x10)) (hex_digit (byte n bytes) ∷ hex_number bytes n) (hex_digit_word
+    (byte n bytes / 0x10))
+    (word-more (hex_digit (byte n bytes)) (hex_number bytes n) (hex_digit_word (byte n bytes))
+    (hex_number_word bytes n))
 
 glyph_word : (d : ℕ) → d < 10 → is_word_byte (digit_glyph false d) ≡ true
 glyph_word d small = rw (lt-ltb d 10 small) (digit_byte d small)
 
-digits_word : (count n : ℕ) (after : List ℕ) → is_word after ≡ true → is_word (digits_onto count 10 false n after) ≡ true
+digits_word : (count n : ℕ) (after : List ℕ) → is_word after ≡ true →
+    is_word (digits_onto count 10 false n after) ≡ true
 digits_word zero n after word = word
 digits_word (suc count) n after word =
     let more : is_word (digit_glyph false (n % 10) ∷ after) ≡ true =
@@ -103,7 +108,8 @@ base_word_text dev base =
     (word-append (codes "card:" ++ decimal dev) (codes ".") (decimal_word dev) refl) (decimal_word base)
 
 offset_word : (off : ℕ) → is_word (hex_offset off) ≡ true
-offset_word off = word-more (hex_digit (byte off 2)) (hex_number 2 off) (hex_digit_word (byte off 2)) (hex_number_word 2 off)
+offset_word off = word-more (hex_digit (byte off 2)) (hex_number 2 off) (hex_digit_word (byte off 2))
+    (hex_number_word 2 off)
 
 device_word : (dev : Dev) → is_word (device_text dev) ≡ true
 device_word devices.Confadd = refl
@@ -152,15 +158,18 @@ abbrev pub is_plain : List ℕ → Bool
 is_plain bytes = list_all (λ b. eqb b space || is_word_byte b) bytes
 
 pub plain-append : (xs ys : List ℕ) → is_plain xs ≡ true → is_plain ys ≡ true → is_plain (xs ++ ys) ≡ true
-plain-append xs ys one two = list_all-append (λ b. eqb b space || is_word_byte b) xs ys ∙ and_from (is_plain xs) (is_plain ys) one two
+plain-append xs ys one two = list_all-append (λ b. eqb b space || is_word_byte b) xs ys
+    ∙ and_from (is_plain xs) (is_plain ys) one two
 
 pub plain-word : (xs : List ℕ) → is_word xs ≡ true → is_plain xs ≡ true
 plain-word [] word = refl
 plain-word (c ∷ cs) word =
     let parts : (is_word_byte c ≡ true) × (is_word cs ≡ true) = and_parts (is_word_byte c) (is_word cs) word in
-    and_from (eqb c space || is_word_byte c) (is_plain cs) (or_right (eqb c space) (is_word_byte c) parts.0) (plain-word cs parts.1)
+    and_from (eqb c space || is_word_byte c) (is_plain cs) (or_right (eqb c space) (is_word_byte c) parts.0)
+    (plain-word cs parts.1)
 
-pub lacks-plain : (mark : ℕ) (xs : List ℕ) → (eqb mark space || is_word_byte mark) ≡ false → is_plain xs ≡ true → lacks mark xs ≡ true
+pub lacks-plain : (mark : ℕ) (xs : List ℕ) → (eqb mark space || is_word_byte mark) ≡ false → is_plain xs ≡ true →
+    lacks mark xs ≡ true
 lacks-plain mark [] outside plain = refl
 lacks-plain mark (c ∷ cs) outside plain =
     let parts : ((eqb c space || is_word_byte c) ≡ true) × (is_plain cs ≡ true) =

@@ -48,7 +48,8 @@ abbrev pub OnAsk : (Statement → Type 0) → Item → Type 0
 OnAsk P (Ask statement) = P statement
 OnAsk P _ = Unit {0}
 
-has_card_more : (item : Item) (before : List Item) (dev : ℕ) → has_card before dev ≡ true → has_card (item ∷ before) dev ≡ true
+has_card_more : (item : Item) (before : List Item) (dev : ℕ) → has_card before dev ≡ true →
+    has_card (item ∷ before) dev ≡ true
 has_card_more (FitCard card) before dev has = or_right (card.dev == dev) (has_card before dev) has
 has_card_more (SetCpus count) before dev has = has
 has_card_more (SetMemory mib) before dev has = has
@@ -63,7 +64,8 @@ scripted :
     ((actor : ℕ) → list_any (is_cpus_above actor) before ≡ true → actor < cpus) → HasCards before setup →
     IsForm version item → NoReason before item → OnAsk (IsScripted setup version cpus) item
 scripted version cpus setup before (Ask statement) above cards form none =
-    let there : (list_any (is_cpus_above statement.actor) before ≡ true) × (is_card_there before statement.event ≡ true) =
+    let there : (list_any (is_cpus_above statement.actor) before ≡ true) ×
+    (is_card_there before statement.event ≡ true) =
     and_parts (list_any (is_cpus_above statement.actor) before) (is_card_there before statement.event) none.there
     in
     record {
@@ -123,7 +125,8 @@ none_any p (x ∷ xs) none =
     let both : (p x ≡ false) × (list_any p xs ≡ false) = or_parts (p x) (list_any p xs) none in
     All-cons (λ y. p y ≡ false) x xs both.0 (none_any p xs both.1)
 
-any_permutation : {X : Type 0} (p : X → Bool) (xs ys : List X) → IsPermutation xs ys → list_any p xs ≡ true → list_any p ys ≡ true
+any_permutation : {X : Type 0} (p : X → Bool) (xs ys : List X) → IsPermutation xs ys → list_any p xs ≡ true →
+    list_any p ys ≡ true
 any_permutation p xs ys same any =
     elim (cases_Bool (list_any p ys)) [
       | inl some ↦ some
@@ -144,10 +147,12 @@ found_some p (x ∷ xs) any =
     ]
 
 has_cards :
-    (items : List Item) (cards : List FittedCard) (setup : Setup) → IsPermutation (cards_of items) cards → setup.cards ≡ cards →
+    (items : List Item) (cards : List FittedCard) (setup : Setup) → IsPermutation (cards_of items) cards →
+    setup.cards ≡ cards →
     HasCards items setup
 has_cards items cards setup same is dev has =
-    rw is (found_some (λ card. card.dev == dev) cards (any_permutation (λ card. card.dev == dev) (cards_of items) cards same has))
+    rw is (found_some (λ card. card.dev == dev) cards (any_permutation (λ card. card.dev == dev)
+    (cards_of items) cards same has))
 
 all_bases : (bases : List Base) → list_all is_base_in_range bases ≡ true → All IsBase bases
 all_bases [] test = All-nil IsBase
@@ -175,7 +180,8 @@ three true true true test = (refl, refl, refl)
 all_cards : (version : ℕ) (items : List Item) → AreGood version items → All IsCard (cards_of items)
 all_cards version [] good = All-nil IsCard
 all_cards version (FitCard card ∷ before) good =
-    let parts : (is_within 2 9 card.dev ≡ true) × (list_all is_base_in_range card.bases ≡ true) × (is_rom_in_range card.rom ≡ true) =
+    let parts : (is_within 2 9 card.dev ≡ true) × (list_all is_base_in_range card.bases ≡ true) ×
+    (is_rom_in_range card.rom ≡ true) =
     three (is_within 2 9 card.dev) (list_all is_base_in_range card.bases) (is_rom_in_range card.rom) good.1.range
     in
     let dev : (2 ≤ card.dev) × (card.dev ≤ 9) = within 2 9 card.dev parts.0 in
@@ -197,14 +203,16 @@ all_cards version (Ask statement ∷ before) good = all_cards version before goo
 all_cards version (AskLevel actor verb number level ∷ before) good = all_cards version before good.2
 
 -- devices that rise up to 9 are few
-few_cards : (low : ℕ) (cards : List FittedCard) → low ≤ 10 → Rises cards → All (λ card. low ≤ card.dev) cards → All IsCard cards →
+few_cards : (low : ℕ) (cards : List FittedCard) → low ≤ 10 → Rises cards → All (λ card. low ≤ card.dev) cards →
+    All IsCard cards →
     length cards ≤ 10 - low
 few_cards low [] below rises from each = omega arith
 few_cards low (card ∷ later) below rises from each =
     let first : low ≤ card.dev = All-head (λ card. low ≤ card.dev) card later from in
     let last : card.dev ≤ 9 = (All-head IsCard card later each).last in
     let rest : length later ≤ 10 - (card.dev + 1) =
-    few_cards (card.dev + 1) later (omega (arith, last)) rises.1 (λ k d at_k. let up : card.dev < (get_or later k d).dev = rises.0 k d at_k in omega (arith, up))
+    few_cards (card.dev + 1) later (omega (arith, last)) rises.1 (λ k d at_k. let up : card.dev <
+    (get_or later k d).dev = rises.0 k d at_k in omega (arith, up))
     (All-tail IsCard card later each)
     in
     let count : length (card ∷ later) ≡ length later + 1 = sym (add-one (length later)) in
@@ -217,9 +225,11 @@ sum_of_cards (card ∷ later) =
     ∙ ap (λ (n : ℕ). sum_by memory_size card.bases + n) (sum_of_cards later)
     ∙ sym (sum_by-cons (λ c. sum_by memory_size c.bases) card later)
 
-same_memory : (cards others : List FittedCard) → IsPermutation cards others → memory_of_cards others ≡ memory_of_cards cards
+same_memory : (cards others : List FittedCard) → IsPermutation cards others →
+    memory_of_cards others ≡ memory_of_cards cards
 same_memory cards others same =
-    sum_of_cards others ∙ sum_by-IsPermutation (λ card. sum_by memory_size card.bases) cards others same ∙ sym (sum_of_cards cards)
+    sum_of_cards others ∙ sum_by-IsPermutation (λ card. sum_by memory_size card.bases) cards others same
+    ∙ sym (sum_of_cards cards)
 
 -- ---- limits
 
@@ -237,10 +247,16 @@ record IsWithinLimits (items : List Item) : Type 0 where
   memory : memory_of_cards (cards_of items) ≤ 0x400_0000
 
 within_limits : (version : ℕ) (items : List Item) → AreGood version items → IsWithinLimits items
-within_limits version [] good = record { statements = omega arith; phases = omega arith; pulses = omega arith; memory = omega arith }
+within_limits version [] good = record {
+  statements = omega arith;
+  phases = omega arith;
+  pulses = omega arith;
+  memory = omega arith;
+}
 within_limits version (item ∷ before) good =
     let items : List Item = item ∷ before in
-    let parts : (ltb 250_000 (length (filter is_statement items)) ≡ false) × (ltb 1_000 (length (filter is_phase items)) ≡ false)
+    let parts : (ltb 250_000 (length (filter is_statement items)) ≡ false) × (ltb 1_000 (length
+    (filter is_phase items)) ≡ false)
     × (ltb 100_000_000 (sum_by pulses_of items) ≡ false) × (ltb 0x400_0000 (memory_of_cards (cards_of items)) ≡ false) =
     four (ltb 250_000 (length (filter is_statement items))) (ltb 1_000 (length (filter is_phase items)))
     (ltb 100_000_000 (sum_by pulses_of items)) (ltb 0x400_0000 (memory_of_cards (cards_of items))) good.1.limits
@@ -270,7 +286,8 @@ sum_kept f (item ∷ before) none =
     ]
 
 sum_asks :
-    (f : Item → ℕ) (g : Statement → ℕ) (phase : List Statement) → ((statement : Statement) → f (Ask statement) ≡ g statement) →
+    (f : Item → ℕ) (g : Statement → ℕ) (phase : List Statement) → ((statement : Statement) →
+    f (Ask statement) ≡ g statement) →
     sum_by f (map Ask phase) ≡ sum_by g phase
 sum_asks f g [] same = refl
 sum_asks f g (statement ∷ phase) same =
@@ -280,14 +297,16 @@ sum_asks f g (statement ∷ phase) same =
     ∙ sym (sum_by-cons g statement phase)
 
 sum_phases :
-    (f : Item → ℕ) (g : Statement → ℕ) (phases : List (List Statement)) → ((statement : Statement) → f (Ask statement) ≡ g statement) →
+    (f : Item → ℕ) (g : Statement → ℕ) (phases : List (List Statement)) → ((statement : Statement) →
+    f (Ask statement) ≡ g statement) →
     sum_by f (phase_items phases) ≡ length phases * f BeginPhase + sum_by g (flat_map (λ phase. phase) phases)
 sum_phases f g [] same = omega arith
 sum_phases f g (phase ∷ later) same =
     let whole : sum_by f (phase_items (phase ∷ later)) ≡ f BeginPhase + sum_by f (map Ask phase ++ phase_items later) =
     sum_by-cons f BeginPhase (map Ask phase ++ phase_items later)
     in
-    let parts : sum_by f (map Ask phase ++ phase_items later) ≡ sum_by f (map Ask phase) + sum_by f (phase_items later) =
+    let parts : sum_by f (map Ask phase ++ phase_items later) ≡ sum_by f (map Ask phase) + sum_by f
+    (phase_items later) =
     sum_by-append f (map Ask phase) (phase_items later)
     in
     let joined : sum_by g (phase ++ flat_map (λ p. p) later) ≡ sum_by g phase + sum_by g (flat_map (λ p. p) later) =
@@ -337,7 +356,8 @@ disk_name :
 disk_name version items None good found = tt
 disk_name version items (Some name) good found = (found_good version items is_disk (SetDisk name) good found).0
 
-in_range : (items : List Item) (script : Script) → AreGood script.version items → IsVersion script.version → IsSaidBy script items →
+in_range : (items : List Item) (script : Script) → AreGood script.version items → IsVersion script.version →
+    IsSaidBy script items →
     IsInRangeScript script
 in_range items script good version said =
     let cpus : IsForm script.version (SetCpus script.cpus) × (is_within 1 8 script.cpus ≡ true) =
@@ -356,16 +376,19 @@ in_range items script good version said =
     let phases : List (List Statement) = script.phases in
     let statements : length (filter is_statement items) ≡ length (statements_in script) =
     length-filter is_statement items
-    ∙ sum_items (λ item. cond {A = ℕ} (is_statement item) 1 0) (λ statement. 1) items phases no_statement (λ statement. refl) said.phases
+    ∙ sum_items (λ item. cond {A = ℕ} (is_statement item) 1 0) (λ statement. 1) items phases no_statement
+    (λ statement. refl) said.phases
     ∙ omega (arith, sum_of_ones (statements_in script))
     in
     let phase_count : length (filter is_phase items) ≡ length phases =
     length-filter is_phase items
-    ∙ sum_items (λ item. cond {A = ℕ} (is_phase item) 1 0) (λ statement. 0) items phases no_phase (λ statement. refl) said.phases
+    ∙ sum_items (λ item. cond {A = ℕ} (is_phase item) 1 0) (λ statement. 0) items phases no_phase
+    (λ statement. refl) said.phases
     ∙ omega (arith, sum_of_zeros (statements_in script))
     in
     let pulses : sum_by pulses_of items ≡ sum_by (λ statement. pulses_of_event statement.event) (statements_in script) =
-    sum_items pulses_of (λ statement. pulses_of_event statement.event) items phases no_pulses (λ statement. refl) said.phases
+    sum_items pulses_of (λ statement. pulses_of_event statement.event) items phases no_pulses
+    (λ statement. refl) said.phases
     ∙ omega arith
     in
     record {

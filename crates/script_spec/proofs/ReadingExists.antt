@@ -25,9 +25,11 @@ use Rattle.script_spec.proofs.Decisions.{same_list, decided_form}
 
 abbrev OneLine : (version : ℕ) → List Item → List ℕ → Type 0
 OneLine version before line =
-    IsSkipped line ⊎ ((item : Item) × IsGoodLine version before line item) ⊎ ((why : ℕ) × IsBadLine version before line why)
+    IsSkipped line ⊎ ((item : Item) × IsGoodLine version before line item) ⊎
+    ((why : ℕ) × IsBadLine version before line why)
 
-judged : (version : ℕ) (before : List Item) (line : List ℕ) (item : Item) (short : length line ≤ most_bytes) (read : is_skipped line ≡ false) →
+judged : (version : ℕ) (before : List Item) (line : List ℕ) (item : Item) (short : length line ≤ most_bytes)
+    (read : is_skipped line ≡ false) →
     HasForm version line item → (reason : Option ℕ) → least_reason before item ≡ reason → OneLine version before line
 judged version before line item short read has None none =
     inr (inl (item, record { short = short; read = read; has = has; none = none }))
@@ -130,23 +132,27 @@ by_phase true any before_has false whole front begun more = more (front begun)
 by_phase false true before_has false whole front begun more = more (front refl)
 by_phase false false before_has false whole front begun more = absurd (true≢false whole)
 
-whole_setup : (version : ℕ) (items : List Item) → AreGood version items → lacks_setup items ≡ false → has_setup items ≡ true
+whole_setup : (version : ℕ) (items : List Item) → AreGood version items → lacks_setup items ≡ false →
+    has_setup items ≡ true
 whole_setup version [] good whole = absurd (true≢false whole)
 whole_setup version (item ∷ before) good whole =
     by_phase (is_phase item) (list_any is_phase before) (has_setup before) (has_setup (item ∷ before)) whole
     (λ front. whole_setup version before good.2 front) good.1.begun (more_setup item before)
 
-found_cpus : (items : List Item) → list_any is_cpus items ≡ true → (count : ℕ) × (find is_cpus items ≡ Some (SetCpus count))
+found_cpus : (items : List Item) → list_any is_cpus items ≡ true → (count : ℕ) × (find is_cpus items ≡ Some
+    (SetCpus count))
 found_cpus [] any = absurd (false≢true any)
 found_cpus (SetCpus count ∷ before) any = (count, refl)
 found_cpus (item ∷ before) any = found_cpus before any
 
-found_memory : (items : List Item) → list_any is_memory items ≡ true → (mib : ℕ) × (find is_memory items ≡ Some (SetMemory mib))
+found_memory : (items : List Item) → list_any is_memory items ≡ true → (mib : ℕ) × (find is_memory items ≡ Some
+    (SetMemory mib))
 found_memory [] any = absurd (false≢true any)
 found_memory (SetMemory mib ∷ before) any = (mib, refl)
 found_memory (item ∷ before) any = found_memory before any
 
-found_rom : (items : List Item) → list_any is_rom items ≡ true → (name : List ℕ) × (find is_rom items ≡ Some (SetRom name))
+found_rom : (items : List Item) → list_any is_rom items ≡ true → (name : List ℕ) × (find is_rom items ≡ Some
+    (SetRom name))
 found_rom [] any = absurd (false≢true any)
 found_rom (SetRom name ∷ before) any = (name, refl)
 found_rom (item ∷ before) any = found_rom before any
@@ -170,16 +176,19 @@ inserted_same card (first ∷ later) =
       | inr above ↦
           rw above (
           IsPermutation-trans (card ∷ first ∷ later) (first ∷ card ∷ later) (first ∷ inserted card later)
-          (IsPermutation-sym (first ∷ card ∷ later) (card ∷ first ∷ later) (IsPermutation-middle (first ∷ []) card later))
+          (IsPermutation-sym (first ∷ card ∷ later) (card ∷ first ∷ later) (IsPermutation-middle
+          (first ∷ []) card later))
           (IsPermutation-cons first (card ∷ later) (inserted card later) (inserted_same card later))
           )
     ]
 
-all_inserted : (P : FittedCard → Type 0) (card : FittedCard) (cards : List FittedCard) → P card → All P cards → All P (inserted card cards)
+all_inserted : (P : FittedCard → Type 0) (card : FittedCard) (cards : List FittedCard) → P card → All P cards →
+    All P (inserted card cards)
 all_inserted P card cards one all =
     All-permutation P (card ∷ cards) (inserted card cards) (inserted_same card cards) (All-cons P card cards one all)
 
-inserted_rises : (card : FittedCard) (cards : List FittedCard) → Rises cards → All (λ other. other.dev ≢ card.dev) cards → Rises (inserted card cards)
+inserted_rises : (card : FittedCard) (cards : List FittedCard) → Rises cards →
+    All (λ other. other.dev ≢ card.dev) cards → Rises (inserted card cards)
 inserted_rises card [] rises apart = (All-nil (λ other. card.dev < other.dev), tt)
 inserted_rises card (first ∷ later) rises apart =
     elim (cases_Bool (ltb card.dev first.dev)) [
@@ -187,7 +196,11 @@ inserted_rises card (first ∷ later) rises apart =
           let below : card.dev < first.dev = ltb-true card.dev first.dev less in
           rw less (
             All-cons (λ other. card.dev < other.dev) first later below
-                (λ k d inside. let up : first.dev < (get_or later k d).dev = rises.0 k d inside in omega (arith, below, up)),
+                (λ k d inside. let up : first.dev < (get_or later k d).dev = rises.0 k d inside in omega (
+                  arith,
+                  below,
+                  up,
+                )),
             rises,
           )
       | inr above ↦
@@ -256,7 +269,8 @@ begin_phase : (before : List Item) → Run before → Run (BeginPhase ∷ before
 begin_phase before (inl none) = inr (record {
   front = [];
   last = [];
-  is = reverse_more BeginPhase (filter (λ item. not (is_setup item)) before) ∙ ap (λ (items : List Item). items ++ BeginPhase ∷ []) none.1;
+  is = reverse_more BeginPhase (filter (λ item. not (is_setup item)) before) ∙ ap (λ (items : List Item). items
+      ++ BeginPhase ∷ []) none.1;
 })
 begin_phase before (inr some) = inr (record {
   front = some.front ++ some.last ∷ [];
@@ -265,7 +279,8 @@ begin_phase before (inr some) = inr (record {
       ∙ ap (λ (items : List Item). items ++ BeginPhase ∷ []) (some.is ∙ sym (phases_more some.front some.last));
 })
 
-ask_more : (before : List Item) (statement : Statement) → NoReason before (Ask statement) → Run before → Run (Ask statement ∷ before)
+ask_more : (before : List Item) (statement : Statement) → NoReason before (Ask statement) → Run before →
+    Run (Ask statement ∷ before)
 ask_more before statement none (inl no_phase) =
     let place = rw no_phase.0 at none.place in absurd (true≢false place)
 ask_more before statement none (inr some) = inr (record {
@@ -274,12 +289,23 @@ ask_more before statement none (inr some) = inr (record {
   is = reverse_more (Ask statement) (filter (λ item. not (is_setup item)) before)
       ∙ ap (λ (items : List Item). items ++ Ask statement ∷ []) some.is
       ∙ append_assoc (phase_items some.front) (BeginPhase ∷ map Ask some.last) (Ask statement ∷ [])
-      ∙ ap (λ (items : List Item). phase_items some.front ++ BeginPhase ∷ items) (sym (map-append Ask some.last (statement ∷ [])));
+      ∙ ap (λ (items : List Item). phase_items some.front ++ BeginPhase ∷ items) (sym (map-append Ask some.last
+      (statement ∷ [])));
 })
 
-setup_more : (item : Item) (before : List Item) → is_phase item ≡ false → run_of (item ∷ before) ≡ run_of before → Run before → Run (item ∷ before)
-setup_more item before no_phase same (inl none) = inl (or_from (is_phase item) (list_any is_phase before) no_phase none.0, same ∙ none.1)
-setup_more item before no_phase same (inr some) = inr (record { front = some.front; last = some.last; is = same ∙ some.is })
+setup_more : (item : Item) (before : List Item) → is_phase item ≡ false → run_of (item ∷ before) ≡ run_of before →
+    Run before → Run (item ∷ before)
+setup_more item before no_phase same (inl none) = inl (
+  or_from (is_phase item)
+      (list_any is_phase before) no_phase none.0,
+  same ∙ none.1,
+)
+setup_more item before no_phase same (inr some) = inr (record {
+  front = some.front;
+  last = some.last;
+  is = same
+      ∙ some.is;
+})
 
 run : (version : ℕ) (items : List Item) → AreGood version items → Run items
 run version [] good = inl (refl, refl)
@@ -315,8 +341,17 @@ said_by version items good whole =
     let rom : (name : List ℕ) × (find is_rom items ≡ Some (SetRom name)) = found_rom items outer.1 in
     let disk : (disk : Option (List ℕ)) × (find is_disk items ≡ option_map SetDisk disk) = found_disk items in
     let cards : InOrder (cards_of items) = in_order version items good in
-    let phases : (phases : List (List Statement)) × (run_of items ≡ phase_items phases) = phases_there items (run version items good) in (
-      record { version = version; cpus = cpus.0; mib = memory.0; rom = rom.0; disk = disk.0; cards = cards.ordered; phases = phases.0 },
+    let phases : (phases : List (List Statement)) × (run_of items ≡ phase_items phases) = phases_there items
+    (run version items good) in (
+      record {
+        version = version;
+        cpus = cpus.0;
+        mib = memory.0;
+        rom = rom.0;
+        disk = disk.0;
+        cards = cards.ordered;
+        phases = phases.0;
+      },
       refl,
       record {
         cpus = cpus.1;
@@ -332,7 +367,8 @@ said_by version items good whole =
 abbrev Reading : List ℕ → Type 0
 Reading bytes = ((script : Script) × IsScriptText bytes script) ⊎ ((line : ℕ) × (why : ℕ) × IsScriptBad bytes line why)
 
-read_later : (bytes : List ℕ) (version : ℕ) (later : List (List ℕ)) → IsVersion version → lines_of bytes ≡ first_line version ∷ later →
+read_later : (bytes : List ℕ) (version : ℕ) (later : List (List ℕ)) → IsVersion version →
+    lines_of bytes ≡ first_line version ∷ later →
     Reading bytes
 read_later bytes version later known lines =
     elim (read_lines version later []) [
@@ -388,14 +424,24 @@ read_later bytes version later known lines =
           ]
     ]
 
-not_begun : (lines : List (List ℕ)) → ((later : List (List ℕ)) → lines ≢ first_line 1 ∷ later) → ((later : List (List ℕ)) → lines ≢ first_line 2 ∷ later) →
+not_begun : (lines : List (List ℕ)) → ((later : List (List ℕ)) → lines ≢ first_line 1 ∷ later) →
+    ((later : List (List ℕ)) → lines ≢ first_line 2 ∷ later) →
     BeginsBadly lines
 not_begun lines none other version later (inl one) e = none later (e ∙ ap (λ v. first_line v ∷ later) one)
 not_begun lines none other version later (inr two) e = other later (e ∙ ap (λ v. first_line v ∷ later) two)
 
 read_first : (bytes : List ℕ) (lines : List (List ℕ)) → lines_of bytes ≡ lines → Reading bytes
 read_first bytes [] is =
-    inr (1, 1, inl (not_begun (lines_of bytes) (λ later e. not_nil (first_line 1) later (sym is ∙ e)) (λ later e. not_nil (first_line 2) later (sym is ∙ e)), refl, refl))
+    inr (
+      1,
+      1,
+      inl (
+        not_begun (lines_of bytes) (λ later e. not_nil (first_line 1) later (sym is
+            ∙ e)) (λ later e. not_nil (first_line 2) later (sym is ∙ e)),
+        refl,
+        refl,
+      ),
+    )
 read_first bytes (line ∷ later) is =
     elim (same_list line (first_line 1)) [
       | inl one ↦ read_later bytes 1 later (inl refl) (is ∙ ap (λ l. l ∷ later) one)
@@ -407,7 +453,8 @@ read_first bytes (line ∷ later) is =
                   1,
                   1,
                   inl (
-                    not_begun (lines_of bytes) (λ others e. not_one (same_head line (first_line 1) later others (sym is ∙ e)))
+                    not_begun (lines_of bytes) (λ others e. not_one (same_head line (first_line 1) later others
+                        (sym is ∙ e)))
                         (λ others e. not_two (same_head line (first_line 2) later others (sym is ∙ e))),
                     refl,
                     refl,

@@ -51,7 +51,11 @@ register_built : (dev fun off d f o : ℕ) → d ≡ dev → f ≡ fun → o ≡
 register_built dev fun off d f o one two three = rw (one, two, three) refl
 
 register_read : (dev fun off : ℕ) → dev < 0x100 → fun < 0x10 → off < 0x100 →
-    register_of (register_text (record { dev = dev; fun = fun; off = off })) ≡ record { dev = dev; fun = fun; off = off }
+    register_of (register_text (record { dev = dev; fun = fun; off = off })) ≡ record {
+      dev = dev;
+      fun = fun;
+      off = off;
+    }
 register_read dev fun off one two three =
     register_built dev fun off _ _ _ (byte_read dev one) (nibble_of_hex fun ∙ omega (arith, two)) (byte_read off three)
 
@@ -67,7 +71,8 @@ digit_not n mark outside = ne_eqb (hex_digit n) mark (digit_is_not (n % 0x10) ma
 
 abbrev denial_by : ℕ → List ℕ → Option Denial
 denial_by first word =
-    cond (eqb first 0x2D) None (cond (eqb first 0x63) (Some Confadd) (cond (eqb first 0x6E) (Some NoRegister) (Some (Register (register_of word)))))
+    cond (eqb first 0x2D) None (cond (eqb first 0x63) (Some Confadd) (cond (eqb first 0x6E) (Some NoRegister)
+    (Some (Register (register_of word)))))
 
 abbrev denial_of : List ℕ → Option Denial
 denial_of (first ∷ rest) = denial_by first (first ∷ rest)
@@ -98,7 +103,8 @@ area_of (a ∷ b ∷ c ∷ rest) =
     (cond (eqb a 0x63) (card_area_of (drop 2 rest)) areas.Abort)))
 area_of _ = areas.Abort
 
-dotted : (dev : ℕ) (rest : List ℕ) → dev < 10 → (front 0x2E (decimal dev ++ 0x2E ∷ rest) ≡ decimal dev) × (back 0x2E (decimal dev ++ 0x2E ∷ rest) ≡ rest)
+dotted : (dev : ℕ) (rest : List ℕ) → dev < 10 → (front 0x2E (decimal dev ++ 0x2E ∷ rest) ≡ decimal dev) ×
+    (back 0x2E (decimal dev ++ 0x2E ∷ rest) ≡ rest)
 dotted dev rest small =
     let lack : lacks 0x2E (decimal dev) ≡ true = lacks-decimal 0x2E dev (inl (omega arith)) (omega arith) in
     (front-field 0x2E (decimal dev) rest lack, back-field 0x2E (decimal dev) rest lack)
@@ -115,7 +121,8 @@ area_read (areas.Card dev base) fits =
     let parts : (decimal dev ++ codes ".") ++ decimal base ≡ decimal dev ++ 0x2E ∷ decimal base =
     append_assoc (decimal dev) (codes ".") (decimal base)
     in
-    let cut : (front 0x2E (decimal dev ++ 0x2E ∷ decimal base) ≡ decimal dev) × (back 0x2E (decimal dev ++ 0x2E ∷ decimal base) ≡ decimal base) =
+    let cut : (front 0x2E (decimal dev ++ 0x2E ∷ decimal base) ≡ decimal dev) × (back 0x2E (decimal dev
+    ++ 0x2E ∷ decimal base) ≡ decimal base) =
     dotted dev (decimal base) fits.0
     in
     ap card_area_of parts ∙ rw (cut.0, cut.1, small_read dev fits.0, small_read base fits.1) refl
@@ -135,7 +142,8 @@ abbrev spelled_c : (b : ℕ) → List ℕ → Target
 spelled_c b (c ∷ d ∷ rest) =
     cond (eqb b 0x61) (card_of (drop 1 rest))
     (cond (eqb b 0x6C) (targets.Device devices.Clock)
-    (cond (eqb d 0x66) (cond (eqb (front_of rest) 0x61) (targets.Device devices.Confadd) (targets.Config (register_of (drop 3 rest))))
+    (cond (eqb d 0x66) (cond (eqb (front_of rest) 0x61) (targets.Device devices.Confadd) (targets.Config
+    (register_of (drop 3 rest))))
     targets.Abort))
 spelled_c b _ = targets.Abort
 
@@ -148,7 +156,8 @@ abbrev spelled_s : (b : ℕ) → List ℕ → Target
 spelled_s b rest =
     cond (eqb b 0x68) (targets.Shadow (digits_value 10 (drop 4 rest)))
     (cond (eqb b 0x6D) targets.Smram
-    (cond (eqb b 0x79) (targets.Device devices.System) (targets.Device (devices.Spurious (digits_value 10 (drop 1 rest))))))
+    (cond (eqb b 0x79) (targets.Device devices.System) (targets.Device (devices.Spurious (digits_value 10
+    (drop 1 rest))))))
 
 abbrev spelled_r : (b : ℕ) → List ℕ → Target
 spelled_r b rest = cond (eqb b 0x6F) (targets.Rom (hex_of (lowered (drop 1 rest)))) (targets.Device devices.Reset)
@@ -179,8 +188,10 @@ device_read devices.Clock fits = refl
 device_read devices.Elcr fits = refl
 device_read devices.Ata fits = refl
 device_read devices.Wires fits = refl
-device_read (devices.Vector chip) fits = ap (λ (n : ℕ). targets.Device (devices.Vector n)) (value_of_decimal chip (omega (arith, fits)))
-device_read (devices.Spurious chip) fits = ap (λ (n : ℕ). targets.Device (devices.Spurious n)) (value_of_decimal chip (omega (arith, fits)))
+device_read (devices.Vector chip) fits = ap (λ (n : ℕ). targets.Device (devices.Vector n)) (value_of_decimal chip
+    (omega (arith, fits)))
+device_read (devices.Spurious chip) fits = ap (λ (n : ℕ). targets.Device (devices.Spurious n))
+    (value_of_decimal chip (omega (arith, fits)))
 
 offset_read : (off : ℕ) → off < 0x10_0000 → hex_of (lowered (hex_offset off)) ≡ off
 offset_read off small =
@@ -236,18 +247,23 @@ value_read true bytes value some fits = rw fits refl
 value_read false bytes None some fits = absurd fits
 value_read false zero (Some n) some fits = let none : ⊥ = omega (arith, some) in absurd none
 value_read false (suc bytes) (Some n) some fits =
-    rw (digit_not (byte n bytes / 0x10) 0x2D (inl (omega arith))) (ap (λ (v : ℕ). Some v) (value_of_hex (suc bytes) n fits))
+    rw (digit_not (byte n bytes / 0x10) 0x2D (inl (omega arith))) (ap (λ (v : ℕ). Some v) (value_of_hex
+    (suc bytes) n fits))
 
 -- ---- replies
 
 abbrev pub bus_of : List ℕ → Reply
-bus_of text = Bus (value_of (front space text)) (target_of (front space (back space text))) (denial_of (back space (back space text)))
+bus_of text = Bus (value_of (front space text)) (target_of (front space (back space text))) (denial_of (back space
+    (back space text)))
 
-pub bus_read : (writes : Bool) (bytes : ℕ) (reply : Reply) → 0 < bytes → IsBusReply writes bytes reply → bus_of (reply_text bytes reply) ≡ reply
+pub bus_read : (writes : Bool) (bytes : ℕ) (reply : Reply) → 0 < bytes → IsBusReply writes bytes reply →
+    bus_of (reply_text bytes reply) ≡ reply
 unfolding reply_text
 bus_read writes bytes (Bus value target denial) some fits =
-    let first : lacks space (value_text bytes value) ≡ true = lacks-word space (value_text bytes value) refl (value_word bytes value) in
-    let second : lacks space (target_text target) ≡ true = lacks-word space (target_text target) refl (target_word target) in
+    let first : lacks space (value_text bytes value) ≡ true = lacks-word space (value_text bytes value) refl
+    (value_word bytes value) in
+    let second : lacks space (target_text target) ≡ true = lacks-word space (target_text target) refl
+    (target_word target) in
     let later : List ℕ = target_text target ++ space ∷ denial_text denial in
     rw (
       front-field space (value_text bytes value) later first,
@@ -272,7 +288,12 @@ look_of text =
     })
 
 look_built : (version lo hi v l h : ℕ) (area a : Area) → v ≡ version → l ≡ lo → h ≡ hi → a ≡ area →
-    Saw (record { version = v; lo = l; hi = h; area = a }) ≡ Saw (record { version = version; lo = lo; hi = hi; area = area })
+    Saw (record { version = v; lo = l; hi = h; area = a }) ≡ Saw (record {
+      version = version;
+      lo = lo;
+      hi = hi;
+      area = area;
+    })
 look_built version lo hi v l h area a one two three four = rw (one, two, three, four) refl
 
 pub look_read : (bytes : ℕ) (reply : Reply) → IsLookReply reply → look_of (reply_text bytes reply) ≡ reply
@@ -284,8 +305,10 @@ look_read bytes (Saw look) fits =
     let hi_later : List ℕ = hex_long look.hi ++ space ∷ area_text look.area in
     let lo_later : List ℕ = hex_long look.lo ++ space ∷ hi_later in
     let one : lacks space version ≡ true = lacks-decimal space look.version (inl (omega arith)) fits.0 in
-    let two : lacks space (hex_long look.lo) ≡ true = lacks-word space (hex_long look.lo) refl (hex_number_word 4 look.lo) in
-    let three : lacks space (hex_long look.hi) ≡ true = lacks-word space (hex_long look.hi) refl (hex_number_word 4 look.hi) in
+    let two : lacks space (hex_long look.lo) ≡ true = lacks-word space (hex_long look.lo) refl
+    (hex_number_word 4 look.lo) in
+    let three : lacks space (hex_long look.hi) ≡ true = lacks-word space (hex_long look.hi) refl
+    (hex_number_word 4 look.hi) in
     ap look_of (four_parts version (space ∷ hex_long look.lo) (space ∷ hex_long look.hi) (space ∷ area_text look.area))
     ∙ rw (
       front-field space version lo_later one,
@@ -304,11 +327,14 @@ abbrev words_of : List Part → List (List ℕ)
 words_of [] = []
 words_of (part ∷ later) = target_text part.target ∷ denial_text part.denial ∷ words_of later
 
-parts_spaced : (parts : List Part) → flat_map (λ part. answered_text part.target part.denial) parts ≡ flat_map spaced (words_of parts)
+parts_spaced : (parts : List Part) →
+    flat_map (λ part. answered_text part.target part.denial) parts ≡ flat_map spaced (words_of parts)
 parts_spaced [] = refl
 parts_spaced (part ∷ later) =
-    append_assoc (space ∷ target_text part.target) (space ∷ denial_text part.denial) (flat_map (λ p. answered_text p.target p.denial) later)
-    ∙ ap (λ (rest : List ℕ). (space ∷ target_text part.target) ++ ((space ∷ denial_text part.denial) ++ rest)) (parts_spaced later)
+    append_assoc (space ∷ target_text part.target) (space ∷ denial_text part.denial) (flat_map
+    (λ p. answered_text p.target p.denial) later)
+    ∙ ap (λ (rest : List ℕ). (space ∷ target_text part.target) ++ ((space ∷ denial_text part.denial) ++ rest))
+    (parts_spaced later)
 
 words_lack : (parts : List Part) → All IsWord (words_of parts)
 words_lack [] = All-nil IsWord
@@ -319,7 +345,10 @@ words_lack (part ∷ later) =
     (lacks-word space (denial_text part.denial) refl (denial_word part.denial)) (words_lack later))
 
 abbrev parts_of_words : List (List ℕ) → List Part
-parts_of_words (target ∷ denial ∷ later) = record { target = target_of target; denial = denial_of denial } ∷ parts_of_words later
+parts_of_words (target ∷ denial ∷ later) = record {
+  target = target_of target;
+  denial = denial_of denial;
+} ∷ parts_of_words later
 parts_of_words _ = []
 
 part_built : (target t : Target) (denial d : Option Denial) → t ≡ target → d ≡ denial →
@@ -330,7 +359,11 @@ parts_read : (parts : List Part) → All FitsPart parts → parts_of_words (word
 parts_read [] each = refl
 parts_read (part ∷ later) each =
     let fits : FitsPart part = All-head FitsPart part later each in
-    let first : ◌≡◌ {A = Part} (record { target = target_of (target_text part.target); denial = denial_of (denial_text part.denial) }) part =
+    let first : ◌≡◌ {A = Part} (record {
+      target = target_of (target_text part.target);
+      denial = denial_of
+          (denial_text part.denial);
+    }) part =
     part_built part.target _ part.denial _ (target_read part.target fits.0) (denial_read part.denial fits.1)
     in
     let rest : parts_of_words (words_of later) ≡ later = parts_read later (All-tail FitsPart part later each) in
@@ -340,7 +373,10 @@ abbrev parts_from : List Part → Parts
 parts_from (a ∷ b ∷ []) = TwoParts a b
 parts_from (a ∷ b ∷ c ∷ []) = ThreeParts a b c
 parts_from (a ∷ b ∷ c ∷ d ∷ rest) = FourParts a b c d
-parts_from _ = TwoParts (record { target = targets.Abort; denial = None }) (record { target = targets.Abort; denial = None })
+parts_from _ = TwoParts (record { target = targets.Abort; denial = None }) (record {
+  target = targets.Abort;
+  denial = None;
+})
 
 parts_kept : (parts : Parts) → parts_from (parts_list parts) ≡ parts
 parts_kept (TwoParts a b) = refl
@@ -362,8 +398,10 @@ wide_read writes bytes parts (Saw look) some fits = absurd fits
 wide_read writes bytes parts (InParts value replies) some fits =
     let list : List Part = parts_list replies in
     let words : List (List ℕ) = words_of list in
-    let first : lacks space (value_text bytes value) ≡ true = lacks-word space (value_text bytes value) refl (value_word bytes value) in
-    let split : slice_split (λ (byte : ℕ). eqb byte space) (value_text bytes value ++ flat_map spaced words) ≡ value_text bytes value ∷ words =
+    let first : lacks space (value_text bytes value) ≡ true = lacks-word space (value_text bytes value) refl
+    (value_word bytes value) in
+    let split : slice_split (λ (byte : ℕ). eqb byte space) (value_text bytes value
+    ++ flat_map spaced words) ≡ value_text bytes value ∷ words =
     split_word (value_text bytes value) (flat_map spaced words) words first (split_words words (words_lack list))
     in
     ap (λ (rest : List ℕ). wide_of (value_text bytes value ++ rest)) (parts_spaced list)

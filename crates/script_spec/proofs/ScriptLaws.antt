@@ -23,13 +23,15 @@ all_in [] = All-nil (In [])
 all_in (first ∷ later) =
     All-cons (In (first ∷ later)) first later (inl refl) (λ k d below. inr (all_in later k d below))
 
-pub in_all : (P : FittedCard → Type 0) (cards : List FittedCard) (card : FittedCard) → All P cards → In cards card → P card
+pub in_all : (P : FittedCard → Type 0) (cards : List FittedCard) (card : FittedCard) → All P cards →
+    In cards card → P card
 in_all P [] card all is = absurd is
 in_all P (first ∷ later) card all (inl is) = rw is (All-head P first later all)
 in_all P (first ∷ later) card all (inr is) = in_all P later card (All-tail P first later all) is
 
 -- two lists that rise and have the same cards are one
-rising_same : (left right : List FittedCard) → Rises left → Rises right → All (In right) left → All (In left) right → left ≡ right
+rising_same : (left right : List FittedCard) → Rises left → Rises right → All (In right) left →
+    All (In left) right → left ≡ right
 rising_same [] [] one two there back = refl
 rising_same [] (y ∷ ys) one two there back = absurd (All-head (In []) y ys back)
 rising_same (x ∷ xs) [] one two there back = absurd (All-head (In []) x xs there)
@@ -68,11 +70,14 @@ rising_same (x ∷ xs) (y ∷ ys) one two there back =
     let later : xs ≡ ys = rising_same xs ys one.1 two.1 there_later back_later in
     λ i. same i ∷ later i
 
-one_order : (cards left right : List FittedCard) → IsPermutation cards left → IsPermutation cards right → Rises left → Rises right → left ≡ right
+one_order : (cards left right : List FittedCard) → IsPermutation cards left → IsPermutation cards right →
+    Rises left → Rises right → left ≡ right
 one_order cards left right one two rises others =
     rising_same left right rises others
-    (All-permutation (In right) cards left one (All-permutation (In right) right cards (IsPermutation-sym cards right two) (all_in right)))
-    (All-permutation (In left) cards right two (All-permutation (In left) left cards (IsPermutation-sym cards left one) (all_in left)))
+    (All-permutation (In right) cards left one (All-permutation (In right) right cards
+    (IsPermutation-sym cards right two) (all_in right)))
+    (All-permutation (In left) cards right two (All-permutation (In left) left cards
+    (IsPermutation-sym cards left one) (all_in left)))
 
 -- ---- phases
 
@@ -122,7 +127,8 @@ disk_said None = refl
 disk_said (Some name) = refl
 
 scripts_equal :
-    (left right : Script) → left.version ≡ right.version → left.cpus ≡ right.cpus → left.mib ≡ right.mib → left.rom ≡ right.rom →
+    (left right : Script) → left.version ≡ right.version → left.cpus ≡ right.cpus → left.mib ≡ right.mib →
+    left.rom ≡ right.rom →
     left.disk ≡ right.disk → left.cards ≡ right.cards → left.phases ≡ right.phases → left ≡ right
 scripts_equal left right e1 e2 e3 e4 e5 e6 e7 =
     λ i. record { version = e1 i; cpus = e2 i; mib = e3 i; rom = e4 i; disk = e5 i; cards = e6 i; phases = e7 i }
@@ -140,12 +146,14 @@ one_meaning items left right version one two =
 
 pub one_script : OneScript
 one_script bytes script other one two =
-    let lines : first_line script.version ∷ one.later ≡ first_line other.version ∷ two.later = sym one.lines ∙ two.lines in
+    let lines : first_line script.version ∷ one.later ≡ first_line other.version ∷ two.later = sym one.lines
+    ∙ two.lines in
     let version : script.version ≡ other.version =
     one_version script.version other.version one.version two.version
     (same_head (first_line script.version) (first_line other.version) one.later two.later lines)
     in
-    let later : one.later ≡ two.later = same_tail (first_line script.version) (first_line other.version) one.later two.later lines in
+    let later : one.later ≡ two.later = same_tail (first_line script.version)
+    (first_line other.version) one.later two.later lines in
     let read = rw (version, later) at one.read in
     let items : one.items ≡ two.items = read_once other.version two.later [] one.items two.items read two.read in
     let said = rw items at one.said in

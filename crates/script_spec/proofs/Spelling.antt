@@ -37,7 +37,8 @@ spelled [] [] test = tt
 spelled [] (t ∷ text) test = absurd (false≢true test)
 spelled (c ∷ line) [] test = absurd (false≢true test)
 spelled (c ∷ line) (t ∷ text) test =
-    let both : (stands_for c t ≡ true) × (spells line text ≡ true) = and_parts (stands_for c t) (spells line text) test in
+    let both : (stands_for c t ≡ true) × (spells line text ≡ true) = and_parts (stands_for c t)
+    (spells line text) test in
     (stood_for c t both.0, spelled line text both.1)
 
 pub spells_so : (line text : List ℕ) → AllZip StandsFor line text → spells line text ≡ true

@@ -28,7 +28,8 @@ pub record LeavesAt (IsText : List ℕ → Type 0) (bytes : List ℕ) (line : �
   pub place : line ≡ length before + 1
   pub begun : AreBegun IsText before
   pub leaves :
-      (this after : List ℕ) → IsOneLine this → rest ≡ this ++ line_feed ∷ after → ¬ AreBegun IsText (before ++ this ∷ [])
+      (this after : List ℕ) → IsOneLine this → rest ≡ this ++ line_feed ∷ after →
+      ¬ AreBegun IsText (before ++ this ∷ [])
   pub other : ¬ IsText bytes
 
 -- ---- logs of any history

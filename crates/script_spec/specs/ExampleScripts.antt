@@ -1,5 +1,5 @@
 -- Texts of scripts, and what they say; and texts that are bad, each with its line and the least reason.
-use Rattle.std.specs.Prelude.{ℕ, false, true, List, [], ◌∷◌, ◌++◌, Some, None, codes}
+use Rattle.std.specs.Prelude.{ℕ, false, true, List, [], ◌∷◌, ◌++◌, Some, None, replicate, codes}
 use Rattle.board_base.specs.declared.access.Kind.{Kind}
 use Rattle.board_base.specs.declared.access.Kind.TheVariants.{Fetch, Read, Write}
 use Rattle.board_base.specs.declared.access.Width.TheVariants.{One}
@@ -22,6 +22,10 @@ EmptyFile = IsBadAt [] 1 1
 -- a comment is no line 1
 unfoldable pub CommentFirst : Type 0
 CommentFirst = IsBadAt (codes "# a script" ∷ codes "board 1" ∷ []) 1 1
+
+-- a comment has at most 120 bytes too
+unfoldable pub LongComment : Type 0
+LongComment = IsBadAt (codes "board 1" ∷ replicate 121 0x23 ∷ []) 2 2
 
 unfoldable pub PhaseTooEarly : Type 0
 PhaseTooEarly = IsBadAt (codes "board 1" ∷ codes "cpus 1" ∷ codes "phase" ∷ []) 3 6
@@ -163,7 +167,7 @@ WideScript = IsScriptText
       disk = None;
       cards = record { dev = 2; vga = false; bases = MemoryBase 12 ∷ []; rom = Some 11 } ∷ [];
       phases =
-          (states 0 (Wide (record { kind = Write; addr = 0x1000; bytes = 8; smm = false; value = 0x0807_0605_0403_0201 }))
+          (states 0 (Wide (record { kind = Write; addr = 0x1000; bytes = 8; smm = false; value = 0x807060504030201 }))
           ∷ states 0 (Wide (record { kind = Read; addr = 0x9_FFFF; bytes = 2; smm = true; value = 0 }))
           ∷ states 0 (accesses Read 0xF_0010)
           ∷ [])

@@ -1,5 +1,5 @@
--- What a line of a script says after its first line. A statement is spelled as the log spells it, with hexadecimal digits
--- in either case, and everything else as it stands. The forms are those of a version of scripts, which is 1 or 2.
+-- What a line of a script says after its first line. A statement is spelled as the log spells it, with hexadecimal
+-- digits in either case, and everything else as it stands. The forms are those of a version of scripts, 1 or 2.
 use Rattle.std.specs.Prelude.{ℕ, ◌≡◌, ◌≢◌, ◌+◌, ◌%◌, ◌^◌, ◌≤◌, ◌<◌, ◌⊎◌, ◌==◌, Bool, true, ◌||◌, if◌then◌else◌, List, [], ◌∷◌, ◌++◌, length, flat_map, take, All, Option, Some, None, codes, decimal}
 use Rattle.std.specs.List.{AllZip, list_all}
 use Rattle.board_base.specs.declared.access.Access.{Access}
@@ -42,7 +42,8 @@ rom_text (Some bits) = codes " x" ++ decimal bits
 
 abbrev pub card_text : FittedCard → List ℕ
 card_text card =
-    decimal card.dev ++ codes (if card.vga then " vga" else " plain") ++ flat_map base_text card.bases ++ rom_text card.rom
+    decimal card.dev ++ codes (if card.vga then " vga" else " plain") ++ flat_map base_text card.bases
+    ++ rom_text card.rom
 
 unfoldable pub item_text : Item → List ℕ
 item_text (SetCpus count) = codes "cpus " ++ decimal count
@@ -100,7 +101,8 @@ pub record IsCardForm (version : ℕ) (card : FittedCard) : Type 0 where
   pub each : All IsBaseForm card.bases
   pub rom : IsRomForm version card.rom
 
--- an address has eight digits, and a value the digits of its width. In version 2 an access that is not aligned is a wide one
+-- an address has eight digits, and a value the digits of its width. In version 2 an access that is not aligned is a
+-- wide one
 pub record IsMemoryForm (version : ℕ) (access : Access) : Type 0 where
   pub addr : access.addr < 2 ^ 32
   pub value : FitsBytes (is_write access.kind) (bytes_of access.width) access.value

@@ -13,7 +13,8 @@ use Rattle.script_spec.specs.Checks.{IsLogText, IsBadLog, DiffersAt}
 -- a line says at most one thing
 abbrev pub OneItem : Type 0
 OneItem =
-    (version : ℕ) (line : List ℕ) (item other : Item) → HasForm version line item → HasForm version line other → item ≡ other
+    (version : ℕ) (line : List ℕ) (item other : Item) →
+    HasForm version line item → HasForm version line other → item ≡ other
 
 -- a text says at most one script
 abbrev pub OneScript : Type 0

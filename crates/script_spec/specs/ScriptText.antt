@@ -8,8 +8,8 @@ use Rattle.script_spec.specs.Lines.{lines_of}
 use Rattle.script_spec.specs.Grammar.{Item, SetCpus, SetMemory, SetRom, SetDisk, BeginPhase, Ask, HasForm}
 use Rattle.script_spec.specs.Reasons.{is_setup, is_cpus, is_memory, is_rom, is_disk, cards_of, lacks_setup, least_reason}
 
--- what a script says: its version, the processors, the installed memory in MiB, the names of the files of the ROM and of
--- the disk where there is one, the cards in rising order of device, and the statements of each phase
+-- what a script says: its version, the processors, the installed memory in MiB, the names of the files of the ROM
+-- and of the disk where there is one, the cards in rising order of device, and the statements of each phase
 pub record Script : Type 0 where
   pub version : ℕ
   pub cpus : ℕ

@@ -68,7 +68,8 @@ IsReplyValue false bytes (Some n) = n < 256 ^ bytes
 -- ---- the shapes of replies
 
 abbrev pub IsBusReply : (writes : Bool) → (bytes : ℕ) → Reply → Type 0
-IsBusReply writes bytes (Bus value target denial) = IsReplyValue writes bytes value × FitsTarget target × FitsDenial denial
+IsBusReply writes bytes (Bus value target denial) =
+    IsReplyValue writes bytes value × FitsTarget target × FitsDenial denial
 IsBusReply writes bytes _ = ⊥
 
 -- a wide access has a target and a denial for each of its parts

@@ -1,7 +1,7 @@
 //! Worked examples of the definitions: texts of scripts and of logs, and what they say.
 
-ghost use Rattle.script_spec.specs.ExampleScripts.{EmptyFile, CommentFirst, PhaseTooEarly, RepeatedCpus, EndTooEarly, SevenDigits, SetupAfterPhase, NoSuchDay, OddAddress, SecondProcessor, TwoReasons, HighLevel, EightBytesInVersion1, PastTheEnd, RomInVersion1, SmallRom, NoName, TwoProcessors, TwoOrders, WideScript};
-ghost use Rattle.script_spec.specs.ExampleLogs.{NoEntries, NoSuchVersion, EmptyLog, EmptyLogDiffers, CutLogDiffers};
+ghost use Rattle.script_spec.specs.ExampleScripts.{EmptyFile, CommentFirst, LongComment, PhaseTooEarly, RepeatedCpus, EndTooEarly, SevenDigits, SetupAfterPhase, NoSuchDay, OddAddress, SecondProcessor, TwoReasons, HighLevel, EightBytesInVersion1, PastTheEnd, RomInVersion1, SmallRom, NoName, TwoProcessors, TwoOrders, WideScript};
+ghost use Rattle.script_spec.specs.ExampleLogs.{NoEntries, NoSuchVersion, EmptyLog, EmptyLogDiffers, CutLogDiffers, OpenLogDiffers, LongLogDiffers};
 
 use board_spec::examples::look_last;
 
@@ -15,6 +15,12 @@ pub fn empty_file()
 #[tactic(auto, using(crate::proofs::ExampleRuns::comment_first))]
 pub fn comment_first()
     ensures refused { CommentFirst }
+{}
+
+/// A comment of more than 120 bytes.
+#[tactic(auto, using(crate::proofs::ExampleRuns::long_comment))]
+pub fn long_comment()
+    ensures refused { LongComment }
 {}
 
 /// A phase before the setup is whole.
@@ -143,11 +149,12 @@ pub fn empty_log()
     ensures refused { EmptyLog }
 {}
 
-/// Logs that are too short for the script of the worked orders.
-#[tactic(auto, using(crate::proofs::ExampleLogRuns::empty_log_differs, crate::proofs::ExampleLogRuns::cut_log_differs))]
-pub fn logs_too_short()
+/// Logs that are too short for the script of the worked orders, and one that is too long.
+pub fn logs_that_differ()
     ensures empty { EmptyLogDiffers }
     ensures cut { CutLogDiffers }
+    ensures open_line { OpenLogDiffers }
+    ensures long { LongLogDiffers }
 {
     look_last();
 }

@@ -14,7 +14,7 @@ use Rattle.board_base.specs.declared.access.Kind.TheVariants.{Fetch, Read, Write
 use Rattle.board_base.specs.declared.access.Access.{Access}
 use Rattle.board_base.specs.declared.access.PortAccess.{PortAccess}
 use Rattle.board_spec.specs.declared.event.Event.{Event}
-use Rattle.board_spec.specs.declared.event.Event.TheVariants.{Memory, Port, Look as LookAt, Ack, Pulses, Time, Wire, Line, BadSector}
+use Rattle.board_spec.specs.declared.event.Event.TheVariants.{Memory, Wide, Port, Look as LookAt, Ack, Pulses, Time, Wire, Line, BadSector}
 use Rattle.board_spec.specs.declared.event.Statement.{Statement}
 use Rattle.board_spec.specs.Bits.{is_within}
 use Rattle.board_spec.specs.Stored.{is_write}
@@ -187,6 +187,7 @@ memory_aligned access e = aligned_is access.addr access.width e
 in_range : (event : Event) → is_taken event ≡ true → HasFittingValue event → (setup : Setup) → IsInRange setup event
 unfolding is_taken
 in_range (Memory access) e fits = λ setup. record { aligned = memory_aligned access e; fits = fits }
+in_range (Wide access) e fits = absurd cc
 in_range (Port access) e fits = λ setup. record { aligned = port_aligned access e; fits = fits }
 in_range (LookAt kind addr smm) e fits = λ setup. tt
 in_range Ack e fits = absurd cc
