@@ -10,11 +10,10 @@ use Rattle.board_spec.specs.Setup.{Setup, FittedCard, card_at}
 use Rattle.board_spec.specs.RegisterTable.{reset_byte}
 use Rattle.board_spec.specs.Decode.{Bytes}
 use Rattle.board_spec.specs.RegisterNames.{card_register}
-use Rattle.pci_bars.specs.Cards.{CardBytes, IsCardOf, AreDecoded, AreCardsOf, cards_of}
-use Rattle.addr_decode.specs.MapRegs.{AreFitted, stored}
+use Rattle.pci_bars.specs.Cards.{CardBytes, IsCardOf, cards_of, IsReset}
+use Rattle.addr_decode.specs.MapRegs.{stored}
 use Rattle.addr_decode.proofs.StoreLemmas.{stored-elsewhere}
-use Rattle.addr_decode.proofs.CardLemmas.{decodes-same, reset_decoded}
-use Rattle.board_core.specs.Space.{IsCardReset, AreCardsReset}
+use Rattle.addr_decode.proofs.CardLemmas.{card_agrees}
 
 -- ---- a list that was lent whole
 
@@ -37,30 +36,11 @@ same_cards cards first i new old is_old same_card same =
 
 -- ---- after a reset
 
-pub cards_at_reset : (setup : Setup) (cards : List CardBytes) → AreFitted cards → AreCardsReset cards → setup.cards ≡ cards_of cards →
-    AreCardsOf setup (reset_byte setup) cards
-cards_at_reset setup cards fitted reset same =
-    let decoded : AreDecoded setup (reset_byte setup) cards =
-    reset_decoded setup cards fitted (λ k d within other fit. (reset k d within other fit).decodes) same in
-    (same, λ k d within. reset k d within setup (decoded.1 k d within).fitted)
-
 pub card_reset : (old new : CardBytes) → new.card ≡ old.card →
-    ((setup : Setup) → card_at setup old.card.dev ≡ Some old.card → IsCardOf setup (reset_byte setup) new) → IsCardReset new
+    ((setup : Setup) → card_at setup old.card.dev ≡ Some old.card → IsCardOf setup (reset_byte setup) new) → IsReset new
 card_reset old new same reset setup fitted = reset setup (subst (λ (card : FittedCard). card_at setup card.dev ≡ Some card) same fitted)
 
 -- ---- a card is found by its device
-
-pub found : (P : CardBytes → Type 0) (cards : List CardBytes) (dev : ℕ) (card : CardBytes) → All P cards →
-    find (λ card. card.card.dev == dev) cards ≡ Some card → P card × (card.card.dev ≡ dev)
-found P [] dev card each is = absurd (cc)
-found P (first ∷ later) dev card each is =
-    elim (cases_Bool (first.card.dev == dev)) [
-      | inl here ↦
-          let same : Some first ≡ Some card = rw here at is in
-          let first_is : first ≡ card = cc in
-          (subst P first_is (All-head P first later each), ap (λ (it : CardBytes). it.card.dev) (sym first_is) ∙ eqb-true _ _ here)
-      | inr not ↦ found P later dev card (All-tail P first later each) (rw not at is)
-    ]
 
 not_found : (cards : List CardBytes) (dev : ℕ) → find (λ card. card.card.dev == dev) cards ≡ None →
     is_some (find (λ card. card.dev == dev) (cards_of cards)) ≡ false
@@ -79,15 +59,6 @@ no_card setup cards dev same none exists' =
     cc
 
 -- ---- a byte is stored in a card
-
-pub card_agrees : (setup : Setup) (bytes bytes' : Bytes) (card : CardBytes) →
-    ((off : ℕ) → bytes' (card_register card.card.dev off) ≡ bytes (card_register card.card.dev off)) →
-    IsCardOf setup bytes card → IsCardOf setup bytes' card
-card_agrees setup bytes bytes' card same is = record {
-  decodes = decodes-same setup bytes bytes' card (λ off _. same off) is.decodes;
-  line = same 0x3C ∙ is.line;
-  fixed = λ off fixed. same off ∙ is.fixed off fixed;
-}
 
 pub card_beside : (setup : Setup) (bytes : Bytes) (at : Reg) (written : ℕ) (card : CardBytes) → (at.dev ≢ card.card.dev) ⊎ (at.fun ≢ 0) →
     IsCardOf setup bytes card → IsCardOf setup (stored setup bytes at written) card

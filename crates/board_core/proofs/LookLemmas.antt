@@ -4,7 +4,7 @@ use Rattle.board_base.specs.declared.access.Kind.{Kind}
 use Rattle.board_spec.specs.declared.event.Event.TheVariants.{Look as LookAt}
 use Rattle.board_spec.specs.declared.event.Entry.{Entry}
 use Rattle.board_spec.specs.declared.event.Reply.{Reply}
-use Rattle.board_spec.specs.declared.event.Reply.TheVariants.{Bus, Saw}
+use Rattle.board_spec.specs.declared.event.Reply.TheVariants.{Bus, Parts, Saw}
 use Rattle.board_spec.specs.Setup.{Setup}
 use Rattle.board_spec.specs.Stored.{Cell, entry_put}
 use Rattle.board_core.specs.declared.chipset.Chipset.{Chipset}
@@ -15,6 +15,7 @@ use Rattle.board_core.proofs.RegisterLemmas.{quiet}
 -- a look stores nothing, whatever it sees
 puts_nothing : (kind : Kind) (addr : ℕ) (smm : Bool) (reply : Reply) (cell : Cell) → entry_put (LookAt kind addr smm) reply cell ≡ None
 puts_nothing kind addr smm (Bus value target denial) cell = refl
+puts_nothing kind addr smm (Parts value parts) cell = refl
 puts_nothing kind addr smm (Saw look) cell = refl
 
 pub chipset_looked :

@@ -16,14 +16,15 @@ use Rattle.board_spec.specs.RegisterTable.{reset_byte}
 use Rattle.board_spec.specs.Registers.{is_hard_value, control_after, control_written, address_written, kept_address, is_hard_reset, reset_control, config_address, is_config_port, config_store, register_change, changed_byte, byte_with, byte_of}
 use Rattle.board_spec.specs.MapWrites.{touches_map, map_change_of, map_writes_of, version_of}
 use Rattle.board_spec.specs.Decode.{Bytes}
-use Rattle.addr_decode.specs.MapRegs.{AreFitted, StandsFor}
+use Rattle.pci_bars.specs.Cards.{AreFitted}
+use Rattle.addr_decode.specs.MapRegs.{StandsFor}
 use Rattle.map_builder.specs.Map.{Mapped}
 use Rattle.access_history.specs.Past.{most}
 use Rattle.board_core.specs.declared.registers.Registers.{Registers}
 use Rattle.board_core.specs.Space.{IsSpaceOf}
 use Rattle.board_spec.specs.ToCome.{routing_address}
 use Rattle.board_core.specs.Kept.{HasRegisters, IsFlat}
-use Rattle.board_core.proofs.MapLemmas.{no_change, beside_map, in_map, version_raised, version_stays, few_writes, map_stays}
+use Rattle.board_core.proofs.MapLemmas.{no_change, beside_map, in_map, version_raised, version_stays, few_writes}
 
 -- ---- what an access writes
 
@@ -122,34 +123,34 @@ quiet setup history entry old alone none kept =
     follows setup history entry old old None alone.control none kept (rw (alone.address) refl) refl kept.space kept.map
     (same_version setup history entry old.map old.map still refl kept.version) kept.fitted kept.flat kept.taken
 
--- one that stores in configuration space a byte that the map depends on
-pub stores_in_map :
+-- a store to configuration space raises the version of the map where it is a map write
+version_after :
+    (setup : Setup) (history : List Entry) (entry : Entry) (change : MapChange) (map map' : Mapped) →
+    register_change setup history entry.event ≡ Some change → map'.version ≡ map.version + (if touches_map setup change then 1 else 0) →
+    map.version ≡ version_of setup history → map'.version ≡ version_of setup (entry ∷ history)
+version_after setup history entry change map map' is more was =
+    elim (cases_Bool (touches_map setup change)) [
+      | inl touched ↦
+          raised setup history entry change map map' (in_map setup history entry.event change is touched)
+          (more ∙ ap (λ (b : Bool). map.version + (if b then 1 else 0)) touched) was
+      | inr beside ↦
+          let still : map.version + (if touches_map setup change then 1 else 0) ≡ map.version = rw beside (omega arith) in
+          more ∙ still ∙ was ∙ sym (version_stays setup history entry (beside_map setup history entry.event change is beside))
+    ]
+
+-- one that stores in configuration space
+pub stores :
     (setup : Setup) (history : List Entry) (entry : Entry) (old new : Registers) (at : Reg) (width : Width) (value : ℕ) →
-    register_change setup history entry.event ≡ Some (Store at width value) → touches_map setup (Store at width value) ≡ true →
-    HasRegisters setup history old → new.address ≡ old.address → new.control ≡ old.control →
+    register_change setup history entry.event ≡ Some (Store at width value) → HasRegisters setup history old →
+    new.address ≡ old.address → new.control ≡ old.control →
     IsSpaceOf setup (λ reg. changed_byte setup (Store at width value) reg (byte_of setup history reg)) new.space →
     StandsFor setup (λ reg. changed_byte setup (Store at width value) reg (byte_of setup history reg)) new.map.regs →
-    new.map.version ≡ old.map.version + 1 → AreFitted new.map.regs.cards → IsFlat new.map → HasRegisters setup (entry ∷ history) new
-stores_in_map setup history entry old new at width value change touched kept address control space map version fitted flat =
+    new.map.version ≡ old.map.version + (if touches_map setup (Store at width value) then 1 else 0) →
+    AreFitted new.map.regs.cards → IsFlat new.map → HasRegisters setup (entry ∷ history) new
+stores setup history entry old new at width value change kept address control space map version fitted flat =
     let alone : IsDataAlone entry.event = stores_alone setup history entry.event at width value change in
-    let write : map_change_of setup history entry.event ≡ Some (Store at width value) =
-    in_map setup history entry.event (Store at width value) change touched in
     follows setup history entry old new (Some (Store at width value)) alone.control change kept (rw (alone.address) address) control space
-    map (raised setup history entry (Store at width value) old.map new.map write version kept.version) fitted flat (rw address kept.taken)
-
--- one that stores none
-pub stores_beside :
-    (setup : Setup) (history : List Entry) (entry : Entry) (old new : Registers) (at : Reg) (width : Width) (value : ℕ) →
-    register_change setup history entry.event ≡ Some (Store at width value) → touches_map setup (Store at width value) ≡ false →
-    HasRegisters setup history old → new.address ≡ old.address → new.control ≡ old.control →
-    IsSpaceOf setup (λ reg. changed_byte setup (Store at width value) reg (byte_of setup history reg)) new.space →
-    new.map ≡ old.map → HasRegisters setup (entry ∷ history) new
-stores_beside setup history entry old new at width value change beside kept address control space map =
-    let alone : IsDataAlone entry.event = stores_alone setup history entry.event at width value change in
-    let still : map_change_of setup history entry.event ≡ None = beside_map setup history entry.event (Store at width value) change beside in
-    follows setup history entry old new (Some (Store at width value)) alone.control change kept (rw (alone.address) address) control space
-    (rw map (map_stays setup (byte_of setup history) at width value old.map.regs beside kept.map))
-    (same_version setup history entry old.map new.map still map kept.version) (rw map kept.fitted) (rw map kept.flat) (rw address kept.taken)
+    map (version_after setup history entry (Store at width value) old.map new.map change version kept.version) fitted flat (rw address kept.taken)
 
 -- one that writes the configuration address
 pub addresses :

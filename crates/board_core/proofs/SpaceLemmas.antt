@@ -18,14 +18,14 @@ use Rattle.board_spec.specs.MapWrites.{reg_after}
 use Rattle.board_spec.specs.Decode.{Bytes}
 use Rattle.board_spec.specs.RegisterNames.{bridge, card_register}
 use Rattle.xbus_select.specs.Piix.{PiixBytes, piix_register, IsPiixRegister, IsPiixOf}
-use Rattle.pci_bars.specs.Cards.{CardBytes, AreCards, AreCardsOf}
-use Rattle.addr_decode.specs.MapRegs.{AreFitted, stored}
+use Rattle.pci_bars.specs.Cards.{CardBytes, AreCards, AreCardsOf, AreFitted}
+use Rattle.addr_decode.specs.MapRegs.{stored}
 use Rattle.addr_decode.proofs.StoreLemmas.{stored-elsewhere}
+use Rattle.addr_decode.proofs.CardLemmas.{cards_agree, cards_beside}
 use Rattle.addr_decode.proofs.StandsLemmas.{stored_so_far}
 use Rattle.board_core.specs.declared.bridge.HostBridge.{HostBridge}
 use Rattle.board_core.specs.declared.config_space.ConfigSpace.{ConfigSpace}
 use Rattle.board_core.specs.Space.{IsBridgeOf, IsSpaceOf, is_routing, IsOffRouting}
-use Rattle.board_core.proofs.CardLemmas.{card_agrees}
 
 -- ---- registers that agree
 
@@ -34,9 +34,6 @@ SameBridge bytes bytes' = (off : ℕ) → bytes' (bridge off) ≡ bytes (bridge 
 
 abbrev SameSouth : (bytes bytes' : Bytes) → Type 0
 SameSouth bytes bytes' = (fun off : ℕ) → bytes' (piix_register fun off) ≡ bytes (piix_register fun off)
-
-abbrev SameCards : (bytes bytes' : Bytes) → Type 0
-SameCards bytes bytes' = (dev off : ℕ) → 2 ≤ dev → bytes' (card_register dev off) ≡ bytes (card_register dev off)
 
 bridge_agrees : (bytes bytes' : Bytes) (host : HostBridge) → SameBridge bytes bytes' → IsBridgeOf bytes host → IsBridgeOf bytes' host
 bridge_agrees bytes bytes' host same is = record {
@@ -57,14 +54,6 @@ south_agrees bytes bytes' south same is = record {
   timing_high = is.timing_high ∙ sym (same 1 0x41);
   others = λ setup fun off register fixed. same fun off ∙ is.others setup fun off register fixed;
 }
-
-cards_agree : (setup : Setup) (bytes bytes' : Bytes) (cards : List CardBytes) → AreCards cards → SameCards bytes bytes' →
-    AreCardsOf setup bytes cards → AreCardsOf setup bytes' cards
-cards_agree setup bytes bytes' cards each same are = (
-  are.0,
-  (λ k d within.
-      card_agrees setup bytes bytes' _ (λ off. same _ off (each k d within).first) (are.1 k d within)),
-)
 
 pub space_agrees : (setup : Setup) (bytes bytes' : Bytes) (space : ConfigSpace) → ((reg : Reg) → bytes' reg ≡ bytes reg) →
     IsSpaceOf setup bytes space → IsSpaceOf setup bytes' space
@@ -99,15 +88,6 @@ south_stays : (setup : Setup) (bytes : Bytes) (at : Reg) (written : ℕ) (south 
 south_stays setup bytes at written south dev =
     south_agrees bytes (stored setup bytes at written) south (λ fun off. stored-elsewhere setup bytes at written (piix_register fun off) (inl dev))
 
-cards_stay : (setup : Setup) (bytes : Bytes) (at : Reg) (written : ℕ) (cards : List CardBytes) → AreCards cards → (at.dev < 2) ⊎ (at.fun ≢ 0) →
-    AreCardsOf setup bytes cards → AreCardsOf setup (stored setup bytes at written) cards
-cards_stay setup bytes at written cards each (inl low) =
-    cards_agree setup bytes (stored setup bytes at written) cards each
-    (λ dev off above. stored-elsewhere setup bytes at written (card_register dev off) (inl (omega arith)))
-cards_stay setup bytes at written cards each (inr fun) =
-    cards_agree setup bytes (stored setup bytes at written) cards each
-    (λ dev off above. stored-elsewhere setup bytes at written (card_register dev off) (inr (inl fun)))
-
 pub host_stored :
     (setup : Setup) (bytes : Bytes) (space : ConfigSpace) (host : HostBridge) (at : Reg) (written : ℕ) → at.dev ≡ 0 →
     IsBridgeOf (stored setup bytes at written) host → IsSpaceOf setup bytes space →
@@ -115,7 +95,7 @@ pub host_stored :
 host_stored setup bytes space host at written dev here is = record {
   host = here;
   south = south_stays setup bytes at written space.south (omega arith) is.south;
-  cards = cards_stay setup bytes at written space.cards.items is.fitted.each (inl (omega arith)) is.cards;
+  cards = cards_beside setup bytes at written space.cards.items is.fitted.each (inl (omega arith)) is.cards;
   fitted = is.fitted;
 }
 
@@ -126,7 +106,7 @@ pub south_stored :
 south_stored setup bytes space south at written dev here is = record {
   host = bridge_stays setup bytes at written space.host (inl (omega arith)) is.host;
   south = here;
-  cards = cards_stay setup bytes at written space.cards.items is.fitted.each (inl (omega arith)) is.cards;
+  cards = cards_beside setup bytes at written space.cards.items is.fitted.each (inl (omega arith)) is.cards;
   fitted = is.fitted;
 }
 
@@ -136,7 +116,7 @@ pub none_stored :
 none_stored setup bytes space at written dev fun is = record {
   host = bridge_stays setup bytes at written space.host (inr fun) is.host;
   south = south_stays setup bytes at written space.south dev is.south;
-  cards = cards_stay setup bytes at written space.cards.items is.fitted.each (inr fun) is.cards;
+  cards = cards_beside setup bytes at written space.cards.items is.fitted.each (inr fun) is.cards;
   fitted = is.fitted;
 }
 

@@ -1,5 +1,7 @@
 -- What a write leaves of the bytes behind the addresses.
 use Rattle.std.proofs.Common.{◌≡◌, ℕ, ◌⊎◌, List, ◌∷◌, None, inl, inr, refl}
+use Rattle.std.specs.Prelude.{◌==◌}
+use Rattle.std.proofs.lemmas.Bool.{cases_Bool}
 use Rattle.board_base.specs.declared.access.Width.{Width}
 use Rattle.board_base.specs.declared.target.Target.{Target}
 use Rattle.board_base.specs.declared.target.Target.TheVariants.{Dram, Shadow, Smram, Rom, Card, Device, Config, Abort}
@@ -41,6 +43,13 @@ pub dram_puts_no_card_byte :
 dram_puts_no_card_byte target place width value dev base off (inl row) = rw row.1 refl
 dram_puts_no_card_byte target place width value dev base off (inr (inl row)) = rw row.1 refl
 dram_puts_no_card_byte target place width value dev base off (inr (inr smram)) = rw smram refl
+
+-- a store behind a base of a card puts none in the DRAM
+pub card_puts_no_dram_byte :
+    (target : Target) (place : ℕ) (width : Width) (value dev base off at : ℕ) → target ≡ Card dev base off →
+    byte_put target place width value (DramCell at) ≡ None
+card_puts_no_dram_byte target place width value dev base off at is =
+    elim (cases_Bool (base == 6)) [ inl rom ↦ rw (is, rom) refl | inr kept ↦ rw (is, kept) refl ]
 
 -- what is stored neither in the DRAM nor in a card is nobody's
 pub nobody :

@@ -11,7 +11,8 @@ use Rattle.board_spec.specs.Decode.{Bytes}
 use Rattle.board_spec.specs.FlatMap.{IsFlatMapOf}
 use Rattle.dram_store.specs.Dram.{IsDramOf}
 use Rattle.pci_bars.specs.Contents.{IsContentsOf}
-use Rattle.addr_decode.specs.MapRegs.{AreFitted, StandsFor}
+use Rattle.pci_bars.specs.Cards.{AreFitted}
+use Rattle.addr_decode.specs.MapRegs.{StandsFor}
 use Rattle.map_builder.specs.Map.{Mapped}
 use Rattle.access_history.specs.Past.{most}
 use Rattle.board_core.specs.declared.registers.Registers.{Registers}

@@ -1,19 +1,17 @@
 -- The registers in configuration space of bus 0, among the register bytes of a board.
-use Rattle.std.specs.Prelude.{ℕ, ◌≡◌, ◌==◌, ◌<◌, Bool, false, ◌&&◌, List, All, Some}
+use Rattle.std.specs.Prelude.{ℕ, ◌≡◌, ◌==◌, ◌<◌, Bool, false, ◌&&◌}
 use Rattle.board_base.specs.declared.access.Width.{Width}
 use Rattle.board_base.specs.declared.target.Reg.{Reg}
 use Rattle.board_base.specs.Access.{bytes_of}
-use Rattle.board_spec.specs.Setup.{Setup, card_at}
+use Rattle.board_spec.specs.Setup.{Setup}
 use Rattle.board_spec.specs.Bits.{is_within}
-use Rattle.board_spec.specs.RegisterTable.{reset_byte}
 use Rattle.board_spec.specs.MapWrites.{reg_after}
 use Rattle.board_spec.specs.Decode.{Bytes}
 use Rattle.board_spec.specs.RegisterNames.{bridge}
 use Rattle.pmc_regs.specs.Pmc.{IsPmcOf}
 use Rattle.pam_windows.specs.Pam.{IsPamOf}
 use Rattle.xbus_select.specs.Piix.{IsPiixOf}
-use Rattle.pci_bars.specs.Cards.{CardBytes, IsCardOf, AreCardsOf}
-use Rattle.addr_decode.specs.MapRegs.{AreFitted}
+use Rattle.pci_bars.specs.Cards.{AreCardsOf, AreFitted}
 use Rattle.board_core.specs.declared.bridge.HostBridge.{HostBridge}
 use Rattle.board_core.specs.declared.config_space.ConfigSpace.{ConfigSpace}
 
@@ -37,10 +35,3 @@ pub record IsSpaceOf (setup : Setup) (bytes : Bytes) (space : ConfigSpace) : Typ
   pub south : IsPiixOf bytes space.south
   pub cards : AreCardsOf setup bytes space.cards.items
   pub fitted : AreFitted space.cards.items
-
--- a card as a reset leaves it, in each setup that has it
-abbrev pub IsCardReset : CardBytes → Type 0
-IsCardReset card = (setup : Setup) → card_at setup card.card.dev ≡ Some card.card → IsCardOf setup (reset_byte setup) card
-
-abbrev pub AreCardsReset : List CardBytes → Type 0
-AreCardsReset cards = All IsCardReset cards

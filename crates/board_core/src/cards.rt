@@ -1,7 +1,6 @@
 //! The registers of the cards in configuration space, by their device numbers (PCI Local Bus 2.1, section 6.2).
 
-ghost use Rattle.std.specs.Prelude.{◌≡◌, ◌<◌, ◌+◌, ◌++◌, ◌==◌, true, [], ◌∷◌, find, is_some, option_map};
-ghost use Rattle.arrayvec.specs.ArrayVec.{array_vec_len};
+ghost use Rattle.std.specs.Prelude.{◌≡◌, true, is_some};
 ghost use Rattle.board_base.specs.declared.access.Width.TheVariants.{One};
 ghost use Rattle.board_spec.specs.declared.map_change.MapChange.TheVariants.{Store};
 ghost use Rattle.board_spec.specs.Setup.{Setup, IsCard, IsCardList, card_at};
@@ -9,15 +8,13 @@ ghost use Rattle.board_spec.specs.RegisterTable.{reset_byte};
 ghost use Rattle.board_spec.specs.Registers.{changed_byte};
 ghost use Rattle.board_spec.specs.Decode.{Bytes};
 ghost use Rattle.board_spec.specs.RegisterNames.{card_register};
-ghost use Rattle.pci_bars.specs.Cards.{IsCardOf, AreCards, AreCardsOf, cards_of};
-ghost use Rattle.addr_decode.specs.MapRegs.{AreFitted};
-ghost use Rattle.board_core.specs.Space.{AreCardsReset};
+ghost use Rattle.pci_bars.specs.Cards.{IsCardOf, AreCards, AreCardsOf, cards_of, AreFitted};
 
 use arrayvec::ArrayVec;
-use pci_bars::{CardRegs, CardSpec};
+use pci_bars::{CARD_COUNT, CardRegs, CardSpec, card_at, push_card};
 
 /// The registers of these cards after a reset.
-pub fn reset_cards_of(specs: &[CardSpec]) -> ArrayVec<CardRegs, 8>
+pub fn reset_cards_of(specs: &[CardSpec]) -> ArrayVec<CardRegs, CARD_COUNT>
     requires cards { IsCardList specs.now }
     ensures reset { (setup : Setup) → setup.cards ≡ specs.now → AreCardsOf setup (reset_byte setup) result.items }
     ensures fitted { AreFitted result.items }
@@ -29,19 +26,8 @@ pub fn reset_cards_of(specs: &[CardSpec]) -> ArrayVec<CardRegs, 8>
     cards
 }
 
-/// Adds a card as a reset leaves it.
-fn push_card(cards: &mut ArrayVec<CardRegs, 8>, spec: CardSpec)
-    requires room { array_vec_len cards.old < 8 }
-    requires card { IsCard spec }
-    ensures cards { cards_of cards.new.items ≡ cards_of cards.old.items ++ spec ∷ [] }
-    ensures reset { AreCardsReset cards.old.items → AreCardsReset cards.new.items }
-    ensures count { array_vec_len cards.new ≡ array_vec_len cards.old + 1 }
-{
-    cards.push(CardRegs::new(spec));
-}
-
 /// Gives each card its registers after a reset.
-pub fn reset_cards(cards: &mut ArrayVec<CardRegs, 8>)
+pub fn reset_cards(cards: &mut ArrayVec<CardRegs, CARD_COUNT>)
     requires cards { AreFitted cards.old.items }
     ensures reset { (setup : Setup) → setup.cards ≡ cards_of cards.old.items → AreCardsOf setup (reset_byte setup) cards.new.items }
     ensures fitted { AreFitted cards.new.items }
@@ -57,21 +43,14 @@ pub fn read_card(cards: &[CardRegs], dev: u8, off: u8) -> u8
     ensures byte { (setup : Setup) (bytes : Bytes) → AreCardsOf setup bytes cards.now → is_some (card_at setup dev) ≡ true
         → result ≡ bytes (card_register dev off) }
 {
-    match find_card(cards, dev) {
+    match card_at(cards, dev) {
         Some(card) => card.read(off),
         None => 0,
     }
 }
 
-/// The card at a device number.
-fn find_card(cards: &[CardRegs], dev: u8) -> Option<&CardRegs>
-    ensures card { option_map (λ card. card.now) result ≡ find (λ card. card.card.dev == dev) cards.now }
-{
-    cards.iter().find(|card| card.spec.dev == dev)
-}
-
 /// Writes a byte of the card at a device number. Where there is none nothing happens.
-pub fn write_card(cards: &mut ArrayVec<CardRegs, 8>, dev: u8, off: u8, byte: u8)
+pub fn write_card(cards: &mut ArrayVec<CardRegs, CARD_COUNT>, dev: u8, off: u8, byte: u8)
     requires cards { AreFitted cards.old.items }
     ensures written { (setup : Setup) (bytes : Bytes) → AreCardsOf setup bytes cards.old.items
         → AreCardsOf setup (λ reg. changed_byte setup (Store (card_register dev off) One byte) reg (bytes reg)) cards.new.items }

@@ -11,7 +11,7 @@ ghost use Rattle.board_spec.specs.Registers.{changed_byte};
 ghost use Rattle.board_spec.specs.MapWrites.{reg_after};
 ghost use Rattle.board_spec.specs.Decode.{Bytes};
 ghost use Rattle.xbus_select.specs.Piix.{IsPiixRegister, piix_register, IsPiixOf};
-ghost use Rattle.addr_decode.specs.MapRegs.{AreFitted};
+ghost use Rattle.pci_bars.specs.Cards.{AreFitted};
 ghost use Rattle.board_core.specs.Space.{IsSpaceOf, is_routing, IsOffRouting};
 
 use crate::bridge::HostBridge;
@@ -19,7 +19,7 @@ use crate::cards::{read_card, reset_cards, reset_cards_of, write_card};
 use arrayvec::ArrayVec;
 use board_base::{Reg, Width};
 use board_spec::offset::{HOST_BRIDGE, IDE, ISA_BRIDGE, PIRQRCA, PIRQRCD, SOUTH_BRIDGE};
-use pci_bars::{CardRegs, CardSpec};
+use pci_bars::{CARD_COUNT, CardRegs, CardSpec};
 use xbus_select::Piix;
 
 /// The registers of the host bridge, of the 82371SB without the interrupt routing, and of the cards in rising order
@@ -28,7 +28,7 @@ use xbus_select::Piix;
 pub struct ConfigSpace {
     pub host: HostBridge,
     pub south: Piix,
-    pub cards: ArrayVec<CardRegs, 8>,
+    pub cards: ArrayVec<CardRegs, CARD_COUNT>,
 }
 
 impl ConfigSpace {

@@ -10,7 +10,7 @@ ghost use Rattle.board_spec.specs.Setup.{Setup};
 ghost use Rattle.board_spec.specs.InRange.{IsBusAccess};
 ghost use Rattle.board_spec.specs.Stored.{Cell, byte_put, entry_put};
 ghost use Rattle.board_spec.specs.Answer.{port_answer, port_value, value_at};
-ghost use Rattle.addr_decode.specs.MapRegs.{AreFitted};
+ghost use Rattle.pci_bars.specs.Cards.{AreFitted};
 ghost use Rattle.access_history.specs.Past.{most};
 ghost use Rattle.board_core.specs.Forms.{IsTakenPort};
 ghost use Rattle.board_core.specs.Ports.{IsPortDevice, IsPortTarget, IsThere, FitsDevice, FitsTarget, WritesDevice, Writes};

@@ -9,7 +9,8 @@ ghost use Rattle.board_spec.specs.RegisterTable.{reset_byte};
 ghost use Rattle.board_spec.specs.Registers.{byte_of, config_address, control_written, register_change};
 ghost use Rattle.board_spec.specs.Decode.{Bytes};
 ghost use Rattle.board_spec.specs.Ports.{port_target_of};
-ghost use Rattle.addr_decode.specs.MapRegs.{AreFitted, StandsFor};
+ghost use Rattle.pci_bars.specs.Cards.{AreFitted};
+ghost use Rattle.addr_decode.specs.MapRegs.{StandsFor};
 ghost use Rattle.addr_decode.specs.Ports.{as_decoded};
 ghost use Rattle.board_core.specs.Space.{IsSpaceOf};
 ghost use Rattle.access_history.specs.Past.{most};
@@ -17,7 +18,7 @@ ghost use Rattle.board_core.specs.Kept.{HasRegisters, IsFlat};
 
 use crate::config_space::ConfigSpace;
 use crate::reset_control::ResetControl;
-use addr_decode::{MapChange, MapRegs, PortRegs, decode_port, touches};
+use addr_decode::{MapChange, MapRegs, PortRegs, decode_port};
 use board_base::{Denial, Reg, Target, Width};
 use board_spec::offset::{IDE, IDETIM_HIGH};
 use cfg_ports::ConfAdd;
@@ -75,9 +76,7 @@ impl Registers {
             → HasRegisters setup (entry ∷ history) self.new }
     {
         self.space.write_wide(reg, width, value);
-        if touches(self.map.regs(), reg, width) {
-            self.map.apply(&MapChange::Store { reg, width, value });
-        }
+        self.map.store(reg, width, value);
     }
 
     /// Writes reset control. A hard reset gives each register its value after a reset.

@@ -343,18 +343,19 @@ fn expected(value: Option<u32>, place: Place) -> Reply {
 
 /// A VGA card without memory of its own.
 fn vga_card(dev: u8) -> CardSpec
-    ensures card { result ≡ record { dev = dev; vga = true; bases = [] } }
+    ensures card { result ≡ record { dev = dev; vga = true; bases = []; rom = None } }
 {
     CardSpec {
         dev,
         vga: true,
         bases: ArrayVec::new(),
+        rom: None,
     }
 }
 
 /// A card with 2 to the power of `bits` bytes of memory.
 fn memory_card(dev: u8, bits: u8) -> CardSpec
-    ensures card { result ≡ record { dev = dev; vga = false; bases = MemoryBase bits ∷ [] } }
+    ensures card { result ≡ record { dev = dev; vga = false; bases = MemoryBase bits ∷ []; rom = None } }
 {
     let mut bases = ArrayVec::new();
     bases.push(BaseSpec::Memory(bits));
@@ -362,6 +363,7 @@ fn memory_card(dev: u8, bits: u8) -> CardSpec
         dev,
         vga: false,
         bases,
+        rom: None,
     }
 }
 

@@ -5,7 +5,7 @@ use Rattle.std.proofs.lemmas.Bool.{cases_Bool}
 use Rattle.std.proofs.lemmas.Bool.Decides.{nat_tests}
 use Rattle.board_base.specs.Outside.{Rose}
 use Rattle.board_spec.specs.Setup.{IsRomSize}
-use Rattle.script_text.specs.Lines.{lines_of}
+use Rattle.script_spec.specs.Lines.{lines_of}
 use Rattle.script_text.specs.ScriptText.{Said, Refusal, script_from}
 use Rattle.board_run.specs.declared.status.Which.TheVariants.{Script, Rom}
 use Rattle.board_run.specs.declared.status.Status.{Status}

@@ -3,7 +3,7 @@ use Rattle.std.proofs.Common.{◌≡◌, ℕ, Bool, true, false, not, ◌&&◌, 
 use Rattle.std.specs.Prelude.{List, All, length, slice_index_or}
 use Rattle.board_base.specs.declared.access.PortAccess.{PortAccess}
 use Rattle.board_spec.specs.declared.event.Event.{Event}
-use Rattle.board_spec.specs.declared.event.Event.TheVariants.{Memory, Port, Look, Ack, Pulses, Time, Wire, Line, BadSector}
+use Rattle.board_spec.specs.declared.event.Event.TheVariants.{Memory, Port, Wide, Look, Ack, Pulses, Time, Wire, Line, BadSector}
 use Rattle.board_spec.specs.declared.event.Statement.{Statement}
 use Rattle.board_spec.specs.Setup.{Setup}
 use Rattle.board_spec.specs.InRange.{IsInRange}
@@ -39,6 +39,7 @@ taken_event : (event : Event) → is_taken event ≡ true → IsTaken event
 unfolding is_taken
 taken_event (Memory access) h = tt
 taken_event (Port access) h = port_access access h
+taken_event (Wide access) h = cc
 taken_event (Look kind addr smm) h = tt
 taken_event Ack h = cc
 taken_event (Pulses count) h = cc

@@ -25,7 +25,7 @@ pub record IsReplayText (files : List ℕ → List ℕ) (file text : List ℕ) :
   pub rom : IsRomSize (length (files said.rom))
   pub replay : IsReplayOf (setup_of said (files said.rom)) said.statements history
   pub locked : LockLaw (setup_of said (files said.rom)) history
-  pub log : text ≡ log_text history
+  pub log : text ≡ log_text 1 history
 
 -- a text is the address map behind that replay: the least list of ranges that says of each address what every kind of
 -- access reaches there, by the registers as the history leaves them
@@ -54,7 +54,7 @@ pub record IsMapBehind (setup : Setup) (history : List Entry) (text : List ℕ) 
 
 -- a text is what a command tells of a board behind a history
 abbrev pub IsTold : Command → Setup → List Entry → List ℕ → Type 0
-IsTold (Replay script) setup history text = text ≡ log_text history
+IsTold (Replay script) setup history text = text ≡ log_text 1 history
 IsTold (Map script) setup history text = IsMapBehind setup history text
 
 -- a text is what a command tells behind the replay of what a script says, on a board with this ROM

@@ -20,6 +20,9 @@ use board_spec::laws::law_lock;
 use script_text::Script;
 use std::alloc::Global;
 
+/// The version of the logs.
+const LOG_VERSION: u8 = 1;
+
 /// Does statements on a fresh board, one after another.
 fn replay_statements(board: &mut Board, statements: &[Statement]) -> Result<(), NoMemory>
     requires taken { All IsTaken statements.now }
@@ -57,10 +60,10 @@ fn replayed(alloc: Global, script: Script, rom: Vec<u8>) -> Result<Board, BoardO
 
 /// The log of what a board was asked.
 fn log_text(alloc: Global, board: &Board) -> Result<String, NoMemory>
-    ensures log { IfOk result (λ text. string_bytes text ≡ log_text board.now.entries) }
+    ensures log { IfOk result (λ text. string_bytes text ≡ log_text 1 board.now.entries) }
 {
     let mut text = String::new(alloc);
-    push_log(&mut text, board.history().entries())?;
+    push_log(&mut text, LOG_VERSION, board.history().entries())?;
     Ok(text)
 }
 

@@ -2,23 +2,24 @@ use Rattle.std.proofs.Common.{◌≡◌, ◌∙◌, ap, sym, ℕ}
 use Rattle.board_spec.specs.Setup.{IsCard}
 use Rattle.board_spec.specs.RegisterNames.{card_register}
 use Rattle.pci_bars.specs.Cards.{IsCardOf}
-use Rattle.board_core.proofs.CardLemmas.{found, no_card}
+use Rattle.pci_bars.proofs.CardListLemmas.{found}
+use Rattle.board_core.proofs.CardLemmas.{no_card}
 use Rattle.board_core.proofs.cards.read_card.Goals as goal
 
 pub read-requires : goal.read-requires
 read-requires c = record {
-  card = (found (λ card. IsCard card.card) c.args.cards.now c.args.dev c.in-Some.card.now c.requires.cards (sym c.in-Some.ensures.card)).0;
+  card = (found (λ card. IsCard card.card) c.args.cards.now c.args.dev c.in-Some.card.now c.requires.cards (sym c.in-Some.ensures.found)).0;
 }
 
 pub returns-in-Some : goal.returns-in-Some
 returns-in-Some c = record {
   byte = λ setup bytes are fitted.
       let it : IsCardOf setup bytes c.in-Some.card.now × (c.in-Some.card.now.card.dev ≡ c.args.dev) =
-      found (IsCardOf setup bytes) c.args.cards.now c.args.dev c.in-Some.card.now are.1 (sym c.in-Some.ensures.card) in
+      found (IsCardOf setup bytes) c.args.cards.now c.args.dev c.in-Some.card.now are.1 (sym c.in-Some.ensures.found) in
       c.read.ensures.byte setup bytes it.0 ∙ ap (λ (dev : ℕ). bytes (card_register dev c.args.off)) it.1;
 }
 
 pub returns-in-None : goal.returns-in-None
 returns-in-None c = record {
-  byte = λ setup bytes are fitted. absurd (no_card setup c.args.cards.now c.args.dev are.0 (sym c.in-None.ensures.card) fitted);
+  byte = λ setup bytes are fitted. absurd (no_card setup c.args.cards.now c.args.dev are.0 (sym c.in-None.ensures.found) fitted);
 }

@@ -1,12 +1,12 @@
 use Rattle.std.proofs.Common.{◌≡◌, take}
 use Rattle.arrayvec.specs.ArrayVec.{array_vec_len}
 use Rattle.pci_bars.specs.Cards.{cards_of}
-use Rattle.board_core.specs.Space.{AreCardsReset}
+use Rattle.pci_bars.specs.Cards.{AreReset}
 use Rattle.board_core.proofs.cards.reset_cards_of.Given as goal
 
 abbrev pub invariant-loop-spec : goal.invariant-loop-spec
 invariant-loop-spec l = record {
   count : array_vec_len l.cards ≡ l.spec-index;
   pushed : cards_of l.cards.items ≡ take l.spec-index l.specs;
-  reset : AreCardsReset l.cards.items;
+  reset : AreReset l.cards.items;
 }

@@ -1,8 +1,8 @@
 use Rattle.std.proofs.Common.{◌≡◌, ◌∙◌, subst, sym, ap, List, refl, arith}
 use Rattle.std.specs.Prelude.{slice_index_or}
 use Rattle.board_spec.specs.RegisterNames.{card_register}
-use Rattle.pci_bars.specs.Cards.{CardBytes, IsCardOf, AreCardsOf}
-use Rattle.addr_decode.specs.MapRegs.{AreFitted, stored}
+use Rattle.pci_bars.specs.Cards.{CardBytes, IsCardOf, AreCardsOf, AreFitted}
+use Rattle.addr_decode.specs.MapRegs.{stored}
 use Rattle.addr_decode.proofs.CardLemmas.{fitted_same}
 use Rattle.board_core.proofs.CardLemmas.{lent_back, same_length, same_cards, below_set, from_set}
 use Rattle.board_core.proofs.cards.write_card.Goals as goal

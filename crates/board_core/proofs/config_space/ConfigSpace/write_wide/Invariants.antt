@@ -1,6 +1,6 @@
 use Rattle.board_spec.specs.Setup.{Setup}
 use Rattle.board_spec.specs.Decode.{Bytes}
-use Rattle.addr_decode.specs.MapRegs.{AreFitted}
+use Rattle.pci_bars.specs.Cards.{AreFitted}
 use Rattle.addr_decode.proofs.StandsLemmas.{stored_so_far}
 use Rattle.board_core.specs.Space.{IsSpaceOf}
 use Rattle.board_core.proofs.config_space.ConfigSpace.write_wide.Given as goal

@@ -1,6 +1,7 @@
 use Rattle.std.proofs.Common.{subst, sym}
 use Rattle.board_spec.specs.RegisterTable.{reset_byte}
-use Rattle.addr_decode.specs.MapRegs.{MapBytes, AreFitted, StandsFor}
+use Rattle.pci_bars.specs.Cards.{AreFitted}
+use Rattle.addr_decode.specs.MapRegs.{MapBytes, StandsFor}
 use Rattle.board_core.proofs.RegisterLemmas.{registers_at_reset}
 use Rattle.board_core.proofs.registers.Registers.new.Goals as goal
 

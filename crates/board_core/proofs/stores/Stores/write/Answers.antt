@@ -2,7 +2,7 @@ use Rattle.std.proofs.Common.{◌≡◌, ◌∙◌, refl}
 use Rattle.board_base.specs.declared.target.Target.TheVariants.{Abort}
 use Rattle.board_spec.specs.Stored.{DramCell, CardCell}
 use Rattle.dram_store.proofs.DramLemmas.{unwritten}
-use Rattle.board_core.proofs.StoresLemmas.{contents_unwritten, dram_put, dram_puts_no_card_byte, nobody}
+use Rattle.board_core.proofs.StoresLemmas.{contents_unwritten, dram_put, dram_puts_no_card_byte, card_puts_no_dram_byte, nobody}
 use Rattle.board_core.proofs.stores.Stores.write.Goals as goal
 
 pub returns-in-Dram : goal.returns-in-Dram
@@ -19,7 +19,7 @@ returns-in-Dram c = record {
 pub returns-in-Card : goal.returns-in-Card
 returns-in-Card c = record {
   stored = λ setup history entry kept put. record {
-    dram = unwritten setup history entry c.args.self.now.dram kept.dram (λ at. put (DramCell at) ∙ rw c.in-Card.is refl);
+    dram = unwritten setup history entry c.args.self.now.dram kept.dram (λ at. put (DramCell at) ∙ card_puts_no_dram_byte c.args.target c.args.place c.args.width c.args.value c.in-Card.dev c.in-Card.base c.in-Card.off at c.in-Card.is);
     contents = c.write-in-Card.ensures.stored setup history entry c.args.place kept.contents
         (λ dev base off. put (CardCell dev base off) ∙ rw c.in-Card.is refl);
   };
