@@ -10,10 +10,10 @@ mod PairLaws
 mod PicLaws
 mod PicPlaces
 mod PitBytes
-mod PitCounts
+pub mod PitCounts
 mod PitLatches
-mod PitPeriods
-mod PitPulses
+pub mod PitPeriods
+pub mod PitPulses
 mod PitReadBacks
 mod PitWaiting
 pub mod RoutingLaws

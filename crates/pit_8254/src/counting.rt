@@ -1,8 +1,10 @@
-ghost use Rattle.std.specs.Prelude.{◌≡◌, Some};
+ghost use Rattle.std.specs.Prelude.{◌≡◌, ◌≤◌, Some};
 ghost use Rattle.device_spec.specs.Pit.{programmed, reset_counter, element_bytes, status_byte, latch_count, latch_status, control, read_back, read_live, read, count_of_bytes, complete, take_low, take_byte, write, gate_rises, gate_falls};
 ghost use Rattle.pit_8254.specs.View.{mode_view, access_view, notation_view, latch_view};
+ghost use Rattle.pit_8254.specs.Quiet.{least_count};
 
 mod pulsing;
+mod running;
 
 use crate::latch::CountLatch;
 use crate::word::{ByteAccess, CountNotation, CountingMode};
@@ -33,6 +35,7 @@ pub struct Counter {
 impl Model for Counter {
     ghost use Rattle.device_spec.specs.Pit.{CounterState};
     ghost use Rattle.pit_8254.specs.View.{mode_view, access_view, notation_view, latch_view};
+    ghost use Rattle.pit_8254.specs.Quiet.{HasCount};
 
     ghost Value = { CounterState };
 
@@ -55,6 +58,8 @@ impl Model for Counter {
       expired = c.expired;
       trigger = c.trigger;
     } };
+
+    ghost invariant = { λ c. HasCount (mode_view c.mode) c.count c.load_asked c.started };
 }
 
 impl Counter {
@@ -272,6 +277,7 @@ impl Counter {
     #[tactic(auto, unfolding(device_spec::specs::Pit::count_of_number))]
     fn count_of_bytes(&self, low: u8, high: u8) -> u32
         ensures count { result ≡ count_of_bytes self.now.mode self.now.notation low high }
+        ensures least { least_count self.now.mode ≤ result }
     {
         let notation = self.notation;
         let number = notation.byte_value(low) + notation.byte_values() * notation.byte_value(high);

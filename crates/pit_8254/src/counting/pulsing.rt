@@ -100,7 +100,7 @@ impl Counter {
     }
 
     /// Whether the counter was started and its gate, at this level, lets it count.
-    fn is_counting(&self, gate: bool) -> bool
+    pub(super) fn is_counting(&self, gate: bool) -> bool
         ensures counting { result ≡ is_counting gate self.now }
     {
         self.started && gate
@@ -180,7 +180,7 @@ impl Counter {
     }
 
     /// The value of CE at which a half ends: with an odd count the first half is a pulse longer.
-    fn half_end(&self) -> u32
+    pub(super) fn half_end(&self) -> u32
         ensures end { result ≡ half_end self.now }
     {
         if self.out && self.in_use % 2 == 1 {
