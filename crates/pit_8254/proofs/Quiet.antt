@@ -5,7 +5,7 @@ use Rattle.std.proofs.lemmas.Bool.{cases_Bool, cases_lt, or_parts, not-false, tr
 use Rattle.std.proofs.lemmas.Bool.Decides.{nat_tests}
 use Rattle.device_spec.specs.Pit.{Mode, TerminalCount, OneShot, RateGenerator, SquareWave, SoftwareStrobe, HardwareStrobe, Notation, Binary, Decimal, modulus, half_end, CounterState, count_down, count_to_end, count_to_reload, count_half, count_to_strobe, pulse_by_mode, pulse}
 use Rattle.device_spec.specs.PitLaws.{pulses_of}
-use Rattle.pit_8254.specs.Quiet.{rises_of, is_due, counts, every_pulse, pulses_in_half, counted_quietly, quiet_pulses, lowered, element_after, after_quiet}
+use Rattle.pit_8254.specs.Quiet.{rise, rises_of, is_due, counts, every_pulse, pulses_in_half, counted_quietly, quiet_pulses, lowered, element_after, after_quiet}
 
 pub same_cond : (A : Type 0) (b : Bool) (x : A) → cond b x x ≡ x
 same_cond A true x = refl
@@ -102,8 +102,10 @@ before_two e j h = elim (cases_Bool (e % 2 == 0 && nat_lt 0 e)) [
         rw zero_is (grind (arith, nat_tests))
     | inr half ↦
         let one : e % 2 ≡ 1 = grind (arith, nat_tests) in
-        let apart : e - 2 * j ≡ 2 → 0 ≡ 1 = λ is. omega arith in
-        grind (arith, nat_tests)
+        elim (cases_Bool (e - 2 * j == 2)) [
+          | inl there ↦ let two : e - 2 * j ≡ 2 = grind (arith, nat_tests) in absurd (omega arith)
+          | inr not_there ↦ not_there
+        ]
   ]
 ]
 
@@ -164,7 +166,7 @@ pub record Quietly (gate : Bool) (n : ℕ) (from to : CounterState) : Type 0 whe
   pub state : pulses_of gate n from ≡ to
   pub rose : rises_of gate n from ≡ 0
 
-no_rise : (level : Bool) → cond (level && not level) 1 0 ≡ 0
+no_rise : (level : Bool) → rise level level ≡ 0
 no_rise true = refl
 no_rise false = refl
 
@@ -177,7 +179,7 @@ runs_quiet gate c f n start next (suc k) h =
     let before = runs_quiet gate c f n start next k (omega arith) in
     record {
       state = ap (pulse gate) before.state ∙ next k (omega arith);
-      rose = rw (before.rose, before.state, next k (omega arith)) (no_rise c.out);
+      rose = rw (before.rose, before.state, next k (omega arith)) (omega (arith, no_rise c.out));
     }
 
 first_element_after : (mode : Mode) (notation : Notation) (e : ℕ) → element_after mode notation 0 e ≡ e
@@ -189,24 +191,23 @@ first_element_after SoftwareStrobe notation e = lowered_few notation 0 e (omega 
 first_element_after HardwareStrobe notation e = lowered_few notation 0 e (omega arith) ∙ omega arith
 
 -- so many are quiet
-pub quietly : (mode : Mode) (gate : Bool) (c : CounterState) (n : ℕ) → c.mode ≡ mode → n ≤ quiet_pulses gate c → Quietly gate n c (after_quiet gate n c)
+pub quietly : (gate : Bool) (c : CounterState) (n : ℕ) → n ≤ quiet_pulses gate c → Quietly gate n c (after_quiet gate n c)
 unfolding quiet_pulses after_quiet
-quietly mode gate c n m h = elim (cases_Bool (c.trigger || is_due mode c)) [
+quietly gate c n h = elim (cases_Bool (c.trigger || is_due c.mode c)) [
   | inl due ↦
-      let none : n ≤ 0 = rw (m, due) at h in
-      let is : n ≡ 0 = omega arith in
-      elim (cases_Bool (counts mode gate c)) [
-        | inl on ↦ rw (m, on) (runs_quiet gate c (λ j. element_after mode c.notation j c.element) 0 (first_element_after mode c.notation c.element) (λ j few. absurd (omega arith)) n none)
-        | inr off ↦ rw (m, off) (runs_quiet gate c (λ j. c.element) 0 refl (λ j few. absurd (omega arith)) n none)
+      let none : n ≤ 0 = rw due at h in
+      elim (cases_Bool (counts c.mode gate c)) [
+        | inl on ↦ rw on (runs_quiet gate c (λ j. element_after c.mode c.notation j c.element) 0 (first_element_after c.mode c.notation c.element) (λ j few. absurd (omega arith)) n none)
+        | inr off ↦ rw off (runs_quiet gate c (λ j. c.element) 0 refl (λ j few. absurd (omega arith)) n none)
       ]
   | inr free ↦
-      let both = or_parts c.trigger (is_due mode c) free in
-      elim (cases_Bool (counts mode gate c)) [
+      let both = or_parts c.trigger (is_due c.mode c) free in
+      elim (cases_Bool (counts c.mode gate c)) [
         | inl on ↦
-            let few : n ≤ counted_quietly mode c = rw (m, free, on) at h in
-            rw (m, on) (runs_quiet gate c (λ j. element_after mode c.notation j c.element) (counted_quietly mode c) (first_element_after mode c.notation c.element)
-            (λ j sooner. rw on at (settled_pulse mode gate c (element_after mode c.notation j c.element) m both.0 both.1) ∙ quiet_step mode c j sooner) n few)
+            let few : n ≤ counted_quietly c.mode c = rw (free, on) at h in
+            rw on (runs_quiet gate c (λ j. element_after c.mode c.notation j c.element) (counted_quietly c.mode c) (first_element_after c.mode c.notation c.element)
+            (λ j sooner. (rw on at (settled_pulse c.mode gate c (element_after c.mode c.notation j c.element) refl both.0 both.1)) ∙ quiet_step c.mode c j sooner) n few)
         | inr off ↦
-            rw (m, off) (runs_quiet gate c (λ j. c.element) n refl (λ j sooner. rw off at (settled_pulse mode gate c c.element m both.0 both.1)) n (omega arith))
+            rw off (runs_quiet gate c (λ j. c.element) n refl (λ j sooner. rw off at (settled_pulse c.mode gate c c.element refl both.0 both.1)) n (omega arith))
       ]
 ]

@@ -20,11 +20,15 @@ HasCount mode (Some n) asked started = least_count mode ≤ n
 abbrev pub IsQuiet : Bool → CounterState → Type 0
 IsQuiet gate c = (element : ℕ) × (pulse gate c ≡ record c { element = element })
 
+-- 1 where OUT rises from one level to another
+abbrev pub rise : Bool → Bool → ℕ
+rise before after = if after && not before then 1 else 0
+
 -- how often OUT rises in n pulses
 unfoldable pub rises_of : Bool → ℕ → CounterState → ℕ
 rises_of gate zero c = 0
 rises_of gate (suc n) c =
-    rises_of gate n c + (if (pulse gate (pulses_of gate n c)).out && not (pulses_of gate n c).out then 1 else 0)
+    rises_of gate n c + rise (pulses_of gate n c).out (pulse gate (pulses_of gate n c)).out
 
 -- ---- how many quiet pulses come next
 
