@@ -1,11 +1,11 @@
 -- Quiet pulses change nothing but CE, and come as often as they are told.
-use Rattle.std.proofs.Common.{◌≡◌, ℕ, zero, suc, ◌+◌, ◌-◌, ◌*◌, ◌/◌, ◌%◌, ◌<◌, ◌≤◌, ◌==◌, ◌&&◌, ◌||◌, not, Bool, true, false, cond, inl, inr, refl, ap, sym, ◌∙◌, arith, nat_lt}
+use Rattle.std.proofs.Common.{◌≡◌, ℕ, zero, suc, ◌+◌, ◌-◌, ◌*◌, ◌/◌, ◌%◌, ◌<◌, ◌≤◌, ◌==◌, ◌&&◌, ◌||◌, not, Bool, true, false, cond, inl, inr, refl, ap, sym, subst, ◌∙◌, arith, nat_lt}
 use Rattle.std.proofs.Math.Bool.{and-false}
 use Rattle.std.proofs.lemmas.Bool.{cases_Bool, cases_lt, or_parts, not-false, true≢false}
 use Rattle.std.proofs.lemmas.Bool.Decides.{nat_tests}
 use Rattle.device_spec.specs.Pit.{Mode, TerminalCount, OneShot, RateGenerator, SquareWave, SoftwareStrobe, HardwareStrobe, Notation, Binary, Decimal, modulus, half_end, CounterState, count_down, count_to_end, count_to_reload, count_half, count_to_strobe, pulse_by_mode, pulse}
 use Rattle.device_spec.specs.PitLaws.{pulses_of}
-use Rattle.pit_8254.specs.Quiet.{rise, rises_of, is_due, counts, every_pulse, pulses_in_half, counted_quietly, quiet_pulses, lowered, element_after, after_quiet}
+use Rattle.pit_8254.specs.Quiet.{IsQuiet, rise, rises_of, is_due, counts, every_pulse, pulses_in_half, counted_quietly, quiet_pulses, lowered, element_after, after_quiet}
 
 pub same_cond : (A : Type 0) (b : Bool) (x : A) → cond b x x ≡ x
 same_cond A true x = refl
@@ -211,3 +211,22 @@ quietly gate c n h = elim (cases_Bool (c.trigger || is_due c.mode c)) [
             rw off (runs_quiet gate c (λ j. c.element) n refl (λ j sooner. rw off at (settled_pulse c.mode gate c c.element refl both.0 both.1)) n (omega arith))
       ]
 ]
+
+pulses_quietly : (gate : Bool) (c : CounterState) (k : ℕ) → k < quiet_pulses gate c → pulse gate (after_quiet gate k c) ≡ after_quiet gate (suc k) c
+unfolding pulses_of
+pulses_quietly gate c k h =
+    let here = (quietly gate c k (omega arith)).state in
+    let next = (quietly gate c (suc k) (omega arith)).state in
+    ap (pulse gate) (sym here) ∙ next
+
+next_element : (gate : Bool) (c : CounterState) (k : ℕ) → (e : ℕ) × (after_quiet gate (suc k) c ≡ record (after_quiet gate k c) { element = e })
+unfolding after_quiet
+next_element gate c k = elim (cases_Bool (counts c.mode gate c)) [
+  | inl on ↦ rw on (element_after c.mode c.notation (suc k) c.element, refl)
+  | inr off ↦ rw off (c.element, refl)
+]
+
+pub are_quiet : (gate : Bool) (c : CounterState) (k : ℕ) → k < quiet_pulses gate c → IsQuiet gate (pulses_of gate k c)
+are_quiet gate c k h =
+    let next = next_element gate c k in
+    subst (IsQuiet gate) (sym (quietly gate c k (omega arith)).state) (next.0, pulses_quietly gate c k h ∙ next.1)

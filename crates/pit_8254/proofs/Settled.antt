@@ -172,31 +172,31 @@ settle TerminalCount gate triggered c m t kept some =
 settle OneShot gate triggered c m t kept some =
     by_cond (IsSettled OneShot gate) triggered _ _
     (λ yes_triggered.
-        let w = some_count OneShot c.count c.load_asked c.started kept (some yes_triggered) in
-        rw (load_is OneShot c w.number m w.is) (record { mode = m; trigger = t; kept = kept_written OneShot c.count false true w; by_mode = (refl, λ on out. w.least) }))
+    let w = some_count OneShot c.count c.load_asked c.started kept (some yes_triggered) in
+    rw (load_is OneShot c w.number m w.is) (record { mode = m; trigger = t; kept = kept_written OneShot c.count false true w; by_mode = (refl, λ on out. w.least) }))
     (λ not_triggered. by_cond (IsSettled OneShot gate) c.started _ _
     (λ on. end_settles_one_shot gate c m t kept)
     (λ off. record { mode = m; trigger = t; kept = kept; by_mode = (refl, λ on. absurd (true≢false (sym on ∙ off))) }))
 settle RateGenerator gate triggered c m t kept some =
     by_cond (IsSettled RateGenerator gate) (c.load_asked || triggered) _ _
     (λ due.
-        let w = due_count RateGenerator c.count c.load_asked c.started triggered kept some due in
-        rw (load_is RateGenerator c w.number m w.is) (record { mode = m; trigger = t; kept = kept_written RateGenerator c.count false true w; by_mode = (refl, λ on. let least = w.least in omega arith) }))
+    let w = due_count RateGenerator c.count c.load_asked c.started triggered kept some due in
+    rw (load_is RateGenerator c w.number m w.is) (record { mode = m; trigger = t; kept = kept_written RateGenerator c.count false true w; by_mode = (refl, λ on. let least = w.least in omega arith) }))
     (λ free.
-        let asked = (or_parts c.load_asked triggered free).0 in
-        by_cond (IsSettled RateGenerator gate) (c.started && gate) _ _
-        (λ on. reload_settles gate c m t asked (started_count RateGenerator c.count c.load_asked c.started kept (and_parts c.started gate on).0))
-        (λ off. record { mode = m; trigger = t; kept = kept; by_mode = (asked, λ on. absurd (true≢false (sym on ∙ off))) }))
+    let asked = (or_parts c.load_asked triggered free).0 in
+    by_cond (IsSettled RateGenerator gate) (c.started && gate) _ _
+    (λ on. reload_settles gate c m t asked (started_count RateGenerator c.count c.load_asked c.started kept (and_parts c.started gate on).0))
+    (λ off. record { mode = m; trigger = t; kept = kept; by_mode = (asked, λ on. absurd (true≢false (sym on ∙ off))) }))
 settle SquareWave gate triggered c m t kept some =
     by_cond (IsSettled SquareWave gate) (c.load_asked || triggered) _ _
     (λ due.
-        let w = due_count SquareWave c.count c.load_asked c.started triggered kept some due in
-        rw (load_is SquareWave c w.number m w.is) (record { mode = m; trigger = t; kept = kept_written SquareWave c.count false true w; by_mode = refl }))
+    let w = due_count SquareWave c.count c.load_asked c.started triggered kept some due in
+    rw (load_is SquareWave c w.number m w.is) (record { mode = m; trigger = t; kept = kept_written SquareWave c.count false true w; by_mode = refl }))
     (λ free.
-        let asked = (or_parts c.load_asked triggered free).0 in
-        by_cond (IsSettled SquareWave gate) (c.started && gate) _ _
-        (λ on. half_settles gate c m t asked (started_count SquareWave c.count c.load_asked c.started kept (and_parts c.started gate on).0))
-        (λ off. record { mode = m; trigger = t; kept = kept; by_mode = asked }))
+    let asked = (or_parts c.load_asked triggered free).0 in
+    by_cond (IsSettled SquareWave gate) (c.started && gate) _ _
+    (λ on. half_settles gate c m t asked (started_count SquareWave c.count c.load_asked c.started kept (and_parts c.started gate on).0))
+    (λ off. record { mode = m; trigger = t; kept = kept; by_mode = asked }))
 settle SoftwareStrobe gate triggered c m t kept some =
     let d = record c { out = true } in
     by_cond (IsSettled SoftwareStrobe gate) c.load_asked _ _

@@ -65,7 +65,11 @@ impl Model for Counter {
 impl Counter {
     /// A counter after a control word.
     #[tactic(auto, unfolding(device_spec::specs::Pit::programmed))]
-    pub fn programmed(access: ByteAccess, mode: CountingMode, notation: CountNotation) -> Counter
+    pub(crate) fn programmed(
+        access: ByteAccess,
+        mode: CountingMode,
+        notation: CountNotation,
+    ) -> Counter
         ensures state { result ≡ programmed (access_view access) (mode_view mode) (notation_view notation) }
     {
         Counter {
@@ -101,7 +105,7 @@ impl Counter {
     }
 
     /// The level of OUT.
-    pub fn out(&self) -> bool
+    pub(crate) fn out(&self) -> bool
         ensures level { result ≡ self.now.out }
     {
         self.out
@@ -109,7 +113,7 @@ impl Counter {
 
     /// A control word for this counter: the counter latch command, or the counter anew.
     #[tactic(auto, unfolding(device_spec::specs::Pit::control))]
-    pub fn control(&mut self, word: u8)
+    pub(crate) fn control(&mut self, word: u8)
         ensures state { self.new ≡ control word self.old }
     {
         match ByteAccess::of_word(word) {
@@ -126,7 +130,7 @@ impl Counter {
 
     /// A read-back command for this counter: bit 5 at 0 latches the count, bit 4 at 0 the status.
     #[tactic(auto, unfolding(device_spec::specs::Pit::read_back))]
-    pub fn read_back(&mut self, word: u8)
+    pub(crate) fn read_back(&mut self, word: u8)
         ensures state { self.new ≡ read_back word self.old }
     {
         if word / 32 % 2 == 0 {
@@ -186,7 +190,7 @@ impl Counter {
 
     /// A read of the counter's port: a latched status, else a latched count, else CE live.
     #[tactic(auto, unfolding(device_spec::specs::Pit::read))]
-    pub fn read(&mut self) -> u8
+    pub(crate) fn read(&mut self) -> u8
         ensures byte { result ≡ (read self.old).0 }
         ensures state { self.new ≡ (read self.old).1 }
     {
@@ -228,7 +232,7 @@ impl Counter {
 
     /// A write of a byte at the counter's port; in mode 0 it sets OUT to 0.
     #[tactic(auto, unfolding(device_spec::specs::Pit::write))]
-    pub fn write(&mut self, byte: u8)
+    pub(crate) fn write(&mut self, byte: u8)
         ensures state { self.new ≡ write byte self.old }
     {
         if self.mode.is_terminal_count() {
@@ -290,7 +294,7 @@ impl Counter {
 
     /// A rise of the gate, which is a trigger in modes 1, 2, 3 and 5.
     #[tactic(auto, unfolding(device_spec::specs::Pit::gate_rises))]
-    pub fn gate_rises(&mut self)
+    pub(crate) fn gate_rises(&mut self)
         ensures state { self.new ≡ gate_rises self.old }
     {
         self.trigger = self.trigger || self.mode.is_triggered_by_gate();
@@ -298,7 +302,7 @@ impl Counter {
 
     /// A fall of the gate, which sets OUT to 1 in modes 2 and 3.
     #[tactic(auto, unfolding(device_spec::specs::Pit::gate_falls))]
-    pub fn gate_falls(&mut self)
+    pub(crate) fn gate_falls(&mut self)
         ensures state { self.new ≡ gate_falls self.old }
     {
         self.out = self.out || self.mode.is_periodic();

@@ -11,10 +11,9 @@ mod latch;
 mod word;
 
 use board_base::Steps;
+pub use counting::Counter;
 use std::marker::{Brand, Model};
 use std::sync::ledger::{Blank, Ledger};
-
-pub use counting::Counter;
 
 /// The port of counter 0; those of counters 1 and 2 follow.
 pub const COUNTER_0: u16 = 0x40;
@@ -166,12 +165,12 @@ impl Pit {
         self.pulses_counted(n, &mut steps)
     }
 
-    /// Runs the clock for `n` pulses, in at most 16 steps a counter, however many they are.
+    /// Runs the clock for `n` pulses, in at most four steps a counter, however many they are.
     pub fn pulses_counted<L: Ledger>(&mut self, n: u32, steps: &mut Steps<L>) -> Rises
         ensures state { self.new ≡ pulses n self.old }
         ensures rose { result.rose ≡ rises n self.old }
         ensures out0 { result.out0 ≡ self.new.counter0.out }
-        ensures steps { steps.new ≤ steps.old + 48 }
+        ensures steps { steps.new ≤ steps.old + 12 }
     {
         let rose = self.counter0.pulses(true, n, steps);
         let _ = self.counter1.pulses(true, n, steps);

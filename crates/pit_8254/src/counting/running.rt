@@ -1,8 +1,8 @@
 //! Many pulses of a counter at once: those that change nothing but CE, and whole periods, are counted and not made.
-ghost use Rattle.std.specs.Prelude.{◌≡◌, ◌+◌, ◌-◌, ◌<◌, ◌≤◌, ◌⊎◌, true, false};
+ghost use Rattle.std.specs.Prelude.{ℕ, ◌≡◌, ◌+◌, ◌-◌, ◌<◌, ◌≤◌, ◌⊎◌, true, false};
 ghost use Rattle.device_spec.specs.Pit.{TerminalCount, OneShot, SoftwareStrobe, HardwareStrobe, is_periodic, half_end, pulse};
 ghost use Rattle.device_spec.specs.PitLaws.{pulses_of};
-ghost use Rattle.pit_8254.specs.Quiet.{is_due, counts, pulses_in_half, counted_quietly, quiet_pulses, lowered, element_after, after_quiet, rise, rises_of};
+ghost use Rattle.pit_8254.specs.Quiet.{is_due, counts, pulses_in_half, counted_quietly, quiet_pulses, lowered, element_after, after_quiet, rise, rises_of, IsQuiet};
 ghost use Rattle.pit_8254.specs.Runs.{IsPart, HasRoom, IsSettled, IsAtPeriod};
 ghost use Rattle.pit_8254.specs.View.{notation_view};
 
@@ -16,9 +16,10 @@ const EVERY_PULSE: u32 = u32::MAX;
 
 impl Counter {
     /// How many of the pulses that come next change nothing but CE, with the gate at this level.
-    #[tactic(auto, unfolding(crate::specs::Quiet::quiet_pulses))]
+    #[tactic(auto, using(crate::proofs::Quiet::are_quiet), unfolding(crate::specs::Quiet::quiet_pulses))]
     fn quiet_pulses(&self, gate: bool) -> u32
         ensures number { result ≡ quiet_pulses gate self.now }
+        ensures quiet { (k : ℕ) → k < result → IsQuiet gate (pulses_of gate k self.now) }
     {
         if self.trigger || self.is_due() {
             return 0;
@@ -223,7 +224,8 @@ impl Counter {
         ensures steps { steps.new ≤ steps.old + 2 }
     {
         let run = self.advance(gate, run, steps);
-        if self.out() {
+        let begins = self.out();
+        if begins {
             return run;
         }
         self.advance(gate, run, steps)
@@ -256,11 +258,11 @@ impl Counter {
         self.skip(gate, run)
     }
 
-    /// So many pulses with the gate at this level: tells how often OUT rose. It takes at most 16 steps.
+    /// So many pulses with the gate at this level: tells how often OUT rose. It takes at most four steps.
     pub(crate) fn pulses<L: Ledger>(&mut self, gate: bool, pulses: u32, steps: &mut Steps<L>) -> u32
         ensures state { self.new ≡ pulses_of gate pulses self.old }
         ensures rose { result ≡ rises_of gate pulses self.old }
-        ensures steps { steps.new ≤ steps.old + 16 }
+        ensures steps { steps.new ≤ steps.old + 4 }
     {
         let run = Run {
             left: pulses,

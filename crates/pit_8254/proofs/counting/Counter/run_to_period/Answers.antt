@@ -4,8 +4,8 @@ use Rattle.pit_8254.proofs.Arrivals.{comes, arrives_high, arrives_low}
 use Rattle.pit_8254.proofs.Runs.{part_join, room_kept}
 use Rattle.pit_8254.proofs.counting.Counter.run_to_period.Goals as goal
 
-pub returns-then-out-clause-arrives : goal.returns-then-out-clause-arrives
-returns-then-out-clause-arrives g c = λ some.
+pub returns-then-begins-clause-arrives : goal.returns-then-begins-clause-arrives
+returns-then-begins-clause-arrives g c = λ some.
     arrives_high c.args.gate c.args.self.now c.advance-run.new.self c.args.run c.advance-run.result c.advance-run.ensures.part c.advance-run.ensures.left
     (omega arith) (cc) (comes c.args.gate c.args.self.now c.requires.mode c.requires.settled) some
 
