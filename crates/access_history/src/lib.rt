@@ -2,6 +2,7 @@
 #![tactic(auto)]
 
 mod history;
+mod kept;
 
 pub use board_spec::{Entry, Event, Look, Reply};
 pub use history::History;

@@ -1,8 +1,15 @@
 //! Entries go in at one end, and room that was reserved stays.
 
+ghost use Rattle.std.specs.Prelude.{◌≡◌};
+ghost use Rattle.bus_turn.specs.Passes.{IsIdle, IsSameCaller, HasSameJoined, number_of};
+ghost use Rattle.bus_turn.specs.Turns.{IsOf};
+
 use crate::{Entry, Event, History, Reply};
 use board_base::{Dev, Target};
+use bus_turn::{Pass, Turn};
+use std::sync::Wait;
 use std::test::Fail;
+use std::thread;
 
 /// The interrupt acknowledge of a processor, which is its first entry.
 const fn acknowledged(actor: u8, vector: u32) -> Entry {
@@ -33,5 +40,75 @@ fn entries_stand_in_the_order_in_which_they_came(rt: HostRuntime) -> Result<(), 
     assert_eq!(rt; *history.entry(0), acknowledged(0, 0x08));
     assert_eq!(rt; *history.entry(1), acknowledged(1, 0x0B));
     assert_eq!(rt; history.entries().len(), 2);
+    Ok(())
+}
+
+/// One turn, in which the caller adds its entry of this number where there is room.
+fn add<R: Wait>(rt: &R, turn: &Turn<History>, pass: &mut Pass<History>, actor: u8, seq: u32)
+    requires own { IsOf turn.now pass.old }
+    requires idle { IsIdle pass.old }
+    requires number { actor ≡ number_of pass.old }
+    ensures own { IsOf turn.now pass.new }
+    ensures idle { IsIdle pass.new }
+    ensures same { IsSameCaller pass.old pass.new × HasSameJoined pass.old pass.new }
+{
+    let mut held = turn.take(rt, pass);
+    if held.value.spare() > 0 {
+        held.value.push(Entry {
+            actor,
+            seq,
+            ..acknowledged(actor, 0x08)
+        });
+        turn.commit(pass, &mut held);
+    }
+    turn.give(pass, held);
+}
+
+/// Some turns.
+fn add_all<R: Wait>(
+    rt: &R,
+    turn: &Turn<History>,
+    mut pass: Pass<History>,
+    actor: u8,
+    turns: u32,
+) -> Pass<History>
+    requires own { IsOf turn.now pass }
+    requires idle { IsIdle pass }
+    requires number { actor ≡ number_of pass }
+    ensures own { IsOf turn.now result }
+    ensures idle { IsIdle result }
+    ensures same { IsSameCaller pass result × HasSameJoined pass result }
+{
+    for seq in 1..=turns {
+        add(rt, turn, &mut pass, actor, seq);
+    }
+    pass
+}
+
+#[test]
+fn entries_of_two_threads_stand_in_their_order(rt: HostRuntime) -> Result<(), Fail> {
+    let mut history = History::new(rt.alloc());
+    history.reserve(200)?;
+    let Ok((turn, mut first)) = Turn::open(rt.alloc(), history) else {
+        panic!(rt; "there was no memory")
+    };
+    let second = turn.split(&mut first);
+    let (shared, host) = (&turn, &rt);
+    let (mut first, second) = thread::join(
+        host,
+        move || add_all(host, shared, first, 0, 100),
+        move || add_all(host, shared, second, 1, 100),
+    );
+    turn.join(&mut first, second);
+    let history = turn.close(first);
+    for actor in 0..2u8 {
+        let numbers = history
+            .entries()
+            .iter()
+            .filter(|entry| entry.actor == actor)
+            .map(|entry| entry.seq);
+        assert!(rt; numbers.eq(1..=100));
+    }
+    assert_eq!(rt; history.len(), 200);
     Ok(())
 }

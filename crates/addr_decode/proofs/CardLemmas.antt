@@ -1,37 +1,42 @@
 -- The cards in a list by their device numbers, and the bytes of their registers.
-use Rattle.std.proofs.Common.{◌≡◌, ◌≢◌, ℕ, zero, suc, ◌+◌, ◌*◌, ◌<◌, ◌≤◌, ◌⊎◌, inl, inr, Bool, true, false, List, [], ◌∷◌, length, get_or, set, Option, Some, None, refl, sym, ◌∙◌, ap, subst, arith, get_or-set_same, get_or-set_other, length-set}
-use Rattle.std.specs.Prelude.{◌==◌, is_some, find}
+use Rattle.std.proofs.Common.{◌≡◌, ◌≢◌, ℕ, zero, suc, ◌+◌, ◌*◌, ◌<◌, ◌≤◌, ◌⊎◌, inl, inr, Bool, true, false, List, [], ◌∷◌, ◌++◌, take, length, get_or, set, Bor, Option, Some, None, refl, sym, ◌∙◌, ap, subst, arith, get_or-set_same, get_or-set_other, length-set}
+use Rattle.std.specs.Prelude.{◌==◌, All, is_some, option_map, find, slice_index}
 use Rattle.std.specs.List.{position, position_from}
 use Rattle.std.proofs.Math.Seq.{map-set_same}
 use Rattle.std.proofs.lemmas.Bool.{cases_Bool, cases_eq, cases_lt, cond-true, cond-false, eq-eqb, ne_eqb, eqb-true}
-use Rattle.std.proofs.lemmas.List.{get_or-map, length-map}
+use Rattle.std.proofs.lemmas.List.{get_or-map, length-map, take_all, take_more}
 use Rattle.std.proofs.lemmas.List.Quantifiers.{position-Some}
 use Rattle.std.proofs.lemmas.Iterator.Adapters.{position_from-zero}
+use Rattle.board_base.specs.declared.target.Reg.{Reg}
 use Rattle.board_spec.specs.Setup.{Setup, FittedCard, IsCard, IsCardList, Rises, card_at}
 use Rattle.board_spec.specs.RegisterTable.{reset_byte}
-use Rattle.board_spec.specs.Decode.{Bytes, base_value}
-use Rattle.board_spec.specs.RegisterNames.{card_register}
-use Rattle.pci_bars.specs.Cards.{CardBytes, DecodesAs, AreCards, AreDecoded, cards_of}
-use Rattle.addr_decode.specs.MapRegs.{AreFitted, AreReset, stored}
-use Rattle.addr_decode.proofs.StoreLemmas.{stored-elsewhere}
+use Rattle.board_spec.specs.Decode.{Bytes}
+use Rattle.board_spec.specs.RegisterNames.{card_register, base_register, expansion_rom}
+use Rattle.pci_bars.specs.declared.regs.CardRegs.{CardRegs}
+use Rattle.pci_bars.specs.Cards.{CardBytes, HoldsRom, DecodesAs, IsCardOf, AreCardsOf, AreCards, AreDecoded, cards_of, AreFitted, AreReset}
+use Rattle.addr_decode.specs.MapRegs.{stored}
+use Rattle.pci_bars.proofs.CardLemmas.{holds-same, card-apart}
+use Rattle.addr_decode.proofs.StoreLemmas.{stored-elsewhere, in_function_0}
 
--- the offsets on which the address map depends
-abbrev pub IsMapOffset : ℕ → Type 0
-IsMapOffset off = (off ≡ 0x04) ⊎ ((0x10 ≤ off) × (off ≤ 0x27))
+-- the offsets on which the address map depends: command, bases, and the register of an expansion ROM
+abbrev pub IsMapOffset : (rom : Option ℕ) → ℕ → Type 0
+IsMapOffset rom off = (off ≡ 0x04) ⊎ ((0x10 ≤ off) × (off ≤ 0x27)) ⊎ ((is_some rom ≡ true) × (0x30 ≤ off) × (off ≤ 0x33))
 
-abbrev pub SameCard : (bytes bytes' : Bytes) → ℕ → Type 0
-SameCard bytes bytes' dev = (off : ℕ) → IsMapOffset off → bytes' (card_register dev off) ≡ bytes (card_register dev off)
+abbrev pub SameCard : (bytes bytes' : Bytes) → (rom : Option ℕ) → ℕ → Type 0
+SameCard bytes bytes' rom dev = (off : ℕ) → IsMapOffset rom off → bytes' (card_register dev off) ≡ bytes (card_register dev off)
 
-same_base : (bytes bytes' : Bytes) (dev k : ℕ) → k < 6 → SameCard bytes bytes' dev → base_value bytes' dev k ≡ base_value bytes dev k
-same_base bytes bytes' dev k below same =
-    rw (same (0x10 + 4 * k) (inr (omega arith, omega arith)), same (0x10 + 4 * k + 1) (inr (omega arith, omega arith)), same (0x10 + 4 * k + 2) (inr (omega arith, omega arith)), same (0x10 + 4 * k + 3) (inr (omega arith, omega arith))) refl
+same_rom : (bytes bytes' : Bytes) (dev register : ℕ) (rom : Option ℕ) → SameCard bytes bytes' rom dev → HoldsRom bytes dev register rom → HoldsRom bytes' dev register rom
+same_rom bytes bytes' dev register None same is = is
+same_rom bytes bytes' dev register (Some bits) same is =
+    holds-same bytes bytes' (expansion_rom dev) register (λ j below. same (0x30 + j) (inr (inr (refl, omega arith, omega arith)))) is
 
-pub decodes-same : (setup : Setup) (bytes bytes' : Bytes) (card : CardBytes) → SameCard bytes bytes' card.card.dev → DecodesAs setup bytes card → DecodesAs setup bytes' card
+pub decodes-same : (setup : Setup) (bytes bytes' : Bytes) (card : CardBytes) → SameCard bytes bytes' card.card.rom card.card.dev → DecodesAs setup bytes card → DecodesAs setup bytes' card
 decodes-same setup bytes bytes' card same is = record {
   fitted = is.fitted;
   command = same 0x04 (inl refl) ∙ is.command;
-  bases = λ k below. same_base bytes bytes' card.card.dev k below same ∙ is.bases k below;
-  base_bytes = λ k j k_below j_below. same (0x10 + 4 * k + j) (inr (omega arith, omega arith)) ∙ is.base_bytes k j k_below j_below;
+  bases = λ k below.
+      holds-same bytes bytes' (base_register card.card.dev k) (slice_index card.bases k) (λ j j_below. same (0x10 + 4 * k + j) (inr (inl (omega arith, omega arith)))) (is.bases k below);
+  rom = same_rom bytes bytes' card.card.dev card.rom card.card.rom same is.rom;
 }
 
 true_is_not_false : (b : Bool) → b ≡ true → b ≡ false → ⊥
@@ -54,6 +59,10 @@ fitted_is setup cards dev same =
     ap (λ (place : Option ℕ). is_some place) (position_from-zero (λ card. card.card.dev == dev) cards)
     ∙ sym (found_from cards dev 0)
     ∙ ap (λ (fitted : List FittedCard). is_some (find (λ card. card.dev == dev) fitted)) (sym same)
+
+pub some_card : (lent : Option (Bor CardRegs)) → is_some lent ≡ is_some (option_map (λ card. card.now.card) lent)
+some_card None = refl
+some_card (Some card) = refl
 
 -- ---- the devices rise
 
@@ -89,36 +98,79 @@ stored_beside setup bytes dev off written card apart is =
     decodes-same setup bytes (stored setup bytes (card_register dev off) written) card
     (λ at _. stored-elsewhere setup bytes (card_register dev off) written (card_register card.card.dev at) (inl (λ same. apart (sym same)))) is
 
--- the card at a place becomes another state of the same card, in which the byte is stored
-pub card_written :
-    (setup : Setup) (bytes : Bytes) (cards : List CardBytes) (dev off written i : ℕ) (old new : CardBytes) → Rises (cards_of cards) →
-    position (λ card. card.card.dev == dev) cards ≡ Some i → old ≡ get_or cards i old → new.card ≡ old.card →
-    (DecodesAs setup bytes old → DecodesAs setup (stored setup bytes (card_register old.card.dev off) written) new) →
-    AreDecoded setup bytes cards → AreDecoded setup (stored setup bytes (card_register dev off) written) (set cards i new)
-card_written setup bytes cards dev off written i old new rises at_i is_old same_card step are =
+-- all registers of a card where its bytes are the same
+card-same : (setup : Setup) (bytes bytes' : Bytes) (card : CardBytes) →
+    ((off : ℕ) → bytes' (card_register card.card.dev off) ≡ bytes (card_register card.card.dev off)) → IsCardOf setup bytes card → IsCardOf setup bytes' card
+card-same setup bytes bytes' card same is = record {
+  decodes = decodes-same setup bytes bytes' card (λ off _. same off) is.decodes;
+  line = same 0x3C ∙ is.line;
+  fixed = λ off fixed. same off ∙ is.fixed off fixed;
+}
+
+card_beside : (setup : Setup) (bytes : Bytes) (at : Reg) (written : ℕ) (card : CardBytes) → (at.dev ≢ card.card.dev) ⊎ (at.fun ≢ 0) →
+    IsCardOf setup bytes card → IsCardOf setup (stored setup bytes at written) card
+card_beside setup bytes at written card (inl dev) is =
+    card-same setup bytes (stored setup bytes at written) card (λ off. stored-elsewhere setup bytes at written (card_register card.card.dev off) (inl dev)) is
+card_beside setup bytes at written card (inr fun) is =
+    card-same setup bytes (stored setup bytes at written) card (λ off. stored-elsewhere setup bytes at written (card_register card.card.dev off) (inr (inl fun))) is
+
+-- the card at a place becomes another state of it, and what holds of the others still does
+all_written :
+    (P Q : CardBytes → Type 0) (cards : List CardBytes) (dev i : ℕ) (old new : CardBytes) → Rises (cards_of cards) →
+    position (λ card. card.card.dev == dev) cards ≡ Some i → old ≡ get_or cards i old → (old.card.dev ≡ dev → P old → Q new) →
+    ((card : CardBytes) → card.card.dev ≢ dev → P card → Q card) → All P cards → All Q (set cards i new)
+all_written P Q cards dev i old new rises at_i is_old step beside each =
     let found : (i < length cards) × (((get_or cards i old).card.dev == dev) ≡ true) × ((j : ℕ) → j < i → ((get_or cards j old).card.dev == dev) ≡ false) =
     position-Some (λ card. card.card.dev == dev) cards i old at_i in
-    let dev_is : old.card.dev ≡ dev = ap (λ (card : CardBytes). card.card.dev) is_old ∙ eqb-true _ _ found.1 in
-    let old_decodes : DecodesAs setup bytes old = subst (DecodesAs setup bytes) (sym is_old) (are.1 i old found.0) in
-    let new_decodes : DecodesAs setup (stored setup bytes (card_register dev off) written) new =
-    subst (λ (at : ℕ). DecodesAs setup (stored setup bytes (card_register at off) written) new) dev_is (step old_decodes) in (
-      are.0 ∙ sym (map-set_same (λ (it : CardBytes). it.card) cards i new old (same_card ∙ ap (λ (card : CardBytes). card.card) is_old)),
-      (λ k d within.
-          let in_list : k < length cards = omega (arith, length-set {A = CardBytes}) in
-          elim (cases_eq k i) [
-            | inl here ↦ subst (λ (j : ℕ). DecodesAs setup (stored setup bytes (card_register dev off) written) (get_or (set cards i new) j d)) (sym here)
-                (subst (DecodesAs setup (stored setup bytes (card_register dev off) written)) (sym (get_or-set_same cards i new d found.0)) new_decodes)
-            | inr apart ↦
-                subst (DecodesAs setup (stored setup bytes (card_register dev off) written)) (sym (get_or-set_other cards i k new d apart))
-                (stored_beside setup bytes dev off written (get_or cards k d) (others_differ cards dev i k d rises at_i in_list apart) (are.1 k d in_list))
-          ]),
-    )
+    let here : Q new =
+    step (ap (λ (card : CardBytes). card.card.dev) is_old ∙ eqb-true _ _ found.1) (subst P (sym is_old) (each i old found.0)) in
+    λ k d within.
+    let in_list : k < length cards = omega (arith, length-set {A = CardBytes}) in
+    elim (cases_eq k i) [
+      | inl same ↦ subst (λ (j : ℕ). Q (get_or (set cards i new) j d)) (sym same) (subst Q (sym (get_or-set_same cards i new d found.0)) here)
+      | inr apart ↦
+          subst Q (sym (get_or-set_other cards i k new d apart))
+          (beside (get_or cards k d) (others_differ cards dev i k d rises at_i in_list apart) (each k d in_list))
+    ]
 
 -- the cards are still these cards
 pub card_kept : (cards : List CardBytes) (i : ℕ) (old new : CardBytes) → old ≡ get_or cards i old → new.card ≡ old.card →
     cards_of (set cards i new) ≡ cards_of cards
 card_kept cards i old new is_old same_card =
     map-set_same (λ (it : CardBytes). it.card) cards i new old (same_card ∙ ap (λ (card : CardBytes). card.card) is_old)
+
+-- the registers of the cards after a byte is stored in the card at a place
+pub card_written :
+    (setup : Setup) (bytes : Bytes) (cards : List CardBytes) (dev off written i : ℕ) (old new : CardBytes) → Rises (cards_of cards) →
+    position (λ card. card.card.dev == dev) cards ≡ Some i → old ≡ get_or cards i old → new.card ≡ old.card →
+    (DecodesAs setup bytes old → DecodesAs setup (stored setup bytes (card_register old.card.dev off) written) new) →
+    AreDecoded setup bytes cards → AreDecoded setup (stored setup bytes (card_register dev off) written) (set cards i new)
+card_written setup bytes cards dev off written i old new rises at_i is_old same_card step are = (
+  are.0 ∙ sym (card_kept cards i old new is_old same_card),
+  all_written (DecodesAs setup bytes) (DecodesAs setup (stored setup bytes (card_register dev off) written)) cards dev i old new rises at_i is_old
+      (λ dev_is is. subst (λ (at : ℕ). DecodesAs setup (stored setup bytes (card_register at off) written) new) dev_is (step is))
+      (stored_beside setup bytes dev off written) are.1,
+)
+
+pub all_card_written :
+    (setup : Setup) (bytes : Bytes) (cards : List CardBytes) (dev off written i : ℕ) (old new : CardBytes) → Rises (cards_of cards) →
+    position (λ card. card.card.dev == dev) cards ≡ Some i → old ≡ get_or cards i old → new.card ≡ old.card →
+    (IsCardOf setup bytes old → IsCardOf setup (stored setup bytes (card_register old.card.dev off) written) new) →
+    AreCardsOf setup bytes cards → AreCardsOf setup (stored setup bytes (card_register dev off) written) (set cards i new)
+all_card_written setup bytes cards dev off written i old new rises at_i is_old same_card step are = (
+  are.0 ∙ sym (card_kept cards i old new is_old same_card),
+  all_written (IsCardOf setup bytes) (IsCardOf setup (stored setup bytes (card_register dev off) written)) cards dev i old new rises at_i is_old
+      (λ dev_is is. subst (λ (at : ℕ). IsCardOf setup (stored setup bytes (card_register at off) written) new) dev_is (step is))
+      (λ card apart is. card_beside setup bytes (card_register dev off) written card (inl (λ same. apart (sym same))) is) are.1,
+)
+
+-- no card of the setup has the device number of none in the list
+differs : (setup : Setup) (cards : List CardBytes) (dev : ℕ) (card : CardBytes) → setup.cards ≡ cards_of cards →
+    position (λ card. card.card.dev == dev) cards ≡ None → card_at setup card.card.dev ≡ Some card.card → card.card.dev ≢ dev
+differs setup cards dev card same none fitted here =
+    true_is_not_false (is_some (card_at setup dev))
+    (ap (λ (at : ℕ). is_some (card_at setup at)) (sym here) ∙ ap (λ (card : Option FittedCard). is_some card) fitted)
+    (sym (fitted_is setup cards dev same) ∙ ap (λ (place : Option ℕ). is_some place) none)
 
 -- where no card has the device number no card changes
 pub no_card_written :
@@ -128,10 +180,60 @@ no_card_written setup bytes cards dev off written none are = (
   are.0,
   (λ k d within.
       let is : DecodesAs setup bytes (get_or cards k d) = are.1 k d within in
-      stored_beside setup bytes dev off written (get_or cards k d)
-      (λ same. true_is_not_false (is_some (card_at setup dev))
-      (ap (λ (at : ℕ). is_some (card_at setup at)) (sym same) ∙ ap (λ (card : Option FittedCard). is_some card) is.fitted)
-      (sym (fitted_is setup cards dev are.0) ∙ ap (λ (place : Option ℕ). is_some place) none)) is),
+      stored_beside setup bytes dev off written (get_or cards k d) (differs setup cards dev (get_or cards k d) are.0 none is.fitted) is),
+)
+
+pub no_card_written_at_all :
+    (setup : Setup) (bytes : Bytes) (cards : List CardBytes) (dev off written : ℕ) → position (λ card. card.card.dev == dev) cards ≡ None →
+    AreCardsOf setup bytes cards → AreCardsOf setup (stored setup bytes (card_register dev off) written) cards
+no_card_written_at_all setup bytes cards dev off written none are = (
+  are.0,
+  (λ k d within.
+      let is : IsCardOf setup bytes (get_or cards k d) = are.1 k d within in
+      card_beside setup bytes (card_register dev off) written (get_or cards k d)
+      (inl (λ same. differs setup cards dev (get_or cards k d) are.0 none is.decodes.fitted (sym same))) is),
+)
+
+-- a byte that is stored in no card leaves them all
+pub cards_beside : (setup : Setup) (bytes : Bytes) (at : Reg) (written : ℕ) (cards : List CardBytes) → AreCards cards → (at.dev < 2) ⊎ (at.fun ≢ 0) →
+    AreCardsOf setup bytes cards → AreCardsOf setup (stored setup bytes at written) cards
+cards_beside setup bytes at written cards each (inl low) are = (
+  are.0,
+  (λ k d within. card_beside setup bytes at written (get_or cards k d) (inl (omega (arith, (each k d within).first))) (are.1 k d within)),
+)
+cards_beside setup bytes at written cards each (inr fun) are = (
+  are.0,
+  (λ k d within. card_beside setup bytes at written (get_or cards k d) (inr fun) (are.1 k d within)),
+)
+
+-- nor does one past offset FFh change any
+past_card : (setup : Setup) (bytes : Bytes) (at : Reg) (written : ℕ) (card : CardBytes) → IsCard card.card → written < 256 → 256 ≤ at.off →
+    IsCardOf setup bytes card → IsCardOf setup (stored setup bytes at written) card
+past_card setup bytes at written card fit below past is =
+    elim (cases_eq at.dev card.card.dev) [
+      | inr apart ↦ card_beside setup bytes at written card (inl apart) is
+      | inl same ↦
+          elim (cases_eq at.fun 0) [
+            | inr fun ↦ card_beside setup bytes at written card (inr fun) is
+            | inl zero' ↦
+                subst (λ (reg : Reg). IsCardOf setup (stored setup bytes reg written) card) (in_function_0 at card.card.dev same zero')
+                (card-apart setup bytes card at.off written fit below
+                (record { command = λ e. omega arith; bases = inr (omega arith); rom = inr (omega arith) }) (λ e. omega arith) is)
+          ]
+    ]
+
+pub cards_past : (setup : Setup) (bytes : Bytes) (at : Reg) (written : ℕ) (cards : List CardBytes) → AreCards cards → written < 256 → 256 ≤ at.off →
+    AreCardsOf setup bytes cards → AreCardsOf setup (stored setup bytes at written) cards
+cards_past setup bytes at written cards each below past are = (
+  are.0,
+  (λ k d within. past_card setup bytes at written (get_or cards k d) (each k d within) below past (are.1 k d within)),
+)
+
+pub cards_are-same : (setup : Setup) (bytes bytes' : Bytes) (cards : List CardBytes) → ((reg : Reg) → bytes' reg ≡ bytes reg) →
+    AreCardsOf setup bytes cards → AreCardsOf setup bytes' cards
+cards_are-same setup bytes bytes' cards same are = (
+  are.0,
+  (λ k d within. card-same setup bytes bytes' (get_or cards k d) (λ off. same (card_register (get_or cards k d).card.dev off)) (are.1 k d within)),
 )
 
 -- ---- after a reset
@@ -146,9 +248,9 @@ find_at (card ∷ later) rises (suc k) d within =
     cond-false (card.dev == (get_or later k d).dev) (Some card) (find (λ other. other.dev == (get_or later k d).dev) later) (ne_eqb _ _ (omega arith))
     ∙ find_at later rises.1 k d (omega arith)
 
-pub reset_decoded : (setup : Setup) (cards : List CardBytes) → AreFitted cards → AreReset cards → setup.cards ≡ cards_of cards →
-    AreDecoded setup (reset_byte setup) cards
-reset_decoded setup cards fitted reset same = (
+pub reset_cards : (setup : Setup) (cards : List CardBytes) → AreFitted cards → AreReset cards → setup.cards ≡ cards_of cards →
+    AreCardsOf setup (reset_byte setup) cards
+reset_cards setup cards fitted reset same = (
   same,
   (λ k d within.
       reset k d within setup
@@ -157,6 +259,29 @@ reset_decoded setup cards fitted reset same = (
       (get_or-map (λ (it : CardBytes). it.card) cards k d d.card within)
       (find_at (cards_of cards) fitted.rises k d.card (omega (arith, length-map cards (λ (it : CardBytes). it.card)))))),
 )
+
+pub reset_decoded : (setup : Setup) (cards : List CardBytes) → AreFitted cards → AreReset cards → setup.cards ≡ cards_of cards →
+    AreDecoded setup (reset_byte setup) cards
+reset_decoded setup cards fitted reset same =
+    let are = reset_cards setup cards fitted reset same in (are.0, (λ k d within. (are.1 k d within).decodes))
+
+-- one card more
+pub one_more_pushed : (items : List CardBytes) (i : ℕ) (item : CardBytes) (pushed : List FittedCard) (spec : FittedCard) → i < length items →
+    item ≡ get_or items i item → spec ≡ item.card → pushed ≡ take i (cards_of items) ++ spec ∷ [] → pushed ≡ take (i + 1) (cards_of items)
+one_more_pushed items i item pushed spec within at_i same is =
+    let here : get_or (cards_of items) i item.card ≡ spec =
+    get_or-map (λ (it : CardBytes). it.card) items i item item.card within ∙ ap (λ (it : CardBytes). it.card) (sym at_i) ∙ sym same in
+    is
+    ∙ ap (λ (it : FittedCard). take i (cards_of items) ++ it ∷ []) (sym here)
+    ∙ sym (take_more (cards_of items) i item.card (omega (arith, length-map items (λ (it : CardBytes). it.card))))
+
+-- and all of them
+pub all_pushed : (items cards : List CardBytes) (pushed : List FittedCard) (i : ℕ) → pushed ≡ take i (cards_of items) → length items ≤ i → items ≡ cards →
+    pushed ≡ cards_of cards
+all_pushed items cards pushed i is past same =
+    is
+    ∙ take_all i (cards_of items) (omega (arith, length-map items (λ (it : CardBytes). it.card)))
+    ∙ ap (λ (list : List CardBytes). cards_of list) same
 
 -- ---- the same cards in other states
 

@@ -1,20 +1,20 @@
 -- The edges that the code looks through are those of the board, and what it finds is the next one.
 use Rattle.std.proofs.Common.{◌≡◌, ℕ, zero, suc, ◌+◌, ◌*◌, ◌<◌, ◌≤◌, ◌⊎◌, inl, inr, ◌&&◌, List, [], ◌∷◌, ◌++◌, length, map, Option, Some, None, refl, sym, ◌∙◌, ap, subst, arith}
 use Rattle.std.specs.Prelude.{nat_lt, min, All, flat_map, slice_index, IfSome, IsNone, ◌↔◌}
-use Rattle.std.specs.List.{Contains, enumerate_from, fold}
+use Rattle.std.specs.List.{Contains, enumerate_from}
 use Rattle.std.proofs.lemmas.Bool.{cases_Bool, cases_lt}
 use Rattle.std.proofs.lemmas.Bool.Decides.{nat_tests}
 use Rattle.std.proofs.lemmas.List.Elements.{All-head, All-tail}
 use Rattle.std.proofs.lemmas.List.Sums.{fold-append}
 use Rattle.std.proofs.lemmas.Option.{same_Some}
 use Rattle.board_spec.specs.Setup.{Base, MemoryBase, IoBase, Setup, IsCard}
-use Rattle.board_spec.specs.Decode.{Bytes, boundary, base_value, memory_window}
+use Rattle.board_spec.specs.Decode.{Bytes, boundary, base_value, memory_window, rom_window_of}
 use Rattle.board_spec.specs.RegisterNames.{bridge}
 use Rattle.board_spec.specs.FlatMap.{address_count}
 use Rattle.pmc_regs.specs.Pmc.{IsRowsOf}
-use Rattle.pci_bars.specs.Cards.{CardBytes, DecodesAs, AreCards, AreDecoded, cards_of}
+use Rattle.pci_bars.specs.Cards.{CardBytes, HoldsRom, DecodesAs, AreCards, AreDecoded, cards_of}
 use Rattle.addr_decode.specs.Edges.{fixed_edges, row_edges, window_edges, card_edges, edges_of, IsEdge, IsNextEdge, NoEdgeAbove}
-use Rattle.addr_decode.specs.EdgeSearch.{nearer, nearest, ends_from, ends_of_card}
+use Rattle.addr_decode.specs.EdgeSearch.{nearer, nearest, ends_from, ends_of_rom, ends_of_card}
 
 -- ---- the edges, as the code keeps them
 
@@ -28,6 +28,11 @@ ends_same bytes dev values same k (MemoryBase bits ∷ later) few =
     rw (same k (omega arith), ends_same bytes dev values same (k + 1) later (omega arith)) refl
 ends_same bytes dev values same k (IoBase bits ∷ later) few = ends_same bytes dev values same (k + 1) later (omega arith)
 
+rom_same : (bytes : Bytes) (dev register : ℕ) (rom : Option ℕ) → HoldsRom bytes dev register rom →
+    ends_of_rom rom register ≡ flat_map window_edges (rom_window_of bytes dev rom)
+rom_same bytes dev register None held = refl
+rom_same bytes dev register (Some bits) held = rw (sym held.number) refl
+
 cards_same :
     (setup : Setup) (bytes : Bytes) (cards : List CardBytes) → AreCards cards → All (DecodesAs setup bytes) cards →
     flat_map ends_of_card cards ≡ flat_map (card_edges bytes) (cards_of cards)
@@ -36,7 +41,8 @@ cards_same setup bytes (card ∷ later) fit are =
     let is : DecodesAs setup bytes card = All-head (DecodesAs setup bytes) card later are in
     let one : IsCard card.card = All-head (λ card. IsCard card.card) card later fit in
     let few : length card.card.bases ≤ 6 = one.count in
-    let here : ends_of_card card ≡ card_edges bytes card.card = ends_same bytes card.card.dev card.bases is.bases 0 card.card.bases (omega arith) in
+    let here : ends_of_card card ≡ card_edges bytes card.card =
+    rw (ends_same bytes card.card.dev card.bases (λ k below. (is.bases k below).number) 0 card.card.bases (omega arith), rom_same bytes card.card.dev card.rom card.card.rom is.rom) refl in
     let rest : flat_map ends_of_card later ≡ flat_map (card_edges bytes) (cards_of later) =
     cards_same setup bytes later (All-tail (λ card. IsCard card.card) card later fit) (All-tail (DecodesAs setup bytes) card later are) in
     rw (here, rest) refl
@@ -199,19 +205,19 @@ kept_above addr drb cards None is = tt
 kept_above addr drb cards (Some edge) is =
     let here : IsAbove addr (kept_edges drb cards) edge = found_above addr (kept_edges drb cards) (Some edge) is in here.above
 
-pub in_parts :
-    (addr : ℕ) (fixed rows all : Option ℕ) (drb : List ℕ) (cards : List CardBytes) →
-    fixed ≡ nearest addr None fixed_edges → rows ≡ nearest addr fixed (map (λ b. b * 0x80_0000) drb) →
-    all ≡ nearest addr rows (flat_map ends_of_card cards) → all ≡ nearest addr None (kept_edges drb cards)
+-- one list after another, above the same address
+pub in_two : (addr addr' : ℕ) (found first all : Option ℕ) (xs ys : List ℕ) → addr' ≡ addr → first ≡ nearest addr found xs → all ≡ nearest addr' first ys →
+    all ≡ nearest addr found (xs ++ ys)
 unfolding nearest
-in_parts addr fixed rows all drb cards is_fixed is_rows is_all =
-    rw (
-      is_all,
-      is_rows,
-      is_fixed,
-      fold-append (nearer addr) None fixed_edges (map (λ b. b * 0x80_0000) drb ++ flat_map ends_of_card cards),
-      fold-append (nearer addr) (fold (nearer addr) None fixed_edges) (map (λ b. b * 0x80_0000) drb) (flat_map ends_of_card cards),
-    ) refl
+in_two addr addr' found first all xs ys same is_first is_all = rw (is_all, same, is_first, fold-append (nearer addr) found xs ys) refl
+
+pub in_parts :
+    (addr addr' : ℕ) (fixed rows all : Option ℕ) (drb : List ℕ) (cards : List CardBytes) → addr' ≡ addr →
+    fixed ≡ nearest addr None fixed_edges → rows ≡ nearest addr fixed (map (λ b. b * 0x80_0000) drb) →
+    all ≡ nearest addr' rows (flat_map ends_of_card cards) → all ≡ nearest addr None (kept_edges drb cards)
+in_parts addr addr' fixed rows all drb cards same is_fixed is_rows is_all =
+    in_two addr addr None fixed all fixed_edges (map (λ b. b * 0x80_0000) drb ++ flat_map ends_of_card cards) refl is_fixed
+    (in_two addr addr' fixed rows all (map (λ b. b * 0x80_0000) drb) (flat_map ends_of_card cards) same is_rows is_all)
 
 pub kept_are_edges :
     (setup : Setup) (bytes : Bytes) (drb : List ℕ) (cards : List CardBytes) → length drb ≡ 8 → IsRowsOf bytes drb →

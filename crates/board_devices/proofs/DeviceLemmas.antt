@@ -6,6 +6,9 @@ use Rattle.std.proofs.lemmas.Bool.Decides.{nat_tests}
 use Rattle.std.proofs.lemmas.Bool.{cases_eq, cases_Bool, lt-ltb, le-leb}
 use Rattle.std.proofs.lemmas.List.{get_or-replicate, ext_get_or, length-map, get_or-map}
 use Rattle.board_spec.proofs.TableLemmas.{each_below}
+use Rattle.board_spec.proofs.DeviceAlone.{levels-same}
+use Rattle.board_spec.specs.DeviceLaws.{PairHasSeen}
+use Rattle.board_devices.specs.Laws.{LeavesDevices}
 use Rattle.ata_pio.specs.declared.ata.AtaOpen.{AtaOpen}
 use Rattle.std.specs.Prelude.{◌↔◌, Result, Err, ◌==◌, unwrap_or, map, option_map, slice_index_or, slice_set, if◌then◌else◌}
 use Rattle.std.specs.Option.{option_map_or}
@@ -705,3 +708,32 @@ fault_named result fault size exact is = (
   λ bad. refused_length size (exact.0 (is ∙ ap (λ (f : AtaOpen). Err f) bad)),
   λ none. let named : result ≡ Err AtaOpen.BadLength = exact.1 (length_refused size none) in cc,
 )
+
+-- ---- the lines stand as the pair saw them
+
+pub left_lines : (setup : Setup) (history : List Entry) (entry : Entry) → Leaves history entry → routes_of setup (entry ∷ history) ≡ routes_of setup history →
+    levels_of setup (entry ∷ history) ≡ levels_of setup history
+left_lines setup history entry leaves routes =
+    let by = passed entry.event entry.reply leaves.passes in
+    levels-same setup (entry ∷ history) history (timer_of (entry ∷ history)) (timer_of history)
+    (record {
+      out = ap (λ (t : PitState). out_of 0 t) (timer_soft setup history entry leaves.soft ∙ by.timer (timer_of history));
+      clock = clock_soft setup history entry leaves.soft ∙ by.clock (clock_of history);
+      disk = λ bytes. disk_with_soft setup history entry leaves.soft bytes ∙ by.disk (disk_with bytes history);
+      wires = λ dev. wire_step setup history entry leaves.soft dev (by.wire dev);
+      lines = λ line. irq_step setup history entry leaves.soft line (by.line line);
+      routes = routes;
+    })
+
+pub left_alone : PairHasSeen → LeavesDevices
+left_alone seen setup history entry devices are leaves routes =
+    let by = passed entry.event entry.reply leaves.passes in
+    let lines : levels_of setup (entry ∷ history) ≡ levels_of setup history = left_lines setup history entry leaves routes in
+    let bits : elcr_of (entry ∷ history) ≡ elcr_of history =
+    ap (λ (t : Triggers). t.low + 0x100 * t.high) (triggers_soft setup history entry leaves.soft ∙ by.triggers (triggers_of history)) in
+    record {
+      others = left_after setup history entry leaves devices are.others;
+      pair =
+          are.pair
+          ∙ sym (left_pair setup history entry leaves ∙ rw (lines, bits) (seen setup history));
+    }

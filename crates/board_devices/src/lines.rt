@@ -13,6 +13,7 @@ ghost use Rattle.board_devices.specs.Events.{Leaves};
 ghost use Rattle.board_devices.specs.Laws.{LeavesDevices};
 
 use crate::devices::{Devices, LINE_COUNT};
+use board_spec::laws::devices::law_pair;
 use pirq_router::Pirq;
 
 /// The line of the timer, that of the clock, and that of the disk.
@@ -107,4 +108,6 @@ impl Devices {
 /// it saw them.
 pub fn law_left_alone()
     ensures left { LeavesDevices }
-{}
+{
+    law_pair();
+}

@@ -1,5 +1,5 @@
 -- The log of one entry more.
-use Rattle.std.proofs.Common.{◌≡◌, ℕ, ◌+◌, ◌<◌, ◌++◌, List, [], ◌∷◌, length, reverse, take, get_or, codes, refl, sym, ap, ◌∙◌, append_assoc, arith}
+use Rattle.std.proofs.Common.{◌≡◌, ℕ, ◌+◌, ◌<◌, ◌++◌, List, [], ◌∷◌, length, reverse, take, get_or, codes, decimal, sym, ap, ◌∙◌, append_assoc, arith}
 use Rattle.std.proofs.lemmas.List.{reverse-append}
 use Rattle.std.proofs.lemmas.Grind.{take_at_read, common_steps}
 use Rattle.board_spec.specs.declared.event.Entry.{Entry}
@@ -32,22 +32,20 @@ lines_text-more entries i default inside =
     ap lines_text (reverse-take_more entries i default inside)
     ∙ lines_text-newest (reverse (take i entries)) (get_or entries i default) i (length-reverse_take entries i inside)
 
--- the line of the entry at i, and a line feed, make the log one entry longer
+-- the line of the entry at i makes the log one entry longer
 pub log_text-more :
-    (entries : List Entry) (i : ℕ) (default : Entry) → i < length entries → (old log line new : List ℕ)
-    → log ≡ old ++ log_text (reverse (take i entries)) → line ≡ log ++ line_text (i + 1) (get_or entries i default)
-    → new ≡ line ++ line_feed ∷ [] → new ≡ old ++ log_text (reverse (take (i + 1) entries))
-log_text-more entries i default inside old log line new so_far entry ended =
-    let before : List ℕ = log_text (reverse (take i entries)) in
-    let text : List ℕ = line_text (i + 1) (get_or entries i default) in
-    ended
-    ∙ ap (λ (t : List ℕ). t ++ line_feed ∷ []) entry
-    ∙ append_assoc log text (line_feed ∷ [])
-    ∙ ap (λ (t : List ℕ). t ++ (text ++ line_feed ∷ [])) so_far
-    ∙ append_assoc old before (text ++ line_feed ∷ [])
-    ∙ ap (λ (lines : List ℕ). old ++ (codes "access log 1" ++ line_feed ∷ lines))
+    (version : ℕ) (entries : List Entry) (i : ℕ) (default : Entry) → i < length entries → (old log new : List ℕ)
+    → log ≡ old ++ log_text version (reverse (take i entries))
+    → new ≡ log ++ (line_text (i + 1) (get_or entries i default) ++ line_feed ∷ [])
+    → new ≡ old ++ log_text version (reverse (take (i + 1) entries))
+log_text-more version entries i default inside old log new so_far entry =
+    let before : List ℕ = log_text version (reverse (take i entries)) in
+    let line : List ℕ = line_text (i + 1) (get_or entries i default) ++ line_feed ∷ [] in
+    let heading : List ℕ = codes "access log " ++ decimal version ++ line_feed ∷ [] in
+    entry
+    ∙ ap (λ (t : List ℕ). t ++ line) so_far
+    ∙ append_assoc old before line
+    ∙ ap (λ (t : List ℕ). old ++ t)
+    (append_assoc (codes "access log " ++ decimal version) (line_feed ∷ lines_text (reverse (take i entries))) line)
+    ∙ ap (λ (lines : List ℕ). old ++ (codes "access log " ++ decimal version ++ line_feed ∷ lines))
     (sym (lines_text-more entries i default inside))
-
-pub log_text-none : log_text [] ≡ codes "access log 1" ++ line_feed ∷ []
-unfolding lines_text
-log_text-none = refl

@@ -1,10 +1,11 @@
-//! Numbers in hexadecimal, in upper-case digits and as many of them as the width asks for.
+//! Numbers in hexadecimal, in upper-case digits, two for each byte.
 
-ghost use Rattle.std.specs.Prelude.{◌≡◌, OnOk, OnErr};
-ghost use Rattle.board_spec.specs.Text.{hex_digit, hex_byte, hex_word, hex_long, hex_value, hex_offset};
+ghost use Rattle.std.specs.Prelude.{◌≡◌, ◌++◌, OnOk, OnErr};
+ghost use Rattle.board_spec.specs.Bits.{byte};
+ghost use Rattle.board_spec.specs.Text.{hex_digit, hex_byte, hex_number, hex_offset};
 ghost use Rattle.board_script.specs.Adds.{Adds, KeepsFront};
 
-use board_base::{NoMemory, Width};
+use board_base::NoMemory;
 
 /// The digit of the low four bits of a byte.
 pub(crate) fn digit_of(byte: u8) -> char
@@ -18,8 +19,19 @@ pub(crate) fn digit_of(byte: u8) -> char
     }
 }
 
+/// A byte of a value; byte 0 is the lowest, and those past the seventh are 0.
+#[tactic(auto, using(crate::proofs::Digits::power_positive))]
+fn byte_of(value: u64, index: u32) -> u8
+    ensures byte { result ≡ byte value index }
+{
+    match 256_u64.checked_pow(index) {
+        Some(unit) => (value / unit % 256) as u8,
+        None => 0,
+    }
+}
+
 /// Appends the two digits of a byte.
-pub fn push_hex_byte(text: &mut String, byte: u8) -> Result<(), NoMemory>
+pub(crate) fn push_hex_byte(text: &mut String, byte: u8) -> Result<(), NoMemory>
     ensures appended { OnOk result (Adds text.old text.new (hex_byte byte)) }
     ensures front { OnErr result (KeepsFront text.old text.new) }
 {
@@ -28,41 +40,32 @@ pub fn push_hex_byte(text: &mut String, byte: u8) -> Result<(), NoMemory>
     Ok(())
 }
 
-/// Appends the four digits of a word.
-pub fn push_hex_word(text: &mut String, word: u16) -> Result<(), NoMemory>
-    ensures appended { OnOk result (Adds text.old text.new (hex_word word)) }
+/// Appends as many low bytes of a value, the highest first. Bits past them do not count.
+pub(crate) fn push_hex(text: &mut String, bytes: u32, value: u64) -> Result<(), NoMemory>
+    ensures appended { OnOk result (Adds text.old text.new (hex_number bytes value)) }
     ensures front { OnErr result (KeepsFront text.old text.new) }
 {
-    push_hex_byte(text, (word >> 8) as u8)?;
-    push_hex_byte(text, (word & 0xFF) as u8)
-}
-
-/// Appends the eight digits of a doubleword.
-pub fn push_hex_long(text: &mut String, long: u32) -> Result<(), NoMemory>
-    ensures appended { OnOk result (Adds text.old text.new (hex_long long)) }
-    ensures front { OnErr result (KeepsFront text.old text.new) }
-{
-    push_hex_word(text, (long >> 16) as u16)?;
-    push_hex_word(text, (long & 0xFFFF) as u16)
-}
-
-/// Appends a value with the digits of its width: two, four or eight. Bits past the width do not count.
-pub fn push_hex_value(text: &mut String, width: Width, value: u32) -> Result<(), NoMemory>
-    ensures appended { OnOk result (Adds text.old text.new (hex_value width value)) }
-    ensures front { OnErr result (KeepsFront text.old text.new) }
-{
-    match width {
-        Width::One => push_hex_byte(text, (value & 0xFF) as u8),
-        Width::Two => push_hex_word(text, (value & 0xFFFF) as u16),
-        Width::Four => push_hex_long(text, value),
+    let mut left = bytes;
+    while left > 0 {
+        left -= 1;
+        push_hex_byte(text, byte_of(value, left))?;
     }
+    Ok(())
+}
+
+/// Appends an address or an offset, in eight digits.
+pub(crate) fn push_hex_long(text: &mut String, long: u32) -> Result<(), NoMemory>
+    ensures appended { OnOk result (Adds text.old text.new (hex_number 4 long)) }
+    ensures front { OnErr result (KeepsFront text.old text.new) }
+{
+    push_hex(text, 4, u64::from(long))
 }
 
 /// Appends an offset in a ROM, which is below 512 KiB, in five digits.
-pub fn push_hex_offset(text: &mut String, offset: u32) -> Result<(), NoMemory>
+pub(crate) fn push_hex_offset(text: &mut String, offset: u32) -> Result<(), NoMemory>
     ensures appended { OnOk result (Adds text.old text.new (hex_offset offset)) }
     ensures front { OnErr result (KeepsFront text.old text.new) }
 {
-    text.push(digit_of((offset >> 16 & 0xFF) as u8))?;
-    push_hex_word(text, (offset & 0xFFFF) as u16)
+    text.push(digit_of(byte_of(u64::from(offset), 2)))?;
+    push_hex(text, 2, u64::from(offset))
 }

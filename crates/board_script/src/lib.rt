@@ -13,14 +13,9 @@ mod target;
 mod words;
 
 pub use board_spec::{Entry, Event, Look, Reply, Statement};
-pub use hex::{push_hex_byte, push_hex_long, push_hex_offset, push_hex_value, push_hex_word};
 pub use line::Line;
-pub use log::{log_line, push_line, push_log};
+pub use log::{log_line, push_log};
 pub use map::push_range;
-pub use reply::{push_interval, push_reply};
-pub use statement::{push_access, push_event, push_moment, push_port};
-pub use target::{push_area, push_denial, push_register, push_target};
-pub use words::push_decimal;
 
 #[cfg(test)]
 mod tests;

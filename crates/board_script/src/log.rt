@@ -6,9 +6,9 @@ ghost use Rattle.board_spec.specs.LogText.{line_text, log_text};
 ghost use Rattle.board_script.specs.Adds.{Adds, KeepsFront};
 
 use crate::line::Line;
-use crate::reply::{push_reply, reply_width};
+use crate::reply::{push_reply, reply_bytes};
 use crate::statement::push_event;
-use crate::words::{push_decimal, push_words};
+use crate::words::{push_decimal, push_numbered, push_words};
 use board_base::NoMemory;
 use board_spec::Entry;
 use std::alloc::Global;
@@ -37,29 +37,40 @@ fn push_entry(text: &mut String, n: u64, entry: &Entry) -> Result<(), NoMemory>
     push_place(text, n, entry.actor, entry.seq)?;
     push_event(text, &entry.event)?;
     push_words(text, " = ")?;
-    push_reply(text, reply_width(&entry.event), &entry.reply)
+    push_reply(text, reply_bytes(&entry.event), &entry.reply)?;
+    Ok(())
 }
 
-/// Appends line `n` of the log with its line feed. Lines count from 1.
-pub fn push_line(text: &mut String, n: u32, entry: &Entry) -> Result<(), NoMemory>
+/// Appends line `n` with its line feed.
+fn push_line(text: &mut String, n: u64, entry: &Entry) -> Result<(), NoMemory>
     ensures appended { OnOk result (Adds text.old text.new
         (line_text n entry.now ++ line_feed ∷ [])) }
     ensures front { OnErr result (KeepsFront text.old text.new) }
 {
-    push_entry(text, u64::from(n), entry)?;
+    push_entry(text, n, entry)?;
     text.push('\n')?;
     Ok(())
 }
 
-/// Appends the log of a history, whose oldest entry comes first.
-pub fn push_log(text: &mut String, entries: &[Entry]) -> Result<(), NoMemory>
-    ensures appended { OnOk result (Adds text.old text.new (log_text (reverse entries.now))) }
+/// Appends the heading of a log of this version.
+#[tactic(auto, unfolding(board_spec::specs::LogText::lines_text))]
+fn push_heading(text: &mut String, version: u8) -> Result<(), NoMemory>
+    ensures appended { OnOk result (Adds text.old text.new (log_text version [])) }
     ensures front { OnErr result (KeepsFront text.old text.new) }
 {
-    push_words(text, "access log 1\n")?;
+    push_numbered(text, "access log ", version)?;
+    text.push('\n')?;
+    Ok(())
+}
+
+/// Appends the log, of version 1 or 2, of a history whose oldest entry comes first.
+pub fn push_log(text: &mut String, version: u8, entries: &[Entry]) -> Result<(), NoMemory>
+    ensures appended { OnOk result (Adds text.old text.new (log_text version (reverse entries.now))) }
+    ensures front { OnErr result (KeepsFront text.old text.new) }
+{
+    push_heading(text, version)?;
     for (index, entry) in entries.iter().enumerate() {
-        push_entry(text, index as u64 + 1, entry)?;
-        text.push('\n')?;
+        push_line(text, index as u64 + 1, entry)?;
     }
     Ok(())
 }

@@ -1,40 +1,42 @@
 //! What the board replies, as text.
 
-ghost use Rattle.std.specs.Prelude.{◌≡◌, ◌∷◌, ◌++◌, OnOk, OnErr, Option};
-ghost use Rattle.board_spec.specs.Text.{space, hex_long, target_text, denial_text};
-ghost use Rattle.board_spec.specs.LogText.{value_text, width_of, look_text, reply_text};
+ghost use Rattle.std.specs.Prelude.{◌≡◌, ◌∷◌, ◌++◌, flat_map, OnOk, OnErr, Option};
+ghost use Rattle.board_spec.specs.Text.{space, hex_long};
+ghost use Rattle.board_spec.specs.WideParts.{parts_list};
+ghost use Rattle.board_spec.specs.LogText.{value_text, value_bytes, answered_text, look_text, reply_text};
 ghost use Rattle.board_script.specs.Adds.{Adds, KeepsFront};
 
-use crate::hex::{push_hex_long, push_hex_value};
+use crate::hex::{push_hex, push_hex_long};
 use crate::target::{push_area, push_denial, push_target};
 use crate::words::{push_decimal, push_words};
-use board_base::{Denial, NoMemory, Target, Width};
-use board_spec::{Event, Look, Reply};
+use board_base::{Denial, NoMemory, Target};
+use board_spec::{Event, Look, Part, Parts, Reply};
 
-/// How many digits the value of a reply has: those of the access, and two for a vector.
-pub(crate) fn reply_width(event: &Event) -> Width
-    ensures width { result ≡ width_of event.now }
+/// How many bytes the value of a reply has: those of the access, and one for a vector.
+pub(crate) fn reply_bytes(event: &Event) -> u32
+    ensures bytes { result ≡ value_bytes event.now }
 {
     match *event {
-        Event::Memory(access) => access.width,
-        Event::Port(access) => access.width,
-        _ => Width::One,
+        Event::Memory(access) => access.width.bytes(),
+        Event::Wide(access) => u32::from(access.bytes),
+        Event::Port(access) => access.width.bytes(),
+        _ => 1,
     }
 }
 
 /// Appends the value of a reply, or `-` for none.
-fn push_value(text: &mut String, width: Width, value: Option<u32>) -> Result<(), NoMemory>
-    ensures appended { OnOk result (Adds text.old text.new (value_text width value)) }
+fn push_value(text: &mut String, bytes: u32, value: Option<u64>) -> Result<(), NoMemory>
+    ensures appended { OnOk result (Adds text.old text.new (value_text bytes value)) }
     ensures front { OnErr result (KeepsFront text.old text.new) }
 {
     match value {
         None => push_words(text, "-"),
-        Some(value) => push_hex_value(text, width, value),
+        Some(value) => push_hex(text, bytes, value),
     }
 }
 
 /// Appends the ends of an interval of addresses, like `000F0000 000FFFFF`.
-pub fn push_interval(text: &mut String, lo: u32, hi: u32) -> Result<(), NoMemory>
+pub(crate) fn push_interval(text: &mut String, lo: u32, hi: u32) -> Result<(), NoMemory>
     ensures appended { OnOk result (Adds text.old text.new (hex_long lo ++ space ∷ hex_long hi)) }
     ensures front { OnErr result (KeepsFront text.old text.new) }
 {
@@ -55,29 +57,46 @@ fn push_look(text: &mut String, look: Look) -> Result<(), NoMemory>
     push_area(text, look.area)
 }
 
-/// Appends a value, what answered, and what denied the access.
-fn push_bus(
-    text: &mut String,
-    width: Width,
-    value: Option<u32>,
-    target: Target,
-    denial: Option<Denial>,
-) -> Result<(), NoMemory>
-    ensures appended { OnOk result (Adds text.old text.new
-        (value_text width value ++ space ∷ target_text target ++ space ∷ denial_text denial)) }
+/// Appends what answered and what denied it, each after a space.
+fn push_answered(text: &mut String, target: Target, denial: Option<Denial>) -> Result<(), NoMemory>
+    ensures appended { OnOk result (Adds text.old text.new (answered_text target denial)) }
     ensures front { OnErr result (KeepsFront text.old text.new) }
 {
-    push_value(text, width, value)?;
     text.push(' ')?;
     push_target(text, target)?;
     text.push(' ')?;
     push_denial(text, denial)
 }
 
-/// Appends a reply. A value has the digits of `width`.
+/// Appends what answered each part of a wide access.
+fn push_each(text: &mut String, parts: &[Part]) -> Result<(), NoMemory>
+    ensures appended { OnOk result (Adds text.old text.new
+        (flat_map (λ part. answered_text part.target part.denial) parts.now)) }
+    ensures front { OnErr result (KeepsFront text.old text.new) }
+{
+    for part in parts {
+        push_answered(text, part.target, part.denial)?;
+    }
+    Ok(())
+}
+
+/// Appends what answered the two to four parts of a wide access, in rising order.
+fn push_parts(text: &mut String, parts: Parts) -> Result<(), NoMemory>
+    ensures appended { OnOk result (Adds text.old text.new
+        (flat_map (λ part. answered_text part.target part.denial) (parts_list parts))) }
+    ensures front { OnErr result (KeepsFront text.old text.new) }
+{
+    match parts {
+        Parts::Two(a, b) => push_each(text, &[a, b]),
+        Parts::Three(a, b, c) => push_each(text, &[a, b, c]),
+        Parts::Four(a, b, c, d) => push_each(text, &[a, b, c, d]),
+    }
+}
+
+/// Appends a reply. A value has the digits of so many bytes.
 #[tactic(auto, unfolding(board_spec::specs::LogText::reply_text))]
-pub fn push_reply(text: &mut String, width: Width, reply: &Reply) -> Result<(), NoMemory>
-    ensures appended { OnOk result (Adds text.old text.new (reply_text width reply.now)) }
+pub(crate) fn push_reply(text: &mut String, bytes: u32, reply: &Reply) -> Result<(), NoMemory>
+    ensures appended { OnOk result (Adds text.old text.new (reply_text bytes reply.now)) }
     ensures front { OnErr result (KeepsFront text.old text.new) }
 {
     match *reply {
@@ -85,7 +104,21 @@ pub fn push_reply(text: &mut String, width: Width, reply: &Reply) -> Result<(), 
             value,
             target,
             denial,
-        } => push_bus(text, width, value, target, denial),
+        } => {
+            push_value(text, bytes, widened(value))?;
+            push_answered(text, target, denial)
+        }
+        Reply::Parts { value, parts } => {
+            push_value(text, bytes, value)?;
+            push_parts(text, parts)
+        }
         Reply::Saw(look) => push_look(text, look),
     }
+}
+
+/// The same value in 64 bits.
+fn widened(value: Option<u32>) -> Option<u64>
+    ensures same { result ≡ value }
+{
+    value.map(u64::from)
 }

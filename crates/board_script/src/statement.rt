@@ -2,22 +2,23 @@
 
 ghost use Rattle.std.specs.Prelude.{◌≡◌, [], ◌∷◌, ◌++◌, ◌/◌, ◌%◌, OnOk, OnErr, codes, decimal};
 ghost use Rattle.board_spec.specs.Text.{space, hex_long};
-ghost use Rattle.board_spec.specs.LogText.{width_text, kind_text, written_text, smm_text, access_text, port_text, level_text, two_digits, moment_text, event_text};
+ghost use Rattle.board_spec.specs.LogText.{size_text, kind_text, written_text, smm_text, access_text, wide_text, port_text, level_text, two_digits, moment_text, event_text};
 ghost use Rattle.board_script.specs.Adds.{Adds, KeepsFront};
 
-use crate::hex::{push_hex_long, push_hex_value, push_hex_word};
+use crate::hex::{push_hex, push_hex_long};
 use crate::words::{push_decimal, push_numbered, push_two_digits, push_words};
-use board_base::{Access, Kind, Moment, NoMemory, PortAccess, Width};
+use board_base::{Access, Kind, Moment, NoMemory, PortAccess, WideAccess};
 use board_spec::Event;
 
-/// The letter of a width.
-fn width_letter(width: Width) -> &'static str
-    ensures letter { result.now ≡ width_text width }
+/// The letter of a width in bytes.
+fn size_letter(bytes: u32) -> &'static str
+    ensures letter { result.now ≡ size_text bytes }
 {
-    match width {
-        Width::One => "b",
-        Width::Two => "w",
-        Width::Four => "d",
+    match bytes {
+        1 => "b",
+        2 => "w",
+        4 => "d",
+        _ => "q",
     }
 }
 
@@ -33,15 +34,15 @@ fn kind_letter(kind: Kind) -> &'static str
 }
 
 /// Appends the value of an access that writes, after a space, and nothing for one that reads.
-fn push_written(text: &mut String, write: bool, width: Width, value: u32) -> Result<(), NoMemory>
-    ensures appended { OnOk result (Adds text.old text.new (written_text write width value)) }
+fn push_written(text: &mut String, write: bool, bytes: u32, value: u64) -> Result<(), NoMemory>
+    ensures appended { OnOk result (Adds text.old text.new (written_text write bytes value)) }
     ensures front { OnErr result (KeepsFront text.old text.new) }
 {
     if !write {
         return Ok(());
     }
     text.push(' ')?;
-    push_hex_value(text, width, value)
+    push_hex(text, bytes, value)
 }
 
 /// Appends the mark of system management mode.
@@ -57,38 +58,53 @@ fn push_smm(text: &mut String, smm: bool) -> Result<(), NoMemory>
 }
 
 /// Appends a verb, the letter of a width and a space.
-fn push_verb(text: &mut String, verb: &str, width: Width) -> Result<(), NoMemory>
+fn push_verb(text: &mut String, verb: &str, bytes: u32) -> Result<(), NoMemory>
     ensures appended { OnOk result (Adds text.old text.new
-        (verb.now ++ space ∷ width_text width ++ space ∷ [])) }
+        (verb.now ++ space ∷ size_text bytes ++ space ∷ [])) }
     ensures front { OnErr result (KeepsFront text.old text.new) }
 {
     push_words(text, verb)?;
     text.push(' ')?;
-    push_words(text, width_letter(width))?;
+    push_words(text, size_letter(bytes))?;
     text.push(' ')?;
     Ok(())
 }
 
-/// Appends an access to memory, like `w b 000CC000 02`.
-pub fn push_access(text: &mut String, access: Access) -> Result<(), NoMemory>
-    ensures appended { OnOk result (Adds text.old text.new (access_text access)) }
+/// An access in one bus cycle, written as one of so many bytes.
+fn widened(access: Access) -> WideAccess
+    ensures same { wide_text result ≡ access_text access }
+{
+    WideAccess {
+        kind: access.kind,
+        addr: access.addr,
+        bytes: access.width.bytes() as u8,
+        smm: access.smm,
+        value: u64::from(access.value),
+    }
+}
+
+/// Appends an access to memory of so many bytes, like `w b 000CC000 02`.
+fn push_access(text: &mut String, access: WideAccess) -> Result<(), NoMemory>
+    ensures appended { OnOk result (Adds text.old text.new (wide_text access)) }
     ensures front { OnErr result (KeepsFront text.old text.new) }
 {
-    push_verb(text, kind_letter(access.kind), access.width)?;
+    let bytes = u32::from(access.bytes);
+    push_verb(text, kind_letter(access.kind), bytes)?;
     push_hex_long(text, access.addr)?;
-    push_written(text, access.kind.is_write(), access.width, access.value)?;
+    push_written(text, access.kind.is_write(), bytes, access.value)?;
     push_smm(text, access.smm)
 }
 
 /// Appends an access to a port, like `out d 0CF8 80000058`.
-pub fn push_port(text: &mut String, access: PortAccess) -> Result<(), NoMemory>
+fn push_port(text: &mut String, access: PortAccess) -> Result<(), NoMemory>
     ensures appended { OnOk result (Adds text.old text.new (port_text access)) }
     ensures front { OnErr result (KeepsFront text.old text.new) }
 {
     let verb = if access.write { "out" } else { "in" };
-    push_verb(text, verb, access.width)?;
-    push_hex_word(text, access.port)?;
-    push_written(text, access.write, access.width, access.value)
+    let bytes = access.width.bytes();
+    push_verb(text, verb, bytes)?;
+    push_hex(text, 2, u64::from(access.port))?;
+    push_written(text, access.write, bytes, u64::from(access.value))
 }
 
 /// Appends a look at the address map, like `look r 000F0000`.
@@ -139,7 +155,7 @@ fn push_time_of_day(text: &mut String, moment: Moment) -> Result<(), NoMemory>
 }
 
 /// Appends a moment, like `2024-02-29T23:59:58`.
-pub fn push_moment(text: &mut String, moment: Moment) -> Result<(), NoMemory>
+fn push_moment(text: &mut String, moment: Moment) -> Result<(), NoMemory>
     ensures appended { OnOk result (Adds text.old text.new (moment_text moment)) }
     ensures front { OnErr result (KeepsFront text.old text.new) }
 {
@@ -178,12 +194,13 @@ fn push_time(text: &mut String, moment: Moment) -> Result<(), NoMemory>
 
 /// Appends an event as the statement that asks for it, without its processor.
 #[tactic(auto, unfolding(board_spec::specs::LogText::event_text))]
-pub fn push_event(text: &mut String, event: &Event) -> Result<(), NoMemory>
+pub(crate) fn push_event(text: &mut String, event: &Event) -> Result<(), NoMemory>
     ensures appended { OnOk result (Adds text.old text.new (event_text event.now)) }
     ensures front { OnErr result (KeepsFront text.old text.new) }
 {
     match *event {
-        Event::Memory(access) => push_access(text, access),
+        Event::Memory(access) => push_access(text, widened(access)),
+        Event::Wide(access) => push_access(text, access),
         Event::Port(access) => push_port(text, access),
         Event::Look { kind, addr, smm } => push_look_at(text, kind, addr, smm),
         Event::Ack => push_words(text, "ack"),

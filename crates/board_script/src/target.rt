@@ -9,7 +9,7 @@ use crate::words::{push_decimal, push_numbered, push_words};
 use board_base::{Area, Denial, Dev, NoMemory, Reg, Target};
 
 /// Appends a register as its device, its function and its offset, like `00.0.72`.
-pub fn push_register(text: &mut String, reg: Reg) -> Result<(), NoMemory>
+pub(crate) fn push_register(text: &mut String, reg: Reg) -> Result<(), NoMemory>
     ensures appended { OnOk result (Adds text.old text.new (register_text reg)) }
     ensures front { OnErr result (KeepsFront text.old text.new) }
 {
@@ -30,7 +30,7 @@ fn push_base(text: &mut String, dev: u8, base: u8) -> Result<(), NoMemory>
 }
 
 /// Appends an area of the memory map.
-pub fn push_area(text: &mut String, area: Area) -> Result<(), NoMemory>
+pub(crate) fn push_area(text: &mut String, area: Area) -> Result<(), NoMemory>
     ensures appended { OnOk result (Adds text.old text.new (area_text area)) }
     ensures front { OnErr result (KeepsFront text.old text.new) }
 {
@@ -96,7 +96,7 @@ fn push_config(text: &mut String, reg: Reg) -> Result<(), NoMemory>
 }
 
 /// Appends what answered an access.
-pub fn push_target(text: &mut String, target: Target) -> Result<(), NoMemory>
+pub(crate) fn push_target(text: &mut String, target: Target) -> Result<(), NoMemory>
     ensures appended { OnOk result (Adds text.old text.new (target_text target)) }
     ensures front { OnErr result (KeepsFront text.old text.new) }
 {
@@ -113,7 +113,7 @@ pub fn push_target(text: &mut String, target: Target) -> Result<(), NoMemory>
 }
 
 /// Appends what denied an access, `-` where nothing did, and `none` where no register could help.
-pub fn push_denial(text: &mut String, denial: Option<Denial>) -> Result<(), NoMemory>
+pub(crate) fn push_denial(text: &mut String, denial: Option<Denial>) -> Result<(), NoMemory>
     ensures appended { OnOk result (Adds text.old text.new (denial_text denial)) }
     ensures front { OnErr result (KeepsFront text.old text.new) }
 {

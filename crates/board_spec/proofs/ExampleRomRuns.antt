@@ -16,8 +16,9 @@ use Rattle.board_spec.specs.Decode.{Window, is_covered}
 use Rattle.board_spec.specs.FlatMap.{IsSpan}
 use Rattle.board_spec.specs.LogText.{event_text, reply_text, line_text, lines_text}
 use Rattle.board_spec.specs.ExampleWords.{from_reset}
-use Rattle.board_spec.specs.ExampleRoms.{rom_card_board, expansion_rom, ExpansionRom, ExpansionRomLogged}
+use Rattle.board_spec.specs.ExampleRoms.{rom_card_board, shut_board, expansion_rom, shut_before_unselected, ExpansionRom, ExpansionRomLogged, ShutBeforeUnselected}
 use Rattle.board_spec.proofs.ExampleSpans.{above, no_rom, covers-yes}
+use Rattle.board_spec.proofs.ExampleLines.{legal}
 
 rom_span-inside : (x : ℕ) → 0xD000_0000 ≤ x → x ≤ 0xD000_FFFF →
     area_of rom_card_board (byte_of rom_card_board (from_reset (take 11 expansion_rom))) x Read false ≡ CardArea 2 6
@@ -58,27 +59,29 @@ gap_span = record {
   ends = inr (λ e. grind (arith, e));
 }
 
-pub expansion_rom_read : ExpansionRom
+pub expansion_rom_runs : ExpansionRom
 unfolding ExpansionRom reset_byte writable_bits host_bridge isa_bridge card_function byte_of config_address reset_control row_of area_of denial_of memory_claim memory_shut rom_unselected port_target_of stored_of port_answer memory_answer map_change_of map_writes_of
-expansion_rom_read = 
-    (record { number = refl; answer = record { version = refl; span = gap_span } },
-    (record { number = refl; answer = refl },
-    (record { number = refl; answer = refl },
-    (record { number = refl; answer = refl },
-    (record { number = refl; answer = record { version = refl; span = rom_span } },
-    (record { number = refl; answer = refl },
-    (record { number = refl; answer = refl },
-    (record { number = refl; answer = refl },
-    (record { number = refl; answer = refl },
-    (record { number = refl; answer = refl },
-    (record { number = refl; answer = refl },
-    (record { number = refl; answer = refl },
-    (record { number = refl; answer = refl },
-    (record { number = refl; answer = refl },
-    (record { number = refl; answer = refl },
-    (record { number = refl; answer = refl },
-    tt))))))))))))))))
+expansion_rom_runs = (
+  record { number = refl; answer = record { version = refl; span = gap_span } },
+  (
+    record { number = refl; answer = refl },
+    (
+      record { number = refl; answer = refl },
+      (
+        record { number = refl; answer = refl },
+        (
+          record { number = refl; answer = record { version = refl; span = rom_span } },
+          legal rom_card_board (from_reset (take 11 expansion_rom)) refl,
+        ),
+      ),
+    ),
+  ),
+)
 
 pub expansion_rom_logged : ExpansionRomLogged
 unfolding ExpansionRomLogged digits event_text reply_text line_text lines_text
 expansion_rom_logged = refl
+
+pub shut_before_unselected_runs : ShutBeforeUnselected
+unfolding ShutBeforeUnselected reset_byte writable_bits host_bridge isa_bridge card_function byte_of config_address reset_control row_of area_of denial_of memory_claim memory_shut rom_unselected port_target_of stored_of port_answer memory_answer
+shut_before_unselected_runs = legal shut_board (from_reset shut_before_unselected) refl

@@ -24,6 +24,7 @@ pub mod PartLawProofs
 pub mod WideDramProofs
 pub mod DenialProofs
 pub mod RegisterProofs
+mod ExampleLines
 pub mod DeviceAlone
 pub mod DeviceProofs
 mod ExampleDeviceRuns
@@ -35,6 +36,13 @@ pub mod LineProofs
 pub mod WireProofs
 pub mod PairProofs
 pub mod MemoryProofs
+mod ExampleStoryRuns
+mod ExampleMaskRuns
+mod ExampleInterruptRuns
+mod ExampleVersionRuns
+mod ExampleWindowRuns
+mod ExampleEventRuns
+mod ExampleTargetTexts
 mod Numbers
 pub mod AreaProofs
 pub mod AreaLines

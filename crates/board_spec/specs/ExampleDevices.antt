@@ -1,5 +1,5 @@
 -- Worked examples of the 8259A pair, the 8254, port 61h and the clock, each as a legal history of its board.
-use Rattle.std.specs.Prelude.{ℕ, List, [], ◌∷◌, ◌++◌, true, false, None}
+use Rattle.std.specs.Prelude.{List, [], ◌∷◌, ◌++◌, true, false, None}
 use Rattle.board_base.specs.declared.access.Width.TheVariants.{One}
 use Rattle.board_base.specs.declared.moment.Moment.{Moment}
 use Rattle.board_base.specs.declared.target.Dev.TheVariants.{Pic0, Pic1, Pit, System, Clock, Elcr, Vector, Spurious}
@@ -98,6 +98,21 @@ nested_interrupts =
 
 unfoldable pub NestedInterrupts : Type 0
 NestedInterrupts = IsLegal small_board (from_reset nested_interrupts)
+
+-- a read that polls acknowledges the level, and the next read polls no more
+abbrev pub polled : List Said
+polled =
+    initialised
+    ++ line 5 true
+    ∷ puts Pic0 0x20 0x0C
+    ∷ gets Pic0 0x20 0x85
+    ∷ gets Pic0 0x20 0x00
+    ∷ puts Pic0 0x20 0x0B
+    ∷ gets Pic0 0x20 0x20
+    ∷ []
+
+unfoldable pub Polled : Type 0
+Polled = IsLegal small_board (from_reset polled)
 
 -- ---- a card's wire
 

@@ -1,8 +1,7 @@
 -- Worked examples of the disk: a board of 8 MiB with four sectors.
-use Rattle.std.specs.Prelude.{ℕ, ◌+◌, ◌/◌, List, [], ◌∷◌, ◌++◌, map, Some}
-use Rattle.std.specs.List.{range_with_len}
+use Rattle.std.specs.Prelude.{ℕ, List, [], ◌∷◌, ◌++◌, replicate, Some}
 use Rattle.board_base.specs.declared.access.Width.TheVariants.{One, Two, Four}
-use Rattle.board_base.specs.declared.target.Dev.TheVariants.{Ata, Vector}
+use Rattle.board_base.specs.declared.target.Dev.TheVariants.{Ata}
 use Rattle.board_base.specs.declared.target.Target.TheVariants.{Device}
 use Rattle.board_base.specs.declared.target.Denial.TheVariants.{NoRegister}
 use Rattle.board_spec.specs.Setup.{Setup}
@@ -12,7 +11,7 @@ use Rattle.board_spec.specs.Examples.{small_board}
 
 -- four sectors, each byte of sector s is s + 1
 unfoldable pub four_sectors : List ℕ
-four_sectors = map (λ place. place / 512 + 1) (range_with_len 0 2048)
+four_sectors = replicate 512 0x01 ++ replicate 512 0x02 ++ replicate 512 0x03 ++ replicate 512 0x04
 
 abbrev pub disk_board : Setup
 disk_board = record small_board { disk = Some four_sectors }
@@ -37,34 +36,23 @@ commands count sector code =
     ∷ puts Ata 0x1F7 code
     ∷ []
 
--- the last sector is read, four bytes at a time
+-- the last sector is read, four bytes at a time, and then there is no sector 4: 255 of 256 are left
 abbrev pub sector_read : List Said
 sector_read =
     enabled
     ++ commands 0x00 0x03 0x20
     ++ gets Ata 0x1F7 0x58
-    ∷ inputs Four 0x1F0 (gives 0x0404_0404 (Device Ata))
-    ∷ inputs Two 0x1F0 (gives 0x0404 (Device Ata))
-    ∷ []
-
-unfoldable pub SectorRead : Type 0
-SectorRead = IsLegal disk_board (from_reset sector_read)
-
--- a verify of 256 sectors ends after the last one: there is no sector 4, and 255 are left
-abbrev pub past_the_end : List Said
-past_the_end =
-    enabled
-    ++ commands 0x00 0x03 0x40
+    ∷ (replicate 128 (inputs Four 0x1F0 (gives 0x0404_0404 (Device Ata)))
     ++ gets Ata 0x1F7 0x51
     ∷ gets Ata 0x1F1 0x10
     ∷ gets Ata 0x1F2 0xFF
     ∷ gets Ata 0x1F3 0x04
-    ∷ []
+    ∷ [])
 
-unfoldable pub PastTheEnd : Type 0
-PastTheEnd = IsLegal disk_board (from_reset past_the_end)
+unfoldable pub SectorRead : Type 0
+SectorRead = IsLegal disk_board (from_reset sector_read)
 
--- a bad sector is not read, and a write of it begins
+-- a bad sector is not read. A write of it makes it good again, and its words are read back
 abbrev pub bad_sector : List Said
 bad_sector =
     enabled
@@ -75,9 +63,13 @@ bad_sector =
     ∷ gets Ata 0x1F2 0x01
     ∷ puts Ata 0x1F7 0x30
     ∷ gets Ata 0x1F7 0x58
-    ∷ outputs Four 0x1F0 0x0707_0707 (goes_to (Device Ata))
-    ∷ gets Ata 0x1F7 0x58
-    ∷ [])
+    ∷ (replicate 128 (outputs Four 0x1F0 0x0707_0707 (goes_to (Device Ata)))
+    ++ gets Ata 0x1F7 0x50
+    ∷ puts Ata 0x1F2 0x01
+    ∷ puts Ata 0x1F3 0x01
+    ∷ puts Ata 0x1F7 0x20
+    ∷ inputs Four 0x1F0 (gives 0x0707_0707 (Device Ata))
+    ∷ []))
 
 unfoldable pub BadSector : Type 0
 BadSector = IsLegal disk_board (from_reset bad_sector)

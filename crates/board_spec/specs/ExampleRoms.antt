@@ -1,14 +1,14 @@
--- Worked examples of expansion ROMs and of I/O bases: who answers, and who denies.
-use Rattle.std.specs.Prelude.{List, [], ◌∷◌, codes, false, None, Some}
-use Rattle.board_base.specs.declared.access.Width.TheVariants.{One, Two, Four}
+-- Worked examples of expansion ROMs: who answers, and who denies.
+use Rattle.std.specs.Prelude.{List, [], ◌∷◌, codes, false, Some}
+use Rattle.board_base.specs.declared.access.Width.TheVariants.{One, Four}
 use Rattle.board_base.specs.declared.access.Kind.TheVariants.{Read}
 use Rattle.board_base.specs.declared.target.Area.TheVariants.{Card as CardArea, Abort as AbortArea}
 use Rattle.board_base.specs.declared.target.Target.TheVariants.{Card}
 use Rattle.board_base.specs.declared.target.Denial.TheVariants.{NoRegister}
-use Rattle.board_spec.specs.Setup.{Setup, FittedCard, IoBase}
+use Rattle.board_spec.specs.Setup.{Setup, FittedCard}
 use Rattle.board_spec.specs.Legal.{IsLegal}
 use Rattle.board_spec.specs.ExampleWords.{Said, from_reset, selects, inputs, outputs, reads, writes, looks, sees, gives, goes_to, floats, lost, register, denied_by}
-use Rattle.board_spec.specs.Examples.{board_of}
+use Rattle.board_spec.specs.Examples.{board_of, memory_card}
 use Rattle.board_spec.specs.ExampleWide.{IsLoggedWide}
 
 -- ---- an expansion ROM
@@ -63,3 +63,25 @@ ExpansionRomLogged = IsLoggedWide expansion_rom
     ∷ codes "15 0.15 r b D0000004 = FF abort 02.0.30"
     ∷ codes "16 0.16 look r D0000004 = 5 00800000 FFFEFFFF abort"
     ∷ [])
+
+-- ---- who denies first
+
+abbrev pub shut_board : Setup
+shut_board = board_of 8 (rom_card ∷ memory_card 3 16 ∷ [])
+
+-- a shut card denies before an enabled one whose ROM is not selected
+abbrev pub shut_before_unselected : List Said
+shut_before_unselected =
+    selects 0x8000_1030
+    ∷ outputs Four 0xCFC 0xD000_0000 (goes_to (register 2 0 0x30))
+    ∷ selects 0x8000_1004
+    ∷ outputs One 0xCFC 0x02 (goes_to (register 2 0 0x04))
+    ∷ selects 0x8000_1810
+    ∷ outputs Four 0xCFC 0xD000_0000 (goes_to (register 3 0 0x10))
+    ∷ reads One 0xD000_0004 (floats 0xFF (denied_by 3 0 0x04))
+    ∷ outputs Four 0xCFC 0xE000_0000 (goes_to (register 3 0 0x10))
+    ∷ writes One 0xD000_0004 0x55 (lost (denied_by 2 0 0x30))
+    ∷ []
+
+unfoldable pub ShutBeforeUnselected : Type 0
+ShutBeforeUnselected = IsLegal shut_board (from_reset shut_before_unselected)

@@ -1,5 +1,5 @@
 -- Worked examples of accesses that are not aligned, or have 8 bytes, and their logs.
-use Rattle.std.specs.Prelude.{ℕ, ◌≡◌, List, [], ◌∷◌, ◌++◌, codes, true}
+use Rattle.std.specs.Prelude.{ℕ, ◌≡◌, List, [], ◌∷◌, codes, true}
 use Rattle.board_base.specs.declared.access.Width.TheVariants.{One}
 use Rattle.board_base.specs.declared.access.Kind.TheVariants.{Read}
 use Rattle.board_base.specs.declared.target.Target.TheVariants.{Dram, Shadow, Smram, Abort}

@@ -44,3 +44,10 @@ pub mod ExampleDevices
 pub mod ExampleDisk
 pub mod ExampleWide
 pub mod ExampleRoms
+pub mod ExampleStories
+pub mod ExampleMasks
+pub mod ExampleInterrupts
+pub mod ExampleVersions
+pub mod ExampleWindows
+pub mod ExampleEvents
+pub mod ExampleTargets

@@ -3,8 +3,15 @@
 
 pub mod devices;
 pub mod disk;
+pub mod events;
+pub mod interrupts;
+pub mod masks;
 pub mod roms;
+pub mod stories;
+pub mod texts;
+pub mod versions;
 pub mod wide;
+pub mod windows;
 
 ghost use Rattle.board_spec.specs.Examples.{ShadowingTheBios, OneWindowForWrites, MemoryAfterReset, ConfigurationPorts, SmramLockedUntilReset, VgaBesideSmram, NoRowOfDram, CardInTheHole, HoleAt512Kib, TwoCardsAtOneAddress, XbcsOverASoftReset, RomAfterReset, CardMovedUnderTheRom};
 ghost use Rattle.board_spec.specs.ExampleLogs.{VgaBesideSmramLogged, ConfigurationPortsLogged, TwoCardsLogged, XbcsLogged, OutsideLogged};

@@ -4,7 +4,7 @@ use Rattle.device_spec.specs.ExampleWords.{given, told}
 use Rattle.device_spec.specs.Ata.Commands.{begin_read, sector_read, begin_write, sector_written, verified, obeyed, commanded}
 use Rattle.device_spec.specs.Ata.Steps.{after_word, word_written, register_written, control_written}
 use Rattle.device_spec.specs.Ata.Identify.{identify_word}
-use Rattle.device_spec.specs.ExampleDisk.{passed, filled, PastTheEnd, BadInTheMiddle, ReadToItsEnd, BadIsWritten, WrittenIsGood, WordsOfSector3, LowByteFirst, CommandEnds, Writes, Resets, Commands, Addresses, Identify, Lengths}
+use Rattle.device_spec.specs.ExampleDisk.{passed, filled, PastTheEnd, BadInTheMiddle, ReadToItsEnd, BadIsWritten, WrittenIsGood, WordsOfSector3, LowByteFirst, CommandEnds, Writes, Resets, Commands, Addresses, Identify, Lengths, DiskPorts}
 
 pub past_the_end : PastTheEnd
 unfolding PastTheEnd given told passed filled begin_read sector_read begin_write sector_written verified obeyed commanded after_word word_written register_written control_written identify_word
@@ -60,6 +60,8 @@ commands = record {
   registers = λ bytes. refl;
   others = λ bytes. refl;
   reset = λ bytes. refl;
+  reset_keeps_bad = λ bytes. refl;
+  request_goes = λ bytes. refl;
   feature_02 = λ bytes. refl;
   feature_03 = λ bytes. refl;
   feature_55 = λ bytes. refl;
@@ -75,6 +77,9 @@ commands = record {
 pub addresses : Addresses
 unfolding given told passed filled begin_read sector_read begin_write sector_written verified obeyed commanded after_word word_written register_written control_written identify_word
 addresses = record {
+  as_lba = refl;
+  as_chs = refl;
+  as_chs_of_drive = refl;
   lba = refl;
   first = refl;
   last_of_track = refl;
@@ -111,3 +116,6 @@ lengths = record {
   bytes = refl;
   drive = refl;
 }
+
+pub disk_ports : DiskPorts
+disk_ports = record { bytes = refl; words = refl; double_words = refl }

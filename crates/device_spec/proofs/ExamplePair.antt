@@ -56,7 +56,7 @@ reset_at_levels = refl
 
 pub each_command : EachCommand
 unfolding initialised given told after_lines levels_where byte_of_levels pending first_selectable request chip_after_write byte_read chip_after_read first_blocking answer_of pair_after_acknowledge
-each_command = record { non_specific_end = refl; specific_end = refl; rotating_end = refl; rotating_specific_end = refl; set_rotation = refl; clear_rotation = refl; set_priority = refl; no_operation = refl }
+each_command = record { non_specific_end = refl; specific_end = refl; rotating_end = refl; rotating_specific_end = refl; set_rotation = refl; clear_rotation = refl; set_priority = refl; rotating_end_of_another = refl; set_another_priority = refl; no_operation = refl }
 
 pub automatic_end : AutomaticEnd
 unfolding initialised given told after_lines levels_where byte_of_levels pending first_selectable request chip_after_write byte_read chip_after_read first_blocking answer_of pair_after_acknowledge

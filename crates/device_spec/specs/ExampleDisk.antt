@@ -3,9 +3,9 @@ use Rattle.std.specs.Prelude.{◌≡◌, ℕ, zero, suc, Bool, true, false, List
 use Rattle.board_base.specs.declared.access.Width.TheVariants.{One, Two, Four}
 use Rattle.device_spec.specs.ExampleWords.{digit, given, told}
 use Rattle.device_spec.specs.Ata.State.{Disk, power_on_drive, power_on_registers, is_interrupt, is_disk_length, power_on}
-use Rattle.device_spec.specs.Ata.Address.{named}
+use Rattle.device_spec.specs.Ata.Address.{named, naming}
 use Rattle.device_spec.specs.Ata.Identify.{identify_word}
-use Rattle.device_spec.specs.Ata.Steps.{read_of, after_read, after_write, after_reset, after_bad}
+use Rattle.device_spec.specs.Ata.Steps.{is_ata_port, read_of, after_read, after_write, after_reset, after_bad}
 
 -- a write of a byte, a read and the byte that it gives, words and double words at the data port, a number
 -- of words that are read and not looked at, or written, the same each; a bad sector, a hard reset, and the interrupt line
@@ -126,7 +126,9 @@ BadIsWritten = Answers bad_is_written
 abbrev pub written_is_good : List Line
 written_is_good =
     Bad 1 ∷ Out 0x1F6 0xE0 ∷ Out 0x1F2 0x01 ∷ Out 0x1F3 0x01 ∷ Out 0x1F7 0x30 ∷ Fill 256 0x0707 ∷ In 0x1F7 0x50
-    ∷ Out 0x1F2 0x01 ∷ Out 0x1F3 0x01 ∷ Out 0x1F7 0x20 ∷ InLong 0x0707_0707 ∷ In 0x1F1 0x00 ∷ []
+    ∷ Out 0x1F2 0x01 ∷ Out 0x1F3 0x01 ∷ Out 0x1F7 0x20 ∷ InLong 0x0707_0707 ∷ In 0x1F1 0x00
+    ∷ Out 0x1F7 0xE7 ∷ Out 0x1F3 0x02 ∷ Out 0x1F7 0x20 ∷ InLong 0x0303_0303 ∷ Out 0x1F7 0xE7 ∷ Out 0x1F3 0x00 ∷ Out 0x1F7 0x20
+    ∷ InLong 0x0101_0101 ∷ []
 
 -- each byte of sector s is s + 1
 abbrev pub counting_bytes : List ℕ
@@ -236,10 +238,20 @@ hard_reset =
 abbrev pub feature : (byte status error : ℕ) → List Line
 feature byte status error = Out 0x1F1 byte ∷ Out 0x1F7 0xEF ∷ Level true ∷ In 0x1F7 status ∷ In 0x1F1 error ∷ []
 
+-- the marks of bad sectors stay over a hard reset
+abbrev pub bad_over_a_reset : List Line
+bad_over_a_reset = Bad 1 ∷ Reset ∷ Out 0x1F6 0xE0 ∷ Out 0x1F7 0x20 ∷ In 0x1F7 0x51 ∷ In 0x1F1 0x40 ∷ []
+
+-- a command takes away the request of the one before it
+abbrev pub request_of_before : List Line
+request_of_before = Out 0x1F6 0xE0 ∷ Out 0x1F7 0xE7 ∷ Level true ∷ Out 0x1F7 0x30 ∷ Level false ∷ In 0x3F6 0x58 ∷ []
+
 pub record Commands : Type 0 where
   pub registers : Answers each_register
   pub others : Answers other_commands
   pub reset : Answers hard_reset
+  pub reset_keeps_bad : Answers bad_over_a_reset
+  pub request_goes : Answers request_of_before
   pub feature_02 : Answers (feature 0x02 0x50 0x00)
   pub feature_03 : Answers (feature 0x03 0x50 0x00)
   pub feature_55 : Answers (feature 0x55 0x50 0x00)
@@ -273,7 +285,16 @@ verify_of_256 =
 abbrev pub names : (low mid high device : ℕ) → Option ℕ
 names low mid high device = named (record power_on_registers { low = low; mid = mid; high = high; device = device })
 
+-- the address registers once a sector's number was written back
+abbrev pub written_back : (device sector : ℕ) → List ℕ
+written_back device sector =
+    let r = naming (record power_on_registers { device = device }) sector in
+    r.low ∷ r.mid ∷ r.high ∷ r.device ∷ []
+
 pub record Addresses : Type 0 where
+  pub as_lba : written_back 0xEF 0x104_0302 ≡ (0x02 ∷ 0x03 ∷ 0x04 ∷ 0xE1 ∷ [])
+  pub as_chs : written_back 0xAF 258_369 ≡ (0x07 ∷ 0x00 ∷ 0x01 ∷ 0xA5 ∷ [])
+  pub as_chs_of_drive : written_back 0xBF 1_071 ≡ (0x01 ∷ 0x01 ∷ 0x00 ∷ 0xB1 ∷ [])
   pub lba : names 0x02 0x03 0x04 0xE1 ≡ Some 0x104_0302
   pub first : names 0x01 0x00 0x00 0xA0 ≡ Some 0
   pub last_of_track : names 0x3F 0x00 0x00 0xA0 ≡ Some 62
@@ -320,3 +341,16 @@ pub record Lengths : Type 0 where
   pub sectors : (power_on counting_bytes).medium.bad ≡ replicate 4 false
   pub bytes : (power_on counting_bytes).medium.bytes ≡ counting_bytes
   pub drive : (power_on counting_bytes).drive ≡ power_on_drive
+
+-- ---- the ports
+
+abbrev pub ports : List ℕ
+ports = 0x1EF ∷ 0x1F0 ∷ 0x1F1 ∷ 0x1F7 ∷ 0x1F8 ∷ 0x3F5 ∷ 0x3F6 ∷ 0x3F7 ∷ []
+
+abbrev pub data_alone : List Bool
+data_alone = false ∷ true ∷ false ∷ false ∷ false ∷ false ∷ false ∷ false ∷ []
+
+pub record DiskPorts : Type 0 where
+  pub bytes : map (λ port. is_ata_port port One) ports ≡ (false ∷ false ∷ true ∷ true ∷ false ∷ false ∷ true ∷ false ∷ [])
+  pub words : map (λ port. is_ata_port port Two) ports ≡ data_alone
+  pub double_words : map (λ port. is_ata_port port Four) ports ≡ data_alone

@@ -119,7 +119,8 @@ ANewBeginning = Answers a_new_beginning
 -- without ICW3 and with ICW4; the chip stays ready meanwhile; a line that fell is spurious
 abbrev pub a_short_sequence : List Line
 a_short_sequence =
-    Out 0x20 0x13 ∷ Lines (0 ∷ 3 ∷ []) 0 ∷ Ack 0x23 0 false ∷ Out 0x20 0x20 ∷ Out 0x21 0x47 ∷ Out 0x21 0x01
+    Out 0x20 0x13 ∷ Lines (0 ∷ 3 ∷ []) 0 ∷ Ack 0x23 0 false ∷ Out 0x20 0x20 ∷ Out 0x21 0x47
+    ∷ Lines (0 ∷ []) 0 ∷ Lines (0 ∷ 3 ∷ []) 0 ∷ Ack 0x43 0 false ∷ Out 0x20 0x20 ∷ Out 0x21 0x01
     ∷ Out 0x21 0x80 ∷ In 0x21 0x80 ∷ Lines (0 ∷ 4 ∷ []) 0 ∷ Lines (0 ∷ []) 0 ∷ Ack 0x47 0 true
     ∷ Lines (0 ∷ 7 ∷ []) 0 ∷ Ack 0x47 0 true ∷ []
 
@@ -142,6 +143,8 @@ pub record EachCommand : Type 0 where
   pub set_rotation : Answers (after_command 0x85 0x28 0x21)
   pub clear_rotation : Answers (after_command 0x05 0x28 0x21)
   pub set_priority : Answers (after_command 0xC5 0x28 0x26)
+  pub rotating_end_of_another : Answers (after_command 0xE6 0x28 0x21)
+  pub set_another_priority : Answers (after_command 0xC6 0x28 0x21)
   pub no_operation : Answers (after_command 0x45 0x28 0x21)
 
 -- special mask mode: level 3, in service and masked, lets level 5 pass, and is passed over by the end
@@ -168,7 +171,8 @@ ChosenRegisters = Answers chosen_registers
 abbrev pub polls : List Line
 polls =
     Lines (0 ∷ 6 ∷ []) 0 ∷ Out 0x20 0x0C ∷ Out 0x20 0x08 ∷ In 0x20 0x86 ∷ In 0x20 0x00 ∷ Out 0x20 0x0B ∷ In 0x20 0x40
-    ∷ Out 0x20 0x0C ∷ In 0x21 0x00 ∷ In 0x21 0x00 ∷ Out 0x20 0x0C ∷ Out 0x20 0x11 ∷ In 0x21 0x00 ∷ In 0x20 0x00 ∷ []
+    ∷ Out 0x21 0x08 ∷ Out 0x20 0x0C ∷ In 0x21 0x00 ∷ In 0x21 0x08 ∷ Lines (0 ∷ 4 ∷ []) 0 ∷ Out 0x20 0x0C ∷ In 0x21 0x84
+    ∷ Out 0x20 0x0C ∷ Out 0x20 0x11 ∷ Lines (0 ∷ 5 ∷ []) 0 ∷ In 0x20 0x20 ∷ []
 
 unfoldable pub Polls : Type 0
 Polls = Answers polls

@@ -1,7 +1,7 @@
 -- Worked examples of the 8254.
 use Rattle.std.specs.Prelude.{◌≡◌, ℕ, Bool, true, false, zero, suc, List, [], ◌∷◌}
 use Rattle.device_spec.specs.ExampleWords.{digit, given, told, after_lines}
-use Rattle.device_spec.specs.Pit.{PitState, reset, port_read, port_write, set_gate2, out_of, pulses, rises}
+use Rattle.device_spec.specs.Pit.{IsTimerPort, PitState, reset, port_read, port_write, set_gate2, out_of, pulses, rises}
 
 -- a write of a byte, a read and the byte that it gives, pulses, the level of gate 2, and OUT of a counter
 pub data Line : Type 0 where
@@ -35,6 +35,13 @@ tells (Level counter level) = digit level ∷ []
 -- from a reset on, the timer gives what the lines say
 abbrev pub Answers : List Line → Type 0
 Answers lines = given gives after lines reset ≡ told tells lines
+
+-- the ports are 40h to 43h
+pub record Ports : Type 0 where
+  pub first : IsTimerPort 0x40
+  pub last : IsTimerPort 0x43
+  pub before : ¬ (IsTimerPort 0x3F)
+  pub past : ¬ (IsTimerPort 0x44)
 
 -- ---- after a reset
 
@@ -192,6 +199,12 @@ status_before_count =
     Gate true ∷ Out 0x43 0xB4 ∷ Out 0x42 0x34 ∷ Out 0x42 0x12 ∷ Pulses 1 ∷ Out 0x42 0xFF ∷ Out 0x42 0xFF
     ∷ Out 0x43 0xC8 ∷ Pulses 1 ∷ Out 0x43 0xC8 ∷ In 0x42 0xF4 ∷ In 0x42 0x34 ∷ In 0x42 0x12 ∷ In 0x42 0x33 ∷ []
 
+-- a status that is held stays, whatever comes
+abbrev pub status_held : List Line
+status_held =
+    Gate true ∷ Out 0x43 0xB4 ∷ Out 0x42 0x34 ∷ Out 0x42 0x12 ∷ Out 0x43 0xE8 ∷ Pulses 1 ∷ Out 0x43 0xE8
+    ∷ In 0x42 0xF4 ∷ In 0x42 0x34 ∷ In 0x42 0x12 ∷ Out 0x43 0xE8 ∷ In 0x42 0xB4 ∷ []
+
 -- the high byte alone
 abbrev pub high_byte_alone : List Line
 high_byte_alone =
@@ -226,6 +239,7 @@ counts_that_wait =
 pub record BytesAndLatches : Type 0 where
   pub in_turn : Answers bytes_in_turn
   pub status_first : Answers status_before_count
+  pub status_stays : Answers status_held
   pub high_alone : Answers high_byte_alone
   pub decimal : Answers decimal_digits
   pub in_halves : Answers written_in_halves

@@ -2,10 +2,10 @@
 //! its clause is the example.
 
 ghost use Rattle.device_spec.specs.ExamplePair.{NobodyIsReady, SpuriousAnswers, ALevelStays, AnEdgeIsKept, TheHigherEndsFirst, ANewBeginning, AShortSequence, SpecialMask, ChosenRegisters, Polls, PollsOfOne, ResetAtLevels, EachCommand, AutomaticEnd, ModesEnd, FullyNested, Cascaded};
-ghost use Rattle.device_spec.specs.ExampleTimer.{AfterReset, ReadBackOf0, Counters1And2, OnePeriod, EachMode, EachCount, EachGate, BytesAndLatches};
+ghost use Rattle.device_spec.specs.ExampleTimer.{Ports, AfterReset, ReadBackOf0, Counters1And2, OnePeriod, EachMode, EachCount, EachGate, BytesAndLatches};
 ghost use Rattle.device_spec.specs.ExampleClock.{AnAlarmStays, AHardReset, AMoment, HourForms, Alarms, Interrupts, EachByte};
 ghost use Rattle.device_spec.specs.ExampleRouting.{RouteBytes, LinesDriven, TriggerBytes};
-ghost use Rattle.device_spec.specs.ExampleDisk.{PastTheEnd, BadInTheMiddle, ReadToItsEnd, BadIsWritten, WrittenIsGood, WordsOfSector3, LowByteFirst, CommandEnds, Writes, Resets, Commands, Addresses, Identify, Lengths};
+ghost use Rattle.device_spec.specs.ExampleDisk.{PastTheEnd, BadInTheMiddle, ReadToItsEnd, BadIsWritten, WrittenIsGood, WordsOfSector3, LowByteFirst, CommandEnds, Writes, Resets, Commands, Addresses, Identify, Lengths, DiskPorts};
 
 // The 8259A pair
 
@@ -112,6 +112,12 @@ pub fn modes_end()
 {}
 
 // The 8254
+
+/// The ports of the timer.
+#[tactic(auto, using(crate::proofs::ExampleTimer::ports))]
+pub fn ports()
+    ensures example { Ports }
+{}
 
 /// The outputs and the status of each counter after a reset.
 #[tactic(auto, using(crate::proofs::ExampleTimer::after_reset))]
@@ -309,4 +315,10 @@ pub fn identify()
 #[tactic(auto, using(crate::proofs::ExampleDisk::lengths))]
 pub fn lengths()
     ensures example { Lengths }
+{}
+
+/// The ports of the disk, by width.
+#[tactic(auto, using(crate::proofs::ExampleDisk::disk_ports))]
+pub fn disk_ports()
+    ensures example { DiskPorts }
 {}

@@ -72,13 +72,13 @@ unfolding fitted_of
 fitted_fits [] card e = absurd cc
 fitted_fits (dev ∷ []) card e = absurd cc
 fitted_fits (dev ∷ kind ∷ fields) card e =
-    let d = then_said (device_of dev) (λ dev. option_and_then (λ vga. option_and_then (λ bases. Some (record { dev = dev; vga = vga; bases = bases })) (bases_of fields)) (vga_of kind)) card e in
-    let v = then_said (vga_of kind) (λ vga. option_and_then (λ bases. Some (record { dev = d.0; vga = vga; bases = bases })) (bases_of fields)) card d.2 in
-    let b = then_said (bases_of fields) (λ bases. Some (record { dev = d.0; vga = v.0; bases = bases })) card v.2 in
+    let d = then_said (device_of dev) (λ dev. option_and_then (λ vga. option_and_then (λ bases. Some (record { dev = dev; vga = vga; bases = bases; rom = None })) (bases_of fields)) (vga_of kind)) card e in
+    let v = then_said (vga_of kind) (λ vga. option_and_then (λ bases. Some (record { dev = d.0; vga = vga; bases = bases; rom = None })) (bases_of fields)) card d.2 in
+    let b = then_said (bases_of fields) (λ bases. Some (record { dev = d.0; vga = v.0; bases = bases; rom = None })) card v.2 in
     let range = device_fits dev d.0 d.1 in
     let all = bases_fit fields b.0 b.1 in
-    let made : FittedCard = record { dev = d.0; vga = v.0; bases = b.0 } in
-    subst IsCard {x = made} (some_is made card b.2) (record { first = range.0; last = range.1; count = all.0; each = all.1 })
+    let made : FittedCard = record { dev = d.0; vga = v.0; bases = b.0; rom = None } in
+    subst IsCard {x = made} (some_is made card b.2) (record { first = range.0; last = range.1; count = all.0; each = all.1; rom = tt })
 
 card_fits : (fields : List (List ℕ)) (card : FittedCard) → card_of fields ≡ Some card → IsCard card
 unfolding card_of

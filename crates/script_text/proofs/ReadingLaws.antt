@@ -1,6 +1,6 @@
 -- A reading is one of two things, and only one.
 use Rattle.std.proofs.Common.{◌≡◌, ℕ, Result, Ok, Err, refl, sym, ap, ◌∙◌, inl, inr, ◌⊎◌}
-use Rattle.script_text.specs.Lines.{lines_of}
+use Rattle.script_spec.specs.Lines.{lines_of}
 use Rattle.script_text.specs.ScriptText.{Said, Refusal, script_from}
 use Rattle.script_text.specs.Laws.{SomeReading, NotBoth, OneSaid, OneRefusal}
 

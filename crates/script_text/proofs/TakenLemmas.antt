@@ -14,7 +14,7 @@ use Rattle.board_base.specs.declared.access.Kind.TheVariants.{Fetch, Read, Write
 use Rattle.board_base.specs.declared.access.Access.{Access}
 use Rattle.board_base.specs.declared.access.PortAccess.{PortAccess}
 use Rattle.board_spec.specs.declared.event.Event.{Event}
-use Rattle.board_spec.specs.declared.event.Event.TheVariants.{Memory, Port, Look as LookAt, Ack, Pulses, Time, Wire, Line, BadSector}
+use Rattle.board_spec.specs.declared.event.Event.TheVariants.{Memory, Wide, Port, Look as LookAt, Ack, Pulses, Time, Wire, Line, BadSector}
 use Rattle.board_spec.specs.declared.event.Statement.{Statement}
 use Rattle.board_spec.specs.Bits.{is_within}
 use Rattle.board_spec.specs.Stored.{is_write}
@@ -24,7 +24,8 @@ use Rattle.script_text.specs.Numbers.{digit_value, digit_of, number_after, hex_o
 use Rattle.script_text.specs.StatementText.{width_of, kind_of, address_of, port_of, value_of, smm_of, read_of, write_of, in_of, out_of, look_of, event_of_fields}
 use Rattle.board_spec.specs.ToCome.{is_device_port, names_routing}
 use Rattle.script_text.specs.Forms.{is_aligned, is_taken_access, is_taken_port, is_taken}
-use Rattle.script_text.specs.Lines.{lines_of, fields_of}
+use Rattle.script_spec.specs.Lines.{lines_of}
+use Rattle.script_text.specs.Lines.{fields_of}
 use Rattle.script_text.specs.ScriptText.{Said, ◌>>=◌, most_statements, on_line, front_line, fixed_line, mib_of, mib_in_range, memory_line, is_name, rom_of, rom_line, statement_of, next_statement, cards_from, statements_from, script_from}
 use Rattle.script_text.specs.declared.fault.ScriptFault.{ScriptFault}
 use Rattle.script_text.specs.declared.script.Script.{Script}
@@ -186,6 +187,7 @@ memory_aligned access e = aligned_is access.addr access.width e
 in_range : (event : Event) → is_taken event ≡ true → HasFittingValue event → (setup : Setup) → IsInRange setup event
 unfolding is_taken
 in_range (Memory access) e fits = λ setup. record { aligned = memory_aligned access e; fits = fits }
+in_range (Wide access) e fits = absurd cc
 in_range (Port access) e fits = λ setup. record { aligned = port_aligned access e; fits = fits }
 in_range (LookAt kind addr smm) e fits = λ setup. tt
 in_range Ack e fits = absurd cc

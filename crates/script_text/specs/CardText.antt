@@ -55,7 +55,7 @@ fitted_of (dev ∷ kind ∷ fields) = do
   dev ← device_of dev
   vga ← vga_of kind
   bases ← bases_of fields
-  Some (record { dev = dev; vga = vga; bases = bases })
+  Some (record { dev = dev; vga = vga; bases = bases; rom = None })
 
 unfoldable pub card_of : List (List ℕ) → Option FittedCard
 card_of [] = None

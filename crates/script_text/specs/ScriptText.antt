@@ -5,7 +5,8 @@ use Rattle.std.specs.Option.{option_and_then}
 use Rattle.board_spec.specs.declared.event.Statement.{Statement}
 use Rattle.board_spec.specs.Bits.{is_within}
 use Rattle.board_spec.specs.Setup.{FittedCard}
-use Rattle.script_text.specs.Lines.{lines_of, fields_of}
+use Rattle.script_spec.specs.Lines.{lines_of}
+use Rattle.script_text.specs.Lines.{fields_of}
 use Rattle.script_text.specs.Numbers.{decimal_of}
 use Rattle.script_text.specs.StatementText.{event_of_fields}
 use Rattle.script_text.specs.CardText.{next_card, insert_card}

@@ -111,7 +111,12 @@ fn fitted_of(words: &[&[u8]]) -> Option<CardSpec>
     let dev = device_of(dev)?;
     let vga = vga_of(kind)?;
     let bases = bases_of(fields)?;
-    Some(CardSpec { dev, vga, bases })
+    Some(CardSpec {
+        dev,
+        vga,
+        bases,
+        rom: None,
+    })
 }
 
 /// The card of a line.

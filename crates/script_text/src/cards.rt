@@ -4,7 +4,7 @@ ghost use Rattle.std.specs.Prelude.{◌≡◌, ◌≤◌, [], length, map, nat_l
 ghost use Rattle.std.specs.List.{position_or_len};
 ghost use Rattle.board_spec.specs.Setup.{IsBase, IsCard, memory_size, memory_of_cards};
 ghost use Rattle.pci_bars.specs.Bases.{base_of};
-ghost use Rattle.script_text.specs.Lines.{lines_of};
+ghost use Rattle.script_spec.specs.Lines.{lines_of};
 ghost use Rattle.script_text.specs.CardText.{memory_of_card, is_there, fits_beside, next_card, insert_card};
 ghost use Rattle.script_text.specs.ScriptText.{card_line, cards_from};
 ghost use Rattle.script_text.specs.Taken.{AreFitted};

@@ -74,7 +74,8 @@ pub fn is_taken(event: &Event) -> bool
         Event::Port(access) => is_taken_port(access),
         // A look has no width, and its address need not be a multiple of one.
         Event::Look { .. } => true,
-        Event::Ack
+        Event::Wide(_)
+        | Event::Ack
         | Event::Pulses(_)
         | Event::Time(_)
         | Event::Wire { .. }

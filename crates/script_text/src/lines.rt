@@ -1,7 +1,8 @@
 //! Lines of a file, and fields of a line.
 
 ghost use Rattle.std.specs.Prelude.{◌≡◌, ◌<◌, [], ◌∷◌, length, map, IfOk, IfSome, MatchOption};
-ghost use Rattle.script_text.specs.Lines.{lines_of, fields_of};
+ghost use Rattle.script_spec.specs.Lines.{lines_of};
+ghost use Rattle.script_text.specs.Lines.{fields_of};
 
 use std::alloc::{AllocError, Global};
 

@@ -1,7 +1,7 @@
 //! Whole scripts.
 
 ghost use Rattle.std.specs.Prelude.{◌≡◌, ◌≤◌, ◌<◌, ◌^◌, ◌-◌, length, map, IfOk, IfErr, OnOk};
-ghost use Rattle.script_text.specs.Lines.{lines_of};
+ghost use Rattle.script_spec.specs.Lines.{lines_of};
 ghost use Rattle.script_text.specs.ScriptText.{most_statements, statement_of, next_statement, statements_from, script_from, IsScript, IsBadScript};
 ghost use Rattle.script_text.specs.Taken.{IsTakenScript};
 ghost use Rattle.script_text.specs.Reading.{Gives, OnBad, said_of};

@@ -2,7 +2,7 @@
 
 ghost use Rattle.std.specs.Prelude.{◌≡◌, ◌≤◌, ◌<◌, ◌^◌, ◌-◌, length, map, IfSome, IsTrue};
 ghost use Rattle.std.specs.Option.{option_map};
-ghost use Rattle.script_text.specs.Lines.{lines_of};
+ghost use Rattle.script_spec.specs.Lines.{lines_of};
 ghost use Rattle.script_text.specs.ScriptText.{front_line, fixed_line, mib_of, memory_line, is_name, rom_of, rom_line};
 ghost use Rattle.script_text.specs.Reading.{Gives};
 

@@ -6,7 +6,7 @@ pub mod laws;
 mod piix;
 mod xbcs;
 
-pub use piix::Piix;
+pub use piix::{Piix, decodes_ide_channel, enables_ide_ports};
 pub use xbcs::{
     XBCS_RESET, rom_offset, rom_selected, selects_clock, selects_keyboard, sends_bios_writes,
     xbcs_after,

@@ -1,8 +1,9 @@
 //! The functions 01.0 and 01.1 of the 82371SB, and the ports whose devices they select.
-ghost use Rattle.std.specs.Prelude.{◌≡◌, ◌+◌, ◌*◌, ℕ, slice_index};
+ghost use Rattle.std.specs.Prelude.{◌≡◌, ◌+◌, ◌*◌, ◌/◌, slice_index};
 ghost use Rattle.board_base.specs.declared.access.Width.TheVariants.{One};
 ghost use Rattle.board_spec.specs.declared.map_change.MapChange.TheVariants.{Store};
 ghost use Rattle.board_spec.specs.Setup.{Setup};
+ghost use Rattle.board_spec.specs.Bits.{is_bit};
 ghost use Rattle.board_spec.specs.RegisterTable.{reset_byte};
 ghost use Rattle.board_spec.specs.Registers.{changed_byte};
 ghost use Rattle.board_spec.specs.Decode.{Bytes};
@@ -190,9 +191,23 @@ impl Piix {
         ensures decodes { (bytes : Bytes) → IsPiixOf bytes self.now
             → result ≡ is_ide_decoded bytes }
     {
-        is_set(self.ide_command.into(), IO_SPACE_ENABLE)
+        enables_ide_ports(self.ide_command)
             && is_set(self.timing_high.into(), IDE_DECODE_ENABLE)
     }
+}
+
+/// Whether the command of the IDE function lets it answer at its ports.
+pub fn enables_ide_ports(command: u8) -> bool
+    ensures enabled { result ≡ is_bit command 0 }
+{
+    is_set(command.into(), IO_SPACE_ENABLE)
+}
+
+/// Whether IDETIM decodes the ports of the primary channel.
+pub fn decodes_ide_channel(idetim: u16) -> bool
+    ensures decoded { result ≡ is_bit (idetim / 0x100) 7 }
+{
+    is_set((idetim >> 8).into(), IDE_DECODE_ENABLE)
 }
 
 /// The byte of a header at an offset, and 0 past its end.

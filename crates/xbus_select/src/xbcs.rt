@@ -1,5 +1,5 @@
 //! The X-Bus chip select register, XBCS of the 82371SB, and the BIOS ranges that it selects.
-ghost use Rattle.std.specs.Prelude.{◌≡◌, ◌<◌, ◌%◌, ◌↔◌, ℕ, false, IsNone, IfSome};
+ghost use Rattle.std.specs.Prelude.{◌≡◌, ◌<◌, ◌%◌, ◌↔◌, false, IsNone, IfSome};
 ghost use Rattle.board_spec.specs.Setup.{Setup};
 ghost use Rattle.board_spec.specs.Bits.{is_bit, merged};
 ghost use Rattle.board_spec.specs.RegisterNames.{xbcs as select_register};

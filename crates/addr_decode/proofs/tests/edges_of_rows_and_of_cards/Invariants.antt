@@ -1,4 +1,4 @@
-use Rattle.addr_decode.specs.MapRegs.{AreFitted}
+use Rattle.pci_bars.specs.Cards.{AreFitted}
 use Rattle.addr_decode.proofs.tests.edges_of_rows_and_of_cards.Given as goal
 
 abbrev pub invariant-loop-change : goal.invariant-loop-change

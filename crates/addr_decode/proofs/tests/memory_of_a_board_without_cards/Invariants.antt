@@ -1,4 +1,4 @@
-use Rattle.addr_decode.specs.MapRegs.{AreFitted}
+use Rattle.pci_bars.specs.Cards.{AreFitted}
 use Rattle.addr_decode.proofs.tests.memory_of_a_board_without_cards.Given as goal
 
 abbrev pub invariant-loop-change : goal.invariant-loop-change

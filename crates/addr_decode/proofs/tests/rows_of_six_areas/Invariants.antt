@@ -1,4 +1,4 @@
-use Rattle.addr_decode.specs.MapRegs.{AreFitted}
+use Rattle.pci_bars.specs.Cards.{AreFitted}
 use Rattle.addr_decode.proofs.tests.rows_of_six_areas.Given as goal
 
 abbrev pub invariant-loop-change : goal.invariant-loop-change

@@ -5,4 +5,4 @@ use Rattle.board_script.proofs.log.push_log.Given as goal
 
 -- the heading and a line for each entry so far
 abbrev pub invariant-loop-index : goal.invariant-loop-index
-invariant-loop-index l = Adds l.fn.text l.text (log_text (reverse (take l.index l.entries)))
+invariant-loop-index l = Adds l.fn.text l.text (log_text l.version (reverse (take l.index l.entries)))

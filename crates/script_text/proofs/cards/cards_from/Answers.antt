@@ -1,6 +1,6 @@
 use Rattle.std.proofs.Common.{sym}
 use Rattle.std.proofs.lemmas.Result.{err_from_is_err_and}
-use Rattle.script_text.specs.Lines.{lines_of}
+use Rattle.script_spec.specs.Lines.{lines_of}
 use Rattle.script_text.proofs.CardRuns.{line_read, line_refused, phase_read, lines_end}
 use Rattle.script_text.proofs.CardTaken.{line_fits}
 use Rattle.script_text.proofs.cards.cards_from.Goals as goal

@@ -1,5 +1,5 @@
 use Rattle.std.proofs.Common.{◌≡◌, length, []}
-use Rattle.script_text.specs.Lines.{lines_of}
+use Rattle.script_spec.specs.Lines.{lines_of}
 use Rattle.script_text.specs.ScriptText.{cards_from}
 use Rattle.script_text.specs.Taken.{AreFitted}
 use Rattle.script_text.proofs.cards.cards_from.Given as goal

@@ -1,6 +1,6 @@
 use Rattle.std.proofs.Common.{vec_len, arith}
 use Rattle.std.proofs.lemmas.Result.{err_from_is_err_and}
-use Rattle.script_text.specs.Lines.{lines_of}
+use Rattle.script_spec.specs.Lines.{lines_of}
 use Rattle.script_text.proofs.StatementRuns.{goes_on, stops, ends}
 use Rattle.script_text.proofs.reading.statements_from.Goals as goal
 

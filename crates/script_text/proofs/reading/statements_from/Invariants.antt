@@ -1,5 +1,5 @@
 use Rattle.std.proofs.Common.{◌≡◌, ◌≤◌, length, vec_len}
-use Rattle.script_text.specs.Lines.{lines_of}
+use Rattle.script_spec.specs.Lines.{lines_of}
 use Rattle.script_text.specs.ScriptText.{statements_from, most_statements}
 use Rattle.script_text.proofs.StatementRuns.{with_front}
 use Rattle.script_text.proofs.reading.statements_from.Given as goal

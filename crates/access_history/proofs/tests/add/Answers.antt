@@ -1,0 +1,11 @@
+use Rattle.std.proofs.Common.{rules, ◌≡◌, List, [], ◌∷◌, ◌++◌, reverse, ap, ◌∙◌}
+use Rattle.std.proofs.lemmas.List.{reverse-append}
+use Rattle.board_spec.specs.declared.event.Entry.{Entry}
+use Rattle.bus_turn.specs.Passes.{seen_of}
+use Rattle.access_history.proofs.tests.add.Goals as goal
+
+pub commit-requires-clause-adds : goal.commit-requires-clause-adds
+commit-requires-clause-adds g c =
+    let entry : Entry = record { actor = c.args.actor; seq = c.args.seq; event = c.acknowledged.result.event; reply = c.acknowledged.result.reply } in
+    let seen : reverse c.take-held.result.value.entries ≡ seen_of c.take-held.new.pass = search rules in
+    (entry, ap (λ past. reverse past.entries) c.push.ensures.pushed ∙ (reverse-append (entry ∷ []) c.take-held.result.value.entries ∙ ap (λ (es : List Entry). es ++ entry ∷ []) seen), search rules)

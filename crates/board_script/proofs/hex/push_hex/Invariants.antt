@@ -1,0 +1,15 @@
+use Rattle.std.proofs.Common.{◌≡◌, ◌++◌}
+use Rattle.std.specs.String.{string_bytes}
+use Rattle.board_spec.specs.Text.{hex_number}
+use Rattle.board_script.specs.Adds.{KeepsFront}
+use Rattle.board_script.proofs.hex.push_hex.Given as goal
+
+-- what is written and what is still to come
+abbrev pub invariant-loop-left : goal.invariant-loop-left
+invariant-loop-left l = record {
+  joined : string_bytes l.text ++ hex_number l.left l.value ≡ string_bytes l.fn.text ++ hex_number l.bytes l.value;
+  kept : KeepsFront l.fn.text l.text;
+}
+
+abbrev pub decreases-loop-left : goal.decreases-loop-left
+decreases-loop-left l = l.left

@@ -1,0 +1,55 @@
+-- Lists by place, and the entries of one caller.
+use Rattle.std.proofs.Common.{◌≡◌, ◌≢◌, ◌⊎◌, inl, inr, ℕ, zero, suc, ◌+◌, ◌≤◌, ◌<◌, ◌==◌, true, false, Bool, cond, List, [], ◌∷◌, ◌++◌, length, set, drop, filter, All, sym, refl, ap, ◌∙◌, subst, append_assoc, append-nil, arith, eq-eqb, ne_eqb, eqb}
+use Rattle.std.proofs.lemmas.List.Elements.{filter-append, All-head, All-tail}
+use mathlib.Core.List.{IsPrefix}
+use mathlib.Core.Option.{some, some-injective, some-ne-none}
+use lib.ListN.{get_elem?}
+use Rattle.bus_turn.specs.Views.{own_by}
+
+module _ {A : Type 0} where
+  pub at_lt : (l : List A) (i : ℕ) (a : A) → get_elem? l i ≡ some a → i < length l
+  at_lt [] i a e = absurd (some-ne-none a (sym e))
+  at_lt (x ∷ xs) zero a e = omega arith
+  at_lt (x ∷ xs) (suc i) a e = let h = at_lt xs i a e in omega arith
+
+  pub at_end : (l : List A) (a b : A) (j : ℕ) → get_elem? (l ++ a ∷ []) j ≡ some b → (get_elem? l j ≡ some b) ⊎ ((j ≡ length l) × (a ≡ b))
+  at_end [] a b zero e = inr (refl, some-injective a b e)
+  at_end [] a b (suc j) e = absurd (some-ne-none b (sym e))
+  at_end (x ∷ xs) a b zero e = inl e
+  at_end (x ∷ xs) a b (suc j) e = Rattle.std.proofs.Common.⊎_elim inl (λ t. inr (ap suc t.0, t.1)) (at_end xs a b j e)
+
+  -- two places that are not one may be set in either order
+  pub set_apart : (l : List A) (i j : ℕ) (a b : A) → j ≢ i → set (set l i a) j b ≡ set (set l j b) i a
+  set_apart [] i j a b other = refl
+  set_apart (x ∷ xs) zero zero a b other = absurd (other refl)
+  set_apart (x ∷ xs) zero (suc j) a b other = refl
+  set_apart (x ∷ xs) (suc i) zero a b other = refl
+  set_apart (x ∷ xs) (suc i) (suc j) a b other = λ k. x ∷ set_apart xs i j a b (λ e. other (ap suc e)) k
+
+  pub prefix_refl : (xs : List A) → IsPrefix xs xs
+  prefix_refl xs = ([], append-nil xs)
+
+  pub prefix_same : (xs ys : List A) → xs ≡ ys → IsPrefix xs ys
+  prefix_same xs ys e = ([], append-nil xs ∙ e)
+
+  pub prefix_trans : (xs ys zs : List A) → IsPrefix xs ys → IsPrefix ys zs → IsPrefix xs zs
+  prefix_trans xs ys zs p q = (p.0 ++ q.0, sym (append_assoc xs p.0 q.0) ∙ (ap (λ (w : List A). w ++ q.0) p.1 ∙ q.1))
+
+  pub drop_front : (xs ys : List A) → drop (length xs) (xs ++ ys) ≡ ys
+  drop_front [] ys = refl
+  drop_front (x ∷ xs) ys = drop_front xs ys
+
+module _ {E : Type 0} (actor : E → ℕ) where
+  pub own_more : (n : ℕ) (xs : List E) (e : E) → actor e ≡ n → own_by actor n (xs ++ e ∷ []) ≡ own_by actor n xs ++ e ∷ []
+  own_more n xs e is = filter-append (λ (x : E). actor x == n) xs (e ∷ []) ∙ ap (λ (b : Bool). own_by actor n xs ++ cond b (e ∷ []) []) (eq-eqb (actor e) n is)
+
+  pub own_else : (n : ℕ) (xs : List E) (e : E) → actor e ≢ n → own_by actor n (xs ++ e ∷ []) ≡ own_by actor n xs
+  own_else n xs e other = filter-append (λ (x : E). actor x == n) xs (e ∷ []) ∙ (ap (λ (b : Bool). own_by actor n xs ++ cond b (e ∷ []) []) (ne_eqb (actor e) n other) ∙ append-nil (own_by actor n xs))
+
+  pub own_none : (n : ℕ) (xs : List E) → All (λ e. actor e < n) xs → own_by actor n xs ≡ []
+  own_none n [] h = refl
+  own_none n (x ∷ xs) h = let low : actor x < n = All-head (λ (e : E). actor e < n) x xs h in
+      ap (λ (b : Bool). cond b (x ∷ own_by actor n xs) (own_by actor n xs)) (ne_eqb (actor x) n (λ e. omega arith)) ∙ own_none n xs (All-tail (λ (e : E). actor e < n) x xs h)
+
+pub All-more : {X : Type 0} (P Q : X → Type 0) (xs : List X) → ((x : X) → P x → Q x) → All P xs → All Q xs
+All-more P Q xs h all k d lt = h _ (all k d lt)

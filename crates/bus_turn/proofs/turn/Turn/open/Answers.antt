@@ -1,0 +1,6 @@
+use Rattle.std.proofs.Common.{rules, refl}
+use Rattle.bus_turn.proofs.Steps.{begins}
+use Rattle.bus_turn.proofs.turn.Turn.open.Goals as goal
+
+pub new-requires : goal.new-requires
+new-requires g c = begins g.T.Kept.entries g.T.Kept.actor g.T.Kept.fixed _ c.args.value _ _ _ (search rules) (search rules) (search rules) refl (search rules)

@@ -1,0 +1,52 @@
+-- Fields that spell the bases and the expansion ROM of a card are read as them.
+use Rattle.std.proofs.Common.{◌≡◌, ℕ, ◌+◌, ◌<◌, ◌≤◌, eqb, Option, Some, None, List, [], ◌∷◌, ◌++◌, length, map, All, inl, inr, refl, sym, ap, ◌∙◌, append_assoc, append-nil, arith}
+use Rattle.std.specs.Prelude.{codes, decimal}
+use Rattle.std.proofs.lemmas.Bool.{cases_Bool, eq-eqb, lt-ltb}
+use Rattle.std.proofs.lemmas.List.{length-append}
+use Rattle.std.proofs.lemmas.List.Elements.{All-head, All-tail}
+use Rattle.board_spec.specs.Setup.{Base, MemoryBase, IoBase}
+use Rattle.script_spec.specs.Grammar.{IsBaseForm, IsRomForm}
+use Rattle.script_lines.specs.Cards.{base_of, rom_of, with_base, with_rom, with_field, with_fields}
+use Rattle.script_lines.proofs.NumberBack.{decimal_back}
+use Rattle.script_lines.proofs.CardTexts.{fresh}
+
+abbrev pub base_word : Base → List ℕ
+base_word (MemoryBase bits) = codes "m" ++ decimal bits
+base_word (IoBase bits) = codes "i" ++ decimal bits
+
+abbrev pub rom_words : Option ℕ → List (List ℕ)
+rom_words None = []
+rom_words (Some bits) = (codes "x" ++ decimal bits) ∷ []
+
+base_back : (base : Base) → IsBaseForm base → base_of (base_word base) ≡ Some base
+unfolding base_of
+base_back (MemoryBase bits) form = rw (decimal_back bits form) refl
+base_back (IoBase bits) form = rw (decimal_back bits form) refl
+
+no_rom : (version : ℕ) (base : Base) → rom_of version (base_word base) ≡ None
+unfolding rom_of
+no_rom version (MemoryBase bits) = elim (cases_Bool (eqb version 2)) [ inl two ↦ rw two refl | inr one ↦ rw one refl ]
+no_rom version (IoBase bits) = elim (cases_Bool (eqb version 2)) [ inl two ↦ rw two refl | inr one ↦ rw one refl ]
+
+next_back : (version : ℕ) (before : List Base) (base : Base) → IsBaseForm base → length before < 6
+    → with_field version (fresh before) (base_word base) ≡ Some (fresh (before ++ base ∷ []))
+unfolding with_field with_rom with_base
+next_back version before base form room = rw (no_rom version base, lt-ltb (length before) 6 room, base_back base form) refl
+
+rom_back : (version : ℕ) (before : List Base) (bits : ℕ) → IsRomForm version (Some bits)
+    → with_field version (fresh before) (codes "x" ++ decimal bits) ≡ Some (record { bases = before; rom = Some bits })
+unfolding with_field with_rom rom_of
+rom_back version before bits form = rw (eq-eqb version 2 form.0, decimal_back bits form.1) refl
+
+pub tail_back : (version : ℕ) (before more : List Base) (rom : Option ℕ) → length before + length more ≤ 6 → All IsBaseForm more
+    → IsRomForm version rom
+    → with_fields version (fresh before) (map base_word more ++ rom_words rom) ≡ Some (record { bases = before ++ more; rom = rom })
+unfolding with_fields
+tail_back version before [] None few each form = ap (λ (b : List Base). Some (fresh b)) (sym (append-nil before))
+tail_back version before [] (Some bits) few each form =
+    rw (rom_back version before bits form) (ap (λ (b : List Base). Some (record { bases = b; rom = Some bits })) (sym (append-nil before)))
+tail_back version before (base ∷ more) rom few each form =
+    rw (next_back version before base (All-head IsBaseForm base more each) (omega (arith, few)))
+    (tail_back version (before ++ base ∷ []) more rom (omega (arith, few, length-append before (base ∷ [])))
+    (All-tail IsBaseForm base more each) form
+    ∙ ap (λ (b : List Base). Some (record { bases = b; rom = rom })) (append_assoc before (base ∷ []) more))

@@ -1,0 +1,192 @@
+-- The card that was read is the one that the fields spell.
+use Rattle.std.proofs.Common.{◌≡◌, ℕ, ◌<◌, ◌≤◌, ◌⊎◌, inl, inr, Bool, true, false, cond, eqb, Option, Some, None, List, [], ◌∷◌, ◌++◌, length, flat_map, All, refl, sym, ap, subst, ◌∙◌, append_assoc, append-nil, arith}
+use Rattle.std.specs.Prelude.{codes, decimal, bytes_eq, if◌then◌else◌}
+use Rattle.std.specs.List.{join_with_byte}
+use Rattle.std.specs.Option.{option_map}
+use Rattle.std.proofs.lemmas.Bool.{cases_Bool, eqb-true, ltb-true}
+use Rattle.std.proofs.lemmas.List.{length-append}
+use Rattle.std.proofs.lemmas.List.Elements.{All-nil, All-cons}
+use Rattle.board_spec.specs.Setup.{Base, MemoryBase, IoBase, FittedCard}
+use Rattle.board_spec.specs.Text.{space}
+use Rattle.script_spec.specs.Grammar.{IsBaseForm, IsRomForm, IsCardForm, base_text, rom_text, card_text}
+use Rattle.script_lines.specs.Numbers.{decimal_of}
+use Rattle.script_lines.specs.Cards.{base_of, Tail, rom_of, has_room, with_base, with_rom, with_field, with_fields, no_tail, vga_of, card_of}
+use Rattle.script_lines.proofs.Chains.{some_is, guarded, then_said, mapped}
+use Rattle.script_lines.proofs.NumberTexts.{decimal_read}
+use Rattle.script_lines.proofs.Joins.{word_is}
+
+-- each word after a space
+abbrev pub spaced : List (List ℕ) → List ℕ
+spaced words = flat_map (λ word. space ∷ word) words
+
+pub line_spaced : (first : List ℕ) (words : List (List ℕ)) → join_with_byte space (first ∷ words) ≡ first ++ spaced words
+line_spaced first [] = sym (append-nil first)
+line_spaced first (word ∷ words) = ap (λ (rest : List ℕ). first ++ (space ∷ rest)) (line_spaced word words)
+
+base_read : (field : List ℕ) (base : Base) → base_of field ≡ Some base → (space ∷ field ≡ base_text base) × IsBaseForm base
+unfolding base_of
+base_read [] base e = absurd cc
+base_read (letter ∷ digits) base e = elim (cases_Bool (eqb letter 0x6D)) [
+  | inl m ↦
+      let r = mapped (decimal_of digits) MemoryBase base (rw m at e) in
+      let d = decimal_read digits r.0 r.1 in
+      let first = eqb-true letter 0x6D m in
+      subst (λ (b : Base). (space ∷ letter ∷ digits ≡ base_text b) × IsBaseForm b) (sym r.2)
+      ((λ i. space ∷ first i ∷ d.0 i), d.1)
+  | inr m ↦
+      let g = guarded (eqb letter 0x69) (option_map IoBase (decimal_of digits)) base (rw m at e) in
+      let r = mapped (decimal_of digits) IoBase base g.1 in
+      let d = decimal_read digits r.0 r.1 in
+      let first = eqb-true letter 0x69 g.0 in
+      subst (λ (b : Base). (space ∷ letter ∷ digits ≡ base_text b) × IsBaseForm b) (sym r.2)
+      ((λ i. space ∷ first i ∷ d.0 i), d.1)
+]
+
+rom_read : (version : ℕ) (field : List ℕ) (bits : ℕ) → rom_of version field ≡ Some bits
+    → (space ∷ field ≡ rom_text (Some bits)) × IsRomForm version (Some bits)
+unfolding rom_of
+rom_read version [] bits e = absurd cc
+rom_read version (letter ∷ digits) bits e =
+    let v = guarded (eqb version 2) (cond (eqb letter 0x78) (decimal_of digits) None) bits e in
+    let g = guarded (eqb letter 0x78) (decimal_of digits) bits v.1 in
+    let d = decimal_read digits bits g.1 in
+    let first = eqb-true letter 0x78 g.0 in
+    ((λ i. space ∷ first i ∷ d.0 i), (eqb-true version 2 v.0, d.1))
+
+-- what the fields add to the bases so far
+record IsTail (version : ℕ) (before : List Base) (fields : List (List ℕ)) (tail : Tail) : Type 0 where
+  pub more : List Base
+  pub bases : tail.bases ≡ before ++ more
+  pub text : spaced fields ≡ flat_map base_text more ++ rom_text tail.rom
+  pub each : All IsBaseForm more
+  pub rom : IsRomForm version tail.rom
+  pub count : length tail.bases ≤ 6
+
+abbrev pub fresh : List Base → Tail
+fresh before = record { bases = before; rom = None }
+
+abbrev closed : List Base → ℕ → Tail
+closed before bits = record { bases = before; rom = Some bits }
+
+-- nothing follows an expansion ROM
+ended : (version : ℕ) (before : List Base) (fields : List (List ℕ)) (bits : ℕ) (tail : Tail)
+    → with_fields version (closed before bits) fields ≡ Some tail → (fields ≡ []) × (closed before bits ≡ tail)
+unfolding with_fields with_field
+ended version before [] bits tail e = (refl, some_is _ tail e)
+ended version before (_ ∷ _) bits tail e = absurd cc
+
+-- a field is an expansion ROM, or a base
+record IsRomNext (version : ℕ) (before : List Base) (field : List ℕ) (next : Tail) : Type 0 where
+  pub bits : ℕ
+  pub read : rom_of version field ≡ Some bits
+  pub is : closed before bits ≡ next
+
+record IsBaseNext (before : List Base) (field : List ℕ) (next : Tail) : Type 0 where
+  pub base : Base
+  pub read : base_of field ≡ Some base
+  pub is : fresh (before ++ base ∷ []) ≡ next
+  pub room : length before < 6
+
+next_cases : (version : ℕ) (before : List Base) (field : List ℕ) (rom : Option ℕ) (next : Tail) → rom_of version field ≡ rom
+    → with_rom (fresh before) rom field ≡ Some next → IsRomNext version before field next ⊎ IsBaseNext before field next
+unfolding with_rom with_base
+next_cases version before field (Some bits) next read e = inl (record { bits = bits; read = read; is = some_is _ next e })
+next_cases version before field None next read e =
+    let g = guarded (has_room (fresh before)) _ next e in
+    let b = mapped (base_of field) _ next g.1 in
+    inr (record { base = b.0; read = b.1; is = sym b.2; room = ltb-true (length before) 6 g.0 })
+
+field_read : (version : ℕ) (before : List Base) (field : List ℕ) (next : Tail) → with_field version (fresh before) field ≡ Some next
+    → IsRomNext version before field next ⊎ IsBaseNext before field next
+unfolding with_field
+field_read version before field next e = next_cases version before field (rom_of version field) next refl e
+
+tail_read : (version : ℕ) (before : List Base) (fields : List (List ℕ)) (tail : Tail) → length before ≤ 6
+    → with_fields version (fresh before) fields ≡ Some tail → IsTail version before fields tail
+unfolding with_fields
+tail_read version before [] tail few e =
+    subst (IsTail version before []) (some_is (fresh before) tail e)
+    (record { more = []; bases = sym (append-nil before); text = refl; each = All-nil IsBaseForm; rom = tt; count = few })
+tail_read version before (field ∷ fields) tail few e =
+    let s = then_said (with_field version (fresh before) field) _ tail e in
+    elim (field_read version before field s.0 s.1) [
+      | inl rom ↦
+          let end = ended version before fields rom.bits tail (subst (λ (t : Tail). with_fields version t fields ≡ Some tail) (sym rom.is) s.2) in
+          let read = rom_read version field rom.bits rom.read in
+          subst (IsTail version before (field ∷ fields)) end.1
+          (record {
+            more = [];
+            bases = sym (append-nil before);
+            text = ap (λ (later : List (List ℕ)). space ∷ (field ++ spaced later)) end.0 ∙ append-nil (space ∷ field) ∙ read.0;
+            each = All-nil IsBaseForm;
+            rom = read.1;
+            count = few;
+          })
+      | inr base ↦
+          let long : length (before ++ base.base ∷ []) ≤ 6 =
+          omega (arith, length-append before (base.base ∷ []), base.room) in
+          let later = tail_read version (before ++ base.base ∷ []) fields tail long
+          (subst (λ (t : Tail). with_fields version t fields ≡ Some tail) (sym base.is) s.2) in
+          let read = base_read field base.base base.read in
+          record {
+            more = base.base ∷ later.more;
+            bases = later.bases ∙ append_assoc before (base.base ∷ []) later.more;
+            text = ap (λ (rest : List ℕ). (space ∷ field) ++ rest) later.text
+                ∙ ap (λ (first : List ℕ). first ++ (flat_map base_text later.more ++ rom_text tail.rom)) read.0
+                ∙ sym (append_assoc (base_text base.base) (flat_map base_text later.more) (rom_text tail.rom));
+            each = All-cons IsBaseForm base.base later.more read.1 later.each;
+            rom = later.rom;
+            count = later.count;
+          }
+    ]
+
+abbrev kind_word : Bool → List ℕ
+kind_word vga = codes (if vga then "vga" else "plain")
+
+vga_read : (field : List ℕ) (vga : Bool) → vga_of field ≡ Some vga → field ≡ kind_word vga
+vga_read field vga e = elim (cases_Bool (bytes_eq field (codes "vga"))) [
+  | inl v ↦ subst (λ (b : Bool). field ≡ kind_word b) (some_is true vga (rw v at e)) (word_is field (codes "vga") v)
+  | inr v ↦
+      let p = guarded (bytes_eq field (codes "plain")) (Some false) vga (rw v at e) in
+      subst (λ (b : Bool). field ≡ kind_word b) (some_is false vga p.1) (word_is field (codes "plain") p.0)
+]
+
+card_parts : (dev : ℕ) (vga : Bool) (bases : List Base) (rom : Option ℕ)
+    → decimal dev ++ (space ∷ (kind_word vga ++ (flat_map base_text bases ++ rom_text rom)))
+    ≡ card_text (record { dev = dev; vga = vga; bases = bases; rom = rom })
+card_parts dev true bases rom =
+    sym (append_assoc (decimal dev ++ codes " vga") (flat_map base_text bases) (rom_text rom)
+    ∙ append_assoc (decimal dev) (codes " vga") (flat_map base_text bases ++ rom_text rom))
+card_parts dev false bases rom =
+    sym (append_assoc (decimal dev ++ codes " plain") (flat_map base_text bases) (rom_text rom)
+    ∙ append_assoc (decimal dev) (codes " plain") (flat_map base_text bases ++ rom_text rom))
+
+pub card_read : (version : ℕ) (words : List (List ℕ)) (card : FittedCard) → card_of version words ≡ Some card
+    → (join_with_byte space (codes "card" ∷ words) ≡ codes "card " ++ card_text card) × IsCardForm version card
+unfolding card_of
+card_read version [] card e = absurd cc
+card_read version (_ ∷ []) card e = absurd cc
+card_read version (dev ∷ kind ∷ fields) card e =
+    let d = then_said (decimal_of dev) _ card e in
+    let v = then_said (vga_of kind) _ card d.2 in
+    let t = then_said (with_fields version no_tail fields) _ card v.2 in
+    let dev_is = decimal_read dev d.0 d.1 in
+    let kind_is = vga_read kind v.0 v.1 in
+    let tail = tail_read version [] fields t.0 (omega arith) t.1 in
+    subst (λ (c : FittedCard). (join_with_byte space (codes "card" ∷ dev ∷ kind ∷ fields) ≡ codes "card " ++ card_text c) × IsCardForm version c)
+    (some_is _ card t.2) (
+      ap (λ (rest : List ℕ). codes "card " ++ rest) (
+          ap (λ (rest : List ℕ). dev ++ (space ∷ rest)) (line_spaced kind fields)
+          ∙ ap (λ (first : List ℕ). first ++ (space ∷ (kind ++ spaced fields))) dev_is.0
+          ∙ ap (λ (k : List ℕ). decimal d.0 ++ (space ∷ (k ++ spaced fields))) kind_is
+          ∙ ap (λ (rest : List ℕ). decimal d.0 ++ (space ∷ (kind_word v.0 ++ rest)))
+          (tail.text ∙ ap (λ (bases : List Base). flat_map base_text bases ++ rom_text t.0.rom) (sym tail.bases))
+          ∙ card_parts d.0 v.0 t.0.bases t.0.rom
+          ),
+      record {
+        dev = dev_is.1;
+        count = tail.count;
+        each = subst (All IsBaseForm) (sym tail.bases) tail.each;
+        rom = tail.rom;
+      },
+    )

@@ -1,0 +1,31 @@
+-- Parts of a chain that said something.
+use Rattle.std.proofs.Common.{◌≡◌, ℕ, ◌≤◌, Bool, true, false, cond, leb, ◌&&◌, Option, Some, None, refl, sym}
+use Rattle.std.specs.Option.{option_and_then, option_map}
+use Rattle.std.proofs.lemmas.Bool.{leb-true}
+use Rattle.board_spec.specs.Bits.{is_within}
+
+pub some_is : {A : Type 0} (x y : A) → ◌≡◌ {A = Option A} (Some x) (Some y) → x ≡ y
+some_is x y e = cc
+
+pub guarded : {A : Type 0} (b : Bool) (x : Option A) (y : A) → cond b x None ≡ Some y → (b ≡ true) × (x ≡ Some y)
+guarded true x y e = (refl, e)
+guarded false x y e = absurd cc
+
+pub then_said : {A B : Type 0} (said : Option A) (f : A → Option B) (y : B) → option_and_then f said ≡ Some y
+    → (x : A) × (said ≡ Some x) × (f x ≡ Some y)
+then_said None f y e = absurd cc
+then_said (Some x) f y e = (x, refl, e)
+
+pub mapped : {A B : Type 0} (said : Option A) (f : A → B) (y : B) → option_map f said ≡ Some y
+    → (x : A) × (said ≡ Some x) × (y ≡ f x)
+mapped None f y e = absurd cc
+mapped (Some x) f y e = (x, refl, sym (some_is (f x) y e))
+
+pub both : (a b : Bool) → (a && b) ≡ true → (a ≡ true) × (b ≡ true)
+both true b e = (refl, e)
+both false b e = absurd cc
+
+pub is_within_is : (first last n : ℕ) → is_within first last n ≡ true → (first ≤ n) × (n ≤ last)
+is_within_is first last n e =
+    let parts = both (leb first n) (leb n last) e in
+    (leb-true first n parts.0, leb-true n last parts.1)

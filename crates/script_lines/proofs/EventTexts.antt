@@ -1,0 +1,327 @@
+-- The events that were read are those that the fields spell.
+use Rattle.std.proofs.Common.{◌≡◌, ℕ, ◌*◌, ◌%◌, ◌^◌, ◌<◌, ◌⊎◌, inl, inr, Bool, true, false, not, eqb, ◌||◌, Some, List, [], ◌∷◌, refl, sym, ap, subst, ◌∙◌, arith}
+use Rattle.std.specs.Prelude.{codes, decimal, bytes_eq}
+use Rattle.std.specs.List.{join_with_byte}
+use Rattle.std.proofs.lemmas.Bool.{cases_Bool, eqb-true, eq-eqb, true≢false}
+use Rattle.board_base.specs.declared.access.Kind.{Kind}
+use Rattle.board_base.specs.declared.access.Kind.TheVariants.{Fetch, Read, Write}
+use Rattle.board_base.specs.declared.access.Width.{Width}
+use Rattle.board_base.specs.declared.access.Width.TheVariants.{One, Two, Four}
+use Rattle.board_base.specs.Access.{bytes_of}
+use Rattle.board_spec.specs.declared.event.Event.{Event}
+use Rattle.board_spec.specs.declared.event.Event.TheVariants.{Ack}
+use Rattle.board_spec.specs.Stored.{is_write}
+use Rattle.board_spec.specs.InRange.{FitsBytes}
+use Rattle.board_spec.specs.Text.{space, hex_number}
+use Rattle.board_spec.specs.LogText.{size_text, width_text, kind_text, memory_text, event_text}
+use Rattle.script_spec.specs.Grammar.{IsDecimal, IsEventForm}
+use Rattle.script_lines.specs.Numbers.{hex_of}
+use Rattle.script_lines.specs.Events.{width_of, quad_of, size_of, kind_of, smm_of, IsSize, width_with, is_wide, memory_event, read_of, write_of, in_of, out_of, look_of, ack_of, number_in, pulses_of, sector_of, event_of}
+use Rattle.script_lines.proofs.Chains.{some_is, guarded, then_said, both}
+use Rattle.script_lines.proofs.NumberTexts.{decimal_read, hex_read}
+use Rattle.script_lines.proofs.Joins.{Reads, same, same_as, word_is, smm_words, smm_read, access_joined, write_joined, look_joined, port_joined, out_joined}
+
+-- fields spell an event
+pub record IsRead (version : ℕ) (fields : List (List ℕ)) (event : Event) : Type 0 where
+  pub texts : List (List ℕ)
+  pub reads : Reads fields texts
+  pub joined : join_with_byte space texts ≡ event_text event
+  pub form : IsEventForm version event
+
+-- ---- letters
+
+size_read : (version : ℕ) (field : List ℕ) (bytes : ℕ) → size_of version field ≡ Some bytes
+    → (field ≡ size_text bytes) × IsSize version bytes
+size_read version field bytes e = elim (cases_Bool (bytes_eq field (codes "b"))) [
+  | inl one ↦
+      let is : 1 ≡ bytes = some_is 1 bytes (rw one at e) in
+      subst (λ (n : ℕ). (field ≡ size_text n) × IsSize version n) is (word_is field (codes "b") one, inl refl)
+  | inr b ↦ elim (cases_Bool (bytes_eq field (codes "w"))) [
+    | inl two ↦
+        let is : 2 ≡ bytes = some_is 2 bytes (rw (b, two) at e) in
+        subst (λ (n : ℕ). (field ≡ size_text n) × IsSize version n) is (word_is field (codes "w") two, inr (inl refl))
+    | inr w ↦ elim (cases_Bool (bytes_eq field (codes "d"))) [
+      | inl four ↦
+          let is : 4 ≡ bytes = some_is 4 bytes (rw (b, w, four) at e) in
+          subst (λ (n : ℕ). (field ≡ size_text n) × IsSize version n) is (word_is field (codes "d") four, inr (inr (inl refl)))
+      | inr d ↦
+          let q = guarded (bytes_eq field (codes "q")) (quad_of version) bytes (rw (b, w, d) at e) in
+          let v = guarded (eqb version 2) (Some 8) bytes q.1 in
+          let is : 8 ≡ bytes = some_is 8 bytes v.1 in
+          subst (λ (n : ℕ). (field ≡ size_text n) × IsSize version n) is
+          (word_is field (codes "q") q.0, inr (inr (inr (refl, eqb-true version 2 v.0))))
+    ]
+  ]
+]
+
+width_read : (field : List ℕ) (width : Width) → width_of field ≡ Some width → field ≡ width_text width
+width_read field width e = elim (cases_Bool (bytes_eq field (codes "b"))) [
+  | inl one ↦ subst (λ (w : Width). field ≡ width_text w) (some_is One width (rw one at e)) (word_is field (codes "b") one)
+  | inr b ↦ elim (cases_Bool (bytes_eq field (codes "w"))) [
+    | inl two ↦ subst (λ (w : Width). field ≡ width_text w) (some_is Two width (rw (b, two) at e)) (word_is field (codes "w") two)
+    | inr w ↦
+        let d = guarded (bytes_eq field (codes "d")) (Some Four) width (rw (b, w) at e) in
+        subst (λ (w : Width). field ≡ width_text w) (some_is Four width d.1) (word_is field (codes "d") d.0)
+  ]
+]
+
+kind_read : (field : List ℕ) (kind : Kind) → kind_of field ≡ Some kind → field ≡ kind_text kind
+kind_read field kind e = elim (cases_Bool (bytes_eq field (codes "f"))) [
+  | inl f ↦ subst (λ (k : Kind). field ≡ kind_text k) (some_is Fetch kind (rw f at e)) (word_is field (codes "f") f)
+  | inr f ↦ elim (cases_Bool (bytes_eq field (codes "r"))) [
+    | inl r ↦ subst (λ (k : Kind). field ≡ kind_text k) (some_is Read kind (rw (f, r) at e)) (word_is field (codes "r") r)
+    | inr r ↦
+        let w = guarded (bytes_eq field (codes "w")) (Some Write) kind (rw (f, r) at e) in
+        subst (λ (k : Kind). field ≡ kind_text k) (some_is Write kind w.1) (word_is field (codes "w") w.0)
+  ]
+]
+
+-- ---- an access to memory is a wide one or not
+
+abbrev IsAccess : (version : ℕ) → Kind → (bytes addr value : ℕ) → Bool → Type 0
+IsAccess version kind bytes addr value smm =
+    (memory_text kind bytes addr value smm ≡ event_text (memory_event version kind bytes addr value smm))
+    × IsEventForm version (memory_event version kind bytes addr value smm)
+
+-- what is not wide is aligned in version 2
+aligned_if : (version bytes addr : ℕ) → is_wide version bytes addr ≡ false → version ≡ 2 → addr % bytes ≡ 0
+aligned_if version bytes addr narrow second = elim (cases_Bool (eqb (addr % bytes) 0)) [
+  | inl yes_aligned ↦ eqb-true (addr % bytes) 0 yes_aligned
+  | inr moved ↦ elim (cases_Bool (eqb bytes 8)) [
+    | inl eight ↦ (let f = rw (eq-eqb version 2 second, eight) at narrow in absurd (true≢false f))
+    | inr other ↦ (let f = rw (eq-eqb version 2 second, other, moved) at narrow in absurd (true≢false f))
+  ]
+]
+
+narrow_access : (version : ℕ) (kind : Kind) (bytes addr value : ℕ) (smm : Bool) → is_wide version bytes addr ≡ false
+    → bytes_of (width_with bytes) ≡ bytes → addr < 2 ^ 32 → FitsBytes (is_write kind) bytes value
+    → IsAccess version kind bytes addr value smm
+unfolding memory_event event_text
+narrow_access version kind bytes addr value smm narrow same_size small fits =
+    rw narrow (
+      ap (λ (n : ℕ). memory_text kind n addr value smm) (sym same_size),
+      record {
+        addr = small;
+        value = subst (λ (n : ℕ). FitsBytes (is_write kind) n value) (sym same_size) fits;
+        aligned = λ second. subst (λ (n : ℕ). addr % n ≡ 0) (sym same_size) (aligned_if version bytes addr narrow second);
+      },
+    )
+
+not_aligned : (rest : ℕ) → not (eqb rest 0) ≡ true → rest ≡ 0 → ⊥
+not_aligned rest e is = let f = rw (eq-eqb rest 0 is) at e in true≢false (sym f)
+
+wide_access : (version : ℕ) (kind : Kind) (bytes addr value : ℕ) (smm : Bool) → is_wide version bytes addr ≡ true
+    → (bytes ≡ 2) ⊎ (bytes ≡ 4) ⊎ (bytes ≡ 8) → addr < 2 ^ 32 → FitsBytes (is_write kind) bytes value
+    → IsAccess version kind bytes addr value smm
+unfolding memory_event event_text
+wide_access version kind bytes addr value smm wide sizes small fits =
+    let parts = both (eqb version 2) (eqb bytes 8 || not (eqb (addr % bytes) 0)) wide in
+    let moved : (bytes ≡ 8) ⊎ (addr % bytes ≡ 0 → ⊥) = elim (cases_Bool (eqb bytes 8)) [
+      | inl eight ↦ inl (eqb-true bytes 8 eight)
+      | inr other ↦ inr (not_aligned (addr % bytes) (rw other at parts.1))
+    ] in
+    rw wide (
+      refl,
+      record { second = eqb-true version 2 parts.0; addr = small; bytes = sizes; wide = moved; value = fits },
+    )
+
+is_access : (version : ℕ) (kind : Kind) (bytes addr value : ℕ) (smm : Bool) → IsSize version bytes
+    → addr < 2 ^ 32 → FitsBytes (is_write kind) bytes value → IsAccess version kind bytes addr value smm
+is_access version kind bytes addr value smm size small fits = elim (cases_Bool (is_wide version bytes addr)) [
+  | inl wide ↦ elim size [
+    | inl one ↦
+        let parts = both (eqb version 2) (eqb bytes 8 || not (eqb (addr % bytes) 0)) wide in
+        let none : eqb (addr % bytes) 0 ≡ true = eq-eqb (addr % bytes) 0 (rw one (omega arith)) in
+        let f = rw (none, one) at parts in absurd (true≢false (sym f.1))
+    | inr more ↦ elim more [
+      | inl two ↦ wide_access version kind bytes addr value smm wide (inl two) small fits
+      | inr more ↦ elim more [
+        | inl four ↦ wide_access version kind bytes addr value smm wide (inr (inl four)) small fits
+        | inr eight ↦ wide_access version kind bytes addr value smm wide (inr (inr eight.0)) small fits
+      ]
+    ]
+  ]
+  | inr narrow ↦ elim size [
+    | inl one ↦ narrow_access version kind bytes addr value smm narrow (rw one refl) small fits
+    | inr more ↦ elim more [
+      | inl two ↦ narrow_access version kind bytes addr value smm narrow (rw two refl) small fits
+      | inr more ↦ elim more [
+        | inl four ↦ narrow_access version kind bytes addr value smm narrow (rw four refl) small fits
+        | inr eight ↦ let f = rw (eq-eqb version 2 eight.1, eq-eqb bytes 8 eight.0) at narrow in absurd (true≢false f)
+      ]
+    ]
+  ]
+]
+
+-- ---- statements
+
+read_read : (version : ℕ) (kind : Kind) (words : List (List ℕ)) (event : Event) → is_write kind ≡ false
+    → read_of version kind words ≡ Some event → IsRead version (kind_text kind ∷ words) event
+unfolding read_of
+read_read version kind [] event reads e = absurd cc
+read_read version kind (_ ∷ []) event reads e = absurd cc
+read_read version kind (size ∷ addr ∷ flags) event reads e =
+    let b = then_said (size_of version size) _ event e in
+    let a = then_said (hex_of 8 addr) _ event b.2 in
+    let s = then_said (smm_of flags) _ event a.2 in
+    let size_is = size_read version size b.0 b.1 in
+    let addr_is = hex_read 4 addr a.0 a.1 in
+    let fits : FitsBytes (is_write kind) b.0 0 = rw reads refl in
+    let access = is_access version kind b.0 a.0 0 s.0 size_is.1 (omega (arith, addr_is.1)) fits in
+    subst (λ (x : Event). IsRead version (kind_text kind ∷ size ∷ addr ∷ flags) x) (some_is _ event s.2)
+    (record {
+      texts = kind_text kind ∷ size_text b.0 ∷ hex_number 4 a.0 ∷ smm_words s.0;
+      reads = (same (kind_text kind), (same_as size (size_text b.0) size_is.0, (addr_is.0, smm_read flags s.0 s.1)));
+      joined = access_joined (kind_text kind) (size_text b.0) (hex_number 4 a.0) s.0 ∙ (rw reads at access).0;
+      form = access.1;
+    })
+
+write_read : (version : ℕ) (words : List (List ℕ)) (event : Event)
+    → write_of version words ≡ Some event → IsRead version (codes "w" ∷ words) event
+unfolding write_of
+write_read version [] event e = absurd cc
+write_read version (_ ∷ []) event e = absurd cc
+write_read version (_ ∷ _ ∷ []) event e = absurd cc
+write_read version (size ∷ addr ∷ value ∷ flags) event e =
+    let b = then_said (size_of version size) _ event e in
+    let a = then_said (hex_of 8 addr) _ event b.2 in
+    let v = then_said (hex_of (2 * b.0) value) _ event a.2 in
+    let s = then_said (smm_of flags) _ event v.2 in
+    let size_is = size_read version size b.0 b.1 in
+    let addr_is = hex_read 4 addr a.0 a.1 in
+    let value_is = hex_read b.0 value v.0 v.1 in
+    let access = is_access version Write b.0 a.0 v.0 s.0 size_is.1 (omega (arith, addr_is.1)) value_is.1 in
+    subst (λ (x : Event). IsRead version (codes "w" ∷ size ∷ addr ∷ value ∷ flags) x) (some_is _ event s.2)
+    (record {
+      texts = codes "w" ∷ size_text b.0 ∷ hex_number 4 a.0 ∷ hex_number b.0 v.0 ∷ smm_words s.0;
+      reads = (same (codes "w"), (same_as size (size_text b.0) size_is.0, (addr_is.0, (value_is.0, smm_read flags s.0 s.1))));
+      joined = write_joined (codes "w") (size_text b.0) (hex_number 4 a.0) (hex_number b.0 v.0) s.0 ∙ access.0;
+      form = access.1;
+    })
+
+in_read : (version : ℕ) (words : List (List ℕ)) (event : Event) → in_of words ≡ Some event → IsRead version (codes "in" ∷ words) event
+unfolding in_of event_text
+in_read version [] event e = absurd cc
+in_read version (_ ∷ []) event e = absurd cc
+in_read version (width ∷ port ∷ []) event e =
+    let w = then_said (width_of width) _ event e in
+    let p = then_said (hex_of 4 port) _ event w.2 in
+    let port_is = hex_read 2 port p.0 p.1 in
+    subst (λ (x : Event). IsRead version (codes "in" ∷ width ∷ port ∷ []) x) (some_is _ event p.2)
+    (record {
+      texts = codes "in" ∷ width_text w.0 ∷ hex_number 2 p.0 ∷ [];
+      reads = (same (codes "in"), (same_as width (width_text w.0) (width_read width w.0 w.1), (port_is.0, tt)));
+      joined = port_joined (codes "in") (width_text w.0) (hex_number 2 p.0);
+      form = record { port = omega (arith, port_is.1); value = refl };
+    })
+in_read version (_ ∷ _ ∷ _ ∷ _) event e = absurd cc
+
+out_read : (version : ℕ) (words : List (List ℕ)) (event : Event) → out_of words ≡ Some event → IsRead version (codes "out" ∷ words) event
+unfolding out_of event_text
+out_read version [] event e = absurd cc
+out_read version (_ ∷ []) event e = absurd cc
+out_read version (_ ∷ _ ∷ []) event e = absurd cc
+out_read version (width ∷ port ∷ value ∷ []) event e =
+    let w = then_said (width_of width) _ event e in
+    let p = then_said (hex_of 4 port) _ event w.2 in
+    let v = then_said (hex_of (2 * bytes_of w.0) value) _ event p.2 in
+    let port_is = hex_read 2 port p.0 p.1 in
+    let value_is = hex_read (bytes_of w.0) value v.0 v.1 in
+    subst (λ (x : Event). IsRead version (codes "out" ∷ width ∷ port ∷ value ∷ []) x) (some_is _ event v.2)
+    (record {
+      texts = codes "out" ∷ width_text w.0 ∷ hex_number 2 p.0 ∷ hex_number (bytes_of w.0) v.0 ∷ [];
+      reads = (same (codes "out"), (same_as width (width_text w.0) (width_read width w.0 w.1), (port_is.0, (value_is.0, tt))));
+      joined = out_joined (codes "out") (width_text w.0) (hex_number 2 p.0) (hex_number (bytes_of w.0) v.0);
+      form = record { port = omega (arith, port_is.1); value = value_is.1 };
+    })
+out_read version (_ ∷ _ ∷ _ ∷ _ ∷ _) event e = absurd cc
+
+look_read : (version : ℕ) (words : List (List ℕ)) (event : Event) → look_of words ≡ Some event → IsRead version (codes "look" ∷ words) event
+unfolding look_of event_text
+look_read version [] event e = absurd cc
+look_read version (_ ∷ []) event e = absurd cc
+look_read version (kind ∷ addr ∷ flags) event e =
+    let k = then_said (kind_of kind) _ event e in
+    let a = then_said (hex_of 8 addr) _ event k.2 in
+    let s = then_said (smm_of flags) _ event a.2 in
+    let addr_is = hex_read 4 addr a.0 a.1 in
+    subst (λ (x : Event). IsRead version (codes "look" ∷ kind ∷ addr ∷ flags) x) (some_is _ event s.2)
+    (record {
+      texts = codes "look" ∷ kind_text k.0 ∷ hex_number 4 a.0 ∷ smm_words s.0;
+      reads = (same (codes "look"), (same_as kind (kind_text k.0) (kind_read kind k.0 k.1), (addr_is.0, smm_read flags s.0 s.1)));
+      joined = look_joined (kind_text k.0) (hex_number 4 a.0) s.0;
+      form = omega (arith, addr_is.1);
+    })
+
+ack_read : (version : ℕ) (words : List (List ℕ)) (event : Event) → ack_of words ≡ Some event → IsRead version (codes "ack" ∷ words) event
+unfolding ack_of event_text
+ack_read version [] event e =
+    subst (λ (x : Event). IsRead version (codes "ack" ∷ []) x) (some_is Ack event e)
+    (record { texts = codes "ack" ∷ []; reads = (same (codes "ack"), tt); joined = refl; form = tt })
+ack_read version (_ ∷ _) event e = absurd cc
+
+-- the only field is a decimal
+pub number_read : (words : List (List ℕ)) (n : ℕ) → number_in words ≡ Some n → (words ≡ decimal n ∷ []) × IsDecimal n
+unfolding number_in
+number_read [] n e = absurd cc
+number_read (field ∷ []) n e = let d = decimal_read field n e in (ap (λ (f : List ℕ). f ∷ []) d.0, d.1)
+number_read (_ ∷ _ ∷ _) n e = absurd cc
+
+number_spelled : (word : List ℕ) (words : List (List ℕ)) (n : ℕ) → words ≡ decimal n ∷ [] → Reads (word ∷ words) (word ∷ decimal n ∷ [])
+number_spelled word words n is =
+    subst (λ (w : List (List ℕ)). Reads (word ∷ w) (word ∷ decimal n ∷ [])) (sym is) (same word, (same (decimal n), tt))
+
+pulses_read : (version : ℕ) (words : List (List ℕ)) (event : Event) → pulses_of words ≡ Some event → IsRead version (codes "pulse" ∷ words) event
+unfolding event_text
+pulses_read version words event e =
+    let n = then_said (number_in words) _ event e in
+    let d = number_read words n.0 n.1 in
+    subst (λ (x : Event). IsRead version (codes "pulse" ∷ words) x) (some_is _ event n.2)
+    (record { texts = codes "pulse" ∷ decimal n.0 ∷ []; reads = number_spelled (codes "pulse") words n.0 d.0; joined = refl; form = d.1 })
+
+sector_read : (version : ℕ) (words : List (List ℕ)) (event : Event) → sector_of words ≡ Some event → IsRead version (codes "bad" ∷ words) event
+unfolding event_text
+sector_read version words event e =
+    let n = then_said (number_in words) _ event e in
+    let d = number_read words n.0 n.1 in
+    subst (λ (x : Event). IsRead version (codes "bad" ∷ words) x) (some_is _ event n.2)
+    (record { texts = codes "bad" ∷ decimal n.0 ∷ []; reads = number_spelled (codes "bad") words n.0 d.0; joined = refl; form = d.1 })
+
+-- a verb that is this word
+of_verb : (version : ℕ) (verb word : List ℕ) (words : List (List ℕ)) (event : Event) → bytes_eq verb word ≡ true
+    → IsRead version (word ∷ words) event → IsRead version (verb ∷ words) event
+of_verb version verb word words event is read =
+    subst (λ (v : List ℕ). IsRead version (v ∷ words) event) (sym (word_is verb word is)) read
+
+pub event_read : (version : ℕ) (verb : List ℕ) (words : List (List ℕ)) (event : Event) → event_of version verb words ≡ Some event
+    → IsRead version (verb ∷ words) event
+unfolding event_of
+event_read version verb words event e = elim (cases_Bool (bytes_eq verb (codes "r"))) [
+  | inl r ↦ of_verb version verb (codes "r") words event r (read_read version Read words event refl (rw r at e))
+  | inr r ↦ elim (cases_Bool (bytes_eq verb (codes "f"))) [
+    | inl f ↦ of_verb version verb (codes "f") words event f (read_read version Fetch words event refl (rw (r, f) at e))
+    | inr f ↦ elim (cases_Bool (bytes_eq verb (codes "w"))) [
+      | inl w ↦ of_verb version verb (codes "w") words event w (write_read version words event (rw (r, f, w) at e))
+      | inr w ↦ elim (cases_Bool (bytes_eq verb (codes "in"))) [
+        | inl i ↦ of_verb version verb (codes "in") words event i (in_read version words event (rw (r, f, w, i) at e))
+        | inr i ↦ elim (cases_Bool (bytes_eq verb (codes "out"))) [
+          | inl o ↦ of_verb version verb (codes "out") words event o (out_read version words event (rw (r, f, w, i, o) at e))
+          | inr o ↦ elim (cases_Bool (bytes_eq verb (codes "look"))) [
+            | inl l ↦ of_verb version verb (codes "look") words event l (look_read version words event (rw (r, f, w, i, o, l) at e))
+            | inr l ↦ elim (cases_Bool (bytes_eq verb (codes "ack"))) [
+              | inl a ↦ of_verb version verb (codes "ack") words event a (ack_read version words event (rw (r, f, w, i, o, l, a) at e))
+              | inr a ↦ elim (cases_Bool (bytes_eq verb (codes "pulse"))) [
+                | inl p ↦
+                    of_verb version verb (codes "pulse") words event p
+                    (pulses_read version words event (rw (r, f, w, i, o, l, a, p) at e))
+                | inr p ↦
+                    let b = guarded (bytes_eq verb (codes "bad")) (sector_of words) event (rw (r, f, w, i, o, l, a, p) at e) in
+                    of_verb version verb (codes "bad") words event b.0 (sector_read version words event b.1)
+              ]
+            ]
+          ]
+        ]
+      ]
+    ]
+  ]
+]

@@ -1,0 +1,100 @@
+-- Fields that are spelled make a line that is spelled.
+use Rattle.std.proofs.Common.{◌≡◌, ℕ, Bool, true, false, Some, List, [], ◌∷◌, ◌++◌, inl, refl, sym, ap, subst, ◌∙◌, append_assoc, append-nil}
+use Rattle.std.specs.Prelude.{codes, bytes_eq}
+use Rattle.std.specs.List.{AllZip, join_with_byte}
+use Rattle.std.proofs.lemmas.Slice.Eq.{bytes_eq-Decides}
+use Rattle.board_spec.specs.Text.{space}
+use Rattle.board_spec.specs.LogText.{smm_text}
+use Rattle.script_spec.specs.Grammar.{StandsFor}
+use Rattle.script_lines.specs.Events.{smm_of}
+use Rattle.script_lines.proofs.Chains.{some_is, guarded}
+
+abbrev pub Spells : List ℕ → List ℕ → Type 0
+Spells field text = AllZip StandsFor field text
+
+abbrev pub Reads : List (List ℕ) → List (List ℕ) → Type 0
+Reads fields texts = AllZip Spells fields texts
+
+pub same : (text : List ℕ) → Spells text text
+same [] = tt
+same (c ∷ cs) = (inl refl, same cs)
+
+pub same_as : (field text : List ℕ) → field ≡ text → Spells field text
+same_as field text is = subst (λ (t : List ℕ). Spells field t) is (same field)
+
+pub zipped : (xs ys us vs : List ℕ) → Spells xs ys → Spells us vs → Spells (xs ++ us) (ys ++ vs)
+zipped [] [] us vs one two = two
+zipped [] (y ∷ ys) us vs one two = absurd one
+zipped (x ∷ xs) [] us vs one two = absurd one
+zipped (x ∷ xs) (y ∷ ys) us vs one two = (one.0, zipped xs ys us vs one.1 two)
+
+pub joined : (fields texts : List (List ℕ)) → Reads fields texts
+    → Spells (join_with_byte space fields) (join_with_byte space texts)
+joined [] [] reads = tt
+joined [] (t ∷ texts) reads = absurd reads
+joined (f ∷ fields) [] reads = absurd reads
+joined (f ∷ []) (t ∷ []) reads = reads.0
+joined (f ∷ []) (t ∷ u ∷ texts) reads = absurd reads.1
+joined (f ∷ g ∷ fields) (t ∷ []) reads = absurd reads.1
+joined (f ∷ g ∷ fields) (t ∷ u ∷ texts) reads =
+    zipped f t _ _ reads.0 (inl refl, joined (g ∷ fields) (u ∷ texts) reads.1)
+
+pub word_is : (field word : List ℕ) → bytes_eq field word ≡ true → field ≡ word
+word_is field word e = (bytes_eq-Decides field word).0 e
+
+-- ---- the flag of an access
+
+abbrev pub smm_words : Bool → List (List ℕ)
+smm_words false = []
+smm_words true = codes "smm" ∷ []
+
+pub smm_read : (flags : List (List ℕ)) (smm : Bool) → smm_of flags ≡ Some smm → Reads flags (smm_words smm)
+unfolding smm_of
+smm_read [] smm e = subst (λ (b : Bool). Reads [] (smm_words b)) (some_is false smm e) tt
+smm_read (field ∷ []) smm e =
+    let g = guarded (bytes_eq field (codes "smm")) (Some true) smm e in
+    subst (λ (b : Bool). Reads (field ∷ []) (smm_words b)) (some_is true smm g.1)
+    (same_as field (codes "smm") (word_is field (codes "smm") g.0), tt)
+smm_read (_ ∷ _ ∷ _) smm e = absurd cc
+
+read_parts : (k s h m : List ℕ) → k ++ space ∷ s ++ space ∷ h ++ [] ++ m ≡ k ++ (space ∷ (s ++ (space ∷ (h ++ m))))
+read_parts k s h m =
+    ap (λ (t : List ℕ). t ++ m) (append-nil (k ++ space ∷ s ++ space ∷ h))
+    ∙ append_assoc (k ++ space ∷ s) (space ∷ h) m
+    ∙ append_assoc k (space ∷ s) (space ∷ (h ++ m))
+
+pub access_joined : (k s h : List ℕ) (smm : Bool) → join_with_byte space (k ∷ s ∷ h ∷ smm_words smm)
+    ≡ k ++ space ∷ s ++ space ∷ h ++ [] ++ smm_text smm
+access_joined k s h true = sym (read_parts k s h (smm_text true))
+access_joined k s h false =
+    sym (read_parts k s h [] ∙ ap (λ (t : List ℕ). k ++ (space ∷ (s ++ (space ∷ t)))) (append-nil h))
+
+write_parts : (k s h v m : List ℕ)
+    → k ++ space ∷ s ++ space ∷ h ++ (space ∷ v) ++ m ≡ k ++ (space ∷ (s ++ (space ∷ (h ++ (space ∷ (v ++ m))))))
+write_parts k s h v m =
+    append_assoc (k ++ space ∷ s ++ space ∷ h) (space ∷ v) m
+    ∙ append_assoc (k ++ space ∷ s) (space ∷ h) (space ∷ (v ++ m))
+    ∙ append_assoc k (space ∷ s) (space ∷ (h ++ (space ∷ (v ++ m))))
+
+pub write_joined : (k s h v : List ℕ) (smm : Bool) → join_with_byte space (k ∷ s ∷ h ∷ v ∷ smm_words smm)
+    ≡ k ++ space ∷ s ++ space ∷ h ++ (space ∷ v) ++ smm_text smm
+write_joined k s h v true = sym (write_parts k s h v (smm_text true))
+write_joined k s h v false =
+    sym (write_parts k s h v [] ∙ ap (λ (t : List ℕ). k ++ (space ∷ (s ++ (space ∷ (h ++ (space ∷ t)))))) (append-nil v))
+
+look_parts : (k h m : List ℕ) → codes "look " ++ k ++ space ∷ h ++ m ≡ codes "look " ++ (k ++ (space ∷ (h ++ m)))
+look_parts k h m =
+    append_assoc (codes "look " ++ k) (space ∷ h) m ∙ append_assoc (codes "look ") k (space ∷ (h ++ m))
+
+pub look_joined : (k h : List ℕ) (smm : Bool) → join_with_byte space (codes "look" ∷ k ∷ h ∷ smm_words smm)
+    ≡ codes "look " ++ k ++ space ∷ h ++ smm_text smm
+look_joined k h true = sym (look_parts k h (smm_text true))
+look_joined k h false =
+    sym (look_parts k h [] ∙ ap (λ (t : List ℕ). codes "look " ++ (k ++ (space ∷ t))) (append-nil h))
+
+pub port_joined : (verb s h : List ℕ) → join_with_byte space (verb ∷ s ∷ h ∷ []) ≡ verb ++ space ∷ s ++ space ∷ h ++ []
+port_joined verb s h = sym (append-nil (verb ++ space ∷ s ++ space ∷ h) ∙ append_assoc verb (space ∷ s) (space ∷ h))
+
+pub out_joined : (verb s h v : List ℕ) → join_with_byte space (verb ∷ s ∷ h ∷ v ∷ []) ≡ verb ++ space ∷ s ++ space ∷ h ++ (space ∷ v)
+out_joined verb s h v =
+    sym (append_assoc (verb ++ space ∷ s) (space ∷ h) (space ∷ v) ∙ append_assoc verb (space ∷ s) (space ∷ (h ++ (space ∷ v))))

@@ -1,0 +1,16 @@
+pub mod NumberLemmas
+pub mod FieldLemmas
+pub mod CardRuns
+pub mod Chains
+pub mod NumberTexts
+pub mod Joins
+pub mod EventTexts
+pub mod MomentTexts
+pub mod CardTexts
+pub mod ItemTexts
+pub mod ItemReading
+pub mod Splits
+pub mod NumberBack
+pub mod EventBack
+pub mod MomentBack
+pub mod CardBack

@@ -1,0 +1,67 @@
+-- A field that spells a moment is read as that moment.
+use Rattle.std.proofs.Common.{◌≡◌, ℕ, ◌+◌, ◌*◌, ◌/◌, ◌%◌, ◌<◌, Some, List, [], ◌∷◌, ◌++◌, refl, sym, ap, arith}
+use Rattle.std.proofs.lemmas.Bool.{eq-eqb}
+use Rattle.board_base.specs.declared.moment.Moment.{Moment}
+use Rattle.board_base.specs.Calendar.{moment_of}
+use Rattle.board_spec.specs.LogText.{two_digits, moment_text}
+use Rattle.script_spec.specs.Grammar.{IsMomentForm}
+use Rattle.script_lines.specs.Numbers.{two_digits_of, behind}
+use Rattle.script_lines.specs.Moments.{part_of, year_of, date_of, time_of, moment_with, moment_in}
+use Rattle.script_lines.proofs.NumberBack.{digit_so}
+
+two_back : (n : ℕ) (rest : List ℕ) → n < 100 → two_digits_of (two_digits n ++ rest) ≡ Some (n, rest)
+unfolding two_digits_of
+two_back n rest small =
+    let whole : n / 10 % 10 * 10 + n % 10 ≡ n = omega (arith, small) in
+    rw (
+      digit_so (0x30 + n / 10 % 10) (n / 10 % 10) (omega arith) (omega arith) (omega arith) (omega arith),
+      digit_so (0x30 + n % 10) (n % 10) (omega arith) (omega arith) (omega arith) (omega arith),
+    ) (ap (λ (x : ℕ). Some (x, rest)) whole)
+
+part_back : (mark n : ℕ) (rest : List ℕ) → n < 100 → part_of mark (mark ∷ (two_digits n ++ rest)) ≡ Some (n, rest)
+unfolding part_of behind
+part_back mark n rest small = rw (eq-eqb mark mark refl) (two_back n rest small)
+
+year_back : (year : ℕ) (rest : List ℕ) → year < 10_000
+    → year_of (two_digits (year / 100) ++ (two_digits (year % 100) ++ rest)) ≡ Some (year, rest)
+unfolding year_of
+year_back year rest small =
+    let whole : year / 100 * 100 + year % 100 ≡ year = omega arith in
+    rw (two_back (year / 100) (two_digits (year % 100) ++ rest) (omega (arith, small)), two_back (year % 100) rest (omega arith))
+    (ap (λ (x : ℕ). Some (x, rest)) whole)
+
+date_back : (year month day : ℕ) (rest : List ℕ) → year < 10_000 → month < 100 → day < 100
+    → date_of (two_digits (year / 100) ++ (two_digits (year % 100) ++ 0x2D ∷ (two_digits month ++ 0x2D ∷ (two_digits day ++ rest))))
+    ≡ Some (record { first = year; second = month; third = day; rest = rest })
+unfolding date_of
+date_back year month day rest y m d =
+    rw (
+      year_back year (0x2D ∷ (two_digits month ++ 0x2D ∷ (two_digits day ++ rest))) y,
+      part_back 0x2D month (0x2D ∷ (two_digits day ++ rest)) m,
+      part_back 0x2D day rest d,
+    ) refl
+
+time_back : (hour minute second : ℕ) → hour < 100 → minute < 100 → second < 100
+    → time_of (0x54 ∷ (two_digits hour ++ 0x3A ∷ (two_digits minute ++ 0x3A ∷ (two_digits second ++ []))))
+    ≡ Some (record { first = hour; second = minute; third = second; rest = [] })
+unfolding time_of
+time_back hour minute second h m s =
+    rw (
+      part_back 0x54 hour (0x3A ∷ (two_digits minute ++ 0x3A ∷ (two_digits second ++ []))) h,
+      part_back 0x3A minute (0x3A ∷ (two_digits second ++ [])) m,
+      part_back 0x3A second [] s,
+    ) refl
+
+weekday : (moment : Moment) → IsMomentForm moment
+    → moment_of moment.year moment.month moment.day moment.hour moment.minute moment.second ≡ moment
+weekday moment form = ap (λ (w : ℕ). record moment { weekday = w }) (sym form.weekday)
+
+pub moment_back : (moment : Moment) → IsMomentForm moment → moment_in (moment_text moment) ≡ Some moment
+unfolding moment_in moment_with
+moment_back moment form =
+    let time : List ℕ =
+    0x54 ∷ (two_digits moment.hour ++ 0x3A ∷ (two_digits moment.minute ++ 0x3A ∷ (two_digits moment.second ++ []))) in
+    rw (
+      date_back moment.year moment.month moment.day time form.year form.month form.day,
+      time_back moment.hour moment.minute moment.second form.hour form.minute form.second,
+    ) (ap (λ (m : Moment). Some m) (weekday moment form))

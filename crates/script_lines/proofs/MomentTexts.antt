@@ -1,0 +1,146 @@
+-- The moment that was read is the one that the field spells.
+use Rattle.std.proofs.Common.{◌≡◌, ℕ, ◌+◌, ◌*◌, ◌/◌, ◌%◌, ◌<◌, eqb, Some, List, [], ◌∷◌, ◌++◌, refl, sym, ap, subst, ◌∙◌, arith}
+use Rattle.std.proofs.lemmas.Bool.{eqb-true}
+use Rattle.board_base.specs.declared.moment.Moment.{Moment}
+use Rattle.board_base.specs.Calendar.{moment_of}
+use Rattle.board_spec.specs.LogText.{two_digits, moment_text}
+use Rattle.script_spec.specs.Grammar.{IsMomentForm}
+use Rattle.script_lines.specs.Numbers.{digit_of, two_digits_of, behind}
+use Rattle.script_lines.specs.Moments.{part_of, year_of, Three, date_of, time_of, moment_with, moment_in}
+use Rattle.script_lines.proofs.Chains.{some_is, guarded, then_said}
+use Rattle.script_lines.proofs.NumberTexts.{ten_is}
+
+digits_again : (high low n : ℕ) → high < 10 → low < 10 → n ≡ high * 10 + low → (0x30 + n / 10 % 10 ≡ 48 + high) × (0x30 + n % 10 ≡ 48 + low)
+digits_again high low n a b is = (omega (arith, is), omega (arith, is))
+
+two_read : (text : List ℕ) (p : ℕ × List ℕ) → two_digits_of text ≡ Some p → (text ≡ two_digits p.0 ++ p.1) × (p.0 < 100)
+unfolding two_digits_of
+two_read [] p e = absurd cc
+two_read (_ ∷ []) p e = absurd cc
+two_read (high ∷ low ∷ rest) p e =
+    let h = then_said (digit_of 10 high) _ p e in
+    let l = then_said (digit_of 10 low) _ p h.2 in
+    let is : (h.0 * 10 + l.0, rest) ≡ p = some_is (h.0 * 10 + l.0, rest) p l.2 in
+    let high_is = ten_is high h.0 h.1 in
+    let low_is = ten_is low l.0 l.1 in
+    let again = digits_again h.0 l.0 (h.0 * 10 + l.0) high_is.1 low_is.1 refl in
+    subst (λ (p : ℕ × List ℕ). (high ∷ low ∷ rest ≡ two_digits p.0 ++ p.1) × (p.0 < 100)) is
+    ((λ i. (high_is.0 ∙ sym again.0) i ∷ (low_is.0 ∙ sym again.1) i ∷ rest), omega (arith, high_is.1, low_is.1))
+
+behind_read : (mark : ℕ) (text rest : List ℕ) → behind mark text ≡ Some rest → text ≡ mark ∷ rest
+unfolding behind
+behind_read mark [] rest e = absurd cc
+behind_read mark (c ∷ cs) rest e =
+    let g = guarded (eqb c mark) (Some cs) rest e in
+    let first = eqb-true c mark g.0 in
+    let later = some_is cs rest g.1 in
+    λ i. first i ∷ later i
+
+part_read : (mark : ℕ) (text : List ℕ) (p : ℕ × List ℕ) → part_of mark text ≡ Some p → (text ≡ mark ∷ (two_digits p.0 ++ p.1)) × (p.0 < 100)
+unfolding part_of
+part_read mark text p e =
+    let b = then_said (behind mark text) _ p e in
+    let t = two_read b.0 p b.2 in
+    (behind_read mark text b.0 b.1 ∙ ap (λ (rest : List ℕ). mark ∷ rest) t.0, t.1)
+
+halves : (c y n : ℕ) → c < 100 → y < 100 → n ≡ c * 100 + y → (n / 100 ≡ c) × (n % 100 ≡ y)
+halves c y n a b is = (omega (arith, is), omega (arith, is))
+
+year_read : (text : List ℕ) (p : ℕ × List ℕ) → year_of text ≡ Some p
+    → (text ≡ two_digits (p.0 / 100) ++ (two_digits (p.0 % 100) ++ p.1)) × (p.0 < 10_000)
+unfolding year_of
+year_read text p e =
+    let c = then_said (two_digits_of text) _ p e in
+    let y = then_said (two_digits_of c.0.1) _ p c.2 in
+    let is : (c.0.0 * 100 + y.0.0, y.0.1) ≡ p = some_is (c.0.0 * 100 + y.0.0, y.0.1) p y.2 in
+    let century = two_read text c.0 c.1 in
+    let year = two_read c.0.1 y.0 y.1 in
+    let parts = halves c.0.0 y.0.0 (c.0.0 * 100 + y.0.0) century.1 year.1 refl in
+    subst (λ (p : ℕ × List ℕ). (text ≡ two_digits (p.0 / 100) ++ (two_digits (p.0 % 100) ++ p.1)) × (p.0 < 10_000)) is (
+      century.0
+          ∙ ap (λ (rest : List ℕ). two_digits c.0.0 ++ rest) year.0
+          ∙ sym (ap (λ (n : ℕ). two_digits n ++ (two_digits ((c.0.0 * 100 + y.0.0) % 100) ++ y.0.1)) parts.0
+          ∙ ap (λ (n : ℕ). two_digits c.0.0 ++ (two_digits n ++ y.0.1)) parts.1),
+      omega (arith, century.1, year.1),
+    )
+
+record IsDateRead (text : List ℕ) (d : Three) : Type 0 where
+  pub text_is :
+      text ≡ two_digits (d.first / 100) ++ (two_digits (d.first % 100) ++ 0x2D ∷ (two_digits d.second ++ 0x2D ∷ (two_digits d.third ++ d.rest)))
+  pub year : d.first < 10_000
+  pub month : d.second < 100
+  pub day : d.third < 100
+
+date_read : (text : List ℕ) (d : Three) → date_of text ≡ Some d → IsDateRead text d
+unfolding date_of
+date_read text d e =
+    let y = then_said (year_of text) _ d e in
+    let m = then_said (part_of 0x2D y.0.1) _ d y.2 in
+    let k = then_said (part_of 0x2D m.0.1) _ d m.2 in
+    let year = year_read text y.0 y.1 in
+    let month = part_read 0x2D y.0.1 m.0 m.1 in
+    let day = part_read 0x2D m.0.1 k.0 k.1 in
+    subst (IsDateRead text) (some_is _ d k.2)
+    (record {
+      text_is = year.0
+          ∙ ap (λ (rest : List ℕ). two_digits (y.0.0 / 100) ++ (two_digits (y.0.0 % 100) ++ rest))
+          (month.0 ∙ ap (λ (rest : List ℕ). 0x2D ∷ (two_digits m.0.0 ++ rest)) day.0);
+      year = year.1;
+      month = month.1;
+      day = day.1;
+    })
+
+record IsTimeRead (text : List ℕ) (t : Three) : Type 0 where
+  pub text_is : text ≡ 0x54 ∷ (two_digits t.first ++ 0x3A ∷ (two_digits t.second ++ 0x3A ∷ (two_digits t.third ++ t.rest)))
+  pub hour : t.first < 100
+  pub minute : t.second < 100
+  pub second : t.third < 100
+
+time_read : (text : List ℕ) (t : Three) → time_of text ≡ Some t → IsTimeRead text t
+unfolding time_of
+time_read text t e =
+    let h = then_said (part_of 0x54 text) _ t e in
+    let m = then_said (part_of 0x3A h.0.1) _ t h.2 in
+    let s = then_said (part_of 0x3A m.0.1) _ t m.2 in
+    let hour = part_read 0x54 text h.0 h.1 in
+    let minute = part_read 0x3A h.0.1 m.0 m.1 in
+    let second = part_read 0x3A m.0.1 s.0 s.1 in
+    subst (IsTimeRead text) (some_is _ t s.2)
+    (record {
+      text_is = hour.0
+          ∙ ap (λ (rest : List ℕ). 0x54 ∷ (two_digits h.0.0 ++ rest))
+          (minute.0 ∙ ap (λ (rest : List ℕ). 0x3A ∷ (two_digits m.0.0 ++ rest)) second.0);
+      hour = hour.1;
+      minute = minute.1;
+      second = second.1;
+    })
+
+with_read : (date time : Three) (rest : List ℕ) (moment : Moment) → moment_with date time rest ≡ Some moment
+    → (rest ≡ []) × (moment_of date.first date.second date.third time.first time.second time.third ≡ moment)
+unfolding moment_with
+with_read date time [] moment e = (refl, some_is _ moment e)
+with_read date time (_ ∷ _) moment e = absurd cc
+
+pub moment_read : (field : List ℕ) (moment : Moment) → moment_in field ≡ Some moment → (field ≡ moment_text moment) × IsMomentForm moment
+unfolding moment_in
+moment_read field moment e =
+    let d = then_said (date_of field) _ moment e in
+    let t = then_said (time_of d.0.rest) _ moment d.2 in
+    let date = date_read field d.0 d.1 in
+    let time = time_read d.0.rest t.0 t.1 in
+    let end = with_read d.0 t.0 t.0.rest moment t.2 in
+    subst (λ (m : Moment). (field ≡ moment_text m) × IsMomentForm m) end.1 (
+      date.text_is
+          ∙ ap (λ (rest : List ℕ). two_digits (d.0.first / 100) ++ (two_digits (d.0.first % 100) ++ 0x2D ∷ (two_digits d.0.second ++ 0x2D ∷ (two_digits d.0.third ++ rest))))
+          (time.text_is
+          ∙ ap (λ (rest : List ℕ). 0x54 ∷ (two_digits t.0.first ++ 0x3A ∷ (two_digits t.0.second ++ 0x3A ∷ (two_digits t.0.third ++ rest)))) end.0),
+      record {
+        year = date.year;
+        month = date.month;
+        day = date.day;
+        weekday = refl;
+        hour = time.hour;
+        minute = time.minute;
+        second = time.second;
+      },
+    )

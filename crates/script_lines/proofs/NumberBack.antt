@@ -1,0 +1,166 @@
+-- A field that spells a number is read as that number.
+use Rattle.std.proofs.Common.{◌≡◌, ℕ, zero, suc, ◌+◌, ◌-◌, ◌*◌, ◌/◌, ◌%◌, ◌^◌, ◌<◌, ◌≤◌, inl, inr, Bool, true, false, not, eqb, leb, Some, List, [], ◌∷◌, length, get_or, refl, sym, ap, subst, ◌∙◌, arith, pow-suc, lit<}
+use Rattle.std.specs.Prelude.{decimal}
+use Rattle.std.specs.List.{list_all}
+use Rattle.std.specs.Char.{digit_value as value_of_digit}
+use Rattle.std.specs.Str.Parse.{AllDigits, digits_value_after}
+use Rattle.std.proofs.lemmas.Bool.{cases_Bool, cases_lt, leb-true, lt-ltb, le-ltb, le-leb, lt-leb, eq-eqb, eqb-true, and_parts, true≢false, not-true}
+use Rattle.std.proofs.lemmas.Str.Parse.{digit_from_value}
+use Rattle.std.proofs.lemmas.Str.{digit_value_digit}
+use Rattle.std.proofs.lemmas.Fmt.{digits_decimal, digits_value-decimal, length-decimal-le, first_decimal, decimal_nonempty, decimal_digit}
+use Rattle.std.proofs.Math.Nat.{div-eq_of_lt}
+use Rattle.board_spec.specs.Bits.{byte, is_within}
+use Rattle.board_spec.specs.Text.{hex_digit, hex_number}
+use Rattle.script_spec.specs.Grammar.{IsDecimal, StandsFor}
+use Rattle.script_lines.specs.Numbers.{digit_of, number_after, number_of, hex_of, has_leading_zero, decimal_of}
+use Rattle.script_lines.proofs.NumberTexts.{own, quotient, digit_again}
+use Rattle.script_lines.proofs.Joins.{Spells}
+
+-- ---- texts without capitals A to F stand for themselves alone
+
+abbrev pub is_plain : List ℕ → Bool
+is_plain text = list_all (λ byte. not (is_within 0x41 0x46 byte)) text
+
+pub plain_is : (field text : List ℕ) → is_plain text ≡ true → Spells field text → field ≡ text
+plain_is [] [] plain spells = refl
+plain_is [] (t ∷ ts) plain spells = absurd spells
+plain_is (c ∷ cs) [] plain spells = absurd spells
+plain_is (c ∷ cs) (t ∷ ts) plain spells =
+    let parts = and_parts (not (is_within 0x41 0x46 t)) (is_plain ts) plain in
+    let low : is_within 0x41 0x46 t ≡ false = not-true (is_within 0x41 0x46 t) parts.0 in
+    let first : c ≡ t = elim spells.0 [ inl is ↦ is | inr small ↦ absurd (true≢false (sym small.0 ∙ low)) ] in
+    let later = plain_is cs ts parts.1 spells.1 in
+    λ i. first i ∷ later i
+
+pub plain-digits : (ds : List ℕ) → AllDigits 10 ds → is_plain ds ≡ true
+plain-digits [] digits = refl
+plain-digits (c ∷ cs) digits =
+    let range = digit_from_value c digits.0 in
+    rw (lt-leb 0x41 c (omega (arith, range)), plain-digits cs digits.1) refl
+
+-- ---- decimals
+
+pub digit_so : (c d : ℕ) → 48 ≤ c → c ≤ 57 → c - 48 ≡ d → d < 10 → digit_of 10 c ≡ Some d
+digit_so c d low high is small = rw (le-leb 0x30 c low, le-leb c 0x39 high, is, lt-ltb d 10 small) refl
+
+digit_read : (c : ℕ) → value_of_digit c < 10 → digit_of 10 c ≡ Some (value_of_digit c)
+digit_read c small =
+    let range = digit_from_value c small in
+    digit_so c (value_of_digit c) range.0 (omega (arith, range.1)) (omega (arith, digit_value_digit c range)) small
+
+digits_read : (high : ℕ) (ds : List ℕ) → AllDigits 10 ds → number_after 10 high ds ≡ Some (digits_value_after 10 high ds)
+unfolding number_after
+digits_read high [] digits = refl
+digits_read high (c ∷ cs) digits =
+    rw (digit_read c digits.0) (digits_read (high * 10 + value_of_digit c) cs digits.1)
+
+pub digits_of_decimal : (n : ℕ) → IsDecimal n → AllDigits 10 (decimal n)
+digits_of_decimal n small = digits_decimal own n (omega arith)
+
+no_leading : (field : List ℕ) → (2 ≤ length field → 48 < get_or field 0 0) → has_leading_zero field ≡ false
+no_leading field first = elim (cases_Bool (has_leading_zero field)) [
+  | inl zero_first ↦
+      let parts = and_parts (leb 2 (length field)) (eqb (get_or field 0 0) 48) zero_first in
+      let above = first (leb-true 2 (length field) parts.0) in
+      absurd (omega (arith, above, eqb-true (get_or field 0 0) 48 parts.1))
+  | inr none ↦ none
+]
+
+first_digit : (n : ℕ) → IsDecimal n → 2 ≤ length (decimal n) → 48 < get_or (decimal n) 0 0
+first_digit zero small long = let one = ap length (decimal_digit 0 (lit< tt)) in absurd (omega (arith, long, one))
+first_digit (suc n) small long = first_decimal (suc n) (omega arith) (omega (arith, small))
+
+pub decimal_back : (n : ℕ) → IsDecimal n → decimal_of (decimal n) ≡ Some n
+decimal_back n small =
+    let read : number_of 10 (decimal n) ≡ Some n =
+    digits_read 0 (decimal n) (digits_of_decimal n small)
+    ∙ ap (λ (x : ℕ). Some x) (digits_value-decimal own n (omega (arith, small))) in
+    let some = decimal_nonempty n (omega (arith, small)) in
+    let few = length-decimal-le 9 n (lit< tt) small (omega (arith, small)) in
+    rw (
+      le-leb 1 (length (decimal n)) (omega (arith, some)),
+      le-leb (length (decimal n)) 9 few,
+      no_leading (decimal n) (first_digit n small),
+    ) read
+
+-- ---- hexadecimal numbers
+
+-- what stands for a digit of so much is read as so much
+hex_digit_read : (c d : ℕ) → d < 16 → StandsFor c (hex_digit d) → digit_of 16 c ≡ Some d
+hex_digit_read c d small stands = elim (cases_lt d 10) [
+  | inl low ↦
+      let e : d % 16 ≡ d = omega (arith, small) in
+      let text : hex_digit d ≡ 48 + d = rw (e, lt-ltb d 10 low) refl in
+      elim stands [
+        | inl is ↦
+            let c_is : c ≡ 48 + d = is ∙ text in
+            let value : c - 0x30 ≡ d = omega (arith, c_is) in
+            rw (le-leb 0x30 c (omega (arith, c_is)), le-leb c 0x39 (omega (arith, c_is, low)), value, lt-ltb d 16 small) refl
+        | inr lower ↦
+            let parts = and_parts (leb 0x41 (hex_digit d)) (leb (hex_digit d) 0x46) lower.0 in
+            absurd (omega (arith, leb-true 0x41 (hex_digit d) parts.0, text, low))
+      ]
+  | inr high ↦
+      let e : d % 16 ≡ d = omega (arith, small) in
+      let text : hex_digit d ≡ 55 + d = rw (e, le-ltb d 10 high) refl in
+      elim stands [
+        | inl is ↦
+            let c_is : c ≡ 55 + d = is ∙ text in
+            let value : c - 0x41 + 10 ≡ d = omega (arith, c_is, high) in
+            rw (
+              lt-leb c 0x39 (omega (arith, c_is, high)),
+              le-leb 0x30 c (omega (arith, c_is)),
+              le-leb 0x41 c (omega (arith, c_is, high)),
+              le-leb c 0x46 (omega (arith, c_is, small)),
+              value,
+              lt-ltb d 16 small,
+            ) refl
+        | inr lower ↦
+            let c_is : c ≡ 87 + d = omega (arith, lower.1, text) in
+            let value : c - 0x61 + 10 ≡ d = omega (arith, c_is, high) in
+            rw (
+              le-leb 0x30 c (omega (arith, c_is)),
+              lt-leb c 0x39 (omega (arith, c_is, high)),
+              le-leb 0x41 c (omega (arith, c_is)),
+              lt-leb c 0x46 (omega (arith, c_is, high)),
+              le-leb 0x61 c (omega (arith, c_is, high)),
+              le-leb c 0x66 (omega (arith, c_is, small)),
+              value,
+              lt-ltb d 16 small,
+            ) refl
+      ]
+]
+
+next_value : (q high b : ℕ) → high ≡ q / 256 → b ≡ q % 256 → (high * 16 + b / 16) * 16 + b % 16 ≡ q
+next_value q high b one two = omega (arith, one, two)
+
+-- behind the digits that made what stands above so many bytes
+hex_after : (k high n : ℕ) (field : List ℕ) → high ≡ n / 256 ^ k → Spells field (hex_number k n) → number_after 16 high field ≡ Some n
+unfolding number_after
+hex_after zero high n [] is spells = let same : high ≡ n = omega (arith, is) in ap (λ (x : ℕ). Some x) same
+hex_after zero high n (c ∷ cs) is spells = absurd spells
+hex_after (suc k) high n [] is spells = absurd spells
+hex_after (suc k) high n (c ∷ []) is spells = absurd spells.1
+hex_after (suc k) high n (c ∷ d ∷ cs) is spells =
+    let b : ℕ = byte n k in
+    let above : high ≡ n / 256 ^ k / 256 = is ∙ ap (λ (p : ℕ). n / p) (pow-suc 256 k) ∙ quotient n (256 ^ k) in
+    let first : digit_of 16 c ≡ Some (b / 16) = hex_digit_read c (b / 16) (omega arith) spells.0 in
+    let low : hex_digit b ≡ hex_digit (b % 16) = digit_again b (b % 16) refl in
+    let second : digit_of 16 d ≡ Some (b % 16) = hex_digit_read d (b % 16) (omega arith) (subst (StandsFor d) low spells.1.0) in
+    rw (first, second)
+    (hex_after k ((high * 16 + b / 16) * 16 + b % 16) n cs (next_value (n / 256 ^ k) high b above refl) spells.1.1)
+
+spelled_length : (field text : List ℕ) → Spells field text → length field ≡ length text
+spelled_length [] [] spells = refl
+spelled_length [] (t ∷ ts) spells = absurd spells
+spelled_length (c ∷ cs) [] spells = absurd spells
+spelled_length (c ∷ cs) (t ∷ ts) spells = ap suc (spelled_length cs ts spells.1)
+
+hex_length : (k n : ℕ) → length (hex_number k n) ≡ 2 * k
+hex_length zero n = refl
+hex_length (suc k) n = omega (arith, hex_length k n)
+
+pub hex_back : (k n : ℕ) (field : List ℕ) → n < 256 ^ k → Spells field (hex_number k n) → hex_of (2 * k) field ≡ Some n
+hex_back k n field small spells =
+    let long : length field ≡ 2 * k = spelled_length field (hex_number k n) spells ∙ hex_length k n in
+    rw (eq-eqb (length field) (2 * k) long) (hex_after k 0 n field (sym (div-eq_of_lt small)) spells)

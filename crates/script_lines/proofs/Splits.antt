@@ -1,0 +1,81 @@
+-- A line that spells fields has just those fields.
+use Rattle.std.proofs.Common.{◌≡◌, ℕ, inl, inr, Bool, true, false, not, eqb, leb, List, [], ◌∷◌, ◌++◌, refl, sym, ap, subst, ◌∙◌, All, arith}
+use Rattle.std.specs.List.{join_with_byte, list_all}
+use Rattle.std.proofs.lemmas.Bool.{and_parts, leb-true, ne_eqb, true≢false, not-true}
+use Rattle.std.proofs.lemmas.List.Elements.{All-nil, All-cons}
+use Rattle.std.proofs.lemmas.List.Splits.{slice_split_none, slice_split_at}
+use Rattle.board_spec.specs.Text.{space}
+use Rattle.script_spec.specs.Grammar.{StandsFor}
+use Rattle.script_lines.specs.Fields.{fields_of}
+use Rattle.script_lines.proofs.FieldLemmas.{is_space}
+use Rattle.script_lines.proofs.Joins.{Spells, Reads}
+
+-- a byte does not stand in a list
+abbrev pub lacks : ℕ → List ℕ → Bool
+lacks byte bytes = list_all (λ b. not (eqb b byte)) bytes
+
+lacks-first : (byte c : ℕ) (cs : List ℕ) → lacks byte (c ∷ cs) ≡ true → eqb c byte ≡ false
+lacks-first byte c cs lack = not-true (eqb c byte) ((and_parts (not (eqb c byte)) (lacks byte cs) lack).0)
+
+lacks-later : (byte c : ℕ) (cs : List ℕ) → lacks byte (c ∷ cs) ≡ true → lacks byte cs ≡ true
+lacks-later byte c cs lack = (and_parts (not (eqb c byte)) (lacks byte cs) lack).1
+
+no_space : (written byte : ℕ) → StandsFor written byte → is_space byte ≡ false → is_space written ≡ false
+no_space written byte (inl is) other = rw is other
+no_space written byte (inr small) other =
+    let parts = and_parts (leb 0x41 byte) (leb byte 0x46) small.0 in
+    let low = leb-true 0x41 byte parts.0 in
+    ne_eqb written 32 (λ is. let none : ⊥ = omega (arith, low, small.1, is) in none)
+
+-- a field that spells a text without spaces has none
+spelled_lacks : (field text : List ℕ) → Spells field text → lacks space text ≡ true → All (λ byte. is_space byte ≡ false) field
+spelled_lacks [] text spells lack = All-nil (λ byte. is_space byte ≡ false)
+spelled_lacks (c ∷ cs) [] spells lack = absurd spells
+spelled_lacks (c ∷ cs) (t ∷ ts) spells lack =
+    All-cons (λ byte. is_space byte ≡ false) c cs (no_space c t spells.0 (lacks-first space t ts lack))
+    (spelled_lacks cs ts spells.1 (lacks-later space t ts lack))
+
+-- a line that spells two texts is cut in two
+record IsCut (line first second : List ℕ) : Type 0 where
+  pub front : List ℕ
+  pub rest : List ℕ
+  pub is : line ≡ front ++ rest
+  pub spells : Spells front first
+  pub later : Spells rest second
+
+cut : (line first second : List ℕ) → Spells line (first ++ second) → IsCut line first second
+cut line [] second spells = record { front = []; rest = line; is = refl; spells = tt; later = spells }
+cut [] (t ∷ ts) second spells = absurd spells
+cut (c ∷ cs) (t ∷ ts) second spells =
+    let k = cut cs ts second spells.1 in
+    record { front = c ∷ k.front; rest = k.rest; is = ap (λ (l : List ℕ). c ∷ l) k.is; spells = (spells.0, k.spells); later = k.later }
+
+-- only a space stands for a space
+space_is : (written : ℕ) → StandsFor written 32 → written ≡ 32
+space_is written (inl is) = is
+space_is written (inr small) = let f = small.0 in absurd (true≢false (sym f))
+
+abbrev pub Lack : List (List ℕ) → Type 0
+Lack [] = Unit {0}
+Lack (text ∷ later) = (lacks space text ≡ true) × Lack later
+
+-- a line that is cut before a space, where what stands behind it has its fields
+split_at : (line front rest text next : List ℕ) (texts : List (List ℕ)) → lacks space text ≡ true
+    → ((later : List ℕ) → Spells later (join_with_byte space (next ∷ texts)) → Reads (fields_of later) (next ∷ texts)) → line ≡ front ++ rest
+    → Spells front text → Spells rest (space ∷ join_with_byte space (next ∷ texts)) → Reads (fields_of line) (text ∷ next ∷ texts)
+split_at line front [] text next texts lack behind is spells later = absurd later
+split_at line front (c ∷ rest) text next texts lack behind is spells later =
+    let first : c ≡ 32 = space_is c later.0 in
+    let whole : line ≡ front ++ 32 ∷ rest = is ∙ ap (λ (b : ℕ). front ++ b ∷ rest) first in
+    subst (λ (fields : List (List ℕ)). Reads fields (text ∷ next ∷ texts))
+    (sym (ap fields_of whole ∙ slice_split_at is_space front 32 rest (spelled_lacks front text spells lack) refl))
+    (spells, behind rest later.1)
+
+pub split : (line text : List ℕ) (texts : List (List ℕ)) → Lack (text ∷ texts) → Spells line (join_with_byte space (text ∷ texts))
+    → Reads (fields_of line) (text ∷ texts)
+split line text [] lack spells =
+    subst (λ (fields : List (List ℕ)). Reads fields (text ∷ []))
+    (sym (slice_split_none is_space line (spelled_lacks line text spells lack.0))) (spells, tt)
+split line text (next ∷ texts) lack spells =
+    let k = cut line text (space ∷ join_with_byte space (next ∷ texts)) spells in
+    split_at line k.front k.rest text next texts lack.0 (λ later spells. split later next texts lack.1 spells) k.is k.spells k.later

@@ -1,0 +1,8 @@
+-- A line is cut into fields.
+use Rattle.std.specs.Prelude.{ℕ, ◌==◌, List}
+use Rattle.std.specs.List.{slice_split}
+use Rattle.board_spec.specs.Text.{space}
+
+-- between two fields one space stands
+abbrev pub fields_of : List ℕ → List (List ℕ)
+fields_of line = slice_split (λ byte. byte == space) line

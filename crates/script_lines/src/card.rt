@@ -1,0 +1,140 @@
+//! A card, read from the fields of its line.
+
+ghost use Rattle.std.specs.Prelude.{◌≡◌, None, map, option_map};
+ghost use Rattle.script_lines.specs.Items.{base_said, card_said, tail_said};
+ghost use Rattle.script_lines.specs.Cards.{base_of, rom_of, with_base, with_rom, with_field, with_fields, no_tail, vga_of, card_of};
+
+use crate::numbers::decimal_of;
+use arrayvec::ArrayVec;
+
+/// The most bases of a card.
+const MOST_BASES: usize = 6;
+
+/// A base of a card line, by its power of two, which may be out of range.
+#[derive(Clone, Copy, PartialEq, Eq, Debug)]
+pub enum BaseField {
+    Memory(u32),
+    Io(u32),
+}
+
+impl Default for BaseField {
+    fn default() -> BaseField {
+        BaseField::Memory(0)
+    }
+}
+
+/// What a card line says, with numbers that may be out of range.
+#[derive(Drop, Debug)]
+pub struct CardFields {
+    pub dev: u32,
+    pub vga: bool,
+    pub bases: ArrayVec<BaseField, MOST_BASES>,
+    pub rom: Option<u32>,
+}
+
+/// The base of a field `mK` or `iK`.
+#[tactic(auto, unfolding(crate::specs::Cards::base_of))]
+fn base_of(field: &[u8]) -> Option<BaseField>
+    ensures base { option_map base_said result ≡ base_of field.now }
+{
+    match field {
+        [b'm', digits @ ..] => Some(BaseField::Memory(decimal_of(digits)?)),
+        [b'i', digits @ ..] => Some(BaseField::Io(decimal_of(digits)?)),
+        _ => None,
+    }
+}
+
+/// The power of two of a field `xK`, which version 2 has.
+#[tactic(auto, unfolding(crate::specs::Cards::rom_of))]
+fn rom_of(version: u8, field: &[u8]) -> Option<u32>
+    ensures rom { result ≡ rom_of version field.now }
+{
+    if version != 2 {
+        return None;
+    }
+    match field {
+        [b'x', digits @ ..] => decimal_of(digits),
+        _ => None,
+    }
+}
+
+/// Whether it is a VGA adapter.
+fn vga_of(field: &[u8]) -> Option<bool>
+    ensures vga { result ≡ vga_of field.now }
+{
+    match field {
+        b"vga" => Some(true),
+        b"plain" => Some(false),
+        _ => None,
+    }
+}
+
+/// The bases and the expansion ROM of the fields so far.
+#[derive(Drop)]
+struct Tail {
+    bases: ArrayVec<BaseField, MOST_BASES>,
+    rom: Option<u32>,
+}
+
+/// With one base more, where there is room.
+#[tactic(auto, unfolding(crate::specs::Cards::with_base))]
+fn with_base(mut tail: Tail, field: &[u8]) -> Option<Tail>
+    requires open { tail.rom ≡ None }
+    ensures tail { option_map tail_said result ≡ with_base (tail_said tail) field.now }
+{
+    if tail.bases.is_full() {
+        return None;
+    }
+    tail.bases.push(base_of(field)?);
+    Some(tail)
+}
+
+/// With one field more. Nothing follows an expansion ROM.
+#[tactic(auto, unfolding(crate::specs::Cards::with_field, crate::specs::Cards::with_rom))]
+fn with_field(version: u8, tail: Tail, field: &[u8]) -> Option<Tail>
+    ensures tail { option_map tail_said result ≡ with_field version (tail_said tail) field.now }
+{
+    if tail.rom.is_some() {
+        return None;
+    }
+    match rom_of(version, field) {
+        None => with_base(tail, field),
+        Some(bits) => Some(Tail {
+            bases: tail.bases,
+            rom: Some(bits),
+        }),
+    }
+}
+
+/// The bases and the expansion ROM of all fields.
+fn tail_of(version: u8, fields: &[&[u8]]) -> Option<Tail>
+    ensures tail { option_map tail_said result ≡ with_fields version no_tail (map (λ field. field.now) fields.now) }
+{
+    let mut tail = Tail {
+        bases: ArrayVec::new(),
+        rom: None,
+    };
+    for field in fields {
+        tail = with_field(version, tail, field)?;
+    }
+    Some(tail)
+}
+
+/// The card of a line, by its fields behind `card`.
+#[tactic(auto, unfolding(crate::specs::Cards::card_of))]
+pub(crate) fn card_of(version: u8, words: &[&[u8]]) -> Option<CardFields>
+    ensures card { option_map card_said result ≡ card_of version (map (λ field. field.now) words.now) }
+{
+    let [dev, kind, fields @ ..] = words else {
+        return None;
+    };
+    let dev = decimal_of(dev)?;
+    let vga = vga_of(kind)?;
+    let tail = tail_of(version, fields)?;
+    Some(CardFields {
+        dev,
+        vga,
+        bases: tail.bases,
+        rom: tail.rom,
+    })
+}

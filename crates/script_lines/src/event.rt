@@ -1,0 +1,269 @@
+//! What a statement asks, read from the fields of its line behind the processor's number.
+
+ghost use Rattle.std.specs.Prelude.{◌≡◌, ◌*◌, ◌<◌, ◌^◌, map, IfSome};
+ghost use Rattle.board_base.specs.Access.{bytes_of};
+ghost use Rattle.script_lines.specs.Numbers.{hex_of};
+ghost use Rattle.script_lines.specs.Events.{IsSize, width_of, quad_of, size_of, width_with, is_wide, memory_event, kind_of, smm_of, read_of, write_of, in_of, out_of, look_of, ack_of, number_in, pulses_of, sector_of, event_of};
+
+use crate::numbers::{decimal_of, hex_of};
+use board_base::{Access, Kind, PortAccess, WideAccess, Width};
+use board_spec::Event;
+
+/// The width of an access to a port.
+fn width_of(field: &[u8]) -> Option<Width>
+    ensures width { result ≡ width_of field.now }
+{
+    match field {
+        b"b" => Some(Width::One),
+        b"w" => Some(Width::Two),
+        b"d" => Some(Width::Four),
+        _ => None,
+    }
+}
+
+/// Eight bytes, which version 2 has.
+fn quad_of(version: u8) -> Option<u8>
+    ensures size { result ≡ quad_of version }
+{
+    if version == 2 { Some(8) } else { None }
+}
+
+/// The number of bytes of an access to memory.
+fn size_of(version: u8, field: &[u8]) -> Option<u8>
+    ensures size { result ≡ size_of version field.now }
+    ensures known { IfSome result (IsSize version) }
+{
+    match field {
+        b"b" => Some(1),
+        b"w" => Some(2),
+        b"d" => Some(4),
+        b"q" => quad_of(version),
+        _ => None,
+    }
+}
+
+fn kind_of(field: &[u8]) -> Option<Kind>
+    ensures kind { result ≡ kind_of field.now }
+{
+    match field {
+        b"f" => Some(Kind::Fetch),
+        b"r" => Some(Kind::Read),
+        b"w" => Some(Kind::Write),
+        _ => None,
+    }
+}
+
+/// Whether the access is made in system management mode, by the fields behind the others.
+#[tactic(auto, unfolding(crate::specs::Events::smm_of))]
+fn smm_of(flags: &[&[u8]]) -> Option<bool>
+    ensures smm { result ≡ smm_of (map (λ field. field.now) flags.now) }
+{
+    match flags {
+        [] => Some(false),
+        [b"smm"] => Some(true),
+        _ => None,
+    }
+}
+
+/// The width of so many bytes, 1, 2 or 4.
+fn width_with(bytes: u8) -> Width
+    ensures width { result ≡ width_with bytes }
+{
+    match bytes {
+        1 => Width::One,
+        2 => Width::Two,
+        _ => Width::Four,
+    }
+}
+
+/// Whether an access is a wide one: version 2 has those, of 8 bytes or not aligned.
+fn is_wide(version: u8, bytes: u8, addr: u32) -> bool
+    requires size { IsSize version bytes }
+    ensures wide { result ≡ is_wide version bytes addr }
+{
+    version == 2 && (bytes == 8 || addr % u32::from(bytes) != 0)
+}
+
+/// An access to memory of so many bytes.
+#[tactic(auto, unfolding(crate::specs::Events::memory_event))]
+fn memory_event(version: u8, kind: Kind, bytes: u8, addr: u32, value: u64, smm: bool) -> Event
+    requires size { IsSize version bytes }
+    requires value { value < 16 ^ (2 * bytes) }
+    ensures event { result ≡ memory_event version kind bytes addr value smm }
+{
+    if is_wide(version, bytes, addr) {
+        return Event::Wide(WideAccess {
+            kind,
+            addr,
+            bytes,
+            smm,
+            value,
+        });
+    }
+    Event::Memory(Access {
+        kind,
+        addr,
+        width: width_with(bytes),
+        smm,
+        value: value as u32,
+    })
+}
+
+/// An address has eight digits.
+fn address_of(field: &[u8]) -> Option<u32>
+    ensures address { result ≡ hex_of 8 field.now }
+{
+    let addr = hex_of(8, field)?;
+    Some(addr as u32)
+}
+
+/// A port has four digits.
+fn port_of(field: &[u8]) -> Option<u16>
+    ensures port { result ≡ hex_of 4 field.now }
+{
+    let port = hex_of(4, field)?;
+    Some(port as u16)
+}
+
+/// `W ADDR` and the flag, behind the word for a read or a fetch.
+#[tactic(auto, unfolding(crate::specs::Events::read_of))]
+fn read_of(version: u8, kind: Kind, words: &[&[u8]]) -> Option<Event>
+    ensures event { result ≡ read_of version kind (map (λ field. field.now) words.now) }
+{
+    let [size, addr, flags @ ..] = words else {
+        return None;
+    };
+    let bytes = size_of(version, size)?;
+    let addr = address_of(addr)?;
+    let smm = smm_of(flags)?;
+    Some(memory_event(version, kind, bytes, addr, 0, smm))
+}
+
+/// `W ADDR VALUE` and the flag, behind the word for a write.
+#[tactic(auto, unfolding(crate::specs::Events::write_of))]
+fn write_of(version: u8, words: &[&[u8]]) -> Option<Event>
+    ensures event { result ≡ write_of version (map (λ field. field.now) words.now) }
+{
+    let [size, addr, value, flags @ ..] = words else {
+        return None;
+    };
+    let bytes = size_of(version, size)?;
+    let addr = address_of(addr)?;
+    let value = hex_of(2 * bytes as usize, value)?;
+    let smm = smm_of(flags)?;
+    Some(memory_event(version, Kind::Write, bytes, addr, value, smm))
+}
+
+/// `W PORT`, behind `in`.
+#[tactic(auto, unfolding(crate::specs::Events::in_of))]
+fn in_of(words: &[&[u8]]) -> Option<Event>
+    ensures event { result ≡ in_of (map (λ field. field.now) words.now) }
+{
+    let [width, port] = words else {
+        return None;
+    };
+    let width = width_of(width)?;
+    let port = port_of(port)?;
+    Some(Event::Port(PortAccess {
+        write: false,
+        port,
+        width,
+        value: 0,
+    }))
+}
+
+/// The value of an access to a port has two digits for each byte of its width.
+fn value_of(width: Width, field: &[u8]) -> Option<u32>
+    ensures value { result ≡ hex_of (2 * bytes_of width) field.now }
+{
+    let value = hex_of(2 * width.bytes() as usize, field)?;
+    Some(value as u32)
+}
+
+/// `W PORT VALUE`, behind `out`.
+#[tactic(auto, unfolding(crate::specs::Events::out_of))]
+fn out_of(words: &[&[u8]]) -> Option<Event>
+    ensures event { result ≡ out_of (map (λ field. field.now) words.now) }
+{
+    let [width, port, value] = words else {
+        return None;
+    };
+    let width = width_of(width)?;
+    let port = port_of(port)?;
+    let value = value_of(width, value)?;
+    Some(Event::Port(PortAccess {
+        write: true,
+        port,
+        width,
+        value,
+    }))
+}
+
+/// `K ADDR` and the flag, behind `look`.
+#[tactic(auto, unfolding(crate::specs::Events::look_of))]
+fn look_of(words: &[&[u8]]) -> Option<Event>
+    ensures event { result ≡ look_of (map (λ field. field.now) words.now) }
+{
+    let [kind, addr, flags @ ..] = words else {
+        return None;
+    };
+    let kind = kind_of(kind)?;
+    let addr = address_of(addr)?;
+    let smm = smm_of(flags)?;
+    Some(Event::Look { kind, addr, smm })
+}
+
+/// `ack` has no more fields.
+#[tactic(auto, unfolding(crate::specs::Events::ack_of))]
+fn ack_of(words: &[&[u8]]) -> Option<Event>
+    ensures event { result ≡ ack_of (map (λ field. field.now) words.now) }
+{
+    match words {
+        [] => Some(Event::Ack),
+        _ => None,
+    }
+}
+
+/// The decimal that is the only field.
+#[tactic(auto, unfolding(crate::specs::Events::number_in))]
+pub(crate) fn number_in(words: &[&[u8]]) -> Option<u32>
+    ensures number { result ≡ number_in (map (λ field. field.now) words.now) }
+{
+    match words {
+        [field] => decimal_of(field),
+        _ => None,
+    }
+}
+
+fn pulses_of(words: &[&[u8]]) -> Option<Event>
+    ensures event { result ≡ pulses_of (map (λ field. field.now) words.now) }
+{
+    let count = number_in(words)?;
+    Some(Event::Pulses(count))
+}
+
+fn sector_of(words: &[&[u8]]) -> Option<Event>
+    ensures event { result ≡ sector_of (map (λ field. field.now) words.now) }
+{
+    let sector = number_in(words)?;
+    Some(Event::BadSector(sector))
+}
+
+/// What a statement asks that is no moment and sets no line, by its verb and the fields behind it.
+#[tactic(auto, unfolding(crate::specs::Events::event_of))]
+pub(crate) fn event_of(version: u8, verb: &[u8], words: &[&[u8]]) -> Option<Event>
+    ensures event { result ≡ event_of version verb.now (map (λ field. field.now) words.now) }
+{
+    match verb {
+        b"r" => read_of(version, Kind::Read, words),
+        b"f" => read_of(version, Kind::Fetch, words),
+        b"w" => write_of(version, words),
+        b"in" => in_of(words),
+        b"out" => out_of(words),
+        b"look" => look_of(words),
+        b"ack" => ack_of(words),
+        b"pulse" => pulses_of(words),
+        b"bad" => sector_of(words),
+        _ => None,
+    }
+}

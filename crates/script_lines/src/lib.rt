@@ -1,0 +1,16 @@
+//! One line of a script: its fields, and the item that it says.
+#![tactic(auto)]
+
+mod card;
+mod event;
+mod fields;
+mod item;
+mod moment;
+mod numbers;
+
+pub use card::{BaseField, CardFields};
+pub use item::{Asked, Item, item_of};
+pub use moment::MomentFields;
+
+#[cfg(test)]
+mod tests;

@@ -1,0 +1,138 @@
+-- A text leaves a kind of texts at one line.
+use Rattle.std.proofs.Common.{ℕ, ◌≡◌, ◌≢◌, ◌+◌, ◌⊎◌, true, List, [], ◌∷◌, ◌++◌, length, All, refl, sym, ap, ◌∙◌, inl, inr, append_assoc}
+use Rattle.std.proofs.lemmas.Bool.{ne_eqb, eqb-false}
+use Rattle.std.proofs.lemmas.Grind.{flat_map-append}
+use Rattle.std.proofs.lemmas.List.Elements.{All-nil, All-cons, All-head, All-tail}
+use Rattle.board_spec.specs.Text.{line_feed}
+use Rattle.script_spec.specs.Lines.{text_of_lines, IsOneLine}
+use Rattle.script_spec.specs.Checks.{AreBegun, LeavesAt, IsSomeLog, IsLogOf}
+use Rattle.script_spec.specs.Laws.{OneBadLog, OneDifference}
+use Rattle.script_spec.proofs.Digits.{lacks}
+use Rattle.script_spec.proofs.Fields.{front, back, front-field, back-field, lacks-first, lacks-later}
+
+pub lacks-line : (line : List ℕ) → IsOneLine line → lacks line_feed line ≡ true
+lacks-line [] each = refl
+lacks-line (c ∷ cs) each =
+    rw (
+      ne_eqb c line_feed (All-head (λ byte. byte ≢ line_feed) c cs each),
+      lacks-line cs (All-tail (λ byte. byte ≢ line_feed) c cs each),
+    ) refl
+
+pub one_line : (line : List ℕ) → lacks line_feed line ≡ true → IsOneLine line
+one_line [] lack = All-nil (λ byte. byte ≢ line_feed)
+one_line (c ∷ cs) lack =
+    All-cons (λ byte. byte ≢ line_feed) c cs (eqb-false c line_feed (lacks-first line_feed c cs lack))
+    (one_line cs (lacks-later line_feed c cs lack))
+
+-- lines go on as other lines do
+pub record GoesOn (lines : List (List ℕ)) (rest : List ℕ) (others : List (List ℕ)) (after : List ℕ) : Type 0 where
+  pub this : List ℕ
+  pub more : List (List ℕ)
+  pub is : others ≡ lines ++ this ∷ more
+  pub one : IsOneLine this
+  pub whole : rest ≡ this ++ line_feed ∷ (text_of_lines more ++ after)
+
+abbrev pub Compared : List (List ℕ) → List ℕ → List (List ℕ) → List ℕ → Type 0
+Compared lines rest others after =
+    (lines ≡ others) ⊎ GoesOn lines rest others after ⊎ GoesOn others after lines rest
+
+goes_on_more :
+    (line : List ℕ) (lines : List (List ℕ)) (rest : List ℕ) (others : List (List ℕ)) (after : List ℕ) →
+    GoesOn lines rest others after → GoesOn (line ∷ lines) rest (line ∷ others) after
+goes_on_more line lines rest others after on = record {
+  this = on.this;
+  more = on.more;
+  is = ap (λ ls. line ∷ ls) on.is;
+  one = on.one;
+  whole = on.whole;
+}
+
+compared_more :
+    (line : List ℕ) (lines : List (List ℕ)) (rest : List ℕ) (others : List (List ℕ)) (after : List ℕ) →
+    Compared lines rest others after → Compared (line ∷ lines) rest (line ∷ others) after
+compared_more line lines rest others after (inl same) = inl (ap (λ ls. line ∷ ls) same)
+compared_more line lines rest others after (inr (inl on)) = inr (inl (goes_on_more line lines rest others after on))
+compared_more line lines rest others after (inr (inr on)) = inr (inr (goes_on_more line others after lines rest on))
+
+line_parts : (line text rest : List ℕ) → (line ++ line_feed ∷ []) ++ text ++ rest ≡ line ++ line_feed ∷ (text ++ rest)
+line_parts line text rest =
+    append_assoc (line ++ line_feed ∷ []) text rest ∙ append_assoc line (line_feed ∷ []) (text ++ rest)
+
+pub compared :
+    (lines : List (List ℕ)) (rest : List ℕ) (others : List (List ℕ)) (after : List ℕ) →
+    All IsOneLine lines → All IsOneLine others → text_of_lines lines ++ rest ≡ text_of_lines others ++ after →
+    Compared lines rest others after
+compared [] rest [] after each all same = inl refl
+compared [] rest (line ∷ others) after each all same =
+    inr (inl (record {
+      this = line;
+      more = others;
+      is = refl;
+      one = All-head IsOneLine line others all;
+      whole = same ∙ line_parts line (text_of_lines others) after;
+    }))
+compared (line ∷ lines) rest [] after each all same =
+    inr (inr (record {
+      this = line;
+      more = lines;
+      is = refl;
+      one = All-head IsOneLine line lines each;
+      whole = sym same ∙ line_parts line (text_of_lines lines) rest;
+    }))
+compared (line ∷ lines) rest (other ∷ others) after each all same =
+    let cut : line ++ line_feed ∷ (text_of_lines lines ++ rest) ≡ other ++ line_feed ∷ (text_of_lines others ++ after) =
+    sym (line_parts line (text_of_lines lines) rest) ∙ same ∙ line_parts other (text_of_lines others) after
+    in
+    let lack : lacks line_feed line ≡ true = lacks-line line (All-head IsOneLine line lines each) in
+    let lacking : lacks line_feed other ≡ true = lacks-line other (All-head IsOneLine other others all) in
+    let first : line ≡ other =
+    sym (front-field line_feed line (text_of_lines lines ++ rest) lack) ∙ ap (front line_feed) cut
+    ∙ front-field line_feed other (text_of_lines others ++ after) lacking
+    in
+    let later : text_of_lines lines ++ rest ≡ text_of_lines others ++ after =
+    sym (back-field line_feed line (text_of_lines lines ++ rest) lack) ∙ ap (back line_feed) cut
+    ∙ back-field line_feed other (text_of_lines others ++ after) lacking
+    in
+    rw first (compared_more other lines rest others after
+    (compared lines rest others after (All-tail IsOneLine line lines each) (All-tail IsOneLine other others all) later))
+
+-- where longer lines begin a text, so do their first ones
+begun_front :
+    (IsText : List ℕ → Type 0) (lines : List (List ℕ)) (this : List ℕ) (more : List (List ℕ)) →
+    AreBegun IsText (lines ++ this ∷ more) → AreBegun IsText (lines ++ this ∷ [])
+begun_front IsText lines this more begun =
+    let parts : text_of_lines (lines ++ this ∷ more) ≡ text_of_lines (lines ++ this ∷ []) ++ text_of_lines more =
+    ap text_of_lines (sym (append_assoc lines (this ∷ []) more))
+    ∙ flat_map-append (λ line. line ++ line_feed ∷ []) (lines ++ this ∷ []) more
+    in
+    let text = rw (
+      parts,
+      append_assoc (text_of_lines (lines ++ this ∷ []))
+          (text_of_lines more) begun.later,
+    ) at begun.text in
+    record { later = text_of_lines more ++ begun.later; text = text }
+
+not_longer :
+    (IsText : List ℕ → Type 0) (bytes : List ℕ) (line place : ℕ) (one : LeavesAt IsText bytes line)
+    (two : LeavesAt IsText bytes place) →
+    GoesOn one.before one.rest two.before two.rest → ⊥
+not_longer IsText bytes line place one two on =
+    let begun = rw on.is at two.begun in
+    one.leaves on.this (text_of_lines on.more ++ two.rest) on.one on.whole
+    (begun_front IsText one.before on.this on.more begun)
+
+one_leaving : (IsText : List ℕ → Type 0) (bytes : List ℕ) (line place : ℕ) →
+    LeavesAt IsText bytes line → LeavesAt IsText bytes place → line ≡ place
+one_leaving IsText bytes line place one two =
+    elim (compared one.before one.rest two.before two.rest one.each two.each (sym one.cut ∙ two.cut)) [
+      | inl same ↦ one.place ∙ ap (λ ls. length ls + 1) same ∙ sym two.place
+      | inr (inl on) ↦ absurd (not_longer IsText bytes line place one two on)
+      | inr (inr on) ↦ absurd (not_longer IsText bytes place line two one on)
+    ]
+
+pub one_bad_log : OneBadLog
+one_bad_log bytes line place one two = one_leaving IsSomeLog bytes line place one two
+
+pub one_difference : OneDifference
+one_difference setup version phases bytes line place one two = one_leaving
+    (IsLogOf setup version phases) bytes line place one two

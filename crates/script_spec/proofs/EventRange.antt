@@ -1,0 +1,123 @@
+-- Events that have a form, and that there is no reason to refuse, are in range.
+use Rattle.std.proofs.Common.{ℕ, ◌≡◌, ◌+◌, ◌%◌, ◌≤◌, Bool, true, false, ◌&&◌, leb, List, refl, arith}
+use Rattle.std.specs.Prelude.{is_some}
+use Rattle.std.proofs.lemmas.Bool.{false≢true, and_parts, leb-true, eqb-true}
+use Rattle.board_base.specs.declared.access.Width.{Width}
+use Rattle.board_base.specs.declared.access.Width.TheVariants.{One, Two, Four}
+use Rattle.board_base.specs.declared.moment.Moment.{Moment}
+use Rattle.board_base.specs.Access.{bytes_of}
+use Rattle.board_base.specs.Calendar.{days_in_month, IsMoment}
+use Rattle.board_spec.specs.declared.event.Event.{Event}
+use Rattle.board_spec.specs.declared.event.Event.TheVariants.{Memory, Wide, Port, Look as LookAt, Ack, Pulses, Time, Wire, Line, BadSector}
+use Rattle.board_spec.specs.Setup.{Setup, card_at}
+use Rattle.board_spec.specs.Bits.{is_within}
+use Rattle.board_spec.specs.Stored.{is_write}
+use Rattle.board_spec.specs.InRange.{FitsAccess, FitsBytes, IsInRange, IsScriptSector, IsInVersion}
+use Rattle.script_spec.specs.Grammar.{Item, IsMomentForm, IsEventForm}
+use Rattle.script_spec.specs.Reasons.{has_card, is_moment, is_event_in_range, is_event_placed, is_card_there}
+
+pub within : (low high n : ℕ) → is_within low high n ≡ true → (low ≤ n) × (n ≤ high)
+within low high n test =
+    let both : (leb low n ≡ true) × (leb n high ≡ true) = and_parts (leb low n) (leb n high) test in
+    (leb-true low n both.0, leb-true n high both.1)
+
+fits_access : (writes : Bool) (width : Width) (value : ℕ) → FitsBytes writes (bytes_of width) value →
+    FitsAccess writes width value
+fits_access false width value fits = fits
+fits_access true One value fits = omega (arith, fits)
+fits_access true Two value fits = omega (arith, fits)
+fits_access true Four value fits = omega (arith, fits)
+
+six : (a b c d e f : Bool) → (a && b && c && d && e && f) ≡ true →
+    (a ≡ true) × (b ≡ true) × (c ≡ true) × (d ≡ true) × (e ≡ true) × (f ≡ true)
+six false b c d e f test = absurd (false≢true test)
+six true false c d e f test = absurd (false≢true test)
+six true true false d e f test = absurd (false≢true test)
+six true true true false e f test = absurd (false≢true test)
+six true true true true false f test = absurd (false≢true test)
+six true true true true true false test = absurd (false≢true test)
+six true true true true true true test = (refl, refl, refl, refl, refl, refl)
+
+moment_there : (m : Moment) → IsMomentForm m → is_moment m ≡ true → IsMoment m
+moment_there m form test =
+    let parts : (is_within 1980 2099 m.year ≡ true) × (is_within 1 12 m.month ≡ true)
+    × (is_within 1 (days_in_month m.year m.month) m.day ≡ true) × (leb m.hour 23 ≡ true) × (leb m.minute 59 ≡ true)
+    × (leb m.second 59 ≡ true) =
+    six (is_within 1980 2099 m.year) (is_within 1 12 m.month) (is_within 1 (days_in_month m.year m.month) m.day)
+    (leb m.hour 23) (leb m.minute 59) (leb m.second 59) test
+    in
+    let year : (1980 ≤ m.year) × (m.year ≤ 2099) = within 1980 2099 m.year parts.0 in
+    let month : (1 ≤ m.month) × (m.month ≤ 12) = within 1 12 m.month parts.1 in
+    let day : (1 ≤ m.day) × (m.day ≤ days_in_month m.year m.month) = within 1
+    (days_in_month m.year m.month) m.day parts.2 in
+    record {
+      date = record {
+        year_low = year.0;
+        year_high = year.1;
+        month_low = month.0;
+        month_high = month.1;
+        day_low = day.0;
+        day_high = day.1;
+      };
+      weekday = form.weekday;
+      time = record {
+        hour_high = leb-true m.hour 23 parts.3;
+        minute_high = leb-true m.minute 59 parts.4;
+        second_high = leb-true m.second 59 parts.5;
+      };
+    }
+
+-- the cards of the items before are those of the setup
+abbrev pub HasCards : List Item → Setup → Type 0
+HasCards before setup = (dev : ℕ) → has_card before dev ≡ true → is_some (card_at setup dev) ≡ true
+
+pub event_in_range :
+    (version : ℕ) (setup : Setup) (before : List Item) (event : Event) → IsEventForm version event →
+    is_event_in_range event ≡ true → is_event_placed event ≡ true → is_card_there before event ≡ true →
+    HasCards before setup →
+    IsInRange setup event
+event_in_range version setup before (Memory access) form range place there cards = record {
+  aligned = eqb-true (access.addr % bytes_of access.width) 0 place;
+  fits = fits_access (is_write access.kind) access.width access.value form.value;
+}
+event_in_range version setup before (Wide access) form range place there cards = record {
+  bytes = form.bytes;
+  wide = form.wide;
+  ends = leb-true (access.addr + access.bytes) 0x1_0000_0000 place;
+  fits = form.value;
+}
+event_in_range version setup before (Port access) form range place there cards = record {
+  aligned = eqb-true (access.port % bytes_of access.width) 0 place;
+  fits = fits_access access.write access.width access.value form.value;
+}
+event_in_range version setup before (LookAt kind addr smm) form range place there cards = tt
+event_in_range version setup before Ack form range place there cards = tt
+event_in_range version setup before (Pulses count) form range place there cards = within 1 1_000_000 count range
+event_in_range version setup before (Time moment) form range place there cards = moment_there moment form range
+event_in_range version setup before (Wire dev on) form range place there cards = cards dev there
+event_in_range version setup before (Line irq on) form range place there cards = range
+event_in_range version setup before (BadSector sector) form range place there cards = tt
+
+pub sector_in_range : (event : Event) → is_event_in_range event ≡ true → IsScriptSector event
+sector_in_range (BadSector sector) range = let e : sector ≤ 0xFFFF = leb-true sector 0xFFFF range in omega (arith, e)
+sector_in_range (Memory access) range = tt
+sector_in_range (Wide access) range = tt
+sector_in_range (Port access) range = tt
+sector_in_range (LookAt kind addr smm) range = tt
+sector_in_range Ack range = tt
+sector_in_range (Pulses count) range = tt
+sector_in_range (Time moment) range = tt
+sector_in_range (Wire dev on) range = tt
+sector_in_range (Line irq on) range = tt
+
+pub event_in_version : (version : ℕ) (event : Event) → IsEventForm version event → IsInVersion version event
+event_in_version version (Wide access) form = form.second
+event_in_version version (Memory access) form = tt
+event_in_version version (Port access) form = tt
+event_in_version version (LookAt kind addr smm) form = tt
+event_in_version version Ack form = tt
+event_in_version version (Pulses count) form = tt
+event_in_version version (Time moment) form = tt
+event_in_version version (Wire dev on) form = tt
+event_in_version version (Line irq on) form = tt
+event_in_version version (BadSector sector) form = tt

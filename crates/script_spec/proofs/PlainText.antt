@@ -1,0 +1,181 @@
+-- The bytes of the log's words: spaces, letters, digits and a few marks, but no line feed and no `=`.
+use Rattle.std.proofs.Common.{ℕ, zero, suc, ◌≡◌, ◌+◌, ◌/◌, ◌%◌, ◌<◌, Bool, true, false, ◌||◌, cond, eqb, leb, ltb, Option, Some, None, List, [], ◌∷◌, ◌++◌, refl, sym, ap, ◌∙◌, inl, inr, arith}
+use Rattle.std.specs.Prelude.{codes, decimal}
+use Rattle.std.specs.Fmt.{digits, digits_onto, digit_glyph}
+use Rattle.std.specs.List.{list_all}
+use Rattle.std.proofs.lemmas.Bool.{le-leb, lt-ltb, le-ltb, ne_eqb, cases_lt, cases_Bool, and_from, and_parts, or_right, or_left, true≢false}
+use Rattle.std.proofs.lemmas.List.Folds.{list_all-append}
+use Rattle.board_base.specs.declared.target.Reg.{Reg}
+use Rattle.board_base.specs.declared.target.Dev.{Dev}
+use Rattle.board_base.specs.declared.target.Dev.TheVariants as devices
+use Rattle.board_base.specs.declared.target.Area.{Area}
+use Rattle.board_base.specs.declared.target.Area.TheVariants as areas
+use Rattle.board_base.specs.declared.target.Target.{Target}
+use Rattle.board_base.specs.declared.target.Target.TheVariants as targets
+use Rattle.board_base.specs.declared.target.Denial.{Denial}
+use Rattle.board_base.specs.declared.target.Denial.TheVariants.{Register, Confadd, NoRegister}
+use Rattle.board_spec.specs.Bits.{byte, is_within}
+use Rattle.board_spec.specs.Text.{space, hex_digit, hex_number, hex_offset, register_text, base_text, area_text, device_text, target_text, denial_text}
+use Rattle.script_spec.proofs.Digits.{lacks}
+
+abbrev pub is_word_byte : ℕ → Bool
+is_word_byte byte = is_within 0x2D 0x3A byte || is_within 0x41 0x7A byte
+
+abbrev pub is_word : List ℕ → Bool
+is_word bytes = list_all is_word_byte bytes
+
+pub word-append : (xs ys : List ℕ) → is_word xs ≡ true → is_word ys ≡ true → is_word (xs ++ ys) ≡ true
+word-append xs ys one two = list_all-append is_word_byte xs ys ∙ and_from (is_word xs) (is_word ys) one two
+
+pub word-more : (byte : ℕ) (xs : List ℕ) → is_word_byte byte ≡ true → is_word xs ≡ true → is_word (byte ∷ xs) ≡ true
+word-more byte xs one two = and_from (is_word_byte byte) (is_word xs) one two
+
+-- the marks that end words stand in none
+pub lacks-word : (mark : ℕ) (xs : List ℕ) → is_word_byte mark ≡ false → is_word xs ≡ true → lacks mark xs ≡ true
+lacks-word mark [] outside word = refl
+lacks-word mark (c ∷ cs) outside word =
+    let parts : (is_word_byte c ≡ true) × (is_word cs ≡ true) = and_parts (is_word_byte c) (is_word cs) word in
+    rw (
+      ne_eqb c mark (λ same. true≢false (sym parts.0 ∙ ap is_word_byte same ∙ outside)),
+      lacks-word mark cs outside parts.1,
+    ) refl
+
+-- ---- digits
+
+pub digit_byte : (d : ℕ) → d < 10 → is_word_byte (0x30 + d) ≡ true
+digit_byte d small =
+    or_left (is_within 0x2D 0x3A (0x30 + d)) _
+    (and_from (leb 0x2D (0x30 + d)) (leb (0x30 + d) 0x3A) (le-leb 0x2D (0x30 + d) (omega arith)) (le-leb
+    (0x30 + d) 0x3A (omega arith)))
+
+hex_byte_word : (d : ℕ) → d < 16 → is_word_byte (cond (ltb d 10) (0x30 + d) (0x37 + d)) ≡ true
+hex_byte_word d small =
+    elim (cases_lt d 10) [
+      | inl digit ↦ rw (lt-ltb d 10 digit) (digit_byte d digit)
+      | inr letter ↦
+          rw (le-ltb d 10 letter) (
+          or_right (is_within 0x2D 0x3A (0x37 + d)) (is_within 0x41 0x7A (0x37 + d))
+          (and_from (leb 0x41 (0x37 + d)) (leb (0x37 + d) 0x7A) (le-leb 0x41 (0x37 + d) (omega arith)) (le-leb
+          (0x37 + d) 0x7A (omega arith)))
+          )
+    ]
+
+pub hex_digit_word : (n : ℕ) → is_word_byte (hex_digit n) ≡ true
+hex_digit_word n = hex_byte_word (n % 0x10) (omega arith)
+
+pub hex_number_word : (bytes n : ℕ) → is_word (hex_number bytes n) ≡ true
+hex_number_word zero n = refl
+hex_number_word (suc bytes) n =
+    word-more (hex_digit (byte n bytes / 0x10)) (hex_digit (byte n bytes) ∷ hex_number bytes n) (hex_digit_word
+    (byte n bytes / 0x10))
+    (word-more (hex_digit (byte n bytes)) (hex_number bytes n) (hex_digit_word (byte n bytes))
+    (hex_number_word bytes n))
+
+glyph_word : (d : ℕ) → d < 10 → is_word_byte (digit_glyph false d) ≡ true
+glyph_word d small = rw (lt-ltb d 10 small) (digit_byte d small)
+
+digits_word : (count n : ℕ) (after : List ℕ) → is_word after ≡ true →
+    is_word (digits_onto count 10 false n after) ≡ true
+digits_word zero n after word = word
+digits_word (suc count) n after word =
+    let more : is_word (digit_glyph false (n % 10) ∷ after) ≡ true =
+    word-more (digit_glyph false (n % 10)) after (glyph_word (n % 10) (omega arith)) word
+    in
+    elim (cases_Bool (eqb (n / 10) 0)) [
+      | inl last ↦ rw last more
+      | inr further ↦ rw further (digits_word count (n / 10) (digit_glyph false (n % 10) ∷ after) more)
+    ]
+
+pub decimal_word : (n : ℕ) → is_word (decimal n) ≡ true
+unfolding digits
+decimal_word n = digits_word 64 n [] refl
+
+-- ---- who answers
+
+register_word : (reg : Reg) → is_word (register_text reg) ≡ true
+register_word reg =
+    let last : List ℕ = hex_digit (reg.off / 0x10) ∷ hex_digit reg.off ∷ [] in
+    let later : List ℕ = 0x2E ∷ hex_digit reg.fun ∷ 0x2E ∷ last in
+    word-more (hex_digit (reg.dev / 0x10)) (hex_digit reg.dev ∷ later) (hex_digit_word (reg.dev / 0x10))
+    (word-more (hex_digit reg.dev) later (hex_digit_word reg.dev)
+    (word-more (hex_digit reg.fun) (0x2E ∷ last) (hex_digit_word reg.fun)
+    (word-more (hex_digit (reg.off / 0x10)) (hex_digit reg.off ∷ []) (hex_digit_word (reg.off / 0x10))
+    (word-more (hex_digit reg.off) [] (hex_digit_word reg.off) refl))))
+
+base_word_text : (dev base : ℕ) → is_word (base_text dev base) ≡ true
+base_word_text dev base =
+    word-append (codes "card:" ++ decimal dev ++ codes ".") (decimal base)
+    (word-append (codes "card:" ++ decimal dev) (codes ".") (decimal_word dev) refl) (decimal_word base)
+
+offset_word : (off : ℕ) → is_word (hex_offset off) ≡ true
+offset_word off = word-more (hex_digit (byte off 2)) (hex_number 2 off) (hex_digit_word (byte off 2))
+    (hex_number_word 2 off)
+
+device_word : (dev : Dev) → is_word (device_text dev) ≡ true
+device_word devices.Confadd = refl
+device_word devices.Reset = refl
+device_word devices.Pic0 = refl
+device_word devices.Pic1 = refl
+device_word devices.Pit = refl
+device_word devices.System = refl
+device_word devices.Keyboard = refl
+device_word devices.Clock = refl
+device_word devices.Elcr = refl
+device_word devices.Ata = refl
+device_word devices.Wires = refl
+device_word (devices.Vector chip) = decimal_word chip
+device_word (devices.Spurious chip) = decimal_word chip
+
+pub area_word : (area : Area) → is_word (area_text area) ≡ true
+area_word (areas.Dram row) = decimal_word row
+area_word (areas.Shadow row) = decimal_word row
+area_word areas.Smram = refl
+area_word areas.Rom = refl
+area_word (areas.Card dev base) = base_word_text dev base
+area_word areas.Abort = refl
+
+pub target_word : (target : Target) → is_word (target_text target) ≡ true
+target_word (targets.Dram row) = decimal_word row
+target_word (targets.Shadow row) = decimal_word row
+target_word targets.Smram = refl
+target_word (targets.Rom off) = offset_word off
+target_word (targets.Card dev base off) =
+    word-append (base_text dev base ++ codes ":") (hex_number 4 off)
+    (word-append (base_text dev base) (codes ":") (base_word_text dev base) refl) (hex_number_word 4 off)
+target_word (targets.Device dev) = device_word dev
+target_word (targets.Config reg) = register_word reg
+target_word targets.Abort = refl
+
+pub denial_word : (denial : Option Denial) → is_word (denial_text denial) ≡ true
+denial_word None = refl
+denial_word (Some (Register reg)) = register_word reg
+denial_word (Some Confadd) = refl
+denial_word (Some NoRegister) = refl
+
+-- ---- words and spaces
+
+abbrev pub is_plain : List ℕ → Bool
+is_plain bytes = list_all (λ b. eqb b space || is_word_byte b) bytes
+
+pub plain-append : (xs ys : List ℕ) → is_plain xs ≡ true → is_plain ys ≡ true → is_plain (xs ++ ys) ≡ true
+plain-append xs ys one two = list_all-append (λ b. eqb b space || is_word_byte b) xs ys
+    ∙ and_from (is_plain xs) (is_plain ys) one two
+
+pub plain-word : (xs : List ℕ) → is_word xs ≡ true → is_plain xs ≡ true
+plain-word [] word = refl
+plain-word (c ∷ cs) word =
+    let parts : (is_word_byte c ≡ true) × (is_word cs ≡ true) = and_parts (is_word_byte c) (is_word cs) word in
+    and_from (eqb c space || is_word_byte c) (is_plain cs) (or_right (eqb c space) (is_word_byte c) parts.0)
+    (plain-word cs parts.1)
+
+pub lacks-plain : (mark : ℕ) (xs : List ℕ) → (eqb mark space || is_word_byte mark) ≡ false → is_plain xs ≡ true →
+    lacks mark xs ≡ true
+lacks-plain mark [] outside plain = refl
+lacks-plain mark (c ∷ cs) outside plain =
+    let parts : ((eqb c space || is_word_byte c) ≡ true) × (is_plain cs ≡ true) =
+    and_parts (eqb c space || is_word_byte c) (is_plain cs) plain
+    in
+    rw (
+      ne_eqb c mark (λ same. true≢false (sym parts.0 ∙ ap (λ (b : ℕ). eqb b space || is_word_byte b) same ∙ outside)),
+      lacks-plain mark cs outside parts.1,
+    ) refl

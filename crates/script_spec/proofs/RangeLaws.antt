@@ -1,0 +1,428 @@
+-- What a text says is in range.
+use Rattle.std.proofs.Common.{ℕ, ◌≡◌, ◌+◌, ◌-◌, ◌*◌, ◌<◌, ◌≤◌, Bool, true, false, not, ◌&&◌, ◌||◌, cond, ltb, Option, Some, None, List, [], ◌∷◌, ◌++◌, length, map, reverse, All, filter, flat_map, refl, sym, ap, ◌∙◌, inl, inr, get_or, add-one, arith}
+use Rattle.std.specs.Prelude.{is_some, ◌==◌}
+use Rattle.std.specs.Option.{option_map}
+use Rattle.std.specs.List.{find, list_any, list_all, sum_by}
+use Rattle.std.specs.List.Sorted.{IsPermutation}
+use Rattle.std.proofs.lemmas.Bool.{true≢false, false≢true, or_parts, or_cases, or_right, and_parts, cases_Bool, ltb-true, ltb-false}
+use Rattle.std.proofs.lemmas.List.Elements.{All-nil, All-cons, All-head, All-tail, All-append, All-filter}
+use Rattle.std.proofs.lemmas.List.Folds.{list_any_none}
+use Rattle.std.proofs.lemmas.List.Sums.{sum_by-cons, sum_by-append, length-filter}
+use Rattle.std.proofs.lemmas.List.Sorted.{All-permutation, IsPermutation-sym, IsPermutation-reverse, sum_by-IsPermutation}
+use Rattle.board_spec.specs.declared.event.Statement.{Statement}
+use Rattle.board_spec.specs.Setup.{Setup, Base, MemoryBase, IoBase, FittedCard, IsBase, IsExpansionRom, IsCard, Rises, memory_size, memory_of_cards}
+use Rattle.board_spec.specs.Bits.{is_within}
+use Rattle.board_spec.specs.InRange.{IsScripted}
+use Rattle.script_spec.specs.Grammar.{Item, SetCpus, SetMemory, SetRom, SetDisk, FitCard, BeginPhase, Ask, AskLevel, IsForm}
+use Rattle.script_spec.specs.Reasons.{is_phase, is_statement, is_setup, is_cpus, is_memory, is_rom, is_disk, is_cpus_above, has_card, cards_of, is_base_in_range, is_rom_in_range, pulses_of, pulses_of_event, is_card_there}
+use Rattle.script_spec.specs.ScriptText.{Script, IsVersion, phase_items, IsSaidBy}
+use Rattle.script_spec.specs.ScriptRange.{IsDiskName, statements_in, IsInRangeScript}
+use Rattle.script_spec.specs.Laws.{ScriptsAreInRange}
+use Rattle.script_spec.proofs.GoodItems.{NoReason, AreGood, read_good, found_good}
+use Rattle.script_spec.proofs.ScriptLaws.{count_of}
+use Rattle.script_spec.proofs.EventRange.{within, HasCards, event_in_range, sector_in_range, event_in_version}
+
+-- ---- processors
+
+any_cpus : (actor : ℕ) (items : List Item) → list_any (is_cpus_above actor) items ≡ true → list_any is_cpus items ≡ true
+any_cpus actor [] any = any
+any_cpus actor (SetCpus count ∷ before) any = refl
+any_cpus actor (item ∷ before) any = any_cpus actor before any
+
+-- one line says how many processors there are
+cpus_above :
+    (version actor cpus : ℕ) (items : List Item) → AreGood version items → find is_cpus items ≡ Some (SetCpus cpus) →
+    list_any (is_cpus_above actor) items ≡ true → actor < cpus
+cpus_above version actor cpus [] good found any = absurd (false≢true any)
+cpus_above version actor cpus (SetCpus count ∷ before) good found any =
+    let same : count ≡ cpus = ap count_of found in
+    elim (or_cases (ltb actor count) (list_any (is_cpus_above actor) before) any) [
+      | inl less ↦ let e : actor < count = ltb-true actor count less in omega (arith, e, same)
+      | inr again ↦ absurd (true≢false (sym (any_cpus actor before again) ∙ good.1.first))
+    ]
+cpus_above version actor cpus (item ∷ before) good found any = cpus_above version actor cpus before good.2 found any
+
+-- ---- statements
+
+abbrev pub OnAsk : (Statement → Type 0) → Item → Type 0
+OnAsk P (Ask statement) = P statement
+OnAsk P _ = Unit {0}
+
+has_card_more : (item : Item) (before : List Item) (dev : ℕ) → has_card before dev ≡ true →
+    has_card (item ∷ before) dev ≡ true
+has_card_more (FitCard card) before dev has = or_right (card.dev == dev) (has_card before dev) has
+has_card_more (SetCpus count) before dev has = has
+has_card_more (SetMemory mib) before dev has = has
+has_card_more (SetRom name) before dev has = has
+has_card_more (SetDisk name) before dev has = has
+has_card_more BeginPhase before dev has = has
+has_card_more (Ask statement) before dev has = has
+has_card_more (AskLevel actor verb number level) before dev has = has
+
+scripted :
+    (version cpus : ℕ) (setup : Setup) (before : List Item) (item : Item) →
+    ((actor : ℕ) → list_any (is_cpus_above actor) before ≡ true → actor < cpus) → HasCards before setup →
+    IsForm version item → NoReason before item → OnAsk (IsScripted setup version cpus) item
+scripted version cpus setup before (Ask statement) above cards form none =
+    let there : (list_any (is_cpus_above statement.actor) before ≡ true) ×
+    (is_card_there before statement.event ≡ true) =
+    and_parts (list_any (is_cpus_above statement.actor) before) (is_card_there before statement.event) none.there
+    in
+    record {
+      actor = above statement.actor there.0;
+      event = event_in_range version setup before statement.event form.1 none.range none.aligned there.1 cards;
+      sector = sector_in_range statement.event none.range;
+      said = event_in_version version statement.event form.1;
+    }
+scripted version cpus setup before (SetCpus count) above cards form none = tt
+scripted version cpus setup before (SetMemory mib) above cards form none = tt
+scripted version cpus setup before (SetRom name) above cards form none = tt
+scripted version cpus setup before (SetDisk name) above cards form none = tt
+scripted version cpus setup before (FitCard card) above cards form none = tt
+scripted version cpus setup before BeginPhase above cards form none = tt
+scripted version cpus setup before (AskLevel actor verb number level) above cards form none = tt
+
+all_scripted :
+    (version cpus : ℕ) (setup : Setup) (items : List Item) →
+    ((actor : ℕ) → list_any (is_cpus_above actor) items ≡ true → actor < cpus) → HasCards items setup →
+    AreGood version items → All (OnAsk (IsScripted setup version cpus)) items
+all_scripted version cpus setup [] above cards good = All-nil (OnAsk (IsScripted setup version cpus))
+all_scripted version cpus setup (item ∷ before) above cards good =
+    let above_before : (actor : ℕ) → list_any (is_cpus_above actor) before ≡ true → actor < cpus =
+    λ actor any. above actor (or_right (is_cpus_above actor item) (list_any (is_cpus_above actor) before) any)
+    in
+    let cards_before : HasCards before setup = λ dev has. cards dev (has_card_more item before dev has) in
+    All-cons (OnAsk (IsScripted setup version cpus)) item before
+    (scripted version cpus setup before item above_before cards_before good.0 good.1)
+    (all_scripted version cpus setup before above_before cards_before good.2)
+
+-- what holds of each statement of the items holds of each statement of the phases
+phase_asks :
+    (P : Statement → Type 0) (phase : List Statement) (later : List Item) → All (OnAsk P) (map Ask phase ++ later) →
+    All P phase × All (OnAsk P) later
+phase_asks P [] later all = (All-nil P, all)
+phase_asks P (statement ∷ phase) later all =
+    let rest : All P phase × All (OnAsk P) later =
+    phase_asks P phase later (All-tail (OnAsk P) (Ask statement) (map Ask phase ++ later) all)
+    in
+    (All-cons P statement phase (All-head (OnAsk P) (Ask statement) (map Ask phase ++ later) all) rest.0, rest.1)
+
+all_asks :
+    (P : Statement → Type 0) (phases : List (List Statement)) → All (OnAsk P) (phase_items phases) →
+    All P (flat_map (λ phase. phase) phases)
+all_asks P [] all = All-nil P
+all_asks P (phase ∷ later) all =
+    let both : All P phase × All (OnAsk P) (phase_items later) =
+    phase_asks P phase (phase_items later) (All-tail (OnAsk P) BeginPhase (map Ask phase ++ phase_items later) all)
+    in
+    All-append P phase (flat_map (λ phase. phase) later) both.0 (all_asks P later both.1)
+
+-- ---- cards
+
+pub none_any : {X : Type 0} (p : X → Bool) (xs : List X) → list_any p xs ≡ false → All (λ x. p x ≡ false) xs
+none_any p [] none = All-nil (λ x. p x ≡ false)
+none_any p (x ∷ xs) none =
+    let both : (p x ≡ false) × (list_any p xs ≡ false) = or_parts (p x) (list_any p xs) none in
+    All-cons (λ y. p y ≡ false) x xs both.0 (none_any p xs both.1)
+
+any_permutation : {X : Type 0} (p : X → Bool) (xs ys : List X) → IsPermutation xs ys → list_any p xs ≡ true →
+    list_any p ys ≡ true
+any_permutation p xs ys same any =
+    elim (cases_Bool (list_any p ys)) [
+      | inl some ↦ some
+      | inr none ↦
+          let all : All (λ x. p x ≡ false) xs =
+          All-permutation (λ x. p x ≡ false) ys xs (IsPermutation-sym xs ys same) (none_any p ys none)
+          in
+          absurd (true≢false (sym any ∙ list_any_none p xs all))
+    ]
+
+found_some : {X : Type 0} (p : X → Bool) (xs : List X) → list_any p xs ≡ true → is_some (find p xs) ≡ true
+found_some p [] any = absurd (false≢true any)
+found_some p (x ∷ xs) any =
+    elim (cases_Bool (p x)) [
+      | inl passes ↦ rw passes refl
+      | inr fails ↦
+          let later = rw fails at any in rw fails (found_some p xs later)
+    ]
+
+has_cards :
+    (items : List Item) (cards : List FittedCard) (setup : Setup) → IsPermutation (cards_of items) cards →
+    setup.cards ≡ cards →
+    HasCards items setup
+has_cards items cards setup same is dev has =
+    rw is (found_some (λ card. card.dev == dev) cards (any_permutation (λ card. card.dev == dev)
+    (cards_of items) cards same has))
+
+all_bases : (bases : List Base) → list_all is_base_in_range bases ≡ true → All IsBase bases
+all_bases [] test = All-nil IsBase
+all_bases (MemoryBase bits ∷ bases) test =
+    let both : (is_within 4 24 bits ≡ true) × (list_all is_base_in_range bases ≡ true) =
+    and_parts (is_within 4 24 bits) (list_all is_base_in_range bases) test
+    in
+    All-cons IsBase (MemoryBase bits) bases (within 4 24 bits both.0) (all_bases bases both.1)
+all_bases (IoBase bits ∷ bases) test =
+    let both : (is_within 2 8 bits ≡ true) × (list_all is_base_in_range bases ≡ true) =
+    and_parts (is_within 2 8 bits) (list_all is_base_in_range bases) test
+    in
+    All-cons IsBase (IoBase bits) bases (within 2 8 bits both.0) (all_bases bases both.1)
+
+rom_there : (rom : Option ℕ) → is_rom_in_range rom ≡ true → IsExpansionRom rom
+rom_there None test = tt
+rom_there (Some bits) test = within 11 24 bits test
+
+three : (a b c : Bool) → (a && b && c) ≡ true → (a ≡ true) × (b ≡ true) × (c ≡ true)
+three false b c test = absurd (false≢true test)
+three true false c test = absurd (false≢true test)
+three true true false test = absurd (false≢true test)
+three true true true test = (refl, refl, refl)
+
+all_cards : (version : ℕ) (items : List Item) → AreGood version items → All IsCard (cards_of items)
+all_cards version [] good = All-nil IsCard
+all_cards version (FitCard card ∷ before) good =
+    let parts : (is_within 2 9 card.dev ≡ true) × (list_all is_base_in_range card.bases ≡ true) ×
+    (is_rom_in_range card.rom ≡ true) =
+    three (is_within 2 9 card.dev) (list_all is_base_in_range card.bases) (is_rom_in_range card.rom) good.1.range
+    in
+    let dev : (2 ≤ card.dev) × (card.dev ≤ 9) = within 2 9 card.dev parts.0 in
+    All-cons IsCard card (cards_of before)
+    (record {
+      first = dev.0;
+      last = dev.1;
+      count = good.0.count;
+      each = all_bases card.bases parts.1;
+      rom = rom_there card.rom parts.2;
+    })
+    (all_cards version before good.2)
+all_cards version (SetCpus count ∷ before) good = all_cards version before good.2
+all_cards version (SetMemory mib ∷ before) good = all_cards version before good.2
+all_cards version (SetRom name ∷ before) good = all_cards version before good.2
+all_cards version (SetDisk name ∷ before) good = all_cards version before good.2
+all_cards version (BeginPhase ∷ before) good = all_cards version before good.2
+all_cards version (Ask statement ∷ before) good = all_cards version before good.2
+all_cards version (AskLevel actor verb number level ∷ before) good = all_cards version before good.2
+
+-- devices that rise up to 9 are few
+few_cards : (low : ℕ) (cards : List FittedCard) → low ≤ 10 → Rises cards → All (λ card. low ≤ card.dev) cards →
+    All IsCard cards →
+    length cards ≤ 10 - low
+few_cards low [] below rises from each = omega arith
+few_cards low (card ∷ later) below rises from each =
+    let first : low ≤ card.dev = All-head (λ card. low ≤ card.dev) card later from in
+    let last : card.dev ≤ 9 = (All-head IsCard card later each).last in
+    let rest : length later ≤ 10 - (card.dev + 1) =
+    few_cards (card.dev + 1) later (omega (arith, last)) rises.1 (λ k d at_k. let up : card.dev <
+    (get_or later k d).dev = rises.0 k d at_k in omega (arith, up))
+    (All-tail IsCard card later each)
+    in
+    let count : length (card ∷ later) ≡ length later + 1 = sym (add-one (length later)) in
+    omega (arith, first, last, rest, count)
+
+sum_of_cards : (cards : List FittedCard) → memory_of_cards cards ≡ sum_by (λ card. sum_by memory_size card.bases) cards
+sum_of_cards [] = refl
+sum_of_cards (card ∷ later) =
+    sum_by-append memory_size card.bases (flat_map (λ c. c.bases) later)
+    ∙ ap (λ (n : ℕ). sum_by memory_size card.bases + n) (sum_of_cards later)
+    ∙ sym (sum_by-cons (λ c. sum_by memory_size c.bases) card later)
+
+same_memory : (cards others : List FittedCard) → IsPermutation cards others →
+    memory_of_cards others ≡ memory_of_cards cards
+same_memory cards others same =
+    sum_of_cards others ∙ sum_by-IsPermutation (λ card. sum_by memory_size card.bases) cards others same
+    ∙ sym (sum_of_cards cards)
+
+-- ---- limits
+
+four : (a b c d : Bool) → (a || b || c || d) ≡ false → (a ≡ false) × (b ≡ false) × (c ≡ false) × (d ≡ false)
+four false false false false test = (refl, refl, refl, refl)
+four true b c d test = absurd (true≢false test)
+four false true c d test = absurd (true≢false test)
+four false false true d test = absurd (true≢false test)
+four false false false true test = absurd (true≢false test)
+
+record IsWithinLimits (items : List Item) : Type 0 where
+  statements : length (filter is_statement items) ≤ 250_000
+  phases : length (filter is_phase items) ≤ 1_000
+  pulses : sum_by pulses_of items ≤ 100_000_000
+  memory : memory_of_cards (cards_of items) ≤ 0x400_0000
+
+within_limits : (version : ℕ) (items : List Item) → AreGood version items → IsWithinLimits items
+within_limits version [] good = record {
+  statements = omega arith;
+  phases = omega arith;
+  pulses = omega arith;
+  memory = omega arith;
+}
+within_limits version (item ∷ before) good =
+    let items : List Item = item ∷ before in
+    let parts : (ltb 250_000 (length (filter is_statement items)) ≡ false) × (ltb 1_000 (length
+    (filter is_phase items)) ≡ false)
+    × (ltb 100_000_000 (sum_by pulses_of items) ≡ false) × (ltb 0x400_0000 (memory_of_cards (cards_of items)) ≡ false) =
+    four (ltb 250_000 (length (filter is_statement items))) (ltb 1_000 (length (filter is_phase items)))
+    (ltb 100_000_000 (sum_by pulses_of items)) (ltb 0x400_0000 (memory_of_cards (cards_of items))) good.1.limits
+    in
+    record {
+      statements = ltb-false 250_000 (length (filter is_statement items)) parts.0;
+      phases = ltb-false 1_000 (length (filter is_phase items)) parts.1;
+      pulses = ltb-false 100_000_000 (sum_by pulses_of items) parts.2;
+      memory = ltb-false 0x400_0000 (memory_of_cards (cards_of items)) parts.3;
+    }
+
+-- ---- sums over items and over phases
+
+sum_kept :
+    (f : Item → ℕ) (items : List Item) → ((item : Item) → is_setup item ≡ true → f item ≡ 0) →
+    sum_by f (filter (λ item. not (is_setup item)) items) ≡ sum_by f items
+sum_kept f [] none = refl
+sum_kept f (item ∷ before) none =
+    elim (cases_Bool (is_setup item)) [
+      | inl setup ↦ rw setup (omega (arith, sum_kept f before none, none item setup, sum_by-cons f item before))
+      | inr other ↦
+          rw other (
+          sum_by-cons f item (filter (λ i. not (is_setup i)) before)
+          ∙ ap (λ (n : ℕ). f item + n) (sum_kept f before none)
+          ∙ sym (sum_by-cons f item before)
+          )
+    ]
+
+sum_asks :
+    (f : Item → ℕ) (g : Statement → ℕ) (phase : List Statement) → ((statement : Statement) →
+    f (Ask statement) ≡ g statement) →
+    sum_by f (map Ask phase) ≡ sum_by g phase
+sum_asks f g [] same = refl
+sum_asks f g (statement ∷ phase) same =
+    sum_by-cons f (Ask statement) (map Ask phase)
+    ∙ ap (λ (n : ℕ). n + sum_by f (map Ask phase)) (same statement)
+    ∙ ap (λ (n : ℕ). g statement + n) (sum_asks f g phase same)
+    ∙ sym (sum_by-cons g statement phase)
+
+sum_phases :
+    (f : Item → ℕ) (g : Statement → ℕ) (phases : List (List Statement)) → ((statement : Statement) →
+    f (Ask statement) ≡ g statement) →
+    sum_by f (phase_items phases) ≡ length phases * f BeginPhase + sum_by g (flat_map (λ phase. phase) phases)
+sum_phases f g [] same = omega arith
+sum_phases f g (phase ∷ later) same =
+    let whole : sum_by f (phase_items (phase ∷ later)) ≡ f BeginPhase + sum_by f (map Ask phase ++ phase_items later) =
+    sum_by-cons f BeginPhase (map Ask phase ++ phase_items later)
+    in
+    let parts : sum_by f (map Ask phase ++ phase_items later) ≡ sum_by f (map Ask phase) + sum_by f
+    (phase_items later) =
+    sum_by-append f (map Ask phase) (phase_items later)
+    in
+    let joined : sum_by g (phase ++ flat_map (λ p. p) later) ≡ sum_by g phase + sum_by g (flat_map (λ p. p) later) =
+    sum_by-append g phase (flat_map (λ p. p) later)
+    in
+    grind (arith, whole, parts, joined, sum_asks f g phase same, sum_phases f g later same)
+
+-- a sum over all items is one over the phases, where setup lines count nothing
+sum_items :
+    (f : Item → ℕ) (g : Statement → ℕ) (items : List Item) (phases : List (List Statement)) →
+    ((item : Item) → is_setup item ≡ true → f item ≡ 0) → ((statement : Statement) → f (Ask statement) ≡ g statement) →
+    reverse (filter (λ item. not (is_setup item)) items) ≡ phase_items phases →
+    sum_by f items ≡ length phases * f BeginPhase + sum_by g (flat_map (λ phase. phase) phases)
+sum_items f g items phases none same is =
+    let kept : List Item = filter (λ item. not (is_setup item)) items in
+    sym (sum_kept f items none)
+    ∙ sym (sum_by-IsPermutation f kept (reverse kept) (IsPermutation-reverse kept))
+    ∙ ap (sum_by f) is
+    ∙ sum_phases f g phases same
+
+sum_of_ones : {X : Type 0} (xs : List X) → sum_by (λ x. 1) xs ≡ length xs
+sum_of_ones [] = refl
+sum_of_ones (x ∷ xs) = sum_by-cons (λ y. 1) x xs ∙ ap (λ (n : ℕ). 1 + n) (sum_of_ones xs) ∙ omega arith
+
+sum_of_zeros : {X : Type 0} (xs : List X) → sum_by (λ x. 0) xs ≡ 0
+sum_of_zeros [] = refl
+sum_of_zeros (x ∷ xs) = sum_by-cons (λ y. 0) x xs ∙ omega (arith, sum_of_zeros xs)
+
+no_statement : (item : Item) → is_setup item ≡ true → ◌≡◌ {A = ℕ} (cond {A = ℕ} (is_statement item) 1 0) 0
+no_statement (Ask statement) setup = absurd (false≢true setup)
+no_statement (AskLevel actor verb number level) setup = absurd (false≢true setup)
+no_statement item setup = refl
+
+no_phase : (item : Item) → is_setup item ≡ true → ◌≡◌ {A = ℕ} (cond {A = ℕ} (is_phase item) 1 0) 0
+no_phase BeginPhase setup = absurd (false≢true setup)
+no_phase item setup = refl
+
+no_pulses : (item : Item) → is_setup item ≡ true → pulses_of item ≡ 0
+no_pulses (Ask statement) setup = absurd (false≢true setup)
+no_pulses item setup = refl
+
+-- ---- the whole
+
+disk_name :
+    (version : ℕ) (items : List Item) (disk : Option (List ℕ)) → AreGood version items →
+    find is_disk items ≡ option_map SetDisk disk → IsDiskName disk
+disk_name version items None good found = tt
+disk_name version items (Some name) good found = (found_good version items is_disk (SetDisk name) good found).0
+
+in_range : (items : List Item) (script : Script) → AreGood script.version items → IsVersion script.version →
+    IsSaidBy script items →
+    IsInRangeScript script
+in_range items script good version said =
+    let cpus : IsForm script.version (SetCpus script.cpus) × (is_within 1 8 script.cpus ≡ true) =
+    found_good script.version items is_cpus (SetCpus script.cpus) good said.cpus
+    in
+    let count : (1 ≤ script.cpus) × (script.cpus ≤ 8) = within 1 8 script.cpus cpus.1 in
+    let memory : IsForm script.version (SetMemory script.mib) × (is_within 1 64 script.mib ≡ true) =
+    found_good script.version items is_memory (SetMemory script.mib) good said.memory
+    in
+    let mib : (1 ≤ script.mib) × (script.mib ≤ 64) = within 1 64 script.mib memory.1 in
+    let limits : IsWithinLimits items = within_limits script.version items good in
+    let cards : All IsCard script.cards =
+    All-permutation IsCard (cards_of items) script.cards said.cards (all_cards script.version items good)
+    in
+    let kept : List Item = filter (λ item. not (is_setup item)) items in
+    let phases : List (List Statement) = script.phases in
+    let statements : length (filter is_statement items) ≡ length (statements_in script) =
+    length-filter is_statement items
+    ∙ sum_items (λ item. cond {A = ℕ} (is_statement item) 1 0) (λ statement. 1) items phases no_statement
+    (λ statement. refl) said.phases
+    ∙ omega (arith, sum_of_ones (statements_in script))
+    in
+    let phase_count : length (filter is_phase items) ≡ length phases =
+    length-filter is_phase items
+    ∙ sum_items (λ item. cond {A = ℕ} (is_phase item) 1 0) (λ statement. 0) items phases no_phase
+    (λ statement. refl) said.phases
+    ∙ omega (arith, sum_of_zeros (statements_in script))
+    in
+    let pulses : sum_by pulses_of items ≡ sum_by (λ statement. pulses_of_event statement.event) (statements_in script) =
+    sum_items pulses_of (λ statement. pulses_of_event statement.event) items phases no_pulses
+    (λ statement. refl) said.phases
+    ∙ omega arith
+    in
+    record {
+      version = version;
+      some_cpus = count.0;
+      most_cpus = count.1;
+      some_memory = mib.0;
+      most_memory = mib.1;
+      rom = (found_good script.version items is_rom (SetRom script.rom) good said.rom).0;
+      disk = disk_name script.version items script.disk good said.disk;
+      cards = record {
+        count = few_cards 2 script.cards (omega arith) said.rises (λ k d below. (cards k d below).first) cards;
+        each = cards;
+        rises = said.rises;
+      };
+      windows = omega (arith, same_memory (cards_of items) script.cards said.cards, limits.memory);
+      each = λ setup is.
+          let P : Statement → Type 0 = IsScripted setup script.version script.cpus in
+          let all : All (OnAsk P) items =
+          all_scripted script.version script.cpus setup items
+          (λ actor any. cpus_above script.version actor script.cpus items good said.cpus any)
+          (has_cards items script.cards setup said.cards is) good
+          in
+          let turned : All (OnAsk P) (reverse kept) =
+          All-permutation (OnAsk P) kept (reverse kept) (IsPermutation-reverse kept)
+          (All-filter (λ item. not (is_setup item)) (OnAsk P) items all)
+          in
+          let asked = rw said.phases at turned in
+          all_asks P phases asked;
+      statements = omega (arith, statements, limits.statements);
+      phases = omega (arith, phase_count, limits.phases);
+      pulses = omega (arith, pulses, limits.pulses);
+    }
+
+pub scripts_are_in_range : ScriptsAreInRange
+scripts_are_in_range bytes script text =
+    in_range text.items script (read_good script.version text.later [] text.items text.read tt) text.version text.said

@@ -1,0 +1,467 @@
+-- Each text is a script's, or bad.
+use Rattle.std.proofs.Common.{ℕ, ◌≡◌, ◌≢◌, ◌+◌, ◌<◌, ◌≤◌, ◌⊎◌, Bool, true, false, not, ◌&&◌, ◌||◌, cond, ltb, Option, Some, None, List, [], ◌∷◌, ◌++◌, length, map, reverse, get_or, All, filter, refl, sym, ap, ◌∙◌, inl, inr, append_assoc, append-nil, arith}
+use Rattle.std.specs.Prelude.{◌==◌}
+use Rattle.std.specs.Option.{option_map}
+use Rattle.std.specs.List.{find, list_any}
+use Rattle.std.specs.List.Sorted.{IsPermutation}
+use Rattle.std.proofs.lemmas.Bool.{true≢false, false≢true, or_right, or_from, and_parts, and_from, cases_Bool, cases_lt, ltb-true, ltb-false, eqb-false}
+use Rattle.std.proofs.lemmas.Grind.{flat_map-append}
+use Rattle.std.proofs.lemmas.List.{map-append, reverse-append}
+use Rattle.std.proofs.lemmas.List.Elements.{All-nil, All-cons, All-head, All-tail}
+use Rattle.std.proofs.lemmas.List.Sorted.{All-permutation, IsPermutation-refl, IsPermutation-trans, IsPermutation-cons, IsPermutation-middle, IsPermutation-sym}
+use Rattle.board_spec.specs.declared.event.Statement.{Statement}
+use Rattle.board_spec.specs.Setup.{FittedCard, Rises}
+use Rattle.script_spec.specs.Lines.{lines_of}
+use Rattle.script_spec.specs.Grammar.{Item, SetCpus, SetMemory, SetRom, SetDisk, FitCard, BeginPhase, Ask, AskLevel, HasForm}
+use Rattle.script_spec.specs.Reasons.{is_phase, is_setup, is_cpus, is_memory, is_rom, is_disk, cards_of, has_setup, lacks_setup, least_reason}
+use Rattle.script_spec.specs.ScriptText.{Script, most_bytes, is_skipped, IsSkipped, IsGoodLine, IsBadLine, AreRead, IsVersion, first_line, phase_items, IsSaidBy, IsScriptText, BeginsBadly, IsScriptBad}
+use Rattle.script_spec.specs.Laws.{SomeReading}
+use Rattle.script_spec.proofs.ReadingLaws.{same_head, not_nil}
+use Rattle.script_spec.proofs.GoodItems.{NoReason, AreGood, read_good}
+use Rattle.script_spec.proofs.RangeLaws.{none_any}
+use Rattle.script_spec.proofs.Decisions.{same_list, decided_form}
+
+-- ---- one line
+
+abbrev OneLine : (version : ℕ) → List Item → List ℕ → Type 0
+OneLine version before line =
+    IsSkipped line ⊎ ((item : Item) × IsGoodLine version before line item) ⊎
+    ((why : ℕ) × IsBadLine version before line why)
+
+judged : (version : ℕ) (before : List Item) (line : List ℕ) (item : Item) (short : length line ≤ most_bytes)
+    (read : is_skipped line ≡ false) →
+    HasForm version line item → (reason : Option ℕ) → least_reason before item ≡ reason → OneLine version before line
+judged version before line item short read has None none =
+    inr (inl (item, record { short = short; read = read; has = has; none = none }))
+judged version before line item short read has (Some why) least =
+    inr (inr (why, inr (inr (record { short = short; read = read; item = item; has = has; least = least }))))
+
+read_line : (version : ℕ) (before : List Item) (line : List ℕ) → OneLine version before line
+read_line version before line =
+    elim (cases_lt most_bytes (length line)) [
+      | inl long ↦ inr (inr (2, inl (long, refl)))
+      | inr short ↦
+          elim (cases_Bool (is_skipped line)) [
+            | inl skipped ↦ inl (record { short = short; skipped = skipped })
+            | inr read ↦
+                elim (decided_form version line) [
+                  | inl has ↦ judged version before line has.0 short read has.1 (least_reason before has.0) refl
+                  | inr none ↦ inr (inr (3, inr (inl (record { short = short; read = read; none = none }, refl))))
+                ]
+          ]
+    ]
+
+-- ---- the lines after the first
+
+record Stops (version : ℕ) (before : List Item) (lines : List (List ℕ)) : Type 0 where
+  good : List (List ℕ)
+  line : List ℕ
+  later : List (List ℕ)
+  cut : lines ≡ good ++ line ∷ later
+  items : List Item
+  read : AreRead version before good items
+  why : ℕ
+  bad : IsBadLine version items line why
+
+read_lines : (version : ℕ) (lines : List (List ℕ)) (before : List Item) →
+    ((items : List Item) × AreRead version before lines items) ⊎ Stops version before lines
+read_lines version [] before = inl (before, refl)
+read_lines version (line ∷ later) before =
+    elim (read_line version before line) [
+      | inl skipped ↦
+          elim (read_lines version later before) [
+            | inl read ↦ inl (read.0, inl (skipped, read.1))
+            | inr stops ↦ inr (record {
+              good = line ∷ stops.good;
+              line = stops.line;
+              later = stops.later;
+              cut = ap (λ ls. line ∷ ls) stops.cut;
+              items = stops.items;
+              read = inl (skipped, stops.read);
+              why = stops.why;
+              bad = stops.bad;
+            })
+          ]
+      | inr (inl good) ↦
+          elim (read_lines version later (good.0 ∷ before)) [
+            | inl read ↦ inl (read.0, inr (good.0, good.1, read.1))
+            | inr stops ↦ inr (record {
+              good = line ∷ stops.good;
+              line = stops.line;
+              later = stops.later;
+              cut = ap (λ ls. line ∷ ls) stops.cut;
+              items = stops.items;
+              read = inr (good.0, good.1, stops.read);
+              why = stops.why;
+              bad = stops.bad;
+            })
+          ]
+      | inr (inr bad) ↦ inr (record {
+        good = [];
+        line = line;
+        later = later;
+        cut = refl;
+        items = before;
+        read = refl;
+        why = bad.0;
+        bad = bad.1;
+      })
+    ]
+
+-- ---- the setup is whole
+
+three_more : (a b c x y z : Bool) → (x && y && z) ≡ true → ((a || x) && (b || y) && (c || z)) ≡ true
+three_more a b c true true true all =
+    and_from ((a || true) && (b || true)) (c || true)
+    (and_from (a || true) (b || true) (or_right a true refl) (or_right b true refl)) (or_right c true refl)
+three_more a b c false y z all = absurd (false≢true all)
+three_more a b c true false z all = absurd (false≢true all)
+three_more a b c true true false all = absurd (false≢true all)
+
+more_setup : (item : Item) (before : List Item) → has_setup before ≡ true → has_setup (item ∷ before) ≡ true
+more_setup item before has =
+    three_more (is_cpus item) (is_memory item) (is_rom item) (list_any is_cpus before) (list_any is_memory before)
+    (list_any is_rom before) has
+
+-- by the first phase the setup is whole
+by_phase : (phase any before_has has : Bool) → (not (phase || any) && not has) ≡ false →
+    ((not any && not before_has) ≡ false → before_has ≡ true) → (phase && (not any && not before_has)) ≡ false →
+    (before_has ≡ true → has ≡ true) → has ≡ true
+by_phase phase any before_has true whole front begun more = refl
+by_phase true any before_has false whole front begun more = more (front begun)
+by_phase false true before_has false whole front begun more = more (front refl)
+by_phase false false before_has false whole front begun more = absurd (true≢false whole)
+
+whole_setup : (version : ℕ) (items : List Item) → AreGood version items → lacks_setup items ≡ false →
+    has_setup items ≡ true
+whole_setup version [] good whole = absurd (true≢false whole)
+whole_setup version (item ∷ before) good whole =
+    by_phase (is_phase item) (list_any is_phase before) (has_setup before) (has_setup (item ∷ before)) whole
+    (λ front. whole_setup version before good.2 front) good.1.begun (more_setup item before)
+
+found_cpus : (items : List Item) → list_any is_cpus items ≡ true → (count : ℕ) × (find is_cpus items ≡ Some
+    (SetCpus count))
+found_cpus [] any = absurd (false≢true any)
+found_cpus (SetCpus count ∷ before) any = (count, refl)
+found_cpus (item ∷ before) any = found_cpus before any
+
+found_memory : (items : List Item) → list_any is_memory items ≡ true → (mib : ℕ) × (find is_memory items ≡ Some
+    (SetMemory mib))
+found_memory [] any = absurd (false≢true any)
+found_memory (SetMemory mib ∷ before) any = (mib, refl)
+found_memory (item ∷ before) any = found_memory before any
+
+found_rom : (items : List Item) → list_any is_rom items ≡ true → (name : List ℕ) × (find is_rom items ≡ Some
+    (SetRom name))
+found_rom [] any = absurd (false≢true any)
+found_rom (SetRom name ∷ before) any = (name, refl)
+found_rom (item ∷ before) any = found_rom before any
+
+found_disk : (items : List Item) → (disk : Option (List ℕ)) × (find is_disk items ≡ option_map SetDisk disk)
+found_disk [] = (None, refl)
+found_disk (SetDisk name ∷ before) = (Some name, refl)
+found_disk (item ∷ before) = found_disk before
+
+-- ---- the cards in order
+
+abbrev inserted : FittedCard → List FittedCard → List FittedCard
+inserted card [] = card ∷ []
+inserted card (first ∷ later) = cond (ltb card.dev first.dev) (card ∷ first ∷ later) (first ∷ inserted card later)
+
+inserted_same : (card : FittedCard) (cards : List FittedCard) → IsPermutation (card ∷ cards) (inserted card cards)
+inserted_same card [] = IsPermutation-refl (card ∷ [])
+inserted_same card (first ∷ later) =
+    elim (cases_Bool (ltb card.dev first.dev)) [
+      | inl less ↦ rw less (IsPermutation-refl (card ∷ first ∷ later))
+      | inr above ↦
+          rw above (
+          IsPermutation-trans (card ∷ first ∷ later) (first ∷ card ∷ later) (first ∷ inserted card later)
+          (IsPermutation-sym (first ∷ card ∷ later) (card ∷ first ∷ later) (IsPermutation-middle
+          (first ∷ []) card later))
+          (IsPermutation-cons first (card ∷ later) (inserted card later) (inserted_same card later))
+          )
+    ]
+
+all_inserted : (P : FittedCard → Type 0) (card : FittedCard) (cards : List FittedCard) → P card → All P cards →
+    All P (inserted card cards)
+all_inserted P card cards one all =
+    All-permutation P (card ∷ cards) (inserted card cards) (inserted_same card cards) (All-cons P card cards one all)
+
+inserted_rises : (card : FittedCard) (cards : List FittedCard) → Rises cards →
+    All (λ other. other.dev ≢ card.dev) cards → Rises (inserted card cards)
+inserted_rises card [] rises apart = (All-nil (λ other. card.dev < other.dev), tt)
+inserted_rises card (first ∷ later) rises apart =
+    elim (cases_Bool (ltb card.dev first.dev)) [
+      | inl less ↦
+          let below : card.dev < first.dev = ltb-true card.dev first.dev less in
+          rw less (
+            All-cons (λ other. card.dev < other.dev) first later below
+                (λ k d inside. let up : first.dev < (get_or later k d).dev = rises.0 k d inside in omega (
+                  arith,
+                  below,
+                  up,
+                )),
+            rises,
+          )
+      | inr above ↦
+          let other : first.dev ≢ card.dev = All-head (λ c. c.dev ≢ card.dev) first later apart in
+          let least : first.dev ≤ card.dev = ltb-false card.dev first.dev above in
+          let before : first.dev < card.dev = omega (arith, other, least) in
+          rw above (
+            all_inserted (λ c. first.dev < c.dev) card later before rises.0,
+            inserted_rises card later rises.1 (All-tail (λ c. c.dev ≢ card.dev) first later apart),
+          )
+    ]
+
+record InOrder (cards : List FittedCard) : Type 0 where
+  ordered : List FittedCard
+  same : IsPermutation cards ordered
+  rises : Rises ordered
+
+in_order : (version : ℕ) (items : List Item) → AreGood version items → InOrder (cards_of items)
+in_order version [] good = record { ordered = []; same = IsPermutation-refl []; rises = tt }
+in_order version (FitCard card ∷ before) good =
+    let rest : InOrder (cards_of before) = in_order version before good.2 in
+    let apart : All (λ other. (other.dev == card.dev) ≡ false) rest.ordered =
+    All-permutation (λ other. (other.dev == card.dev) ≡ false) (cards_of before) rest.ordered rest.same
+    (none_any (λ other. other.dev == card.dev) (cards_of before) good.1.first)
+    in
+    record {
+      ordered = inserted card rest.ordered;
+      same = IsPermutation-trans (card ∷ cards_of before) (card ∷ rest.ordered) (inserted card rest.ordered)
+          (IsPermutation-cons card (cards_of before) rest.ordered rest.same) (inserted_same card rest.ordered);
+      rises = inserted_rises card rest.ordered rest.rises
+          (λ k d inside. eqb-false (get_or rest.ordered k d).dev card.dev (apart k d inside));
+    }
+in_order version (SetCpus count ∷ before) good = in_order version before good.2
+in_order version (SetMemory mib ∷ before) good = in_order version before good.2
+in_order version (SetRom name ∷ before) good = in_order version before good.2
+in_order version (SetDisk name ∷ before) good = in_order version before good.2
+in_order version (BeginPhase ∷ before) good = in_order version before good.2
+in_order version (Ask statement ∷ before) good = in_order version before good.2
+in_order version (AskLevel actor verb number level ∷ before) good = in_order version before good.2
+
+-- ---- the phases
+
+abbrev run_of : List Item → List Item
+run_of items = reverse (filter (λ item. not (is_setup item)) items)
+
+record LastPhase (items : List Item) : Type 0 where
+  front : List (List Statement)
+  last : List Statement
+  is : run_of items ≡ phase_items front ++ (BeginPhase ∷ map Ask last)
+
+-- no phase has begun, or there is a last one
+abbrev Run : List Item → Type 0
+Run items = ((list_any is_phase items ≡ false) × (run_of items ≡ [])) ⊎ LastPhase items
+
+reverse_more : (item : Item) (items : List Item) → reverse (item ∷ items) ≡ reverse items ++ item ∷ []
+reverse_more item items = reverse-append (item ∷ []) items
+
+-- the phases with one more
+phases_more : (front : List (List Statement)) (last : List Statement) →
+    phase_items (front ++ last ∷ []) ≡ phase_items front ++ (BeginPhase ∷ map Ask last)
+phases_more front last =
+    flat_map-append (λ phase. BeginPhase ∷ map Ask phase) front (last ∷ [])
+    ∙ ap (λ (items : List Item). phase_items front ++ BeginPhase ∷ items) (append-nil (map Ask last))
+
+begin_phase : (before : List Item) → Run before → Run (BeginPhase ∷ before)
+begin_phase before (inl none) = inr (record {
+  front = [];
+  last = [];
+  is = reverse_more BeginPhase (filter (λ item. not (is_setup item)) before) ∙ ap (λ (items : List Item). items
+      ++ BeginPhase ∷ []) none.1;
+})
+begin_phase before (inr some) = inr (record {
+  front = some.front ++ some.last ∷ [];
+  last = [];
+  is = reverse_more BeginPhase (filter (λ item. not (is_setup item)) before)
+      ∙ ap (λ (items : List Item). items ++ BeginPhase ∷ []) (some.is ∙ sym (phases_more some.front some.last));
+})
+
+ask_more : (before : List Item) (statement : Statement) → NoReason before (Ask statement) → Run before →
+    Run (Ask statement ∷ before)
+ask_more before statement none (inl no_phase) =
+    let place = rw no_phase.0 at none.place in absurd (true≢false place)
+ask_more before statement none (inr some) = inr (record {
+  front = some.front;
+  last = some.last ++ statement ∷ [];
+  is = reverse_more (Ask statement) (filter (λ item. not (is_setup item)) before)
+      ∙ ap (λ (items : List Item). items ++ Ask statement ∷ []) some.is
+      ∙ append_assoc (phase_items some.front) (BeginPhase ∷ map Ask some.last) (Ask statement ∷ [])
+      ∙ ap (λ (items : List Item). phase_items some.front ++ BeginPhase ∷ items) (sym (map-append Ask some.last
+      (statement ∷ [])));
+})
+
+setup_more : (item : Item) (before : List Item) → is_phase item ≡ false → run_of (item ∷ before) ≡ run_of before →
+    Run before → Run (item ∷ before)
+setup_more item before no_phase same (inl none) = inl (
+  or_from (is_phase item)
+      (list_any is_phase before) no_phase none.0,
+  same ∙ none.1,
+)
+setup_more item before no_phase same (inr some) = inr (record {
+  front = some.front;
+  last = some.last;
+  is = same
+      ∙ some.is;
+})
+
+run : (version : ℕ) (items : List Item) → AreGood version items → Run items
+run version [] good = inl (refl, refl)
+run version (BeginPhase ∷ before) good = begin_phase before (run version before good.2)
+run version (Ask statement ∷ before) good = ask_more before statement good.1 (run version before good.2)
+run version (AskLevel actor verb number level ∷ before) good = absurd (false≢true good.1.range)
+run version (SetCpus count ∷ before) good = setup_more (SetCpus count) before refl refl (run version before good.2)
+run version (SetMemory mib ∷ before) good = setup_more (SetMemory mib) before refl refl (run version before good.2)
+run version (SetRom name ∷ before) good = setup_more (SetRom name) before refl refl (run version before good.2)
+run version (SetDisk name ∷ before) good = setup_more (SetDisk name) before refl refl (run version before good.2)
+run version (FitCard card ∷ before) good = setup_more (FitCard card) before refl refl (run version before good.2)
+
+phases_there : (items : List Item) → Run items → (phases : List (List Statement)) × (run_of items ≡ phase_items phases)
+phases_there items (inl none) = ([], none.1)
+phases_there items (inr some) = (some.front ++ some.last ∷ [], some.is ∙ sym (phases_more some.front some.last))
+
+-- ---- the whole
+
+said_by : (version : ℕ) (items : List Item) → AreGood version items → lacks_setup items ≡ false →
+    (script : Script) × (script.version ≡ version) × IsSaidBy script items
+said_by version items good whole =
+    let parts : (list_any is_cpus items && list_any is_memory items && list_any is_rom items) ≡ true =
+    whole_setup version items good whole
+    in
+    let outer : ((list_any is_cpus items && list_any is_memory items) ≡ true) × (list_any is_rom items ≡ true) =
+    and_parts (list_any is_cpus items && list_any is_memory items) (list_any is_rom items) parts
+    in
+    let inner : (list_any is_cpus items ≡ true) × (list_any is_memory items ≡ true) =
+    and_parts (list_any is_cpus items) (list_any is_memory items) outer.0
+    in
+    let cpus : (count : ℕ) × (find is_cpus items ≡ Some (SetCpus count)) = found_cpus items inner.0 in
+    let memory : (mib : ℕ) × (find is_memory items ≡ Some (SetMemory mib)) = found_memory items inner.1 in
+    let rom : (name : List ℕ) × (find is_rom items ≡ Some (SetRom name)) = found_rom items outer.1 in
+    let disk : (disk : Option (List ℕ)) × (find is_disk items ≡ option_map SetDisk disk) = found_disk items in
+    let cards : InOrder (cards_of items) = in_order version items good in
+    let phases : (phases : List (List Statement)) × (run_of items ≡ phase_items phases) = phases_there items
+    (run version items good) in (
+      record {
+        version = version;
+        cpus = cpus.0;
+        mib = memory.0;
+        rom = rom.0;
+        disk = disk.0;
+        cards = cards.ordered;
+        phases = phases.0;
+      },
+      refl,
+      record {
+        cpus = cpus.1;
+        memory = memory.1;
+        rom = rom.1;
+        disk = disk.1;
+        cards = cards.same;
+        rises = cards.rises;
+        phases = phases.1;
+      },
+    )
+
+abbrev Reading : List ℕ → Type 0
+Reading bytes = ((script : Script) × IsScriptText bytes script) ⊎ ((line : ℕ) × (why : ℕ) × IsScriptBad bytes line why)
+
+read_later : (bytes : List ℕ) (version : ℕ) (later : List (List ℕ)) → IsVersion version →
+    lines_of bytes ≡ first_line version ∷ later →
+    Reading bytes
+read_later bytes version later known lines =
+    elim (read_lines version later []) [
+      | inr stops ↦ inr (
+        length stops.good + 2,
+        stops.why,
+        inr (record {
+          version = version;
+          known = known;
+          good = stops.good;
+          rest = stops.line ∷ stops.later;
+          cut = lines ∙ ap (λ ls. first_line version ∷ ls) stops.cut;
+          items = stops.items;
+          read = stops.read;
+          bad = stops.bad;
+          place = refl;
+        }),
+      )
+      | inl read ↦
+          elim (cases_Bool (lacks_setup read.0)) [
+            | inl lacks ↦ inr (
+              length later + 2,
+              6,
+              inr (record {
+                version = version;
+                known = known;
+                good = later;
+                rest = [];
+                cut = lines ∙ ap (λ ls. first_line version ∷ ls) (sym (append-nil later));
+                items = read.0;
+                read = read.1;
+                bad = (lacks, refl);
+                place = refl;
+              }),
+            )
+            | inr whole ↦
+                let said : (script : Script) × (script.version ≡ version) × IsSaidBy script read.0 =
+                said_by version read.0 (read_good version later [] read.0 read.1 tt) whole
+                in
+                let same : version ≡ said.0.version = sym said.1 in
+                inl (
+                  said.0,
+                  record {
+                    version = rw (← same) known;
+                    later = later;
+                    lines = rw (← same) lines;
+                    items = read.0;
+                    read = rw (← same) read.1;
+                    whole = whole;
+                    said = said.2;
+                  },
+                )
+          ]
+    ]
+
+not_begun : (lines : List (List ℕ)) → ((later : List (List ℕ)) → lines ≢ first_line 1 ∷ later) →
+    ((later : List (List ℕ)) → lines ≢ first_line 2 ∷ later) →
+    BeginsBadly lines
+not_begun lines none other version later (inl one) e = none later (e ∙ ap (λ v. first_line v ∷ later) one)
+not_begun lines none other version later (inr two) e = other later (e ∙ ap (λ v. first_line v ∷ later) two)
+
+read_first : (bytes : List ℕ) (lines : List (List ℕ)) → lines_of bytes ≡ lines → Reading bytes
+read_first bytes [] is =
+    inr (
+      1,
+      1,
+      inl (
+        not_begun (lines_of bytes) (λ later e. not_nil (first_line 1) later (sym is
+            ∙ e)) (λ later e. not_nil (first_line 2) later (sym is ∙ e)),
+        refl,
+        refl,
+      ),
+    )
+read_first bytes (line ∷ later) is =
+    elim (same_list line (first_line 1)) [
+      | inl one ↦ read_later bytes 1 later (inl refl) (is ∙ ap (λ l. l ∷ later) one)
+      | inr not_one ↦
+          elim (same_list line (first_line 2)) [
+            | inl two ↦ read_later bytes 2 later (inr refl) (is ∙ ap (λ l. l ∷ later) two)
+            | inr not_two ↦
+                inr (
+                  1,
+                  1,
+                  inl (
+                    not_begun (lines_of bytes) (λ others e. not_one (same_head line (first_line 1) later others
+                        (sym is ∙ e)))
+                        (λ others e. not_two (same_head line (first_line 2) later others (sym is ∙ e))),
+                    refl,
+                    refl,
+                  ),
+                )
+          ]
+    ]
+
+pub some_reading : SomeReading
+some_reading bytes = read_first bytes (lines_of bytes) refl

@@ -1,0 +1,160 @@
+-- A text says at most one script.
+use Rattle.std.proofs.Common.{ℕ, ◌≡◌, ◌<◌, ◌⊎◌, Option, Some, None, List, [], ◌∷◌, ◌++◌, get_or, map, All, refl, sym, ap, ◌∙◌, inl, inr, append-nil, arith}
+use Rattle.std.specs.Option.{option_map}
+use Rattle.std.specs.List.Sorted.{IsPermutation}
+use Rattle.std.proofs.lemmas.List.Elements.{All-head, All-tail, All-nil, All-cons}
+use Rattle.std.proofs.lemmas.List.Sorted.{All-permutation, IsPermutation-sym}
+use Rattle.board_spec.specs.declared.event.Statement.{Statement}
+use Rattle.board_spec.specs.Setup.{FittedCard, Rises}
+use Rattle.script_spec.specs.Grammar.{Item, SetCpus, SetMemory, SetRom, SetDisk, BeginPhase, Ask}
+use Rattle.script_spec.specs.Reasons.{cards_of}
+use Rattle.script_spec.specs.ScriptText.{Script, phase_items, IsSaidBy, first_line}
+use Rattle.script_spec.specs.Laws.{OneScript}
+use Rattle.script_spec.proofs.ReadingLaws.{same_head, same_tail, read_once, one_version}
+
+-- ---- cards in rising order
+
+abbrev pub In : List FittedCard → FittedCard → Type 0
+In [] card = ⊥
+In (first ∷ later) card = (card ≡ first) ⊎ In later card
+
+pub all_in : (cards : List FittedCard) → All (In cards) cards
+all_in [] = All-nil (In [])
+all_in (first ∷ later) =
+    All-cons (In (first ∷ later)) first later (inl refl) (λ k d below. inr (all_in later k d below))
+
+pub in_all : (P : FittedCard → Type 0) (cards : List FittedCard) (card : FittedCard) → All P cards →
+    In cards card → P card
+in_all P [] card all is = absurd is
+in_all P (first ∷ later) card all (inl is) = rw is (All-head P first later all)
+in_all P (first ∷ later) card all (inr is) = in_all P later card (All-tail P first later all) is
+
+-- two lists that rise and have the same cards are one
+rising_same : (left right : List FittedCard) → Rises left → Rises right → All (In right) left →
+    All (In left) right → left ≡ right
+rising_same [] [] one two there back = refl
+rising_same [] (y ∷ ys) one two there back = absurd (All-head (In []) y ys back)
+rising_same (x ∷ xs) [] one two there back = absurd (All-head (In []) x xs there)
+rising_same (x ∷ xs) (y ∷ ys) one two there back =
+    let same : x ≡ y =
+    elim (All-head (In (y ∷ ys)) x xs there) [
+      | inl is ↦ is
+      | inr after ↦
+          elim (All-head (In (x ∷ xs)) y ys back) [
+            | inl is ↦ sym is
+            | inr before ↦
+                let up : y.dev < x.dev = in_all (λ other. y.dev < other.dev) ys x two.0 after in
+                let down : x.dev < y.dev = in_all (λ other. x.dev < other.dev) xs y one.0 before in
+                let none : ⊥ = omega (arith, up, down) in absurd none
+          ]
+    ]
+    in
+    let there_later : All (In ys) xs = λ k d below.
+    elim (All-tail (In (y ∷ ys)) x xs there k d below) [
+      | inl is ↦
+          let above : x.dev < (get_or xs k d).dev = one.0 k d below in
+          let equal : (get_or xs k d).dev ≡ x.dev = ap (λ card. card.dev) (is ∙ sym same) in
+          let none : ⊥ = omega (arith, above, equal) in absurd none
+      | inr after ↦ after
+    ]
+    in
+    let back_later : All (In xs) ys = λ k d below.
+    elim (All-tail (In (x ∷ xs)) y ys back k d below) [
+      | inl is ↦
+          let above : y.dev < (get_or ys k d).dev = two.0 k d below in
+          let equal : (get_or ys k d).dev ≡ y.dev = ap (λ card. card.dev) (is ∙ same) in
+          let none : ⊥ = omega (arith, above, equal) in absurd none
+      | inr after ↦ after
+    ]
+    in
+    let later : xs ≡ ys = rising_same xs ys one.1 two.1 there_later back_later in
+    λ i. same i ∷ later i
+
+one_order : (cards left right : List FittedCard) → IsPermutation cards left → IsPermutation cards right →
+    Rises left → Rises right → left ≡ right
+one_order cards left right one two rises others =
+    rising_same left right rises others
+    (All-permutation (In right) cards left one (All-permutation (In right) right cards
+    (IsPermutation-sym cards right two) (all_in right)))
+    (All-permutation (In left) cards right two (All-permutation (In left) left cards
+    (IsPermutation-sym cards left one) (all_in left)))
+
+-- ---- phases
+
+-- the statements before the first phase, and the phases
+abbrev cut_phases : List Item → List Statement × List (List Statement)
+cut_phases [] = ([], [])
+cut_phases (BeginPhase ∷ later) = ([], (cut_phases later).0 ∷ (cut_phases later).1)
+cut_phases (Ask statement ∷ later) = (statement ∷ (cut_phases later).0, (cut_phases later).1)
+cut_phases (_ ∷ later) = cut_phases later
+
+cut_statements : (phase : List Statement) (later : List Item) →
+    cut_phases (map Ask phase ++ later) ≡ (phase ++ (cut_phases later).0, (cut_phases later).1)
+cut_statements [] later = refl
+cut_statements (statement ∷ phase) later =
+    ap (λ (p : List Statement × List (List Statement)). (statement ∷ p.0, p.1)) (cut_statements phase later)
+
+phases_cut : (phases : List (List Statement)) → cut_phases (phase_items phases) ≡ ([], phases)
+phases_cut [] = refl
+phases_cut (phase ∷ later) =
+    let rest : cut_phases (map Ask phase ++ phase_items later) ≡ (phase ++ [], later) =
+    cut_statements phase (phase_items later)
+    ∙ ap (λ (p : List Statement × List (List Statement)). (phase ++ p.0, p.1)) (phases_cut later)
+    in
+    ap (λ (p : List Statement × List (List Statement)). ([], p.0 ∷ p.1)) rest
+    ∙ ap (λ (p : List Statement). ([], p ∷ later)) (append-nil phase)
+
+pub one_cutting : (left right : List (List Statement)) → phase_items left ≡ phase_items right → left ≡ right
+one_cutting left right e = ap (λ p. p.1) (sym (phases_cut left) ∙ ap cut_phases e ∙ phases_cut right)
+
+-- ---- scripts
+
+abbrev pub count_of : Option Item → ℕ
+count_of (Some (SetCpus count)) = count
+count_of (Some (SetMemory mib)) = mib
+count_of _ = 0
+
+abbrev name_of : Option Item → List ℕ
+name_of (Some (SetRom name)) = name
+name_of _ = []
+
+abbrev disk_of : Option Item → Option (List ℕ)
+disk_of (Some (SetDisk name)) = Some name
+disk_of _ = None
+
+disk_said : (disk : Option (List ℕ)) → disk_of (option_map SetDisk disk) ≡ disk
+disk_said None = refl
+disk_said (Some name) = refl
+
+scripts_equal :
+    (left right : Script) → left.version ≡ right.version → left.cpus ≡ right.cpus → left.mib ≡ right.mib →
+    left.rom ≡ right.rom →
+    left.disk ≡ right.disk → left.cards ≡ right.cards → left.phases ≡ right.phases → left ≡ right
+scripts_equal left right e1 e2 e3 e4 e5 e6 e7 =
+    λ i. record { version = e1 i; cpus = e2 i; mib = e3 i; rom = e4 i; disk = e5 i; cards = e6 i; phases = e7 i }
+
+one_meaning : (items : List Item) (left right : Script) → left.version ≡ right.version →
+    IsSaidBy left items → IsSaidBy right items → left ≡ right
+one_meaning items left right version one two =
+    scripts_equal left right version
+    (ap count_of (sym one.cpus ∙ two.cpus))
+    (ap count_of (sym one.memory ∙ two.memory))
+    (ap name_of (sym one.rom ∙ two.rom))
+    (sym (disk_said left.disk) ∙ ap disk_of (sym one.disk ∙ two.disk) ∙ disk_said right.disk)
+    (one_order (cards_of items) left.cards right.cards one.cards two.cards one.rises two.rises)
+    (one_cutting left.phases right.phases (sym one.phases ∙ two.phases))
+
+pub one_script : OneScript
+one_script bytes script other one two =
+    let lines : first_line script.version ∷ one.later ≡ first_line other.version ∷ two.later = sym one.lines
+    ∙ two.lines in
+    let version : script.version ≡ other.version =
+    one_version script.version other.version one.version two.version
+    (same_head (first_line script.version) (first_line other.version) one.later two.later lines)
+    in
+    let later : one.later ≡ two.later = same_tail (first_line script.version)
+    (first_line other.version) one.later two.later lines in
+    let read = rw (version, later) at one.read in
+    let items : one.items ≡ two.items = read_once other.version two.later [] one.items two.items read two.read in
+    let said = rw items at one.said in
+    one_meaning two.items script other version said two.said

@@ -1,0 +1,10 @@
+pub mod Lines
+pub mod Grammar
+pub mod Reasons
+pub mod ScriptText
+pub mod ScriptRange
+pub mod WellFormed
+pub mod Checks
+pub mod Laws
+pub mod ExampleScripts
+pub mod ExampleLogs

@@ -1,0 +1,179 @@
+-- Why a line that has a form is refused, by the items of the lines before it, the newest first.
+use Rattle.std.specs.Prelude.{ℕ, ◌+◌, ◌%◌, ◌==◌, nat_le, nat_lt, Bool, true, false, not, ◌&&◌, ◌||◌, List, [], ◌∷◌, length, filter, sum_by, Option, Some, None, option_map, if◌then◌else◌}
+use Rattle.std.specs.List.{list_all, list_any, find}
+use Rattle.board_base.specs.declared.moment.Moment.{Moment}
+use Rattle.board_base.specs.Access.{bytes_of}
+use Rattle.board_base.specs.Calendar.{days_in_month}
+use Rattle.board_spec.specs.declared.event.Event.{Event}
+use Rattle.board_spec.specs.declared.event.Event.TheVariants.{Memory, Wide, Port, Pulses, Time, Wire, Line, BadSector}
+use Rattle.board_spec.specs.Setup.{Base, MemoryBase, IoBase, FittedCard, memory_of_cards}
+use Rattle.board_spec.specs.Bits.{is_within}
+use Rattle.board_spec.specs.InRange.{is_free_line}
+use Rattle.script_spec.specs.Grammar.{Item, SetCpus, SetMemory, SetRom, SetDisk, FitCard, BeginPhase, Ask, AskLevel}
+
+-- ---- kinds of items
+
+abbrev pub is_phase : Item → Bool
+is_phase BeginPhase = true
+is_phase _ = false
+
+abbrev pub is_statement : Item → Bool
+is_statement (Ask statement) = true
+is_statement (AskLevel actor verb number level) = true
+is_statement _ = false
+
+abbrev pub is_setup : Item → Bool
+is_setup item = not (is_phase item || is_statement item)
+
+abbrev pub is_cpus : Item → Bool
+is_cpus (SetCpus count) = true
+is_cpus _ = false
+
+abbrev pub is_memory : Item → Bool
+is_memory (SetMemory mib) = true
+is_memory _ = false
+
+abbrev pub is_rom : Item → Bool
+is_rom (SetRom name) = true
+is_rom _ = false
+
+abbrev pub is_disk : Item → Bool
+is_disk (SetDisk name) = true
+is_disk _ = false
+
+-- the cards that items fit
+abbrev pub cards_of : List Item → List FittedCard
+cards_of [] = []
+cards_of (FitCard card ∷ before) = card ∷ cards_of before
+cards_of (_ ∷ before) = cards_of before
+
+abbrev pub has_card : List Item → (dev : ℕ) → Bool
+has_card before dev = list_any (λ card. card.dev == dev) (cards_of before)
+
+-- ---- 4: a setup line stands after the first `phase`, or a statement before it
+
+abbrev pub is_misplaced : List Item → Item → Bool
+is_misplaced before item =
+    if list_any is_phase before then is_setup item else is_statement item
+
+-- ---- 5: a setup line of its kind, for cards of its device, came before
+
+abbrev pub is_repeated : List Item → Item → Bool
+is_repeated before (SetCpus count) = list_any is_cpus before
+is_repeated before (SetMemory mib) = list_any is_memory before
+is_repeated before (SetRom name) = list_any is_rom before
+is_repeated before (SetDisk name) = list_any is_disk before
+is_repeated before (FitCard card) = has_card before card.dev
+is_repeated before _ = false
+
+-- ---- 6: it is the first `phase`, or the end without one, and cpus, memory or rom is missing
+
+abbrev pub has_setup : List Item → Bool
+has_setup before = list_any is_cpus before && list_any is_memory before && list_any is_rom before
+
+abbrev pub lacks_setup : List Item → Bool
+lacks_setup before = not (list_any is_phase before) && not (has_setup before)
+
+-- ---- 7: a number is out of range, or the calendar has no such moment
+
+abbrev pub is_base_in_range : Base → Bool
+is_base_in_range (MemoryBase bits) = is_within 4 24 bits
+is_base_in_range (IoBase bits) = is_within 2 8 bits
+
+abbrev pub is_rom_in_range : Option ℕ → Bool
+is_rom_in_range None = true
+is_rom_in_range (Some bits) = is_within 11 24 bits
+
+abbrev pub is_card_in_range : FittedCard → Bool
+is_card_in_range card = is_within 2 9 card.dev && list_all is_base_in_range card.bases && is_rom_in_range card.rom
+
+abbrev pub is_moment : Moment → Bool
+is_moment m =
+    is_within 1980 2099 m.year && is_within 1 12 m.month && is_within 1 (days_in_month m.year m.month) m.day
+    && nat_le m.hour 23 && nat_le m.minute 59 && nat_le m.second 59
+
+abbrev pub is_event_in_range : Event → Bool
+is_event_in_range (Pulses count) = is_within 1 1_000_000 count
+is_event_in_range (Time moment) = is_moment moment
+is_event_in_range (Wire dev on) = is_within 2 9 dev
+is_event_in_range (Line irq on) = is_free_line irq
+is_event_in_range (BadSector sector) = nat_le sector 0xFFFF
+is_event_in_range _ = true
+
+abbrev pub is_in_range : Item → Bool
+is_in_range (SetCpus count) = is_within 1 8 count
+is_in_range (SetMemory mib) = is_within 1 64 mib
+is_in_range (FitCard card) = is_card_in_range card
+is_in_range (Ask statement) = is_event_in_range statement.event
+is_in_range (AskLevel actor verb number level) = false
+is_in_range _ = true
+
+-- ---- 8: the address or the port is not a multiple of the width, or a wide access passes FFFFFFFF
+
+abbrev pub is_event_placed : Event → Bool
+is_event_placed (Memory access) = access.addr % bytes_of access.width == 0
+is_event_placed (Wide access) = nat_le (access.addr + access.bytes) 0x1_0000_0000
+is_event_placed (Port access) = access.port % bytes_of access.width == 0
+is_event_placed _ = true
+
+abbrev pub is_placed : Item → Bool
+is_placed (Ask statement) = is_event_placed statement.event
+is_placed _ = true
+
+-- ---- 9: the processor is not below cpus, or `wire` names a device without a card
+
+abbrev pub is_cpus_above : (actor : ℕ) → Item → Bool
+is_cpus_above actor (SetCpus count) = nat_lt actor count
+is_cpus_above actor _ = false
+
+abbrev pub is_card_there : List Item → Event → Bool
+is_card_there before (Wire dev on) = has_card before dev
+is_card_there before _ = true
+
+abbrev pub is_there : List Item → Item → Bool
+is_there before (Ask statement) =
+    list_any (is_cpus_above statement.actor) before && is_card_there before statement.event
+is_there before (AskLevel actor verb number level) = list_any (is_cpus_above actor) before
+is_there before _ = true
+
+-- ---- 10: statement 250,001, phase 1,001, pulses past 100,000,000, or memory bases past 64 MiB
+
+abbrev pub pulses_of_event : Event → ℕ
+pulses_of_event (Pulses count) = count
+pulses_of_event _ = 0
+
+abbrev pub pulses_of : Item → ℕ
+pulses_of (Ask statement) = pulses_of_event statement.event
+pulses_of _ = 0
+
+abbrev pub passes_limits : List Item → Bool
+passes_limits items =
+    nat_lt 250_000 (length (filter is_statement items))
+    || nat_lt 1_000 (length (filter is_phase items))
+    || nat_lt 100_000_000 (sum_by pulses_of items)
+    || nat_lt 0x400_0000 (memory_of_cards (cards_of items))
+
+-- ---- the least reason
+
+-- a reason, and whether it holds
+pub record Reason : Type 0 where
+  pub why : ℕ
+  pub holds : Bool
+
+abbrev pub reason : ℕ → Bool → Reason
+reason why holds = record { why = why; holds = holds }
+
+-- the reasons for which an item can be refused after these, the least first
+abbrev pub reasons : List Item → Item → List Reason
+reasons before item =
+    reason 4 (is_misplaced before item)
+    ∷ reason 5 (is_repeated before item)
+    ∷ reason 6 (is_phase item && lacks_setup before)
+    ∷ reason 7 (not (is_in_range item))
+    ∷ reason 8 (not (is_placed item))
+    ∷ reason 9 (not (is_there before item))
+    ∷ reason 10 (passes_limits (item ∷ before))
+    ∷ []
+
+unfoldable pub least_reason : List Item → Item → Option ℕ
+least_reason before item = option_map (λ r. r.why) (find (λ r. r.holds) (reasons before item))

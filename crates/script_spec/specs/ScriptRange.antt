@@ -1,0 +1,34 @@
+-- What can be relied on in a script that a text says.
+use Rattle.std.specs.Prelude.{ℕ, ◌≡◌, ◌≤◌, List, length, All, flat_map, sum_by, Option, Some, None}
+use Rattle.board_spec.specs.declared.event.Statement.{Statement}
+use Rattle.board_spec.specs.Setup.{Setup, IsCardList, memory_of_cards}
+use Rattle.board_spec.specs.InRange.{IsScripted}
+use Rattle.script_spec.specs.Grammar.{IsName}
+use Rattle.script_spec.specs.Reasons.{pulses_of_event}
+use Rattle.script_spec.specs.ScriptText.{Script, IsVersion}
+
+abbrev pub IsDiskName : Option (List ℕ) → Type 0
+IsDiskName None = Unit {0}
+IsDiskName (Some name) = IsName name
+
+-- the statements of all phases in the order of the file
+abbrev pub statements_in : Script → List Statement
+statements_in script = flat_map (λ phase. phase) script.phases
+
+-- the numbers, statements and totals of a script are in range
+pub record IsInRangeScript (script : Script) : Type 0 where
+  pub version : IsVersion script.version
+  pub some_cpus : 1 ≤ script.cpus
+  pub most_cpus : script.cpus ≤ 8
+  pub some_memory : 1 ≤ script.mib
+  pub most_memory : script.mib ≤ 64
+  pub rom : IsName script.rom
+  pub disk : IsDiskName script.disk
+  pub cards : IsCardList script.cards
+  pub windows : memory_of_cards script.cards ≤ 0x400_0000
+  pub each :
+      (setup : Setup) → setup.cards ≡ script.cards →
+      All (IsScripted setup script.version script.cpus) (statements_in script)
+  pub statements : length (statements_in script) ≤ 250_000
+  pub phases : length script.phases ≤ 1_000
+  pub pulses : sum_by (λ statement. pulses_of_event statement.event) (statements_in script) ≤ 100_000_000
