@@ -601,10 +601,6 @@ pub levels_pulsed : (setup : Setup) (history : List Entry) (timer later : PitSta
 unfolding levels_with
 levels_pulsed setup history timer later = rw (timer_line setup history later) refl
 
-pub one_pulse : (k : ℕ) (timer : PitState) → pulses 1 (pulses k timer) ≡ pulses (k + 1) timer
-unfolding pulses
-one_pulse k timer = rw (add-one k) refl
-
 -- the devices after so many pulses of an event
 pub record Pulsed (setup : Setup) (history : List Entry) (old devices : DevicesValue) (levels : List Bool) (elcr k : ℕ) : Type 0 where
   pub timer : devices.timer ≡ pulses k (timer_of history)
@@ -613,49 +609,9 @@ pub record Pulsed (setup : Setup) (history : List Entry) (old devices : DevicesV
   pub levels_are : levels ≡ levels_with setup history (pulses k (timer_of history))
   pub elcr_is : elcr ≡ elcr_of history
 
-pub no_pulses : (setup : Setup) (history : List Entry) (devices : DevicesValue) (levels : List Bool) (elcr : ℕ) → AreDevicesOf setup history devices →
-    levels ≡ levels_of setup history → elcr ≡ devices.triggers.low + 0x100 * devices.triggers.high → Pulsed setup history devices devices levels elcr 0
-unfolding pulses pair_pulsed
-no_pulses setup history devices levels elcr are lines bits = record {
-  timer = are.others.timer;
-  pair = are.pair;
-  others = refl;
-  levels_are = lines;
-  elcr_is = bits ∙ ap (λ (t : Triggers). t.low + 0x100 * t.high) are.others.triggers;
-}
-
-other_pair : (old devices : DevicesValue) (timer : PitState) (pair : Pair) → devices ≡ record old { timer = timer; pair = pair } →
+pub other_pair : (old devices : DevicesValue) (timer : PitState) (pair : Pair) → devices ≡ record old { timer = timer; pair = pair } →
     devices ≡ record old { timer = devices.timer; pair = devices.pair }
 other_pair old devices timer pair is = rw is refl
-
-pub more_pulses : (setup : Setup) (history : List Entry) (old before after : DevicesValue) (levels : List Bool) (elcr k : ℕ) →
-    Pulsed setup history old before levels elcr k →
-    after ≡ record before {
-      timer = pulses 1 before.timer;
-      pair = pair_after_lines before.pair (slice_set levels 0 (out_of 0 (pulses 1 before.timer))) elcr;
-    } →
-    Pulsed setup history old after (slice_set levels 0 (out_of 0 (pulses 1 before.timer))) elcr (k + 1)
-unfolding pair_pulsed
-more_pulses setup history old before after levels elcr k so is =
-    let timer : pulses 1 before.timer ≡ pulses (k + 1) (timer_of history) =
-    ap (λ (t : PitState). pulses 1 t) so.timer ∙ one_pulse k (timer_of history) in
-    let lines : slice_set levels 0 (out_of 0 (pulses 1 before.timer)) ≡ levels_with setup history (pulses (k + 1) (timer_of history)) =
-    rw (so.levels_are, timer) (sym (levels_pulsed setup history (pulses k (timer_of history)) (pulses (k + 1) (timer_of history)))) in
-    record {
-      timer = ap (λ (d : DevicesValue). d.timer) is ∙ timer;
-      pair =
-          ap (λ (d : DevicesValue). d.pair) is
-          ∙ rw (lines, so.pair, so.elcr_is, add-one k) refl;
-      others =
-          other_pair old after _ _
-          (is
-          ∙ ap (λ (d : DevicesValue). record d {
-            timer = pulses 1 before.timer;
-            pair = pair_after_lines before.pair (slice_set levels 0 (out_of 0 (pulses 1 before.timer))) elcr;
-          }) so.others);
-      levels_are = lines;
-      elcr_is = so.elcr_is;
-    }
 
 -- after all of them the devices are those of the history with the event
 pub all_pulses : (setup : Setup) (history : List Entry) (entry : Entry) (old devices : DevicesValue) (levels : List Bool) (elcr count : ℕ) →

@@ -6,7 +6,7 @@ mod ExampleDisk
 mod ExamplePair
 mod ExampleRouting
 mod ExampleTimer
-mod PairLaws
+pub mod PairLaws
 mod PicLaws
 mod PicPlaces
 mod PitBytes
