@@ -1,7 +1,7 @@
 -- What an entry leaves of each device.
-use Rattle.std.proofs.Common.{◌≡◌, ℕ, zero, suc, ◌+◌, ◌-◌, ◌<◌, ◌≤◌, Bool, true, false, ◌||◌, ◌&&◌, List, [], ◌∷◌, Option, Some, None, length, get_or, refl, sym, ◌∙◌, ap, subst, arith, inl, inr}
+use Rattle.std.proofs.Common.{◌≡◌, ℕ, ◌+◌, ◌<◌, ◌≤◌, Bool, true, false, ◌||◌, ◌&&◌, List, [], ◌∷◌, Option, Some, None, length, get_or, refl, sym, ◌∙◌, ap, subst, arith, inl, inr}
 use Rattle.std.proofs.Math.Bool.{or-false, and-false}
-use Rattle.std.proofs.Common.{◌*◌, ◌/◌, ◌%◌, add-one, replicate, eq-eqb, ne_eqb, get_or-set_same, get_or-set_other}
+use Rattle.std.proofs.Common.{◌*◌, ◌/◌, ◌%◌, replicate, eq-eqb, ne_eqb, get_or-set_same, get_or-set_other}
 use Rattle.std.proofs.lemmas.Bool.Decides.{nat_tests}
 use Rattle.std.proofs.lemmas.Bool.{cases_eq, cases_Bool, lt-ltb, le-leb}
 use Rattle.std.proofs.lemmas.List.{get_or-replicate, ext_get_or, length-map, get_or-map}
@@ -11,9 +11,7 @@ use Rattle.board_spec.specs.DeviceLaws.{PairHasSeen}
 use Rattle.board_devices.specs.Laws.{LeavesDevices}
 use Rattle.ata_pio.specs.declared.ata.AtaOpen.{AtaOpen}
 use Rattle.std.specs.Prelude.{◌↔◌, Result, Err, ◌==◌, unwrap_or, map, option_map, slice_index_or, slice_set, if◌then◌else◌}
-use Rattle.std.specs.Option.{option_map_or}
 use Rattle.board_base.specs.declared.access.PortAccess.{PortAccess}
-use Rattle.board_base.specs.declared.moment.Moment.{Moment}
 use Rattle.board_base.specs.declared.target.Dev.{Dev}
 use Rattle.board_base.specs.declared.target.Dev.TheVariants.{Confadd, Reset, Pic0, Pic1, Pit, System, Keyboard, Clock, Elcr, Ata, Wires, Vector, Spurious}
 use Rattle.board_base.specs.Access.{bytes_of}
@@ -22,12 +20,11 @@ use Rattle.device_spec.specs.Clock.{Clock as ClockState, power_on as clock_at_po
 use Rattle.device_spec.specs.Elcr.{Triggers, triggers_at_reset}
 use Rattle.device_spec.specs.Ata.Steps.{after_reset as disk_after_reset}
 use Rattle.device_spec.proofs.RoutingLaws.{reserved-rest}
-use Rattle.device_spec.specs.Pair.{Pair, levels_at_power_on, port_byte, pair_after_lines, pair_at_reset, pair_after_acknowledge}
+use Rattle.device_spec.specs.Pair.{Pair, levels_at_power_on, port_byte, pair_after_lines, pair_at_reset}
 use Rattle.device_spec.specs.Pit.{port_read}
 use Rattle.device_spec.specs.Clock.{read_value}
 use Rattle.device_spec.specs.Elcr.{trigger_byte}
 use Rattle.device_spec.specs.Ata.State.{Disk, is_disk_length, power_on as disk_at_power_on}
-use Rattle.device_spec.specs.Ata.Steps.{after_bad}
 use Rattle.board_spec.specs.declared.event.Event.{Event}
 use Rattle.board_spec.specs.declared.event.Event.TheVariants.{Memory, Wide, Port, Look as LookAt, Ack, Pulses, Time, Wire, Line, BadSector}
 use Rattle.board_spec.specs.declared.event.Reply.{Reply}

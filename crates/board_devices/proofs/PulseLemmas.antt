@@ -1,12 +1,12 @@
 -- Many pulses of the timer leave the pair as two sets of levels do.
-use Rattle.std.proofs.Common.{◌≡◌, ℕ, zero, suc, ◌+◌, ◌*◌, ◌/◌, ◌%◌, ◌<◌, ◌==◌, nat_lt, ◌&&◌, ◌||◌, not, Bool, true, false, cond, List, [], ◌∷◌, Option, Some, None, is_some, take, drop, lit<, inl, inr, refl, ap, sym, subst, ◌∙◌, arith}
+use Rattle.std.proofs.Common.{◌≡◌, ℕ, zero, suc, ◌+◌, ◌*◌, ◌/◌, ◌%◌, ◌<◌, ◌==◌, nat_lt, ◌&&◌, ◌||◌, not, Bool, true, false, cond, List, [], ◌∷◌, Option, Some, None, is_some, take, drop, inl, inr, refl, ap, sym, subst, ◌∙◌, arith}
 use Rattle.std.proofs.lemmas.Bool.{cases_Bool, or_parts, true≢false}
 use Rattle.std.proofs.lemmas.Bool.Decides.{nat_tests}
-use Rattle.std.specs.Prelude.{slice_set, slice_index_or}
+use Rattle.std.specs.Prelude.{slice_set}
 use Rattle.device_spec.specs.Bits.{is_bit}
-use Rattle.device_spec.specs.Levels.{Levels, has, levels_where, no_levels, with_level, without_level, levels_of_byte}
+use Rattle.device_spec.specs.Levels.{Levels, has, levels_where, no_levels, with_level, levels_of_byte}
 use Rattle.device_spec.specs.Pic.{Chip, Word, Icw2, Icw3, Icw4, interrupt, latches_after, chip_after_inputs, acknowledged, acknowledged_if, first_blocking, ended, chip_after_word, chip_after_odd_write, is_complete, chip_after_ocw2, chip_after_even_write, chip_after_write, chip_after_read}
-use Rattle.device_spec.specs.Pair.{Pair, settled, master_inputs, pair_at_reset, levels_at_power_on, pair_after_lines, pair_written, pair_after_write, pair_read, pair_after_read, pair_acknowledged, pair_acknowledged_at, pair_after_acknowledge, is_slave_port, is_odd_port}
+use Rattle.device_spec.specs.Pair.{Pair, settled, master_inputs, pair_at_reset, levels_at_power_on, pair_after_lines, pair_after_write, pair_after_read, pair_acknowledged, pair_acknowledged_at, pair_after_acknowledge, is_slave_port, is_odd_port}
 use Rattle.device_spec.specs.Pit.{PitState, out_of, pulses, rises}
 use Rattle.device_spec.specs.Elcr.{Triggers}
 use Rattle.board_base.specs.declared.access.PortAccess.{PortAccess}
@@ -24,7 +24,7 @@ use Rattle.board_spec.proofs.PairProofs.{pair_has_seen}
 use Rattle.board_devices.specs.Devices.{DevicesValue, AreDevicesOf}
 use Rattle.board_devices.specs.Events.{Asks}
 use Rattle.board_devices.specs.PulsedPair.{lines_at, pair_after_run}
-use Rattle.board_devices.proofs.DeviceLemmas.{Pulsed, levels_pulsed, other_pair, all_pulses}
+use Rattle.board_devices.proofs.DeviceLemmas.{levels_pulsed, other_pair, all_pulses}
 use Rattle.device_spec.proofs.Levels.{levels_where-same, has-levels_where}
 use Rattle.device_spec.proofs.PairLaws.{same-levels, inputs-again, settled-asks, settled-quiet, latched}
 

@@ -1,11 +1,11 @@
 -- Whole periods.
-use Rattle.std.proofs.Common.{◌≡◌, ℕ, zero, suc, ◌+◌, ◌-◌, ◌*◌, ◌/◌, ◌%◌, ◌<◌, ◌≤◌, ◌&&◌, not, Bool, true, false, cond, inl, inr, refl, ap, sym, subst, ◌∙◌, arith, add-zero}
+use Rattle.std.proofs.Common.{◌≡◌, ℕ, zero, suc, ◌+◌, ◌-◌, ◌*◌, ◌/◌, ◌%◌, ◌<◌, ◌≤◌, Bool, true, false, inl, inr, refl, sym, subst, arith}
 use Rattle.std.proofs.Math.Nat.{suc-mul, zero-mul}
 use Rattle.std.proofs.Math.Bool.{and-false}
-use Rattle.std.proofs.lemmas.Bool.{cases_Bool, cases_lt, true≢false}
+use Rattle.std.proofs.lemmas.Bool.{cases_lt, true≢false}
 use Rattle.device_spec.specs.Pit.{Mode, TerminalCount, OneShot, RateGenerator, SquareWave, SoftwareStrobe, HardwareStrobe, CounterState, is_periodic, pulse}
 use Rattle.device_spec.specs.PitLaws.{pulses_of}
-use Rattle.device_spec.specs.PitPeriods.{IsAtLoad, HasRatePeriod, HasSquarePeriod}
+use Rattle.device_spec.specs.PitPeriods.{IsAtLoad}
 use Rattle.device_spec.proofs.PitPeriods.{rate_repeats, square_repeats}
 use Rattle.pit_8254.specs.Quiet.{rises_of}
 use Rattle.pit_8254.specs.Runs.{IsPart, IsAtPeriod}

@@ -1,7 +1,6 @@
 -- Parts of a run of pulses.
-use Rattle.std.proofs.Common.{◌≡◌, ℕ, zero, suc, ◌+◌, ◌-◌, ◌*◌, ◌/◌, ◌%◌, ◌<◌, ◌≤◌, ◌&&◌, not, Bool, true, false, cond, inl, inr, refl, ap, sym, ◌∙◌, arith, add-zero, add-suc, add_assoc}
-use Rattle.std.proofs.lemmas.Bool.{cases_Bool, cases_lt}
-use Rattle.device_spec.specs.Pit.{CounterState, PitState, pulse, pulse_all, pulses, rises, rise_of}
+use Rattle.std.proofs.Common.{◌≡◌, ℕ, zero, suc, ◌+◌, ◌-◌, ◌<◌, ◌≤◌, ◌&&◌, not, Bool, true, false, cond, refl, ap, sym, ◌∙◌, arith, add-zero, add-suc, add_assoc}
+use Rattle.device_spec.specs.Pit.{CounterState, PitState, pulse, pulse_all, pulses, rises}
 use Rattle.device_spec.specs.PitLaws.{pulses_of}
 use Rattle.device_spec.proofs.PitPulses.{counters_apart}
 use Rattle.pit_8254.specs.Quiet.{rise, rises_of, quiet_pulses, after_quiet}

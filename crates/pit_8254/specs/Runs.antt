@@ -1,5 +1,5 @@
 -- A run of pulses of one counter, part by part.
-use Rattle.std.specs.Prelude.{ℕ, ◌≡◌, ◌+◌, ◌-◌, ◌<◌, ◌≤◌, Bool, true, false}
+use Rattle.std.specs.Prelude.{◌≡◌, ◌+◌, ◌-◌, ◌<◌, ◌≤◌, Bool, true, false}
 use Rattle.device_spec.specs.Pit.{Mode, TerminalCount, OneShot, RateGenerator, SquareWave, SoftwareStrobe, HardwareStrobe, CounterState, is_periodic}
 use Rattle.device_spec.specs.PitLaws.{pulses_of}
 use Rattle.device_spec.specs.PitPeriods.{IsAtLoad}

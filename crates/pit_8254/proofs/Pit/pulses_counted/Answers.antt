@@ -1,5 +1,4 @@
-use Rattle.std.proofs.Common.{refl, sym, ap, ◌∙◌}
-use Rattle.device_spec.specs.Pit.{PitState, rises}
+use Rattle.std.proofs.Common.{refl, sym, ◌∙◌}
 use Rattle.pit_8254.proofs.Runs.{all_pulses, rises_are}
 use Rattle.pit_8254.proofs.Pit.pulses_counted.Goals as goal
 

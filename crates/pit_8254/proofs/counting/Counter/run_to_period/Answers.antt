@@ -1,5 +1,4 @@
-use Rattle.std.proofs.Common.{arith, ap, ◌∙◌, sym}
-use Rattle.device_spec.specs.Pit.{CounterState}
+use Rattle.std.proofs.Common.{arith}
 use Rattle.pit_8254.proofs.Arrivals.{comes, arrives_high, arrives_low}
 use Rattle.pit_8254.proofs.Runs.{part_join, room_kept}
 use Rattle.pit_8254.proofs.counting.Counter.run_to_period.Goals as goal

@@ -1,5 +1,4 @@
-use Rattle.std.proofs.Common.{refl, ap, arith, ◌≤◌}
-use Rattle.pit_8254.specs.Quiet.{quiet_pulses}
+use Rattle.std.proofs.Common.{refl, arith}
 use Rattle.pit_8254.proofs.Runs.{part_quiet}
 use Rattle.pit_8254.proofs.counting.Counter.skip.Goals as goal
 

@@ -1,6 +1,4 @@
-use Rattle.std.proofs.Common.{◌≡◌, ◌+◌, refl, ap}
-use Rattle.device_spec.specs.Pit.{CounterState}
-use Rattle.pit_8254.specs.Quiet.{rise}
+use Rattle.std.proofs.Common.{refl}
 use Rattle.pit_8254.proofs.Runs.{part_pulse}
 use Rattle.pit_8254.proofs.Settled.{pulse_settles}
 use Rattle.pit_8254.proofs.counting.Counter.step.Goals as goal
