@@ -50,7 +50,7 @@ counts SquareWave gate c = is_counting gate c
 counts SoftwareStrobe gate c = is_counting gate c
 counts HardwareStrobe gate c = c.started
 
--- more pulses than are ever asked for at once
+-- as many pulses as can be asked for at once
 abbrev pub every_pulse : ℕ
 every_pulse = 0xFFFF_FFFF
 

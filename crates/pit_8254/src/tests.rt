@@ -147,7 +147,7 @@ fn one_by_one(pit: &mut Pit, pulses: u32) -> Rises {
     }
 }
 
-/// Puts counters 0 and 2 to a mode, 0 to 5, and a count, in binary or in decimal, with the gate of counter 2 at a level.
+/// A timer with counters 0 and 2 at a mode, 0 to 5, and a count, in binary or in decimal, and gate 2 at a level.
 fn programmed(mode: u8, decimal: bool, count: u8, gate: bool) -> Pit {
     let mut pit = Pit::new();
     let word = 0x10 | mode % 8 * 2 | u8::from(decimal);

@@ -11,7 +11,7 @@ use crate::word::{CountNotation, CountingMode};
 use board_base::Steps;
 use std::sync::ledger::Ledger;
 
-/// More pulses than are ever asked for at once.
+/// As many pulses as can be asked for at once.
 const EVERY_PULSE: u32 = u32::MAX;
 
 impl Counter {
@@ -124,7 +124,6 @@ pub struct Run {
 
 impl Counter {
     /// Passes the quiet pulses that come next, as many as are left.
-    #[tactic(auto, using(crate::proofs::Runs::part_quiet))]
     fn skip(&mut self, gate: bool, run: Run) -> Run
         ensures part { IsPart gate self.old self.new run result }
         ensures left { result.left ≡ run.left - quiet_pulses gate self.old }
@@ -138,7 +137,6 @@ impl Counter {
     }
 
     /// Makes one pulse of those that are left.
-    #[tactic(auto, using(crate::proofs::Runs::part_pulse, crate::proofs::Settled::pulse_settles))]
     fn step<L: Ledger>(&mut self, gate: bool, run: Run, steps: &mut Steps<L>) -> Run
         requires some { 0 < run.left }
         requires room { HasRoom run }
@@ -156,7 +154,6 @@ impl Counter {
     }
 
     /// Passes the quiet pulses that come next and makes one more, as far as pulses are left.
-    #[tactic(auto, using(crate::proofs::Runs::part_join, crate::proofs::Runs::room_kept))]
     fn advance<L: Ledger>(&mut self, gate: bool, run: Run, steps: &mut Steps<L>) -> Run
         requires room { HasRoom run }
         ensures part { IsPart gate self.old self.new run result }
@@ -232,7 +229,6 @@ impl Counter {
     }
 
     /// Whole periods leave the counter as it was, and OUT rises once in each.
-    #[tactic(auto, using(crate::proofs::Periods::part_periods))]
     fn pass_periods(&self, gate: bool, run: Run) -> Run
         requires at_period { IsAtPeriod gate self.now }
         requires room { HasRoom run }
