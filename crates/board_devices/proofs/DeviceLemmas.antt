@@ -1,7 +1,7 @@
 -- What an entry leaves of each device.
-use Rattle.std.proofs.Common.{◌≡◌, ℕ, zero, suc, ◌+◌, ◌-◌, ◌<◌, ◌≤◌, Bool, true, false, ◌||◌, ◌&&◌, List, [], ◌∷◌, Option, Some, None, length, get_or, refl, sym, ◌∙◌, ap, subst, arith, inl, inr}
+use Rattle.std.proofs.Common.{◌≡◌, ℕ, ◌+◌, ◌<◌, ◌≤◌, Bool, true, false, ◌||◌, ◌&&◌, List, [], ◌∷◌, Option, Some, None, length, get_or, refl, sym, ◌∙◌, ap, subst, arith, inl, inr}
 use Rattle.std.proofs.Math.Bool.{or-false, and-false}
-use Rattle.std.proofs.Common.{◌*◌, ◌/◌, ◌%◌, add-one, replicate, eq-eqb, ne_eqb, get_or-set_same, get_or-set_other}
+use Rattle.std.proofs.Common.{◌*◌, ◌/◌, ◌%◌, replicate, eq-eqb, ne_eqb, get_or-set_same, get_or-set_other}
 use Rattle.std.proofs.lemmas.Bool.Decides.{nat_tests}
 use Rattle.std.proofs.lemmas.Bool.{cases_eq, cases_Bool, lt-ltb, le-leb}
 use Rattle.std.proofs.lemmas.List.{get_or-replicate, ext_get_or, length-map, get_or-map}
@@ -13,7 +13,6 @@ use Rattle.ata_pio.specs.declared.ata.AtaOpen.{AtaOpen}
 use Rattle.std.specs.Prelude.{◌↔◌, is_some, Result, Err, ◌==◌, unwrap_or, map, option_map, slice_index_or, slice_set, if◌then◌else◌}
 use Rattle.std.specs.Option.{option_map_or}
 use Rattle.board_base.specs.declared.access.PortAccess.{PortAccess}
-use Rattle.board_base.specs.declared.moment.Moment.{Moment}
 use Rattle.board_base.specs.declared.target.Dev.{Dev}
 use Rattle.board_base.specs.declared.target.Dev.TheVariants.{Confadd, Reset, Pic0, Pic1, Pit, System, Keyboard, Clock, Elcr, Ata, Wires, Vector, Spurious}
 use Rattle.board_base.specs.Access.{bytes_of}
@@ -22,12 +21,11 @@ use Rattle.device_spec.specs.Clock.{Clock as ClockState, power_on as clock_at_po
 use Rattle.device_spec.specs.Elcr.{Triggers, triggers_at_reset}
 use Rattle.device_spec.specs.Ata.Steps.{after_reset as disk_after_reset}
 use Rattle.device_spec.proofs.RoutingLaws.{reserved-rest}
-use Rattle.device_spec.specs.Pair.{Pair, levels_at_power_on, port_byte, pair_after_lines, pair_at_reset, pair_after_acknowledge}
+use Rattle.device_spec.specs.Pair.{Pair, levels_at_power_on, port_byte, pair_after_lines, pair_at_reset}
 use Rattle.device_spec.specs.Pit.{port_read}
 use Rattle.device_spec.specs.Clock.{read_value}
 use Rattle.device_spec.specs.Elcr.{trigger_byte}
 use Rattle.device_spec.specs.Ata.State.{Disk, is_disk_length, power_on as disk_at_power_on}
-use Rattle.device_spec.specs.Ata.Steps.{after_bad}
 use Rattle.board_spec.specs.declared.event.Event.{Event}
 use Rattle.board_spec.specs.declared.event.Event.TheVariants.{Memory, Wide, Port, Look as LookAt, Ack, Pulses, Time, Wire, Line, BadSector}
 use Rattle.board_spec.specs.declared.event.Reply.{Reply}
@@ -601,10 +599,6 @@ pub levels_pulsed : (setup : Setup) (history : List Entry) (timer later : PitSta
 unfolding levels_with
 levels_pulsed setup history timer later = rw (timer_line setup history later) refl
 
-pub one_pulse : (k : ℕ) (timer : PitState) → pulses 1 (pulses k timer) ≡ pulses (k + 1) timer
-unfolding pulses
-one_pulse k timer = rw (add-one k) refl
-
 -- the devices after so many pulses of an event
 pub record Pulsed (setup : Setup) (history : List Entry) (old devices : DevicesValue) (levels : List Bool) (elcr k : ℕ) : Type 0 where
   pub timer : devices.timer ≡ pulses k (timer_of history)
@@ -613,49 +607,9 @@ pub record Pulsed (setup : Setup) (history : List Entry) (old devices : DevicesV
   pub levels_are : levels ≡ levels_with setup history (pulses k (timer_of history))
   pub elcr_is : elcr ≡ elcr_of history
 
-pub no_pulses : (setup : Setup) (history : List Entry) (devices : DevicesValue) (levels : List Bool) (elcr : ℕ) → AreDevicesOf setup history devices →
-    levels ≡ levels_of setup history → elcr ≡ devices.triggers.low + 0x100 * devices.triggers.high → Pulsed setup history devices devices levels elcr 0
-unfolding pulses pair_pulsed
-no_pulses setup history devices levels elcr are lines bits = record {
-  timer = are.others.timer;
-  pair = are.pair;
-  others = refl;
-  levels_are = lines;
-  elcr_is = bits ∙ ap (λ (t : Triggers). t.low + 0x100 * t.high) are.others.triggers;
-}
-
-other_pair : (old devices : DevicesValue) (timer : PitState) (pair : Pair) → devices ≡ record old { timer = timer; pair = pair } →
+pub other_pair : (old devices : DevicesValue) (timer : PitState) (pair : Pair) → devices ≡ record old { timer = timer; pair = pair } →
     devices ≡ record old { timer = devices.timer; pair = devices.pair }
 other_pair old devices timer pair is = rw is refl
-
-pub more_pulses : (setup : Setup) (history : List Entry) (old before after : DevicesValue) (levels : List Bool) (elcr k : ℕ) →
-    Pulsed setup history old before levels elcr k →
-    after ≡ record before {
-      timer = pulses 1 before.timer;
-      pair = pair_after_lines before.pair (slice_set levels 0 (out_of 0 (pulses 1 before.timer))) elcr;
-    } →
-    Pulsed setup history old after (slice_set levels 0 (out_of 0 (pulses 1 before.timer))) elcr (k + 1)
-unfolding pair_pulsed
-more_pulses setup history old before after levels elcr k so is =
-    let timer : pulses 1 before.timer ≡ pulses (k + 1) (timer_of history) =
-    ap (λ (t : PitState). pulses 1 t) so.timer ∙ one_pulse k (timer_of history) in
-    let lines : slice_set levels 0 (out_of 0 (pulses 1 before.timer)) ≡ levels_with setup history (pulses (k + 1) (timer_of history)) =
-    rw (so.levels_are, timer) (sym (levels_pulsed setup history (pulses k (timer_of history)) (pulses (k + 1) (timer_of history)))) in
-    record {
-      timer = ap (λ (d : DevicesValue). d.timer) is ∙ timer;
-      pair =
-          ap (λ (d : DevicesValue). d.pair) is
-          ∙ rw (lines, so.pair, so.elcr_is, add-one k) refl;
-      others =
-          other_pair old after _ _
-          (is
-          ∙ ap (λ (d : DevicesValue). record d {
-            timer = pulses 1 before.timer;
-            pair = pair_after_lines before.pair (slice_set levels 0 (out_of 0 (pulses 1 before.timer))) elcr;
-          }) so.others);
-      levels_are = lines;
-      elcr_is = so.elcr_is;
-    }
 
 -- after all of them the devices are those of the history with the event
 pub all_pulses : (setup : Setup) (history : List Entry) (entry : Entry) (old devices : DevicesValue) (levels : List Bool) (elcr count : ℕ) →

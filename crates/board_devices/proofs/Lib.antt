@@ -1,1 +1,2 @@
 pub mod DeviceLemmas
+mod PulseLemmas

@@ -1,5 +1,5 @@
 -- The devices as they stand are those that a history left.
-use Rattle.std.specs.Prelude.{ℕ, ◌≡◌, ◌<◌, ◌≤◌, ◌&&◌, Bool, false, List, map, slice_index_or, Option}
+use Rattle.std.specs.Prelude.{ℕ, ◌≡◌, ◌<◌, ◌≤◌, ◌&&◌, Bool, false, List, slice_index_or, Option}
 use Rattle.device_spec.specs.Pit.{PitState}
 use Rattle.device_spec.specs.Pair.{Pair}
 use Rattle.device_spec.specs.Clock.{Clock}

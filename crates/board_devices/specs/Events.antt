@@ -1,10 +1,8 @@
 -- What an entry asks of the devices.
-use Rattle.std.specs.Prelude.{ℕ, ◌≡◌, ◌==◌, ◌&&◌, Bool, true, false, List, Option, Some, None}
-use Rattle.board_base.specs.declared.access.Width.{Width}
+use Rattle.std.specs.Prelude.{ℕ, ◌≡◌, ◌==◌, ◌&&◌, Bool, true, false, List, Option, Some}
 use Rattle.board_base.specs.declared.access.PortAccess.{PortAccess}
 use Rattle.board_base.specs.declared.target.Dev.{Dev}
 use Rattle.board_base.specs.declared.target.Dev.TheVariants.{Pic0, Pic1, Pit, System, Clock, Elcr, Ata}
-use Rattle.board_base.specs.Access.{bytes_of}
 use Rattle.board_spec.specs.declared.event.Event.{Event}
 use Rattle.board_spec.specs.declared.event.Event.TheVariants.{Memory, Wide, Port, Look}
 use Rattle.board_spec.specs.declared.event.Entry.{Entry}

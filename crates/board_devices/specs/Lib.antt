@@ -2,3 +2,4 @@ pub mod Devices
 pub mod Events
 pub mod Steps
 pub mod Laws
+pub mod PulsedPair

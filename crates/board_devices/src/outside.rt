@@ -1,9 +1,8 @@
 //! What comes from outside the bus: pulses of the timer's clock, moments, levels, and sectors that go bad. After each
-//! event, and after each single pulse, the lines reach the pair.
+//! event, and as if after each single pulse, the lines reach the pair.
 
-ghost use Rattle.std.specs.Prelude.{◌≡◌, ◌<◌, ◌≤◌, ◌∷◌, List, length, slice_set, option_map, true};
-ghost use Rattle.device_spec.specs.Pit.{out_of, pulses};
-ghost use Rattle.device_spec.specs.Pair.{pair_after_lines};
+ghost use Rattle.std.specs.Prelude.{◌≡◌, ◌<◌, ◌≤◌, ◌∷◌, List, length, nat_lt, slice_set, option_map, true};
+ghost use Rattle.device_spec.specs.Pit.{out_of, pulses, rises};
 ghost use Rattle.device_spec.specs.Clock.{after_moment};
 ghost use Rattle.device_spec.specs.Told.{civil_time};
 ghost use Rattle.device_spec.specs.Ata.Steps.{after_bad};
@@ -14,11 +13,14 @@ ghost use Rattle.board_spec.specs.Setup.{Setup};
 ghost use Rattle.board_spec.specs.InRange.{is_free_line};
 ghost use Rattle.board_devices.specs.Devices.{AreDevicesOf, AreRoutesOf};
 ghost use Rattle.board_devices.specs.Events.{Asks};
+ghost use Rattle.board_devices.specs.PulsedPair.{pair_after_run};
 
 use crate::devices::{Devices, LINE_COUNT};
 use crate::lines::TIMER_LINE;
 use board_base::Moment;
+use pic_pair::PicPair;
 use pirq_router::Pirq;
+use pit_8254::Rises;
 
 impl Devices {
     /// So many pulses of the timer's clock input.
@@ -27,11 +29,9 @@ impl Devices {
             → Asks history entry (Pulses count) → AreRoutesOf setup history routes.now
             → AreDevicesOf setup (entry ∷ history) self.new }
     {
-        let mut levels = self.levels(routes);
+        let levels = self.levels(routes);
         let elcr = self.elcr();
-        for _ in 0..count {
-            levels[TIMER_LINE] = self.pulse(levels, elcr);
-        }
+        self.run(count, levels, elcr);
     }
 
     /// Tells the clock a moment.
@@ -80,20 +80,17 @@ impl Devices {
 }
 
 impl Devices {
-    /// One pulse, after which the lines with these levels reach the pair, line 0 with the level of OUT 0, which is told.
+    /// So many pulses, after which the lines with these levels reach the pair.
     #[tactic(auto, unfolding(device_spec::specs::Pit::out_of))]
-    fn pulse(&mut self, levels: [bool; LINE_COUNT], elcr: u16) -> bool
-        ensures out { result ≡ out_of 0 (pulses 1 self.old.timer) }
+    fn run(&mut self, count: u32, levels: [bool; LINE_COUNT], elcr: u16)
         ensures after { self.new ≡ record self.old {
-          timer = pulses 1 self.old.timer;
-          pair = pair_after_lines self.old.pair (slice_set levels 0 (out_of 0 (pulses 1 self.old.timer))) elcr;
+          timer = pulses count self.old.timer;
+          pair = pair_after_run levels elcr (nat_lt 0 (rises count self.old.timer))
+              (out_of 0 (pulses count self.old.timer)) self.old.pair;
         } }
     {
-        let mut levels = levels;
-        let out = self.timer.pulses(1).out0;
-        levels[TIMER_LINE] = out;
-        self.pair.lines(levels, elcr);
-        out
+        let rises = self.timer.pulses(count);
+        reach(&mut self.pair, levels, elcr, rises);
     }
 
     /// Tells the clock a moment.
@@ -130,4 +127,24 @@ impl Devices {
             disk.mark_bad(sector);
         }
     }
+}
+
+/// The lines reach the pair after pulses, and leave what they would have left after each single one: a rise of line 0
+/// that stands is a level 0 and then a level 1, whatever came before it.
+fn reach(pair: &mut PicPair, levels: [bool; LINE_COUNT], elcr: u16, rises: Rises)
+    ensures pair { pair.new ≡ pair_after_run levels elcr (nat_lt 0 rises.rose) rises.out0 pair.old }
+{
+    if rises.rose > 0 && rises.out0 {
+        pair.lines(with_timer(levels, false), elcr);
+    }
+    pair.lines(with_timer(levels, rises.out0), elcr);
+}
+
+/// The levels of the lines, with that of the timer's line.
+fn with_timer(levels: [bool; LINE_COUNT], timer: bool) -> [bool; LINE_COUNT]
+    ensures levels { result ≡ slice_set levels 0 timer }
+{
+    let mut levels = levels;
+    levels[TIMER_LINE] = timer;
+    levels
 }

@@ -6,14 +6,14 @@ mod ExampleDisk
 mod ExamplePair
 mod ExampleRouting
 mod ExampleTimer
-mod PairLaws
+pub mod PairLaws
 mod PicLaws
 mod PicPlaces
 mod PitBytes
-mod PitCounts
+pub mod PitCounts
 mod PitLatches
-mod PitPeriods
-mod PitPulses
+pub mod PitPeriods
+pub mod PitPulses
 mod PitReadBacks
 mod PitWaiting
 pub mod RoutingLaws

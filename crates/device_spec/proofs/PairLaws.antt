@@ -26,7 +26,7 @@ set-again : (latches : Levels) (two : ℕ) → with_level (with_level latches tw
 set-again latches two =
     levels_where-same _ _ (λ level small. rw (has-levels_where (λ l. eqb l two || has latches l) level small) (set-already level two latches))
 
-inputs-again : (chip : Chip) (inputs triggers : Levels) → chip_after_inputs (chip_after_inputs chip inputs triggers) inputs triggers ≡ chip_after_inputs chip inputs triggers
+pub inputs-again : (chip : Chip) (inputs triggers : Levels) → chip_after_inputs (chip_after_inputs chip inputs triggers) inputs triggers ≡ chip_after_inputs chip inputs triggers
 inputs-again chip inputs triggers =
     ap (λ l. record chip { latches = l; inputs = inputs; triggers = triggers }) (latches-stay _ inputs)
 
@@ -40,13 +40,13 @@ pair-equal : {a b c d : Chip} → a ≡ c → b ≡ d → ◌≡◌ {A = Pair} (
 pair-equal p q = rw (p, q) refl
 
 -- a pair whose slave asks, with its request latched at the master
-abbrev latched : Pair → Pair
+abbrev pub latched : Pair → Pair
 latched pair = record pair { master = record pair.master { latches = with_level pair.master.latches 2 } }
 
-settled-asks : (pair : Pair) → is_some (interrupt pair.slave) ≡ true → settled pair ≡ latched pair
+pub settled-asks : (pair : Pair) → is_some (interrupt pair.slave) ≡ true → settled pair ≡ latched pair
 settled-asks pair asks = ap (λ b. cond b (latched pair) pair) asks
 
-settled-quiet : (pair : Pair) → is_some (interrupt pair.slave) ≡ false → settled pair ≡ pair
+pub settled-quiet : (pair : Pair) → is_some (interrupt pair.slave) ≡ false → settled pair ≡ pair
 settled-quiet pair quiet = ap (λ b. cond b (latched pair) pair) quiet
 
 -- the two chips after new inputs

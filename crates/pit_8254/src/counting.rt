@@ -1,8 +1,10 @@
-ghost use Rattle.std.specs.Prelude.{◌≡◌, Some};
+ghost use Rattle.std.specs.Prelude.{◌≡◌, ◌≤◌, Some};
 ghost use Rattle.device_spec.specs.Pit.{programmed, reset_counter, element_bytes, status_byte, latch_count, latch_status, control, read_back, read_live, read, count_of_bytes, complete, take_low, take_byte, write, gate_rises, gate_falls};
 ghost use Rattle.pit_8254.specs.View.{mode_view, access_view, notation_view, latch_view};
+ghost use Rattle.pit_8254.specs.Quiet.{least_count};
 
 mod pulsing;
+mod running;
 
 use crate::latch::CountLatch;
 use crate::word::{ByteAccess, CountNotation, CountingMode};
@@ -33,6 +35,7 @@ pub struct Counter {
 impl Model for Counter {
     ghost use Rattle.device_spec.specs.Pit.{CounterState};
     ghost use Rattle.pit_8254.specs.View.{mode_view, access_view, notation_view, latch_view};
+    ghost use Rattle.pit_8254.specs.Quiet.{HasCount};
 
     ghost Value = { CounterState };
 
@@ -55,12 +58,18 @@ impl Model for Counter {
       expired = c.expired;
       trigger = c.trigger;
     } };
+
+    ghost invariant = { λ c. HasCount (mode_view c.mode) c.count c.load_asked c.started };
 }
 
 impl Counter {
     /// A counter after a control word.
     #[tactic(auto, unfolding(device_spec::specs::Pit::programmed))]
-    pub fn programmed(access: ByteAccess, mode: CountingMode, notation: CountNotation) -> Counter
+    pub(crate) fn programmed(
+        access: ByteAccess,
+        mode: CountingMode,
+        notation: CountNotation,
+    ) -> Counter
         ensures state { result ≡ programmed (access_view access) (mode_view mode) (notation_view notation) }
     {
         Counter {
@@ -96,7 +105,7 @@ impl Counter {
     }
 
     /// The level of OUT.
-    pub fn out(&self) -> bool
+    pub(crate) fn out(&self) -> bool
         ensures level { result ≡ self.now.out }
     {
         self.out
@@ -104,7 +113,7 @@ impl Counter {
 
     /// A control word for this counter: the counter latch command, or the counter anew.
     #[tactic(auto, unfolding(device_spec::specs::Pit::control))]
-    pub fn control(&mut self, word: u8)
+    pub(crate) fn control(&mut self, word: u8)
         ensures state { self.new ≡ control word self.old }
     {
         match ByteAccess::of_word(word) {
@@ -121,7 +130,7 @@ impl Counter {
 
     /// A read-back command for this counter: bit 5 at 0 latches the count, bit 4 at 0 the status.
     #[tactic(auto, unfolding(device_spec::specs::Pit::read_back))]
-    pub fn read_back(&mut self, word: u8)
+    pub(crate) fn read_back(&mut self, word: u8)
         ensures state { self.new ≡ read_back word self.old }
     {
         if word / 32 % 2 == 0 {
@@ -181,7 +190,7 @@ impl Counter {
 
     /// A read of the counter's port: a latched status, else a latched count, else CE live.
     #[tactic(auto, unfolding(device_spec::specs::Pit::read))]
-    pub fn read(&mut self) -> u8
+    pub(crate) fn read(&mut self) -> u8
         ensures byte { result ≡ (read self.old).0 }
         ensures state { self.new ≡ (read self.old).1 }
     {
@@ -223,7 +232,7 @@ impl Counter {
 
     /// A write of a byte at the counter's port; in mode 0 it sets OUT to 0.
     #[tactic(auto, unfolding(device_spec::specs::Pit::write))]
-    pub fn write(&mut self, byte: u8)
+    pub(crate) fn write(&mut self, byte: u8)
         ensures state { self.new ≡ write byte self.old }
     {
         if self.mode.is_terminal_count() {
@@ -272,6 +281,7 @@ impl Counter {
     #[tactic(auto, unfolding(device_spec::specs::Pit::count_of_number))]
     fn count_of_bytes(&self, low: u8, high: u8) -> u32
         ensures count { result ≡ count_of_bytes self.now.mode self.now.notation low high }
+        ensures least { least_count self.now.mode ≤ result }
     {
         let notation = self.notation;
         let number = notation.byte_value(low) + notation.byte_values() * notation.byte_value(high);
@@ -284,7 +294,7 @@ impl Counter {
 
     /// A rise of the gate, which is a trigger in modes 1, 2, 3 and 5.
     #[tactic(auto, unfolding(device_spec::specs::Pit::gate_rises))]
-    pub fn gate_rises(&mut self)
+    pub(crate) fn gate_rises(&mut self)
         ensures state { self.new ≡ gate_rises self.old }
     {
         self.trigger = self.trigger || self.mode.is_triggered_by_gate();
@@ -292,7 +302,7 @@ impl Counter {
 
     /// A fall of the gate, which sets OUT to 1 in modes 2 and 3.
     #[tactic(auto, unfolding(device_spec::specs::Pit::gate_falls))]
-    pub fn gate_falls(&mut self)
+    pub(crate) fn gate_falls(&mut self)
         ensures state { self.new ≡ gate_falls self.old }
     {
         self.out = self.out || self.mode.is_periodic();

@@ -4,14 +4,16 @@
 #![tactic(auto)]
 
 ghost use Rattle.std.specs.Prelude.{◌≡◌, ◌+◌, ◌<◌, ◌≤◌};
-ghost use Rattle.device_spec.specs.Pit.{IsTimerPort, reset, port_read, port_write, read_back_chosen, write_control, set_gate2, out_of, pulse_all, pulses, rises};
+ghost use Rattle.device_spec.specs.Pit.{IsTimerPort, reset, port_read, port_write, read_back_chosen, write_control, set_gate2, out_of, pulses, rises};
 
 mod counting;
 mod latch;
 mod word;
 
-use counting::Counter;
-use std::marker::Model;
+use board_base::Steps;
+pub use counting::Counter;
+use std::marker::{Brand, Model};
+use std::sync::ledger::{Blank, Ledger};
 
 /// The port of counter 0; those of counters 1 and 2 follow.
 pub const COUNTER_0: u16 = 0x40;
@@ -142,34 +144,41 @@ impl Pit {
     }
 
     /// Runs the clock for `n` pulses.
-    #[tactic(auto, unfolding(device_spec::specs::Pit::pulses, device_spec::specs::Pit::rises))]
     pub fn pulses(&mut self, n: u32) -> Rises
         ensures state { self.new ≡ pulses n self.old }
         ensures rose { result.rose ≡ rises n self.old }
         ensures out0 { result.out0 ≡ self.new.counter0.out }
     {
-        let mut rose = 0;
-        for _ in 0..n {
-            let was = self.counter0.out();
-            self.pulse();
-            if self.counter0.out() && !was {
-                rose += 1;
-            }
-        }
+        self.pulses_by::<Brand>(n, Blank::new(1))
+    }
+
+    /// Runs the clock for `n` pulses, for the ledger that a blank opens.
+    fn pulses_by<L: Ledger>(&mut self, n: u32, blank: Blank) -> Rises
+        requires name { blank.name ≡ L.name }
+        requires parts { blank.parts ≡ L.parts }
+        requires some_part { 0 < L.parts }
+        ensures state { self.new ≡ pulses n self.old }
+        ensures rose { result.rose ≡ rises n self.old }
+        ensures out0 { result.out0 ≡ self.new.counter0.out }
+    {
+        let mut steps = Steps::<L>::new(blank);
+        self.pulses_counted(n, &mut steps)
+    }
+
+    /// Runs the clock for `n` pulses, in at most four steps a counter, however many they are.
+    pub fn pulses_counted<L: Ledger>(&mut self, n: u32, steps: &mut Steps<L>) -> Rises
+        ensures state { self.new ≡ pulses n self.old }
+        ensures rose { result.rose ≡ rises n self.old }
+        ensures out0 { result.out0 ≡ self.new.counter0.out }
+        ensures steps { steps.new ≤ steps.old + 12 }
+    {
+        let rose = self.counter0.pulses(true, n, steps);
+        let _ = self.counter1.pulses(true, n, steps);
+        let _ = self.counter2.pulses(self.gate2, n, steps);
         Rises {
             rose,
             out0: self.counter0.out(),
         }
-    }
-
-    /// One pulse of the clock, which all counters share.
-    #[tactic(auto, unfolding(device_spec::specs::Pit::pulse_all))]
-    fn pulse(&mut self)
-        ensures state { self.new ≡ pulse_all self.old }
-    {
-        self.counter0.pulse(true);
-        self.counter1.pulse(true);
-        self.counter2.pulse(self.gate2);
     }
 
     /// The level of OUT of counter 0, 1 or 2.

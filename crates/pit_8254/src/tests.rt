@@ -134,3 +134,56 @@ fn bytes_go_low_and_then_high(rt: HostRuntime) {
         ],
     );
 }
+
+/// So many pulses, by a call for each.
+fn one_by_one(pit: &mut Pit, pulses: u32) -> Rises {
+    let mut rose = 0u32;
+    for _ in 0..pulses {
+        rose = rose.wrapping_add(pit.pulses(1).rose);
+    }
+    Rises {
+        rose,
+        out0: pit.out(0),
+    }
+}
+
+/// A timer with counters 0 and 2 at a mode, 0 to 5, and a count, in binary or in decimal, and gate 2 at a level.
+fn programmed(mode: u8, decimal: bool, count: u8, gate: bool) -> Pit {
+    let mut pit = Pit::new();
+    let word = 0x10 | mode % 8 * 2 | u8::from(decimal);
+    pit.port_write(CONTROL_WORD, word);
+    pit.port_write(CONTROL_WORD, word | 0x80);
+    rewrite(&mut pit, count);
+    pit.gate2(true);
+    pit.gate2(gate);
+    pit
+}
+
+fn rewrite(pit: &mut Pit, count: u8) {
+    pit.port_write(COUNTER_0, count);
+    pit.port_write(COUNTER_2, count);
+}
+
+/// Status and count of counters 0 and 2.
+fn read_back(pit: &mut Pit) -> [u8; 4] {
+    pit.port_write(CONTROL_WORD, 0xCA);
+    let (status0, count0) = (pit.port_read(COUNTER_0), pit.port_read(COUNTER_0));
+    let (status2, count2) = (pit.port_read(COUNTER_2), pit.port_read(COUNTER_2));
+    [status0, count0, status2, count2]
+}
+
+#[test]
+fn many_pulses_are_single_ones(rt: HostRuntime) {
+    for case in 0..1536u32 {
+        let (mode, count) = ((case % 6) as u8, (case / 24) as u8);
+        let (decimal, gate) = (case / 6 % 2 == 0, case / 12 % 2 == 0);
+        let mut many = programmed(mode, decimal, count, gate);
+        let mut single = programmed(mode, decimal, count, gate);
+        for (pulses, next) in [(0, 9), (1, 7), (40, 64), (3, 3), (131, 5), (77, 1)] {
+            assert_eq!(rt; many.pulses(pulses), one_by_one(&mut single, pulses));
+            assert_eq!(rt; read_back(&mut many), read_back(&mut single), "case {case}");
+            rewrite(&mut many, next);
+            rewrite(&mut single, next);
+        }
+    }
+}

@@ -1,15 +1,20 @@
-ghost use Rattle.std.specs.Prelude.{◌≡◌, true, false};
+ghost use Rattle.std.specs.Prelude.{◌≡◌, ◌+◌, true, false};
 ghost use Rattle.device_spec.specs.Pit.{TerminalCount, OneShot, RateGenerator, SquareWave, SoftwareStrobe, HardwareStrobe, load, load_with, count_down, count_to_end, count_to_reload, half_end, count_half, count_to_strobe, is_counting, pulse_by_mode, pulse};
 
 use super::Counter;
 use crate::word::CountingMode;
+use board_base::Steps;
+use std::sync::ledger::Ledger;
 
 impl Counter {
-    /// One pulse of the counter's clock with its gate at this level, by the datasheet's description of its mode.
+    /// One pulse of the counter's clock with its gate at this level, by the datasheet's description of its mode. It
+    /// counts as one step.
     #[tactic(auto, unfolding(device_spec::specs::Pit::pulse, device_spec::specs::Pit::pulse_by_mode))]
-    pub fn pulse(&mut self, gate: bool)
+    pub fn pulse<L: Ledger>(&mut self, gate: bool, steps: &mut Steps<L>)
         ensures state { self.new ≡ pulse gate self.old }
+        ensures step { steps.new ≡ steps.old + 1 }
     {
+        steps.tick();
         let triggered = self.trigger && self.count.is_some();
         self.trigger = false;
         match self.mode {
@@ -100,7 +105,7 @@ impl Counter {
     }
 
     /// Whether the counter was started and its gate, at this level, lets it count.
-    fn is_counting(&self, gate: bool) -> bool
+    pub(super) fn is_counting(&self, gate: bool) -> bool
         ensures counting { result ≡ is_counting gate self.now }
     {
         self.started && gate
@@ -180,7 +185,7 @@ impl Counter {
     }
 
     /// The value of CE at which a half ends: with an odd count the first half is a pulse longer.
-    fn half_end(&self) -> u32
+    pub(super) fn half_end(&self) -> u32
         ensures end { result ≡ half_end self.now }
     {
         if self.out && self.in_use % 2 == 1 {

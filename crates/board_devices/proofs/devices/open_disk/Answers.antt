@@ -1,4 +1,4 @@
-use Rattle.std.proofs.Common.{rules, ◌≡◌, ◌∙◌, ap, sym, refl, subst, arith, ℕ, Some, None, Err, length, List, Option}
+use Rattle.std.proofs.Common.{◌≡◌, ◌∙◌, ap, refl, Err, length}
 use Rattle.ata_pio.specs.declared.ata.AtaOpen.{AtaOpen}
 use Rattle.board_devices.proofs.DeviceLemmas.{fault_named, opened_disk}
 use Rattle.board_devices.proofs.devices.open_disk.Goals as goal

@@ -1,6 +1,6 @@
-use Rattle.std.proofs.Common.{rules, ◌≡◌, ◌∙◌, ◌∷◌, List, ap, sym, refl, subst, arith, Some, None, Option, Bool, ℕ, true, false, length}
-use Rattle.device_spec.specs.Pair.{Pair, pair_after_lines, pair_at_reset, pair_after_acknowledge}
-use Rattle.board_spec.specs.declared.event.Event.TheVariants.{Ack, Time, Wire, Line, BadSector}
+use Rattle.std.proofs.Common.{◌∙◌, ◌∷◌, ap, sym, refl, subst}
+use Rattle.device_spec.specs.Pair.{Pair, pair_after_lines, pair_after_acknowledge}
+use Rattle.board_spec.specs.declared.event.Event.TheVariants.{Ack}
 use Rattle.board_spec.specs.Interrupts.{levels_of, elcr_of}
 use Rattle.board_devices.specs.Devices.{DevicesValue, AreAfter}
 use Rattle.board_devices.proofs.DeviceLemmas.{all_asked, pair_asked, irqs_stay, same_disk, settled_as}

@@ -1,7 +1,4 @@
-use Rattle.std.proofs.Common.{rules, ◌≡◌, ◌∙◌, ◌∷◌, List, ap, sym, refl, subst, arith, Some, None, Option, Bool, ℕ, true, false, length}
-use Rattle.device_spec.specs.Pair.{Pair, pair_after_lines, pair_at_reset}
-use Rattle.board_spec.specs.Interrupts.{levels_of, elcr_of}
-use Rattle.board_devices.specs.Devices.{DevicesValue, AreAfter}
+use Rattle.std.proofs.Common.{refl}
 use Rattle.board_devices.proofs.DeviceLemmas.{at_power_on}
 use Rattle.board_devices.proofs.devices.Devices.at_power_on.Goals as goal
 

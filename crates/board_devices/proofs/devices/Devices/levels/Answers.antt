@@ -1,9 +1,7 @@
-use Rattle.std.proofs.Common.{◌≡◌, ◌∙◌, ap, sym, refl, length, get_or-set_same, get_or-set_other, length-set, arith, inl, inr, ℕ, ◌<◌, Bool, ◌||◌, subst}
+use Rattle.std.proofs.Common.{◌≡◌, ◌∙◌, ap, refl, get_or-set_same, get_or-set_other, length-set, arith, inl, inr, ◌<◌, Bool, ◌||◌}
 use Rattle.std.proofs.lemmas.Bool.{cases_eq}
-use Rattle.std.proofs.lemmas.List.{length-replicate}
-use Rattle.device_spec.specs.Routing.{is_line_driven}
 use Rattle.board_spec.specs.Devices.{timer_of}
-use Rattle.board_spec.specs.Interrupts.{own_level, pirq_levels, level_with}
+use Rattle.board_spec.specs.Interrupts.{own_level}
 use Rattle.board_devices.proofs.DeviceLemmas.{same_levels}
 use Rattle.board_devices.proofs.devices.Devices.levels.Goals as goal
 

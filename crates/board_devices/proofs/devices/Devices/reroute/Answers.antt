@@ -1,7 +1,6 @@
-use Rattle.std.proofs.Common.{rules, ◌≡◌, ◌∙◌, ◌∷◌, List, ap, sym, refl, subst, arith, Some, None, Option, Bool, ℕ, true, false, length}
-use Rattle.device_spec.specs.Pair.{Pair, pair_after_lines, pair_at_reset}
+use Rattle.std.proofs.Common.{◌∙◌, ◌∷◌, ap, sym}
+use Rattle.device_spec.specs.Pair.{Pair, pair_after_lines}
 use Rattle.board_spec.specs.Interrupts.{levels_of, elcr_of}
-use Rattle.board_devices.specs.Devices.{DevicesValue, AreAfter}
 use Rattle.board_devices.proofs.DeviceLemmas.{left_after, left_pair, settled_as}
 use Rattle.board_devices.proofs.devices.Devices.reroute.Goals as goal
 

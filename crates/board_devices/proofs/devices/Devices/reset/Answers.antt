@@ -1,4 +1,4 @@
-use Rattle.std.proofs.Common.{rules, ◌≡◌, ◌∙◌, ◌∷◌, List, ap, sym, refl, subst, arith, Some, None, Option, Bool, ℕ, true, false, length}
+use Rattle.std.proofs.Common.{◌≡◌, ◌∙◌, ◌∷◌, List, ap, sym, subst, Bool}
 use Rattle.device_spec.specs.Pair.{Pair, pair_after_lines, pair_at_reset}
 use Rattle.board_spec.specs.Interrupts.{levels_of, elcr_of}
 use Rattle.board_devices.specs.Devices.{DevicesValue, AreAfter}

@@ -1,6 +1,5 @@
-use Rattle.std.proofs.Common.{rules, ◌≡◌, ◌∙◌, ◌∷◌, List, ap, sym, refl, subst, arith, Some, Option, Bool, ℕ}
+use Rattle.std.proofs.Common.{◌≡◌, ◌∙◌, ◌∷◌, ap, sym, subst, Some}
 use Rattle.device_spec.specs.Pair.{Pair, pair_after_lines}
-use Rattle.board_spec.specs.declared.event.Event.TheVariants.{Ack, Time, Wire, Line, BadSector}
 use Rattle.board_spec.specs.Interrupts.{levels_of, elcr_of, pair_accessed}
 use Rattle.board_devices.specs.Devices.{DevicesValue, AreAfter}
 use Rattle.board_devices.specs.Steps.{after_write}

@@ -1,0 +1,407 @@
+-- Many pulses of the timer leave the pair as two sets of levels do.
+use Rattle.std.proofs.Common.{◌≡◌, ℕ, zero, suc, ◌+◌, ◌*◌, ◌/◌, ◌%◌, ◌<◌, ◌==◌, nat_lt, ◌&&◌, ◌||◌, not, Bool, true, false, cond, List, [], ◌∷◌, Option, Some, None, is_some, take, drop, inl, inr, refl, ap, sym, subst, ◌∙◌, arith}
+use Rattle.std.proofs.lemmas.Bool.{cases_Bool, or_parts, true≢false}
+use Rattle.std.proofs.lemmas.Bool.Decides.{nat_tests}
+use Rattle.std.specs.Prelude.{slice_set}
+use Rattle.device_spec.specs.Bits.{is_bit}
+use Rattle.device_spec.specs.Levels.{Levels, has, levels_where, no_levels, with_level, levels_of_byte}
+use Rattle.device_spec.specs.Pic.{Chip, Word, Icw2, Icw3, Icw4, interrupt, latches_after, chip_after_inputs, acknowledged, acknowledged_if, first_blocking, ended, chip_after_word, chip_after_odd_write, is_complete, chip_after_ocw2, chip_after_even_write, chip_after_write, chip_after_read}
+use Rattle.device_spec.specs.Pair.{Pair, settled, master_inputs, pair_at_reset, levels_at_power_on, pair_after_lines, pair_after_write, pair_after_read, pair_acknowledged, pair_acknowledged_at, pair_after_acknowledge, is_slave_port, is_odd_port}
+use Rattle.device_spec.specs.Pit.{PitState, out_of, pulses, rises}
+use Rattle.device_spec.specs.Elcr.{Triggers}
+use Rattle.board_base.specs.declared.access.PortAccess.{PortAccess}
+use Rattle.board_base.specs.declared.target.Dev.{Dev}
+use Rattle.board_base.specs.declared.target.Dev.TheVariants.{Pic0, Pic1}
+use Rattle.board_spec.specs.declared.event.Event.{Event}
+use Rattle.board_spec.specs.declared.event.Event.TheVariants.{Port, Ack, Pulses}
+use Rattle.board_spec.specs.declared.event.Reply.{Reply}
+use Rattle.board_spec.specs.declared.event.Entry.{Entry}
+use Rattle.board_spec.specs.Setup.{Setup}
+use Rattle.board_spec.specs.Registers.{is_hard_reset}
+use Rattle.board_spec.specs.Devices.{device_reached, timer_of}
+use Rattle.board_spec.specs.Interrupts.{levels_with, levels_of, elcr_of, pair_pulsed, pair_accessed, pair_after, pair_reset_or_after, pair_stepped, pair_of}
+use Rattle.board_spec.proofs.PairProofs.{pair_has_seen}
+use Rattle.board_devices.specs.Devices.{DevicesValue, AreDevicesOf}
+use Rattle.board_devices.specs.Events.{Asks}
+use Rattle.board_devices.specs.PulsedPair.{lines_at, pair_after_run}
+use Rattle.board_devices.proofs.DeviceLemmas.{levels_pulsed, other_pair, all_pulses}
+use Rattle.device_spec.proofs.Levels.{levels_where-same, has-levels_where}
+use Rattle.device_spec.proofs.PairLaws.{same-levels, inputs-again, settled-asks, settled-quiet, latched}
+
+-- ---- the latch of line 0 at the master
+
+-- a latch that is held although its input is 0
+abbrev is_stale : Chip → Bool
+is_stale chip = has chip.latches 0 && not (has chip.inputs 0)
+
+-- no such latch is held at line 0
+pub record IsFresh (pair : Pair) : Type 0 where
+  pub fresh : is_stale pair.master ≡ false
+
+abbrev of_master : Pair → Chip → Pair
+of_master pair chip = record pair { master = chip }
+
+same_zero : (latches : Levels) → has (with_level latches 2) 0 ≡ has latches 0
+unfolding levels_where
+same_zero latches = refl
+
+settled_stale : (pair : Pair) → is_stale (settled pair).master ≡ is_stale pair.master
+settled_stale pair = elim (cases_Bool (is_some (interrupt pair.slave))) [
+  | inl asks ↦
+      ap (λ (p : Pair). is_stale p.master) (settled-asks pair asks)
+      ∙ ap (λ (latch : Bool). latch && not (has pair.master.inputs 0)) (same_zero pair.master.latches)
+  | inr quiet ↦ ap (λ (p : Pair). is_stale p.master) (settled-quiet pair quiet)
+]
+
+settled_fresh : (pair : Pair) → IsFresh pair → IsFresh (settled pair)
+settled_fresh pair is = record { fresh = settled_stale pair ∙ is.fresh }
+
+-- ---- what an event leaves fresh
+
+edge_fresh : (latch before now : Bool) → (latch && not before) ≡ false → (((latch || (now && not before)) && not (before && not now)) && not now) ≡ false
+edge_fresh true true true h = refl
+edge_fresh true true false h = refl
+edge_fresh true false now h = absurd (true≢false h)
+edge_fresh false true true h = refl
+edge_fresh false true false h = refl
+edge_fresh false false true h = refl
+edge_fresh false false false h = refl
+
+inputs_fresh : (chip : Chip) (inputs triggers : Levels) → is_stale chip ≡ false → is_stale (chip_after_inputs chip inputs triggers) ≡ false
+unfolding levels_where
+inputs_fresh chip inputs triggers h = edge_fresh (has chip.latches 0) (has chip.inputs 0) (has inputs 0) h
+
+pub lines_fresh : (pair : Pair) (levels : List Bool) (elcr : ℕ) → IsFresh pair → IsFresh (pair_after_lines pair levels elcr)
+lines_fresh pair levels elcr is =
+    let low = master_inputs (take 8 levels) in
+    let triggers = master_inputs (levels_of_byte (elcr % 256)) in
+    settled_fresh
+    (record { master = chip_after_inputs pair.master low triggers; slave = chip_after_inputs pair.slave (drop 8 levels) (levels_of_byte (elcr / 256)) })
+    (record { fresh = inputs_fresh pair.master low triggers is.fresh })
+
+by_cond : (P : Chip → Type 0) (b : Bool) (x y : Chip) → P x → P y → P (cond b x y)
+by_cond P true x y p q = p
+by_cond P false x y p q = q
+
+record Fresh (chip : Chip) : Type 0 where
+  stays : is_stale chip ≡ false
+
+ended_fresh : (rotates : Bool) (chip : Chip) (level : Option ℕ) → Fresh chip → Fresh (ended rotates chip level)
+ended_fresh rotates chip None h = h
+ended_fresh rotates chip (Some level) h = record { stays = h.stays }
+
+word_fresh : (chip : Chip) (word : Word) (byte : ℕ) → Fresh chip → Fresh (chip_after_word chip word byte)
+word_fresh chip Icw2 byte h = record { stays = h.stays }
+word_fresh chip Icw3 byte h = h
+word_fresh chip Icw4 byte h = record { stays = h.stays }
+
+odd_fresh : (chip : Chip) (words : List Word) (byte : ℕ) → Fresh chip → Fresh (chip_after_odd_write chip words byte)
+odd_fresh chip [] byte h = record { stays = h.stays }
+odd_fresh chip (word ∷ later) byte h = word_fresh (record chip { awaited = later; is_ready = chip.is_ready || is_complete later }) word byte (record { stays = h.stays })
+
+none_fresh : (level : Bool) → (has no_levels 0 && not level) ≡ false
+unfolding levels_where
+none_fresh level = refl
+
+ocw2_fresh : (chip : Chip) (command level : ℕ) → Fresh chip → Fresh (chip_after_ocw2 chip command level)
+ocw2_fresh chip command level h =
+    by_cond Fresh (command == 0b001) _ _ (ended_fresh false chip (first_blocking chip) h)
+    (by_cond Fresh (command == 0b011) _ _ (ended_fresh false chip (Some level) h)
+    (by_cond Fresh (command == 0b101) _ _ (ended_fresh true chip (first_blocking chip) h)
+    (by_cond Fresh (command == 0b111) _ _ (ended_fresh true chip (Some level) h)
+    (by_cond Fresh (command == 0b100) _ _ (record { stays = h.stays })
+    (by_cond Fresh (command == 0b000) _ _ (record { stays = h.stays })
+    (by_cond Fresh (command == 0b110) _ _ (record { stays = h.stays }) h))))))
+
+even_fresh : (chip : Chip) (byte : ℕ) → Fresh chip → Fresh (chip_after_even_write chip byte)
+even_fresh chip byte h =
+    by_cond Fresh (is_bit byte 4) _ _ (record { stays = none_fresh (has chip.inputs 0) })
+    (by_cond Fresh (is_bit byte 3) _ _ (record { stays = h.stays }) (ocw2_fresh chip (byte / 32) (byte % 8) h))
+
+write_fresh : (chip : Chip) (is_odd : Bool) (byte : ℕ) → Fresh chip → Fresh (chip_after_write chip is_odd byte)
+unfolding chip_after_write
+write_fresh chip is_odd byte h = by_cond Fresh is_odd _ _ (odd_fresh chip chip.awaited byte h) (even_fresh chip byte h)
+
+fewer_fresh : (kept latch before : Bool) → (latch && not before) ≡ false → ((kept && latch) && not before) ≡ false
+fewer_fresh true latch before h = h
+fewer_fresh false latch before h = refl
+
+acknowledged_fresh : (chip : Chip) (level : ℕ) → Fresh chip → Fresh (acknowledged chip level)
+unfolding levels_where
+acknowledged_fresh chip level h = record { stays = fewer_fresh (not (0 == level)) (has chip.latches 0) (has chip.inputs 0) h.stays }
+
+acknowledged_if_fresh : (chip : Chip) (level : Option ℕ) → Fresh chip → Fresh (acknowledged_if chip level)
+acknowledged_if_fresh chip None h = h
+acknowledged_if_fresh chip (Some level) h = acknowledged_fresh chip level h
+
+unpolled : (chip : Chip) → Fresh chip → Fresh (record chip { polls = false })
+unpolled chip h = record { stays = h.stays }
+
+read_fresh : (chip : Chip) → Fresh chip → Fresh (chip_after_read chip)
+unfolding chip_after_read
+read_fresh chip h = by_cond Fresh chip.polls _ _ (unpolled (acknowledged_if chip (interrupt chip)) (acknowledged_if_fresh chip (interrupt chip) h)) h
+
+by_pair : (b : Bool) (x y : Pair) → IsFresh x → IsFresh y → IsFresh (cond b x y)
+by_pair true x y p q = p
+by_pair false x y p q = q
+
+pub pair_write_fresh : (pair : Pair) (port byte : ℕ) → IsFresh pair → IsFresh (pair_after_write pair port byte)
+pair_write_fresh pair port byte is =
+    let slave = record pair { slave = chip_after_write pair.slave (is_odd_port port) byte } in
+    let master = record pair { master = chip_after_write pair.master (is_odd_port port) byte } in
+    settled_fresh (cond (is_slave_port port) slave master) (by_pair (is_slave_port port) slave master (record { fresh = is.fresh }) (record { fresh = (write_fresh pair.master (is_odd_port port) byte (record { stays = is.fresh })).stays }))
+
+pub pair_read_fresh : (pair : Pair) (port : ℕ) → IsFresh pair → IsFresh (pair_after_read pair port)
+pair_read_fresh pair port is =
+    let slave = record pair { slave = chip_after_read pair.slave } in
+    let master = record pair { master = chip_after_read pair.master } in
+    settled_fresh (cond (is_slave_port port) slave master) (by_pair (is_slave_port port) slave master (record { fresh = is.fresh }) (record { fresh = (read_fresh pair.master (record { stays = is.fresh })).stays }))
+
+at_fresh : (pair : Pair) (level : Option ℕ) → IsFresh pair → IsFresh (pair_acknowledged_at pair level)
+at_fresh pair None is = is
+at_fresh pair (Some level) is = settled_fresh (pair_acknowledged pair level) (record { fresh = (acknowledged_fresh pair.master level (record { stays = is.fresh })).stays })
+
+pub pair_acknowledge_fresh : (pair : Pair) → IsFresh pair → IsFresh (pair_after_acknowledge pair)
+unfolding pair_after_acknowledge
+pair_acknowledge_fresh pair is = at_fresh pair (interrupt pair.master) is
+
+pub pair_reset_fresh : (levels : List Bool) → IsFresh (pair_at_reset levels)
+pair_reset_fresh levels = record { fresh = none_fresh _ }
+
+-- ---- line 0 rises and falls
+
+-- the levels of the master's lines
+abbrev low_lines : List Bool → Bool → Levels
+low_lines levels level = master_inputs (take 8 (slice_set levels 0 level))
+
+same_above : (levels : List Bool) (l : ℕ) → suc l < 8 → has (low_lines levels true) (suc l) ≡ has (low_lines levels false) (suc l)
+same_above [] l h = refl
+same_above (x ∷ rest) l h =
+    has-levels_where (λ level. not (level == 2) && has (take 8 (true ∷ rest)) level) (suc l) h
+    ∙ sym (has-levels_where (λ level. not (level == 2) && has (take 8 (false ∷ rest)) level) (suc l) h)
+
+high_same : (levels : List Bool) → drop 8 (slice_set levels 0 true) ≡ drop 8 (slice_set levels 0 false)
+high_same [] = refl
+high_same (x ∷ rest) = refl
+
+-- a level of the latches after its input
+abbrev after_at : Bool → Bool → Bool → Bool
+after_at latch before now = (latch || (now && not before)) && not (before && not now)
+
+stays_put : (latch now : Bool) → after_at latch now now ≡ latch
+stays_put true true = refl
+stays_put true false = refl
+stays_put false true = refl
+stays_put false false = refl
+
+rises_and_falls : (latch input : Bool) → (latch && not input) ≡ false → after_at (after_at latch input true) true false ≡ after_at latch input false
+rises_and_falls true true h = refl
+rises_and_falls true false h = absurd (true≢false h)
+rises_and_falls false true h = refl
+rises_and_falls false false h = refl
+
+module _ (rest : List Bool) (latches inputs : Levels) (fresh : (has latches 0 && not (has inputs 0)) ≡ false) where
+  abbrev high_at : Levels
+  high_at = master_inputs (take 8 (true ∷ rest))
+
+  abbrev low_at : Levels
+  low_at = master_inputs (take 8 (false ∷ rest))
+
+  first_high : has high_at 0 ≡ true
+  unfolding levels_where
+  first_high = refl
+
+  first_low : has low_at 0 ≡ false
+  unfolding levels_where
+  first_low = refl
+
+  base : (l : ℕ) → l < 8 →
+      after_at (after_at (has latches l) (has inputs l) (has high_at l)) (has high_at l) (has low_at l) ≡ after_at (has latches l) (has inputs l) (has low_at l)
+  base zero h = rw (first_high, first_low) (rises_and_falls (has latches 0) (has inputs 0) fresh)
+  base (suc l) h = rw (same_above (true ∷ rest) l h) (stays_put (after_at (has latches (suc l)) (has inputs (suc l)) (has low_at (suc l))) (has low_at (suc l)))
+
+  forgets : latches_after (latches_after latches inputs high_at) high_at low_at ≡ latches_after latches inputs low_at
+  forgets = levels_where-same _ _ (λ l h. rw (has-levels_where (λ k. after_at (has latches k) (has inputs k) (has high_at k)) l h) (base l h))
+
+  forgets_latched : with_level (latches_after (with_level (latches_after latches inputs high_at) 2) high_at low_at) 2 ≡ with_level (latches_after latches inputs low_at) 2
+  forgets_latched = levels_where-same _ _ (λ l h. elim (cases_Bool (l == 2)) [
+    | inl two ↦ rw two refl
+    | inr apart ↦
+        rw (
+          apart,
+          has-levels_where (λ k. after_at (has (with_level (latches_after latches inputs high_at) 2) k) (has high_at k) (has low_at k)) l h,
+          has-levels_where (λ k. (k == 2) || has (latches_after latches inputs high_at) k) l h,
+          apart,
+          has-levels_where (λ k. after_at (has latches k) (has inputs k) (has high_at k)) l h,
+          has-levels_where (λ k. after_at (has latches k) (has inputs k) (has low_at k)) l h,
+        ) (base l h)
+  ])
+
+-- ---- the pair forgets a rise and a fall
+
+abbrev given : Pair → Levels → Levels → Levels → Levels → Pair
+given pair low triggers high high_triggers = record {
+  master = chip_after_inputs pair.master low triggers;
+  slave = chip_after_inputs pair.slave high high_triggers;
+}
+
+chips : (a b : Chip) (slave other : Chip) → a ≡ b → slave ≡ other → ◌≡◌ {A = Pair} (record { master = a; slave = slave }) (record { master = b; slave = other })
+chips a b slave other p q = rw (p, q) refl
+
+forget_given : (pair : Pair) (rest : List Bool) (triggers high high_triggers : Levels) → IsFresh pair →
+    settled (given (settled (given pair (master_inputs (take 8 (true ∷ rest))) triggers high high_triggers)) (master_inputs (take 8 (false ∷ rest))) triggers high high_triggers)
+    ≡ settled (given pair (master_inputs (take 8 (false ∷ rest))) triggers high high_triggers)
+forget_given pair rest triggers high high_triggers is =
+    let up = given pair (master_inputs (take 8 (true ∷ rest))) triggers high high_triggers in
+    let down = given pair (master_inputs (take 8 (false ∷ rest))) triggers high high_triggers in
+    let low = master_inputs (take 8 (false ∷ rest)) in
+    let same_slave = inputs-again pair.slave high high_triggers in
+    elim (cases_Bool (is_some (interrupt up.slave))) [
+      | inr quiet ↦
+          ap (λ (p : Pair). settled (given p low triggers high high_triggers)) (settled-quiet up quiet)
+          ∙ ap settled (chips _ _ _ _
+          (ap (λ (l : Levels). record pair.master { latches = l; inputs = low; triggers = triggers }) (forgets rest pair.master.latches pair.master.inputs is.fresh))
+          same_slave)
+      | inl asks ↦
+          let again = given (latched up) low triggers high high_triggers in
+          let slave_is : again.slave ≡ up.slave = same_slave in
+          let asks_again : is_some (interrupt again.slave) ≡ true = ap (λ (c : Chip). is_some (interrupt c)) slave_is ∙ asks in
+          ap (λ (p : Pair). settled (given p low triggers high high_triggers)) (settled-asks up asks)
+          ∙ (settled-asks again asks_again
+          ∙ (chips _ _ _ _
+          (ap (λ (l : Levels). record pair.master { latches = l; inputs = low; triggers = triggers }) (forgets_latched rest pair.master.latches pair.master.inputs is.fresh))
+          same_slave
+          ∙ sym (settled-asks down asks)))
+    ]
+
+forget : (levels : List Bool) (elcr : ℕ) (pair : Pair) → IsFresh pair →
+    lines_at levels elcr false (lines_at levels elcr true pair) ≡ lines_at levels elcr false pair
+forget [] elcr pair is = same-levels pair [] elcr
+forget (x ∷ rest) elcr pair is = forget_given pair rest _ _ _ is
+
+-- ---- a run of pulses
+
+low_again : (levels : List Bool) (elcr : ℕ) (level : Bool) (pair : Pair) → lines_at levels elcr level (lines_at levels elcr level pair) ≡ lines_at levels elcr level pair
+low_again levels elcr level pair = same-levels pair (slice_set levels 0 level) elcr
+
+next : (levels : List Bool) (elcr : ℕ) (pair : Pair) (rose was now : Bool) → IsFresh pair →
+    (rose ≡ false → was ≡ true → lines_at levels elcr true pair ≡ pair) →
+    lines_at levels elcr now (pair_after_run levels elcr rose was pair) ≡ pair_after_run levels elcr (rose || (now && not was)) now pair
+next levels elcr pair false false false is high = low_again levels elcr false pair
+next levels elcr pair false false true is high = refl
+next levels elcr pair false true false is high = ap (lines_at levels elcr false) (high refl refl)
+next levels elcr pair false true true is high = low_again levels elcr true pair
+next levels elcr pair true false false is high = low_again levels elcr false pair
+next levels elcr pair true false true is high = refl
+next levels elcr pair true true false is high =
+    forget levels elcr (lines_at levels elcr false pair) (lines_fresh pair (slice_set levels 0 false) elcr is) ∙ low_again levels elcr false pair
+next levels elcr pair true true true is high = low_again levels elcr true (lines_at levels elcr false pair)
+
+more_rises : (n : ℕ) (b : Bool) → nat_lt 0 (n + cond b 1 0) ≡ (nat_lt 0 n || b)
+more_rises n true = grind (arith, nat_tests)
+more_rises n false = grind (arith, nat_tests)
+
+-- where OUT 0 did not rise and is 1, it was 1 from the begin on
+was_high : (timer : PitState) (n : ℕ) → nat_lt 0 (rises n timer) ≡ false → out_of 0 (pulses n timer) ≡ true → out_of 0 timer ≡ true
+unfolding rises pulses out_of
+was_high timer zero none high = high
+was_high timer (suc k) none high =
+    let parts = or_parts (nat_lt 0 (rises k timer)) _ (sym (more_rises (rises k timer) _) ∙ none) in
+    was_high timer k parts.0 (elim (cases_Bool (pulses k timer).counter0.out) [
+      | inl before ↦ before
+      | inr low ↦ absurd (true≢false (sym (rw (high, low) refl) ∙ parts.1))
+    ])
+
+module _ (setup : Setup) (history : List Entry) where
+  abbrev timer : PitState
+  timer = timer_of history
+
+  abbrev lines : List Bool
+  lines = levels_with setup history timer
+
+  pub pulsed : (n : ℕ) → IsFresh (pair_of setup history) → lines_at lines (elcr_of history) (out_of 0 timer) (pair_of setup history) ≡ pair_of setup history →
+      pair_pulsed setup history n (pair_of setup history)
+      ≡ pair_after_run lines (elcr_of history) (nat_lt 0 (rises n timer)) (out_of 0 (pulses n timer)) (pair_of setup history)
+  unfolding pair_pulsed rises pulses out_of
+  pulsed zero is seen = sym seen
+  pulsed (suc k) is seen =
+      let p = pair_of setup history in
+      ap (λ (l : List Bool). pair_after_lines (pair_pulsed setup history k p) l (elcr_of history)) (levels_pulsed setup history timer (pulses (suc k) timer))
+      ∙ (ap (lines_at lines (elcr_of history) (out_of 0 (pulses (suc k) timer))) (pulsed k is seen)
+      ∙ (next lines (elcr_of history) p (nat_lt 0 (rises k timer)) (out_of 0 (pulses k timer)) (out_of 0 (pulses (suc k) timer)) is
+      (λ none high. subst (λ (level : Bool). lines_at lines (elcr_of history) level p ≡ p) (was_high timer k none high) seen)
+      ∙ ap (λ (rose : Bool). pair_after_run lines (elcr_of history) rose (out_of 0 (pulses (suc k) timer)) p) (sym (more_rises (rises k timer) _))))
+
+-- ---- no stale latch, ever
+
+pulsed_fresh : (setup : Setup) (history : List Entry) (n : ℕ) (pair : Pair) → IsFresh pair → IsFresh (pair_pulsed setup history n pair)
+unfolding pair_pulsed
+pulsed_fresh setup history zero pair is = is
+pulsed_fresh setup history (suc k) pair is =
+    lines_fresh (pair_pulsed setup history k pair) (levels_with setup history (pulses (suc k) (timer_of history))) (elcr_of history) (pulsed_fresh setup history k pair is)
+
+accessed_fresh : (access : PortAccess) (pair : Pair) → IsFresh pair → IsFresh (cond access.write (pair_after_write pair access.port access.value) (pair_after_read pair access.port))
+accessed_fresh access pair is = by_pair access.write _ _ (pair_write_fresh pair access.port access.value is) (pair_read_fresh pair access.port is)
+
+device_fresh : (device : Option Dev) (access : PortAccess) (pair : Pair) → IsFresh pair → IsFresh (pair_accessed device access pair)
+device_fresh (Some Pic0) access pair is = accessed_fresh access pair is
+device_fresh (Some Pic1) access pair is = accessed_fresh access pair is
+device_fresh _ access pair is = is
+
+after_fresh : (event : Event) (reply : Reply) (pair : Pair) → IsFresh pair → IsFresh (pair_after event reply pair)
+after_fresh (Port access) reply pair is = device_fresh (device_reached reply) access pair is
+after_fresh Ack reply pair is = pair_acknowledge_fresh pair is
+after_fresh _ reply pair is = is
+
+other_fresh : (setup : Setup) (entry : Entry) (before : List Entry) (pair : Pair) → IsFresh pair →
+    IsFresh (pair_after_lines (pair_reset_or_after setup entry before pair) (levels_of setup (entry ∷ before)) (elcr_of (entry ∷ before)))
+other_fresh setup entry before pair is =
+    lines_fresh (pair_reset_or_after setup entry before pair) (levels_of setup (entry ∷ before)) (elcr_of (entry ∷ before))
+    (by_pair (is_hard_reset before entry.event) _ _ (pair_reset_fresh (levels_of setup (entry ∷ before))) (after_fresh entry.event entry.reply pair is))
+
+stepped_fresh : (setup : Setup) (entry : Entry) (before : List Entry) (event : Event) (pair : Pair) → IsFresh pair → IsFresh (pair_stepped setup entry before event pair)
+stepped_fresh setup entry before (Pulses count) pair is = pulsed_fresh setup before count pair is
+stepped_fresh setup entry before _ pair is = other_fresh setup entry before pair is
+
+pub always_fresh : (setup : Setup) (history : List Entry) → IsFresh (pair_of setup history)
+unfolding pair_of
+always_fresh setup [] = pair_reset_fresh levels_at_power_on
+always_fresh setup (entry ∷ before) = stepped_fresh setup entry before entry.event (pair_of setup before) (always_fresh setup before)
+
+-- ---- the devices
+
+same_run : (count : ℕ) (levels lines : List Bool) (elcr bits : ℕ) (timer other : PitState) (pair same : Pair) → levels ≡ lines → elcr ≡ bits → timer ≡ other → pair ≡ same →
+    pair_after_run levels elcr (nat_lt 0 (rises count timer)) (out_of 0 (pulses count timer)) pair
+    ≡ pair_after_run lines bits (nat_lt 0 (rises count other)) (out_of 0 (pulses count other)) same
+same_run count levels lines elcr bits timer other pair same a b c d =
+    ap (λ (l : List Bool). pair_after_run l elcr (nat_lt 0 (rises count timer)) (out_of 0 (pulses count timer)) pair) a
+    ∙ (ap (λ (e : ℕ). pair_after_run lines e (nat_lt 0 (rises count timer)) (out_of 0 (pulses count timer)) pair) b
+    ∙ (ap (λ (t : PitState). pair_after_run lines bits (nat_lt 0 (rises count t)) (out_of 0 (pulses count t)) pair) c
+    ∙ ap (pair_after_run lines bits (nat_lt 0 (rises count other)) (out_of 0 (pulses count other))) d))
+
+-- the devices after pulses, whose pair saw two sets of levels at most
+pub after_pulses : (setup : Setup) (history : List Entry) (entry : Entry) (old devices : DevicesValue) (levels : List Bool) (elcr count : ℕ) →
+    AreDevicesOf setup history old → Asks history entry (Pulses count) → levels ≡ levels_of setup history →
+    elcr ≡ old.triggers.low + 0x100 * old.triggers.high →
+    devices ≡ record old {
+      timer = pulses count old.timer;
+      pair = pair_after_run levels elcr (nat_lt 0 (rises count old.timer)) (out_of 0 (pulses count old.timer)) old.pair;
+    } → AreDevicesOf setup (entry ∷ history) devices
+after_pulses setup history entry old devices levels elcr count are asks lines_are bits is =
+    let t : old.timer ≡ timer_of history = are.others.timer in
+    let bits_are : elcr ≡ elcr_of history = bits ∙ ap (λ (x : Triggers). x.low + 0x100 * x.high) are.others.triggers in
+    let seen_then : pair_after_lines (pair_of setup history) (levels_of setup history) (elcr_of history) ≡ pair_of setup history = pair_has_seen same-levels setup history in
+    let same : levels_of setup history ≡ slice_set (levels_of setup history) 0 (out_of 0 (timer_of history)) = levels_pulsed setup history (timer_of history) (timer_of history) in
+    let seen : lines_at (levels_of setup history) (elcr_of history) (out_of 0 (timer_of history)) (pair_of setup history) ≡ pair_of setup history =
+    ap (λ (l : List Bool). pair_after_lines (pair_of setup history) l (elcr_of history)) (sym same) ∙ seen_then in
+    let run = pulsed setup history count (always_fresh setup history) seen in
+    all_pulses setup history entry old devices (levels_with setup history (pulses count (timer_of history))) (elcr_of history) count are asks (record {
+      timer = ap (λ (d : DevicesValue). d.timer) is ∙ ap (λ (x : PitState). pulses count x) t;
+      pair =
+          ap (λ (d : DevicesValue). d.pair) is
+          ∙ (same_run count levels (levels_of setup history) elcr (elcr_of history) old.timer (timer_of history) old.pair (pair_of setup history) lines_are bits_are t are.pair
+          ∙ sym run);
+      others = other_pair old devices _ _ is;
+      levels_are = refl;
+      elcr_is = refl;
+    })

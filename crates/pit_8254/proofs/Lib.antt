@@ -1,0 +1,6 @@
+mod Arrivals
+mod Edges
+mod Periods
+mod Quiet
+mod Runs
+mod Settled

@@ -1,0 +1,108 @@
+-- Whole periods.
+use Rattle.std.proofs.Common.{◌≡◌, ℕ, zero, suc, ◌+◌, ◌-◌, ◌*◌, ◌/◌, ◌%◌, ◌<◌, ◌≤◌, Bool, true, false, inl, inr, refl, sym, subst, arith}
+use Rattle.std.proofs.Math.Nat.{suc-mul, zero-mul}
+use Rattle.std.proofs.Math.Bool.{and-false}
+use Rattle.std.proofs.lemmas.Bool.{cases_lt, true≢false}
+use Rattle.device_spec.specs.Pit.{Mode, TerminalCount, OneShot, RateGenerator, SquareWave, SoftwareStrobe, HardwareStrobe, CounterState, is_periodic, pulse}
+use Rattle.device_spec.specs.PitLaws.{pulses_of}
+use Rattle.device_spec.specs.PitPeriods.{IsAtLoad}
+use Rattle.device_spec.proofs.PitPeriods.{rate_repeats, square_repeats}
+use Rattle.pit_8254.specs.Quiet.{rises_of}
+use Rattle.pit_8254.specs.Runs.{IsPart, IsAtPeriod}
+use Rattle.pit_8254.specs.declared.counting.running.Run.{Run}
+use Rattle.pit_8254.proofs.Runs.{pulses_of-add, rises_of-add}
+
+-- n pulses that are one period: OUT is 1 at the first a of them, 0 at the others, and then 1 again
+record IsPeriod (gate : Bool) (n a : ℕ) (c : CounterState) : Type 0 where
+  out : c.out ≡ true
+  high : (k : ℕ) → k < a → (pulses_of gate k c).out ≡ true
+  low : (k : ℕ) → a ≤ k → k < n → (pulses_of gate k c).out ≡ false
+  shorter : a < n
+  again : pulses_of gate n c ≡ c
+
+none_yet : (gate : Bool) (n a : ℕ) (c : CounterState) → IsPeriod gate n a c → (k : ℕ) → k < n → rises_of gate k c ≡ 0
+unfolding rises_of pulses_of
+none_yet gate n a c is zero h = refl
+none_yet gate n a c is (suc k) h = elim (cases_lt (suc k) a) [
+  | inl still ↦ rw (none_yet gate n a c is k (omega arith), is.high k (omega arith), and-false (pulse gate (pulses_of gate k c)).out) refl
+  | inr past ↦ rw (none_yet gate n a c is k (omega arith), is.low (suc k) past h) refl
+]
+
+one_rise : (gate : Bool) (j a : ℕ) (c : CounterState) → IsPeriod gate (suc j) a c → rises_of gate (suc j) c ≡ 1
+unfolding rises_of pulses_of
+one_rise gate j a c is =
+    let shorter = is.shorter in
+    let again : pulse gate (pulses_of gate j c) ≡ c = is.again in
+    rw (none_yet gate (suc j) a c is j (omega arith), is.low j (omega arith) (omega arith), again, is.out) refl
+
+-- ---- a period of either mode
+
+record Period (gate : Bool) (c : CounterState) : Type 0 where
+  again : pulses_of gate c.in_use c ≡ c
+  once : rises_of gate c.in_use c ≡ 1
+
+to_period : (gate : Bool) (a : ℕ) (c : CounterState) → IsPeriod gate c.in_use a c → Period gate c
+to_period gate a c is =
+    let shorter = is.shorter in
+    let more : c.in_use ≡ suc (c.in_use - 1) = omega arith in
+    record {
+      again = is.again;
+      once =
+          subst (λ (m : ℕ). rises_of gate m c ≡ 1) (sym more)
+          (one_rise gate (c.in_use - 1) a c (subst (λ (m : ℕ). IsPeriod gate m a c) more is));
+    }
+
+one_period : (mode : Mode) (c : CounterState) → is_periodic mode ≡ true → 2 ≤ c.in_use → IsAtLoad mode c.in_use true c → Period true c
+one_period RateGenerator c periodic least load =
+    let has = rate_repeats c.in_use c least load in
+    to_period true (c.in_use - 1) c (record {
+      out = load.out;
+      high = λ k h. has.high k (omega arith);
+      low = λ k g h. let is : k ≡ c.in_use - 1 = omega arith in rw is has.low;
+      shorter = omega arith;
+      again = has.again;
+    })
+one_period SquareWave c periodic least load =
+    let has = square_repeats c.in_use c least load in
+    to_period true (c.in_use - c.in_use / 2) c (record {
+      out = load.out;
+      high = λ k h. has.high k h;
+      low = λ k g h. has.low k g h;
+      shorter = omega arith;
+      again = has.again;
+    })
+one_period TerminalCount c periodic least load = absurd (true≢false (sym periodic))
+one_period OneShot c periodic least load = absurd (true≢false (sym periodic))
+one_period SoftwareStrobe c periodic least load = absurd (true≢false (sym periodic))
+one_period HardwareStrobe c periodic least load = absurd (true≢false (sym periodic))
+
+its_period : (gate : Bool) (c : CounterState) → IsAtPeriod gate c → Period gate c
+its_period gate c is = rw is.gate_on (one_period c.mode c is.periodic is.least is.load)
+
+-- ---- many periods
+
+record Periods (gate : Bool) (m : ℕ) (c : CounterState) : Type 0 where
+  again : pulses_of gate (m * c.in_use) c ≡ c
+  rose : rises_of gate (m * c.in_use) c ≡ m
+
+many : (gate : Bool) (m : ℕ) (c : CounterState) → Period gate c → Periods gate m c
+unfolding pulses_of rises_of
+many gate zero c is = record { again = rw (zero-mul c.in_use) refl; rose = rw (zero-mul c.in_use) refl }
+many gate (suc m) c is =
+    let before = many gate m c is in
+    record {
+      again = rw (suc-mul m c.in_use, pulses_of-add gate (m * c.in_use) c.in_use c, before.again) is.again;
+      rose = rw (suc-mul m c.in_use, rises_of-add gate (m * c.in_use) c.in_use c, before.again, before.rose, is.once) (omega arith);
+    }
+
+pub part_periods : (gate : Bool) (c : CounterState) (before after : Run) → IsAtPeriod gate c →
+    after.left ≡ before.left % c.in_use → after.rose ≡ before.rose + before.left / c.in_use → IsPart gate c c before after
+part_periods gate c before after is left rose =
+    let least = is.least in
+    let many_of = many gate (before.left / c.in_use) c (its_period gate c is) in
+    let count : before.left - after.left ≡ before.left / c.in_use * c.in_use = omega arith in
+    record {
+      fewer = omega arith;
+      state = rw count (sym many_of.again);
+      rose = rw (count, many_of.rose) rose;
+    }
