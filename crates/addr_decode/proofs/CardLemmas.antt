@@ -4,16 +4,16 @@ use Rattle.std.specs.Prelude.{◌==◌, All, is_some, option_map, find, slice_in
 use Rattle.std.specs.List.{position, position_from}
 use Rattle.std.proofs.Math.Seq.{map-set_same}
 use Rattle.std.proofs.lemmas.Bool.{cases_Bool, cases_eq, cases_lt, cond-true, cond-false, eq-eqb, ne_eqb, eqb-true}
-use Rattle.std.proofs.lemmas.List.{get_or-map, length-map, take_all, take_more}
+use Rattle.std.proofs.lemmas.List.{get_or-map, length-map, take_more}
 use Rattle.std.proofs.lemmas.List.Quantifiers.{position-Some}
 use Rattle.std.proofs.lemmas.Iterator.Adapters.{position_from-zero}
-use Rattle.board_base.specs.declared.target.Reg.{Reg}
 use Rattle.board_spec.specs.Setup.{Setup, FittedCard, IsCard, IsCardList, Rises, card_at}
+use Rattle.board_base.specs.declared.target.Reg.{Reg}
 use Rattle.board_spec.specs.RegisterTable.{reset_byte}
 use Rattle.board_spec.specs.Decode.{Bytes}
 use Rattle.board_spec.specs.RegisterNames.{card_register, base_register, expansion_rom}
 use Rattle.pci_bars.specs.declared.regs.CardRegs.{CardRegs}
-use Rattle.pci_bars.specs.Cards.{CardBytes, HoldsRom, DecodesAs, IsCardOf, AreCardsOf, AreCards, AreDecoded, cards_of, AreFitted, AreReset}
+use Rattle.pci_bars.specs.Cards.{CardBytes, HoldsRom, DecodesAs, IsCardOf, AreCards, AreCardsOf, AreDecoded, cards_of, AreFitted, AreReset}
 use Rattle.addr_decode.specs.MapRegs.{stored}
 use Rattle.pci_bars.proofs.CardLemmas.{holds-same, card-apart}
 use Rattle.addr_decode.proofs.StoreLemmas.{stored-elsewhere, in_function_0}
@@ -38,6 +38,29 @@ decodes-same setup bytes bytes' card same is = record {
       holds-same bytes bytes' (base_register card.card.dev k) (slice_index card.bases k) (λ j j_below. same (0x10 + 4 * k + j) (inr (inl (omega arith, omega arith)))) (is.bases k below);
   rom = same_rom bytes bytes' card.card.dev card.rom card.card.rom same is.rom;
 }
+
+-- all the registers of a card
+pub card_agrees : (setup : Setup) (bytes bytes' : Bytes) (card : CardBytes) →
+    ((off : ℕ) → bytes' (card_register card.card.dev off) ≡ bytes (card_register card.card.dev off)) →
+    IsCardOf setup bytes card → IsCardOf setup bytes' card
+card_agrees setup bytes bytes' card same is = record {
+  decodes = decodes-same setup bytes bytes' card (λ off _. same off) is.decodes;
+  line = same 0x3C ∙ is.line;
+  no_rom = is.no_rom;
+  fixed = λ off fixed. same off ∙ is.fixed off fixed;
+}
+
+pub cards_agree : (setup : Setup) (bytes bytes' : Bytes) (cards : List CardBytes) → AreCards cards →
+    ((dev off : ℕ) → 2 ≤ dev → bytes' (card_register dev off) ≡ bytes (card_register dev off)) →
+    AreCardsOf setup bytes cards → AreCardsOf setup bytes' cards
+cards_agree setup bytes bytes' cards each same are = (
+  are.0,
+  λ k d within. card_agrees setup bytes bytes' (get_or cards k d) (λ off. same (get_or cards k d).card.dev off (each k d within).first) (are.1 k d within),
+)
+
+-- of a board's registers those of its cards are decoded
+pub cards_decoded : (setup : Setup) (bytes : Bytes) (cards : List CardBytes) → AreCardsOf setup bytes cards → AreDecoded setup bytes cards
+cards_decoded setup bytes cards are = (are.0, λ k d within. (are.1 k d within).decodes)
 
 true_is_not_false : (b : Bool) → b ≡ true → b ≡ false → ⊥
 true_is_not_false b yes' no' = cc
@@ -98,39 +121,27 @@ stored_beside setup bytes dev off written card apart is =
     decodes-same setup bytes (stored setup bytes (card_register dev off) written) card
     (λ at _. stored-elsewhere setup bytes (card_register dev off) written (card_register card.card.dev at) (inl (λ same. apart (sym same)))) is
 
--- all registers of a card where its bytes are the same
-card-same : (setup : Setup) (bytes bytes' : Bytes) (card : CardBytes) →
-    ((off : ℕ) → bytes' (card_register card.card.dev off) ≡ bytes (card_register card.card.dev off)) → IsCardOf setup bytes card → IsCardOf setup bytes' card
-card-same setup bytes bytes' card same is = record {
-  decodes = decodes-same setup bytes bytes' card (λ off _. same off) is.decodes;
-  line = same 0x3C ∙ is.line;
-  fixed = λ off fixed. same off ∙ is.fixed off fixed;
-}
+card_beside : (setup : Setup) (bytes : Bytes) (dev off written : ℕ) (card : CardBytes) → card.card.dev ≢ dev →
+    IsCardOf setup bytes card → IsCardOf setup (stored setup bytes (card_register dev off) written) card
+card_beside setup bytes dev off written card apart is =
+    card_agrees setup bytes (stored setup bytes (card_register dev off) written) card
+    (λ at. stored-elsewhere setup bytes (card_register dev off) written (card_register card.card.dev at) (inl (λ same. apart (sym same)))) is
 
-card_beside : (setup : Setup) (bytes : Bytes) (at : Reg) (written : ℕ) (card : CardBytes) → (at.dev ≢ card.card.dev) ⊎ (at.fun ≢ 0) →
-    IsCardOf setup bytes card → IsCardOf setup (stored setup bytes at written) card
-card_beside setup bytes at written card (inl dev) is =
-    card-same setup bytes (stored setup bytes at written) card (λ off. stored-elsewhere setup bytes at written (card_register card.card.dev off) (inl dev)) is
-card_beside setup bytes at written card (inr fun) is =
-    card-same setup bytes (stored setup bytes at written) card (λ off. stored-elsewhere setup bytes at written (card_register card.card.dev off) (inr (inl fun))) is
-
--- the card at a place becomes another state of it, and what holds of the others still does
-all_written :
-    (P Q : CardBytes → Type 0) (cards : List CardBytes) (dev i : ℕ) (old new : CardBytes) → Rises (cards_of cards) →
-    position (λ card. card.card.dev == dev) cards ≡ Some i → old ≡ get_or cards i old → (old.card.dev ≡ dev → P old → Q new) →
-    ((card : CardBytes) → card.card.dev ≢ dev → P card → Q card) → All P cards → All Q (set cards i new)
-all_written P Q cards dev i old new rises at_i is_old step beside each =
+-- the card at a place becomes another state of the same card, and each of the others stays as it is
+one_written : (Is Now : CardBytes → Type 0) (cards : List CardBytes) (dev i : ℕ) (old new : CardBytes) → Rises (cards_of cards) →
+    position (λ card. card.card.dev == dev) cards ≡ Some i → old ≡ get_or cards i old →
+    ((card : CardBytes) → card.card.dev ≢ dev → Is card → Now card) → (old.card.dev ≡ dev → Is old → Now new) → All Is cards → All Now (set cards i new)
+one_written Is Now cards dev i old new rises at_i is_old others step each k d within =
     let found : (i < length cards) × (((get_or cards i old).card.dev == dev) ≡ true) × ((j : ℕ) → j < i → ((get_or cards j old).card.dev == dev) ≡ false) =
     position-Some (λ card. card.card.dev == dev) cards i old at_i in
-    let here : Q new =
-    step (ap (λ (card : CardBytes). card.card.dev) is_old ∙ eqb-true _ _ found.1) (subst P (sym is_old) (each i old found.0)) in
-    λ k d within.
+    let dev_is : old.card.dev ≡ dev = ap (λ (card : CardBytes). card.card.dev) is_old ∙ eqb-true _ _ found.1 in
+    let here : Now new = step dev_is (subst Is (sym is_old) (each i old found.0)) in
     let in_list : k < length cards = omega (arith, length-set {A = CardBytes}) in
     elim (cases_eq k i) [
-      | inl same ↦ subst (λ (j : ℕ). Q (get_or (set cards i new) j d)) (sym same) (subst Q (sym (get_or-set_same cards i new d found.0)) here)
+      | inl at ↦ subst (λ (j : ℕ). Now (get_or (set cards i new) j d)) (sym at) (subst Now (sym (get_or-set_same cards i new d found.0)) here)
       | inr apart ↦
-          subst Q (sym (get_or-set_other cards i k new d apart))
-          (beside (get_or cards k d) (others_differ cards dev i k d rises at_i in_list apart) (each k d in_list))
+          subst Now (sym (get_or-set_other cards i k new d apart))
+          (others (get_or cards k d) (others_differ cards dev i k d rises at_i in_list apart) (each k d in_list))
     ]
 
 -- the cards are still these cards
@@ -139,7 +150,7 @@ pub card_kept : (cards : List CardBytes) (i : ℕ) (old new : CardBytes) → old
 card_kept cards i old new is_old same_card =
     map-set_same (λ (it : CardBytes). it.card) cards i new old (same_card ∙ ap (λ (card : CardBytes). card.card) is_old)
 
--- the registers of the cards after a byte is stored in the card at a place
+-- one of them takes the byte
 pub card_written :
     (setup : Setup) (bytes : Bytes) (cards : List CardBytes) (dev off written i : ℕ) (old new : CardBytes) → Rises (cards_of cards) →
     position (λ card. card.card.dev == dev) cards ≡ Some i → old ≡ get_or cards i old → new.card ≡ old.card →
@@ -147,94 +158,83 @@ pub card_written :
     AreDecoded setup bytes cards → AreDecoded setup (stored setup bytes (card_register dev off) written) (set cards i new)
 card_written setup bytes cards dev off written i old new rises at_i is_old same_card step are = (
   are.0 ∙ sym (card_kept cards i old new is_old same_card),
-  all_written (DecodesAs setup bytes) (DecodesAs setup (stored setup bytes (card_register dev off) written)) cards dev i old new rises at_i is_old
-      (λ dev_is is. subst (λ (at : ℕ). DecodesAs setup (stored setup bytes (card_register at off) written) new) dev_is (step is))
-      (stored_beside setup bytes dev off written) are.1,
+  one_written (DecodesAs setup bytes) (DecodesAs setup (stored setup bytes (card_register dev off) written)) cards dev i old new rises at_i is_old
+      (stored_beside setup bytes dev off written)
+      (λ at is. subst (λ (device : ℕ). DecodesAs setup (stored setup bytes (card_register device off) written) new) at (step is)) are.1,
 )
 
-pub all_card_written :
+pub registers_written :
     (setup : Setup) (bytes : Bytes) (cards : List CardBytes) (dev off written i : ℕ) (old new : CardBytes) → Rises (cards_of cards) →
     position (λ card. card.card.dev == dev) cards ≡ Some i → old ≡ get_or cards i old → new.card ≡ old.card →
     (IsCardOf setup bytes old → IsCardOf setup (stored setup bytes (card_register old.card.dev off) written) new) →
     AreCardsOf setup bytes cards → AreCardsOf setup (stored setup bytes (card_register dev off) written) (set cards i new)
-all_card_written setup bytes cards dev off written i old new rises at_i is_old same_card step are = (
+registers_written setup bytes cards dev off written i old new rises at_i is_old same_card step are = (
   are.0 ∙ sym (card_kept cards i old new is_old same_card),
-  all_written (IsCardOf setup bytes) (IsCardOf setup (stored setup bytes (card_register dev off) written)) cards dev i old new rises at_i is_old
-      (λ dev_is is. subst (λ (at : ℕ). IsCardOf setup (stored setup bytes (card_register at off) written) new) dev_is (step is))
-      (λ card apart is. card_beside setup bytes (card_register dev off) written card (inl (λ same. apart (sym same))) is) are.1,
+  one_written (IsCardOf setup bytes) (IsCardOf setup (stored setup bytes (card_register dev off) written)) cards dev i old new rises at_i is_old
+      (card_beside setup bytes dev off written)
+      (λ at is. subst (λ (device : ℕ). IsCardOf setup (stored setup bytes (card_register device off) written) new) at (step is)) are.1,
 )
 
--- no card of the setup has the device number of none in the list
-differs : (setup : Setup) (cards : List CardBytes) (dev : ℕ) (card : CardBytes) → setup.cards ≡ cards_of cards →
-    position (λ card. card.card.dev == dev) cards ≡ None → card_at setup card.card.dev ≡ Some card.card → card.card.dev ≢ dev
-differs setup cards dev card same none fitted here =
-    true_is_not_false (is_some (card_at setup dev))
-    (ap (λ (at : ℕ). is_some (card_at setup at)) (sym here) ∙ ap (λ (card : Option FittedCard). is_some card) fitted)
-    (sym (fitted_is setup cards dev same) ∙ ap (λ (place : Option ℕ). is_some place) none)
-
 -- where no card has the device number no card changes
+no_card_has : (setup : Setup) (bytes : Bytes) (cards : List CardBytes) (dev : ℕ) → position (λ card. card.card.dev == dev) cards ≡ None →
+    AreDecoded setup bytes cards → (k : ℕ) (d : CardBytes) → k < length cards → (get_or cards k d).card.dev ≢ dev
+no_card_has setup bytes cards dev none are k d within same =
+    true_is_not_false (is_some (card_at setup dev))
+    (ap (λ (at : ℕ). is_some (card_at setup at)) (sym same) ∙ ap (λ (card : Option FittedCard). is_some card) (are.1 k d within).fitted)
+    (sym (fitted_is setup cards dev are.0) ∙ ap (λ (place : Option ℕ). is_some place) none)
+
 pub no_card_written :
     (setup : Setup) (bytes : Bytes) (cards : List CardBytes) (dev off written : ℕ) → position (λ card. card.card.dev == dev) cards ≡ None →
     AreDecoded setup bytes cards → AreDecoded setup (stored setup bytes (card_register dev off) written) cards
 no_card_written setup bytes cards dev off written none are = (
   are.0,
-  (λ k d within.
-      let is : DecodesAs setup bytes (get_or cards k d) = are.1 k d within in
-      stored_beside setup bytes dev off written (get_or cards k d) (differs setup cards dev (get_or cards k d) are.0 none is.fitted) is),
+  λ k d within. stored_beside setup bytes dev off written (get_or cards k d) (no_card_has setup bytes cards dev none are k d within) (are.1 k d within),
 )
 
-pub no_card_written_at_all :
+pub no_registers_written :
     (setup : Setup) (bytes : Bytes) (cards : List CardBytes) (dev off written : ℕ) → position (λ card. card.card.dev == dev) cards ≡ None →
     AreCardsOf setup bytes cards → AreCardsOf setup (stored setup bytes (card_register dev off) written) cards
-no_card_written_at_all setup bytes cards dev off written none are = (
+no_registers_written setup bytes cards dev off written none are = (
   are.0,
-  (λ k d within.
-      let is : IsCardOf setup bytes (get_or cards k d) = are.1 k d within in
-      card_beside setup bytes (card_register dev off) written (get_or cards k d)
-      (inl (λ same. differs setup cards dev (get_or cards k d) are.0 none is.decodes.fitted (sym same))) is),
+  λ k d within.
+      card_beside setup bytes dev off written (get_or cards k d)
+      (no_card_has setup bytes cards dev none (cards_decoded setup bytes cards are) k d within) (are.1 k d within),
 )
 
--- a byte that is stored in no card leaves them all
+-- a byte of a bridge, or of a function other than 0, is none of a card
 pub cards_beside : (setup : Setup) (bytes : Bytes) (at : Reg) (written : ℕ) (cards : List CardBytes) → AreCards cards → (at.dev < 2) ⊎ (at.fun ≢ 0) →
     AreCardsOf setup bytes cards → AreCardsOf setup (stored setup bytes at written) cards
-cards_beside setup bytes at written cards each (inl low) are = (
-  are.0,
-  (λ k d within. card_beside setup bytes at written (get_or cards k d) (inl (omega (arith, (each k d within).first))) (are.1 k d within)),
-)
-cards_beside setup bytes at written cards each (inr fun) are = (
-  are.0,
-  (λ k d within. card_beside setup bytes at written (get_or cards k d) (inr fun) (are.1 k d within)),
-)
+cards_beside setup bytes at written cards each (inl low) =
+    cards_agree setup bytes (stored setup bytes at written) cards each
+    (λ dev off above. stored-elsewhere setup bytes at written (card_register dev off) (inl (omega arith)))
+cards_beside setup bytes at written cards each (inr fun) =
+    cards_agree setup bytes (stored setup bytes at written) cards each
+    (λ dev off above. stored-elsewhere setup bytes at written (card_register dev off) (inr (inl fun)))
 
--- nor does one past offset FFh change any
-past_card : (setup : Setup) (bytes : Bytes) (at : Reg) (written : ℕ) (card : CardBytes) → IsCard card.card → written < 256 → 256 ≤ at.off →
+-- nor does a card keep a byte past offset FFh
+card_beyond : (setup : Setup) (bytes : Bytes) (at : Reg) (written : ℕ) (card : CardBytes) → IsCard card.card → written < 256 → 256 ≤ at.off →
     IsCardOf setup bytes card → IsCardOf setup (stored setup bytes at written) card
-past_card setup bytes at written card fit below past is =
+card_beyond setup bytes at written card fit below past is =
     elim (cases_eq at.dev card.card.dev) [
-      | inr apart ↦ card_beside setup bytes at written card (inl apart) is
-      | inl same ↦
+      | inr apart ↦
+          card_agrees setup bytes (stored setup bytes at written) card
+          (λ off. stored-elsewhere setup bytes at written (card_register card.card.dev off) (inl apart)) is
+      | inl dev ↦
           elim (cases_eq at.fun 0) [
-            | inr fun ↦ card_beside setup bytes at written card (inr fun) is
-            | inl zero' ↦
-                subst (λ (reg : Reg). IsCardOf setup (stored setup bytes reg written) card) (in_function_0 at card.card.dev same zero')
+            | inr apart ↦
+                card_agrees setup bytes (stored setup bytes at written) card
+                (λ off. stored-elsewhere setup bytes at written (card_register card.card.dev off) (inr (inl apart))) is
+            | inl fun ↦
+                subst (λ (reg : Reg). IsCardOf setup (stored setup bytes reg written) card) (in_function_0 at card.card.dev dev fun)
                 (card-apart setup bytes card at.off written fit below
                 (record { command = λ e. omega arith; bases = inr (omega arith); rom = inr (omega arith) }) (λ e. omega arith) is)
           ]
     ]
 
-pub cards_past : (setup : Setup) (bytes : Bytes) (at : Reg) (written : ℕ) (cards : List CardBytes) → AreCards cards → written < 256 → 256 ≤ at.off →
+pub cards_beyond : (setup : Setup) (bytes : Bytes) (at : Reg) (written : ℕ) (cards : List CardBytes) → AreCards cards → written < 256 → 256 ≤ at.off →
     AreCardsOf setup bytes cards → AreCardsOf setup (stored setup bytes at written) cards
-cards_past setup bytes at written cards each below past are = (
-  are.0,
-  (λ k d within. past_card setup bytes at written (get_or cards k d) (each k d within) below past (are.1 k d within)),
-)
-
-pub cards_are-same : (setup : Setup) (bytes bytes' : Bytes) (cards : List CardBytes) → ((reg : Reg) → bytes' reg ≡ bytes reg) →
-    AreCardsOf setup bytes cards → AreCardsOf setup bytes' cards
-cards_are-same setup bytes bytes' cards same are = (
-  are.0,
-  (λ k d within. card-same setup bytes bytes' (get_or cards k d) (λ off. same (card_register (get_or cards k d).card.dev off)) (are.1 k d within)),
-)
+cards_beyond setup bytes at written cards each below past are =
+    (are.0, λ k d within. card_beyond setup bytes at written (get_or cards k d) (each k d within) below past (are.1 k d within))
 
 -- ---- after a reset
 
@@ -262,8 +262,7 @@ reset_cards setup cards fitted reset same = (
 
 pub reset_decoded : (setup : Setup) (cards : List CardBytes) → AreFitted cards → AreReset cards → setup.cards ≡ cards_of cards →
     AreDecoded setup (reset_byte setup) cards
-reset_decoded setup cards fitted reset same =
-    let are = reset_cards setup cards fitted reset same in (are.0, (λ k d within. (are.1 k d within).decodes))
+reset_decoded setup cards fitted reset same = cards_decoded setup (reset_byte setup) cards (reset_cards setup cards fitted reset same)
 
 -- one card more
 pub one_more_pushed : (items : List CardBytes) (i : ℕ) (item : CardBytes) (pushed : List FittedCard) (spec : FittedCard) → i < length items →
@@ -274,14 +273,6 @@ one_more_pushed items i item pushed spec within at_i same is =
     is
     ∙ ap (λ (it : FittedCard). take i (cards_of items) ++ it ∷ []) (sym here)
     ∙ sym (take_more (cards_of items) i item.card (omega (arith, length-map items (λ (it : CardBytes). it.card))))
-
--- and all of them
-pub all_pushed : (items cards : List CardBytes) (pushed : List FittedCard) (i : ℕ) → pushed ≡ take i (cards_of items) → length items ≤ i → items ≡ cards →
-    pushed ≡ cards_of cards
-all_pushed items cards pushed i is past same =
-    is
-    ∙ take_all i (cards_of items) (omega (arith, length-map items (λ (it : CardBytes). it.card)))
-    ∙ ap (λ (list : List CardBytes). cards_of list) same
 
 -- ---- the same cards in other states
 

@@ -69,8 +69,8 @@ fn overlaps(off: u8, width: Width, first: u8, last: u8) -> bool
 }
 
 impl MapRegs {
-    /// Makes a change. Bytes of a store past offset FFh, and bits of its value past its width, do not count. Of a
-    /// card it changes every register, also the interrupt line.
+    /// Makes a change. Bytes of a store past offset FFh, and bits of its value past its width, do not count. Of the cards
+    /// every register changes, of the bridges those alone that the address map depends on.
     pub fn apply(&mut self, change: &MapChange)
         requires cards { AreFitted self.old.cards.items }
         ensures stands { (setup : Setup) (bytes : Bytes) → StandsFor setup bytes (map_bytes self.old)

@@ -30,7 +30,7 @@ impl MapRegs {
     pub fn reset_of(specs: &[CardSpec]) -> MapRegs
         requires cards { IsCardList specs.now }
         ensures stands { (setup : Setup) → setup.cards ≡ specs.now → StandsFor setup (reset_byte setup) (map_bytes result) }
-        ensures registers { (setup : Setup) → setup.cards ≡ specs.now → AreCardsOf setup (reset_byte setup) result.cards.items }
+        ensures reset { (setup : Setup) → setup.cards ≡ specs.now → AreCardsOf setup (reset_byte setup) result.cards.items }
         ensures cards { cards_of result.cards.items ≡ specs.now }
         ensures fitted { AreFitted result.cards.items }
     {
@@ -64,7 +64,7 @@ impl MapRegs {
         requires cards { AreFitted self.old.cards.items }
         ensures stands { (setup : Setup) → setup.cards ≡ cards_of self.old.cards.items
             → StandsFor setup (reset_byte setup) (map_bytes self.new) }
-        ensures registers { (setup : Setup) → setup.cards ≡ cards_of self.old.cards.items
+        ensures reset { (setup : Setup) → setup.cards ≡ cards_of self.old.cards.items
             → AreCardsOf setup (reset_byte setup) self.new.cards.items }
         ensures same_cards { cards_of self.new.cards.items ≡ cards_of self.old.cards.items }
     {
@@ -81,7 +81,7 @@ fn after_reset(cards: ArrayVec<CardRegs, CARD_COUNT>) -> MapRegs
     requires reset { AreReset cards.items }
     requires cards { AreFitted cards.items }
     ensures stands { (setup : Setup) → setup.cards ≡ cards_of cards.items → StandsFor setup (reset_byte setup) (map_bytes result) }
-    ensures registers { (setup : Setup) → setup.cards ≡ cards_of cards.items → AreCardsOf setup (reset_byte setup) result.cards.items }
+    ensures reset { (setup : Setup) → setup.cards ≡ cards_of cards.items → AreCardsOf setup (reset_byte setup) result.cards.items }
     ensures cards { result.cards ≡ cards }
 {
     MapRegs {

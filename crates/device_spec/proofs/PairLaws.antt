@@ -1,10 +1,10 @@
 -- The pair: levels that are given again, and a read of one chip.
-use Rattle.std.proofs.Common.{lit<, ◌≡◌, ℕ, Bool, true, false, not, cond, eqb, ◌||◌, ◌&&◌, Option, Some, None, List, [], ◌∷◌, ◌++◌, refl, sym, ap, ◌∙◌, inl, inr, is_some}
+use Rattle.std.proofs.Common.{◌≡◌, ℕ, Bool, true, false, not, cond, eqb, ◌||◌, ◌&&◌, Option, Some, None, List, [], ◌∷◌, ◌++◌, refl, sym, ap, ◌∙◌, inl, inr, is_some}
 use Rattle.std.proofs.lemmas.Bool.{cases_Bool}
 use Rattle.device_spec.specs.Levels.{Levels, has, levels_where, with_level}
 use Rattle.device_spec.specs.Pic.{Chip, pending, first_selectable, request, interrupt, chip_after_inputs, latches_after, acknowledged_if, chip_after_read}
-use Rattle.device_spec.specs.Pair.{Pair, settled, is_slave_port, pair_after_lines, pair_read, pair_after_read}
-use Rattle.device_spec.specs.PicLaws.{SameLevelsAgain, ReadsOne, ReadsLeaveTheOther}
+use Rattle.device_spec.specs.Pair.{Pair, settled, pair_read}
+use Rattle.device_spec.specs.PicLaws.{SameLevelsAgain, ReadsLeaveTheOther}
 use Rattle.device_spec.proofs.Levels.{levels_where-same, has-levels_where}
 
 -- ---- the same levels again

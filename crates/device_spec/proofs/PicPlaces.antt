@@ -1,16 +1,16 @@
 -- What INT stands for, and what a non-specific end of interrupt ends, by places in the order of priorities.
-use Rattle.std.proofs.Common.{◌≡◌, ◌≢◌, ℕ, zero, suc, ◌+◌, ◌-◌, ◌/◌, ◌%◌, ◌<◌, ◌≤◌, Bool, true, false, not, cond, eqb, ◌||◌, ◌&&◌, Option, Some, None, List, [], ◌∷◌, ◌++◌, length, get_or, drop, refl, sym, ap, ◌∙◌, inl, inr, arith, is_some, length-append}
+use Rattle.std.proofs.Common.{◌≡◌, ◌≢◌, ℕ, zero, suc, ◌+◌, ◌/◌, ◌<◌, ◌≤◌, Bool, true, false, not, cond, eqb, ◌&&◌, Some, None, List, [], ◌∷◌, length, get_or, drop, refl, sym, ap, ◌∙◌, inl, inr, arith, is_some, length-append}
 use Rattle.std.specs.List.{find, list_all}
-use Rattle.std.proofs.lemmas.Bool.{cases_Bool, cases_lt, cases_eq, agree_below, agree_below_at, eqb-true, and_parts, and_from, not-true, false≢true, both_ways}
+use Rattle.std.proofs.lemmas.Bool.{cases_Bool, cases_lt, cases_eq, agree_below_at, eqb-true, and_parts, and_from, not-true, false≢true}
 use Rattle.std.proofs.Math.ListN.{drop_of_length-le}
 use Rattle.std.proofs.Math.Seq.{get_or-append_seam}
 use Rattle.std.proofs.lemmas.List.{get_or_append_left}
 use Rattle.device_spec.specs.Bits.{is_bit}
 use Rattle.device_spec.specs.Levels.{has, without_level}
 use Rattle.device_spec.specs.Pic.{Chip, pending, priority_order, is_blocking, blocks_itself, is_requested, request, interrupt, first_blocking, ended, chip_after_write}
-use Rattle.device_spec.specs.PicLaws.{place_of, CanBeSelected, IsSelected, InterruptIsSelected, SelectedInterrupts, IsServedFirst, EndsOne, NonSpecificEndEndsFirst, NonSpecificEndOfNone, IsFirstInOrder}
+use Rattle.device_spec.specs.PicLaws.{place_of, CanBeSelected, InterruptIsSelected, SelectedInterrupts, IsServedFirst, NonSpecificEndEndsFirst, NonSpecificEndOfNone, IsFirstInOrder}
 use Rattle.device_spec.proofs.Priorities.{scan, request-is, scan-found, scan-past, find-past, find-here, first_blocking-is, priority_order-small}
-use Rattle.device_spec.proofs.PicLaws.{priorities, interrupt-first, interrupt-unmasked, interrupt-request, interrupt-small, without-one}
+use Rattle.device_spec.proofs.PicLaws.{priorities, interrupt-first, interrupt-unmasked, interrupt-small, without-one}
 
 -- ---- the order by places
 

@@ -1,9 +1,9 @@
 -- The routing, byte by byte.
-use Rattle.std.proofs.Common.{zero, suc, cond, not, ltb, ◌%◌, ◌≡◌, ◌≤◌, ℕ, ◌<◌, Bool, true, false, eqb, ◌||◌, ◌&&◌, List, get_or, Option, Some, None, refl, sym, ap, ◌∙◌, inl, inr, arith}
+use Rattle.std.proofs.Common.{cond, not, ltb, ◌%◌, ◌≡◌, ℕ, Bool, true, false, eqb, ◌&&◌, get_or, Some, None, refl, sym, ap, ◌∙◌, inl, inr}
 use Rattle.std.proofs.Math.Bool.{and-false}
-use Rattle.std.proofs.lemmas.Bool.{cases_Bool, ne_eqb, le-ltb, and_parts, or_from, not-true, both_ways, false≢true, agree_below, agree_below_at}
-use Rattle.device_spec.specs.Routing.{Routes, drives, line_of_route, is_line_driven, is_reserved_line}
-use Rattle.device_spec.specs.RoutingLaws.{ReservedLinesRest, RoutesOneLine, is_routable}
+use Rattle.std.proofs.lemmas.Bool.{cases_Bool, ne_eqb, and_parts, or_from, not-true, both_ways}
+use Rattle.device_spec.specs.Routing.{drives, line_of_route, is_line_driven, is_reserved_line}
+use Rattle.device_spec.specs.RoutingLaws.{ReservedLinesRest}
 
 -- no pin drives a reserved line
 drives-reserved : (byte : ℕ) (level : Bool) (line : ℕ) → is_reserved_line line ≡ true → drives (line_of_route byte) level line ≡ false

@@ -1,5 +1,5 @@
 -- Worked examples of the clock.
-use Rattle.std.specs.Prelude.{◌≡◌, ℕ, Bool, true, false, List, [], ◌∷◌, ◌++◌, map}
+use Rattle.std.specs.Prelude.{◌≡◌, ℕ, Bool, true, false, List, [], ◌∷◌, map}
 use Rattle.board_base.specs.declared.moment.Moment.{Moment}
 use Rattle.device_spec.specs.ExampleWords.{digit, given, told}
 use Rattle.device_spec.specs.Clock.{Clock, power_on, hour_byte, after_write, after_read, read_value, after_moment, after_reset, interrupt_line}

@@ -1,5 +1,5 @@
 -- Worked examples of the 8259A pair.
-use Rattle.std.specs.Prelude.{◌≡◌, ℕ, ◌==◌, Bool, true, false, List, [], ◌∷◌, ◌++◌, map}
+use Rattle.std.specs.Prelude.{◌≡◌, ℕ, ◌==◌, Bool, true, false, List, [], ◌∷◌, map}
 use Rattle.std.specs.List.{list_any}
 use Rattle.device_spec.specs.ExampleWords.{digit, given, told, after_lines}
 use Rattle.device_spec.specs.Pair.{Pair, pair_at_reset, levels_at_power_on, pair_after_lines, port_byte, pair_after_read, pair_after_write, answer_of, pair_after_acknowledge}

@@ -1,6 +1,6 @@
 -- Worked examples of the machines: the lines of an example stand one after the other, and each says what
 -- is done to the device, and what the device gives where it is read.
-use Rattle.std.specs.Prelude.{◌≡◌, ℕ, Bool, List, [], ◌∷◌, ◌++◌, if◌then◌else◌}
+use Rattle.std.specs.Prelude.{ℕ, Bool, List, [], ◌∷◌, ◌++◌, if◌then◌else◌}
 
 -- a level as a number
 abbrev pub digit : Bool → ℕ

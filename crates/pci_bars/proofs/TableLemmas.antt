@@ -168,14 +168,54 @@ class_byte false = lit< tt
 
 fixed-header : (card : FittedCard) → card.dev ≤ 9 → (off : ℕ) → off < 16 → off ≢ 4 → IsFixed card off
 unfolding card_function
-fixed-header card last off below apart =
+fixed-header card last off below =
     let dev : card.dev < 256 = omega arith in
-    record {
-      byte = each_below (λ off. off ≢ 4 → listed (λ entry. entry.reset) (card_function card) off < 256) 16 off
-          (λ _. lit< tt, (λ _. lit< tt, (λ _. dev, (λ _. lit< tt, (λ apart. absurd (apart refl), (λ _. lit< tt, (λ _. lit< tt, (λ _. lit< tt, (λ _. lit< tt, (λ _. lit< tt, (λ _. lit< tt, (λ _. class_byte card.vga, (λ _. lit< tt, (λ _. lit< tt, (λ _. lit< tt, (λ _. lit< tt, tt)))))))))))))))) below apart;
-      writable = each_below (λ off. off ≢ 4 → listed (λ entry. entry.writable) (card_function card) off ≡ 0) 16 off
-          (λ _. refl, (λ _. refl, (λ _. refl, (λ _. refl, (λ apart. absurd (apart refl), (λ _. refl, (λ _. refl, (λ _. refl, (λ _. refl, (λ _. refl, (λ _. refl, (λ _. refl, (λ _. refl, (λ _. refl, (λ _. refl, (λ _. refl, tt)))))))))))))))) below apart;
-    }
+    each_below (λ off. off ≢ 4 → IsFixed card off) 16 off (
+      λ _. record { byte = lit< tt; writable = refl },
+      (
+        λ _. record { byte = lit< tt; writable = refl },
+        (
+          λ _. record { byte = dev; writable = refl },
+          (
+            λ _. record { byte = lit< tt; writable = refl },
+            (
+              λ apart. absurd (apart refl),
+              (
+                λ _. record { byte = lit< tt; writable = refl },
+                (
+                  λ _. record { byte = lit< tt; writable = refl },
+                  (
+                    λ _. record { byte = lit< tt; writable = refl },
+                    (
+                      λ _. record { byte = lit< tt; writable = refl },
+                      (
+                        λ _. record { byte = lit< tt; writable = refl },
+                        (
+                          λ _. record { byte = lit< tt; writable = refl },
+                          (
+                            λ _. record { byte = class_byte card.vga; writable = refl },
+                            (
+                              λ _. record { byte = lit< tt; writable = refl },
+                              (
+                                λ _. record { byte = lit< tt; writable = refl },
+                                (
+                                  λ _. record { byte = lit< tt; writable = refl },
+                                  (λ _. record { byte = lit< tt; writable = refl }, tt),
+                                ),
+                              ),
+                            ),
+                          ),
+                        ),
+                      ),
+                    ),
+                  ),
+                ),
+              ),
+            ),
+          ),
+        ),
+      ),
+    ) below
 
 -- ---- the expansion ROM, and past it
 

@@ -1,11 +1,7 @@
 -- One chip: its inputs, and the search for its request.
-use Rattle.std.proofs.Common.{◌≡◌, ℕ, ◌+◌, ◌<◌, ◌≤◌, Bool, true, false, not, cond, ltb, ◌||◌, ◌&&◌, Option, Some, None, List, [], ◌∷◌, ◌++◌, length, get_or, drop, refl, sym, ap, ◌∙◌, inl, inr, add-one, drop-cons}
-use Rattle.std.proofs.Math.Bool.{or-false, or-true, and-false, or_assoc}
-use Rattle.std.specs.List.{find, list_any}
-use Rattle.std.proofs.Math.ListN.{drop_of_length-le}
-use Rattle.std.proofs.lemmas.Bool.{cases_Bool, agree_below, agree_below_at, ltb-true, or_from}
+use Rattle.std.proofs.Common.{◌≡◌, Bool, true, false, not, cond, ◌||◌, ◌&&◌, refl}
 use Rattle.device_spec.specs.Levels.{Levels, has, levels_where}
-use Rattle.device_spec.specs.Pic.{Chip, pending, priority_order, is_blocking, blocks_itself, is_requested, first_selectable, request, first_blocking, latches_after}
+use Rattle.device_spec.specs.Pic.{Chip, pending, latches_after}
 use Rattle.device_spec.proofs.Levels.{levels_where-same, has-levels_where}
 
 -- ---- the pending levels

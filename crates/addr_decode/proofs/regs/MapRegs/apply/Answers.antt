@@ -1,8 +1,8 @@
 use Rattle.std.proofs.Common.{sym, subst}
 use Rattle.board_spec.specs.declared.map_change.MapChange.{MapChange}
 use Rattle.board_spec.specs.Registers.{changed_byte}
-use Rattle.addr_decode.specs.MapRegs.{StandsFor, map_bytes}
 use Rattle.pci_bars.specs.Cards.{AreCardsOf}
+use Rattle.addr_decode.specs.MapRegs.{StandsFor, map_bytes}
 use Rattle.addr_decode.proofs.CardLemmas.{fitted_same}
 use Rattle.addr_decode.proofs.regs.MapRegs.apply.Goals as goal
 
@@ -30,4 +30,4 @@ returns-in-Store-clause-cards c = λ setup bytes are.
 pub returns-in-Reset-clause-cards : goal.returns-in-Reset-clause-cards
 returns-in-Reset-clause-cards c = λ setup bytes are.
     subst (λ (change : MapChange). AreCardsOf setup (λ reg. changed_byte setup change reg (bytes reg)) c.reset.new.self.cards.items) (sym c.in-Reset.is)
-    (c.reset.ensures.registers setup are.0)
+    (c.reset.ensures.reset setup are.0)

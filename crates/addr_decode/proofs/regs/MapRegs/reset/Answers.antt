@@ -1,24 +1,29 @@
-use Rattle.std.proofs.Common.{rules, ◌∙◌, ◌++◌, [], ◌∷◌, ap, sym, List, arith}
+use Rattle.std.proofs.Common.{rules, ◌≡◌, ◌≤◌, ◌∙◌, ◌++◌, [], ◌∷◌, ap, sym, List, length, arith}
+use Rattle.std.proofs.lemmas.List.{length-map, take_all}
 use Rattle.board_spec.specs.Setup.{FittedCard}
 use Rattle.pci_bars.specs.Cards.{CardBytes, cards_of}
-use Rattle.addr_decode.proofs.CardLemmas.{fitted_same, one_more_pushed, all_pushed}
+use Rattle.addr_decode.proofs.CardLemmas.{fitted_same, one_more_pushed}
 use Rattle.addr_decode.proofs.regs.MapRegs.reset.Goals as goal
 
 pub after_reset-requires-clause-cards : goal.after_reset-requires-clause-cards
 after_reset-requires-clause-cards c =
-    fitted_same c.args.self.now.cards.items c.loop-card.cards.items
-    (all_pushed c.as_slice-card-items.result.now c.args.self.now.cards.items (cards_of c.loop-card.cards.items) c.loop-card.card-index c.loop-card.invariant.pushed (omega arith) c.as_slice-card-items.ensures.value)
-    c.requires.cards
+    let long : length (cards_of c.as_slice-card-items.result.now) ≤ c.loop-card.card-index =
+    omega (arith, length-map c.as_slice-card-items.result.now (λ (card : CardBytes). card.card)) in
+    let same : cards_of c.loop-card.cards.items ≡ cards_of c.args.self.now.cards.items =
+    c.loop-card.invariant.pushed
+    ∙ take_all c.loop-card.card-index (cards_of c.as_slice-card-items.result.now) long
+    ∙ ap (λ (cards : List CardBytes). cards_of cards) c.as_slice-card-items.ensures.value in
+    fitted_same c.args.self.now.cards.items c.loop-card.cards.items same c.requires.cards
 
 pub returns-clause-stands : goal.returns-clause-stands
 returns-clause-stands c = λ setup same.
+    let long : length (cards_of c.as_slice-card-items.result.now) ≤ c.loop-card.card-index =
+    omega (arith, length-map c.as_slice-card-items.result.now (λ (card : CardBytes). card.card)) in
     c.after_reset.ensures.stands setup
-    (same ∙ sym (all_pushed c.as_slice-card-items.result.now c.args.self.now.cards.items (cards_of c.loop-card.cards.items) c.loop-card.card-index c.loop-card.invariant.pushed (omega arith) c.as_slice-card-items.ensures.value))
-
-pub returns-clause-registers : goal.returns-clause-registers
-returns-clause-registers c = λ setup same.
-    c.after_reset.ensures.registers setup
-    (same ∙ sym (all_pushed c.as_slice-card-items.result.now c.args.self.now.cards.items (cards_of c.loop-card.cards.items) c.loop-card.card-index c.loop-card.invariant.pushed (omega arith) c.as_slice-card-items.ensures.value))
+    (same
+    ∙ sym (c.loop-card.invariant.pushed
+    ∙ take_all c.loop-card.card-index (cards_of c.as_slice-card-items.result.now) long
+    ∙ ap (λ (cards : List CardBytes). cards_of cards) c.as_slice-card-items.ensures.value))
 
 pub loop-card-preserved : goal.loop-card-preserved
 loop-card-preserved c = record {

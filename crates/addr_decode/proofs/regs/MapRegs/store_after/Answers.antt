@@ -1,8 +1,8 @@
 use Rattle.std.proofs.Common.{◌≡◌, ◌≤◌, ◌+◌, ℕ, subst, arith}
 use Rattle.board_spec.specs.MapWrites.{reg_after}
-use Rattle.addr_decode.specs.MapRegs.{StandsFor, map_bytes, stored}
 use Rattle.pci_bars.specs.Cards.{AreCardsOf}
-use Rattle.addr_decode.proofs.CardLemmas.{cards_past}
+use Rattle.addr_decode.specs.MapRegs.{StandsFor, map_bytes, stored}
+use Rattle.addr_decode.proofs.CardLemmas.{cards_beyond}
 use Rattle.addr_decode.proofs.StandsLemmas.{stands-same, beyond}
 use Rattle.addr_decode.proofs.regs.MapRegs.store_after.Goals as goal
 
@@ -27,4 +27,4 @@ returns-in-Some-clause-cards c = λ setup bytes are.
 pub returns-in-None-clause-cards : goal.returns-in-None-clause-cards
 returns-in-None-clause-cards c = λ setup bytes are.
     let past : 256 ≤ c.args.reg.off + c.args.k = omega (arith, c.in-None.ensures) in
-    cards_past setup bytes (reg_after c.args.reg c.args.k) c.args.byte c.args.self.now.cards.items c.requires.cards.each c.ranges.byte.fits past are
+    cards_beyond setup bytes (reg_after c.args.reg c.args.k) c.args.byte c.args.self.now.cards.items c.requires.cards.each c.ranges.byte.fits past are

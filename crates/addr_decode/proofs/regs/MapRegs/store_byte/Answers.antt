@@ -1,7 +1,7 @@
-use Rattle.std.proofs.Common.{refl, subst, arith, inl, inr}
+use Rattle.std.proofs.Common.{List, inl, inr, refl, subst, sym, arith}
 use Rattle.board_base.specs.declared.target.Reg.{Reg}
+use Rattle.pci_bars.specs.Cards.{CardBytes, AreCardsOf}
 use Rattle.addr_decode.specs.MapRegs.{StandsFor, map_bytes, stored}
-use Rattle.pci_bars.specs.Cards.{AreCardsOf}
 use Rattle.addr_decode.proofs.CardLemmas.{cards_beside}
 use Rattle.addr_decode.proofs.StoreLemmas.{in_function_0}
 use Rattle.addr_decode.proofs.StandsLemmas.{stands-same, function_beside, card_stored}
@@ -35,13 +35,11 @@ returns-then-reg-ne0-clause-cards c = λ setup bytes are.
 
 pub returns-in-0-clause-cards : goal.returns-in-0-clause-cards
 returns-in-0-clause-cards c = λ setup bytes are.
-    rw c.store_bridge.ensures.same_cards
-    (cards_beside setup bytes c.args.reg c.args.byte c.args.self.now.cards.items c.requires.cards.each (inl (omega (arith, c.in-0.is))) are)
+    rw c.store_bridge.ensures.same_cards (cards_beside setup bytes c.args.reg c.args.byte c.args.self.now.cards.items c.requires.cards.each (inl (omega arith)) are)
 
 pub returns-in-1-clause-cards : goal.returns-in-1-clause-cards
 returns-in-1-clause-cards c = λ setup bytes are.
-    rw c.store_isa.ensures.same_cards
-    (cards_beside setup bytes c.args.reg c.args.byte c.args.self.now.cards.items c.requires.cards.each (inl (omega (arith, c.in-1.is))) are)
+    rw c.store_isa.ensures.same_cards (cards_beside setup bytes c.args.reg c.args.byte c.args.self.now.cards.items c.requires.cards.each (inl (omega arith)) are)
 
 pub returns-in_default-clause-cards : goal.returns-in_default-clause-cards
 returns-in_default-clause-cards c = λ setup bytes are.
