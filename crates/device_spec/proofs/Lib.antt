@@ -10,7 +10,7 @@ pub mod PairLaws
 mod PicLaws
 mod PicPlaces
 mod PitBytes
-pub mod PitCounts
+mod PitCounts
 mod PitLatches
 pub mod PitPeriods
 pub mod PitPulses

@@ -1,4 +1,4 @@
-use Rattle.std.proofs.Common.{rules, ◌≡◌, ◌∙◌, ap, List}
+use Rattle.std.proofs.Common.{rules, ◌≡◌, ◌∙◌, ap}
 use Rattle.std.specs.Prelude.{is_some}
 use Rattle.device_spec.specs.Ata.State.{Disk}
 use Rattle.std.specs.Prelude.{Option}
