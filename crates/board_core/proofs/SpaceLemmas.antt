@@ -1,7 +1,8 @@
 -- The registers in configuration space: which part has a register, and what a byte that is stored leaves.
 use Rattle.std.proofs.Common.{◌≡◌, ◌≢◌, ℕ, ◌+◌, ◌*◌, ◌%◌, ◌≤◌, ◌<◌, ◌⊎◌, inl, inr, true, false, List, Option, Some, None, refl, sym, ◌∙◌, ap, subst, arith, add-one}
 use Rattle.std.specs.Prelude.{is_some, option_map}
-use Rattle.std.proofs.lemmas.Bool.{cases_eq, ne_eqb}
+use Rattle.std.proofs.lemmas.Bool.{cases_eq, cases_lt, ne_eqb}
+use Rattle.std.proofs.lemmas.Bool.Decides.{nat_tests}
 use Rattle.arrayvec.specs.ArrayVec.{ArrayVec}
 use Rattle.board_base.specs.declared.access.Width.{Width}
 use Rattle.board_base.specs.declared.access.Width.TheVariants.{One, Two, Four}
@@ -16,7 +17,8 @@ use Rattle.board_spec.specs.WideStores.{after_stores}
 use Rattle.board_spec.proofs.StoreLemmas.{byte_by_byte}
 use Rattle.board_spec.specs.MapWrites.{reg_after}
 use Rattle.board_spec.specs.Decode.{Bytes}
-use Rattle.board_spec.specs.RegisterNames.{bridge, card_register}
+use Rattle.board_spec.specs.RegisterNames.{bridge, ide, card_register}
+use Rattle.xbus_select.specs.Ide.{IdeBytes, IsIdeOf}
 use Rattle.xbus_select.specs.Piix.{PiixBytes, piix_register, IsPiixRegister, IsPiixOf}
 use Rattle.pci_bars.specs.Cards.{CardBytes, AreCards, AreCardsOf, AreFitted}
 use Rattle.addr_decode.specs.MapRegs.{stored}
@@ -46,13 +48,19 @@ bridge_agrees bytes bytes' host same is = record {
   smram = is.smram ∙ sym (same 0x72);
 }
 
+ide_agrees : (bytes bytes' : Bytes) (regs : IdeBytes) → ((off : ℕ) → bytes' (ide off) ≡ bytes (ide off)) → IsIdeOf bytes regs → IsIdeOf bytes' regs
+ide_agrees bytes bytes' regs same is = record {
+  command = is.command ∙ sym (same 0x04);
+  timing_low = is.timing_low ∙ sym (same 0x40);
+  timing_high = is.timing_high ∙ sym (same 0x41);
+  fixed = λ setup off fixed. same off ∙ is.fixed setup off fixed;
+}
+
 south_agrees : (bytes bytes' : Bytes) (south : PiixBytes) → SameSouth bytes bytes' → IsPiixOf bytes south → IsPiixOf bytes' south
 south_agrees bytes bytes' south same is = record {
   xbcs = is.xbcs ∙ sym (same 0 0x4E);
-  ide_command = is.ide_command ∙ sym (same 1 0x04);
-  timing_low = is.timing_low ∙ sym (same 1 0x40);
-  timing_high = is.timing_high ∙ sym (same 1 0x41);
-  others = λ setup fun off register fixed. same fun off ∙ is.others setup fun off register fixed;
+  ide = ide_agrees bytes bytes' south.ide (λ off. same 1 off) is.ide;
+  fixed = λ setup off fixed. same 0 off ∙ is.fixed setup off fixed;
 }
 
 pub space_agrees : (setup : Setup) (bytes bytes' : Bytes) (space : ConfigSpace) → ((reg : Reg) → bytes' reg ≡ bytes reg) →
@@ -153,10 +161,17 @@ south_function setup dev fun at exists' =
       ]
     ]
 
+outside : (off : ℕ) → is_within 0x60 0x63 off ≡ false → (off < 0x60) ⊎ (0x63 < off)
+outside off beside =
+    elim (cases_lt off 0x60) [
+      | inl below ↦ inl below
+      | inr from ↦ inr (grind (arith, nat_tests))
+    ]
+
 pub south_exists : (setup : Setup) (reg : Reg) → reg.dev ≡ 1 → Exists setup reg.dev reg.fun → is_routing reg ≡ false → IsPiixRegister reg.fun reg.off
 south_exists setup reg at exists' off =
     elim (south_function setup reg.dev reg.fun at exists') [
-      | inl zero' ↦ let beside : is_within 0x60 0x63 reg.off ≡ false = rw (at, zero') at off in inl (zero', beside)
+      | inl zero' ↦ let beside : is_within 0x60 0x63 reg.off ≡ false = rw (at, zero') at off in inl (zero', outside reg.off beside)
       | inr one ↦ inr one
     ]
 

@@ -14,7 +14,7 @@ returns c = record {
       c.decode_port.ensures.decoded setup bytes
       (stands_inside setup bytes _ c.args.self.now.map.regs c.regs.ensures.regs kept.map)
       (record {
-        command = c.ide_command.ensures.command ∙ kept.space.south.ide_command;
+        command = c.ide_command.ensures.command ∙ kept.space.south.ide.command;
         timing = high_byte c.from.result c.read-timing.result _ c.from.ensures c.read-timing.type_inv (c.read-timing.ensures.byte bytes kept.space.south);
       })
       ∙ ap (λ (address : ℕ). port_target_of setup bytes address false c.args.port c.args.width)
