@@ -1,6 +1,6 @@
--- The bounds of the windows that a change may change are an interval: each window ends where it begins or above.
-use Rattle.std.proofs.Common.{◌≡◌, ℕ, ◌-◌, ◌/◌, ◌≤◌, inl, inr, List, [], ◌∷◌, ◌++◌, map, take, Option, Some, None, sym, ◌∙◌, ap, arith}
-use Rattle.std.specs.Prelude.{◌==◌, ◌&&◌, IfSome, flat_map, filter}
+-- Each window that a change may change ends where it begins or above.
+use Rattle.std.proofs.Common.{ℕ, ◌-◌, ◌/◌, ◌≤◌, inl, inr, List, [], ◌∷◌, ◌++◌, map, take, Option, Some, None, arith}
+use Rattle.std.specs.Prelude.{◌==◌, ◌&&◌, flat_map, filter}
 use Rattle.std.specs.List.{AllByRecursion}
 use Rattle.std.specs.Option.{option_map_or}
 use Rattle.std.proofs.lemmas.Bool.{cases_Bool}
@@ -13,13 +13,13 @@ use Rattle.board_spec.specs.Bits.{is_within}
 use Rattle.board_spec.specs.Decode.{Bytes, Window, rom_window, vga_window}
 use Rattle.board_spec.specs.MapWrites.{reg_after}
 use Rattle.map_builder.specs.declared.range.Changed.{Changed}
-use Rattle.map_builder.specs.Changed.{decoded, base_windows, bridge_windows, isa_windows, card_windows, windows_of, windows_covered, after, changed_windows, bounds, joined}
-use Rattle.map_builder.proofs.WindowLemmas.{offsets, bounds-append}
+use Rattle.map_builder.specs.Changed.{decoded, base_windows, bridge_windows, isa_windows, card_windows, windows_of, windows_covered, after, changed_windows}
+use Rattle.map_builder.proofs.WindowLemmas.{offsets}
 
-abbrev IsOrdered : Changed → Type 0
+abbrev pub IsOrdered : Changed → Type 0
 IsOrdered window = window.lo ≤ window.hi
 
-abbrev Ordered : List Changed → Type 0
+abbrev pub Ordered : List Changed → Type 0
 Ordered windows = AllByRecursion IsOrdered windows
 
 -- ---- windows
@@ -98,29 +98,7 @@ covered_ordered setup bytes Reset = (omega arith, tt)
 covered_ordered setup bytes (Store reg width value) =
     ordered_flat_map (λ k. windows_of setup bytes (reg_after reg k)) (take (bytes_of width) offsets) (λ k. windows_ordered setup bytes (reg_after reg k))
 
--- ---- their bounds
-
-joined_ordered : (window : Changed) (found : Option Changed) → IsOrdered window → IfSome found IsOrdered → IfSome (joined (Some window) found) IsOrdered
-joined_ordered window None one some = one
-joined_ordered window (Some interval) one some = omega arith
-
-bounds_of_ordered : (windows : List Changed) → Ordered windows → IfSome (bounds windows) IsOrdered
-unfolding bounds
-bounds_of_ordered [] ordered = tt
-bounds_of_ordered (window ∷ later) ordered = joined_ordered window (bounds later) ordered.0 (bounds_of_ordered later ordered.1)
-
-pub bounds_ordered : (setup : Setup) (bytes : Bytes) (change : MapChange) → IfSome (bounds (changed_windows setup bytes change)) (λ interval. interval.lo ≤ interval.hi)
-bounds_ordered setup bytes change =
+pub changed_ordered : (setup : Setup) (bytes : Bytes) (change : MapChange) → Ordered (changed_windows setup bytes change)
+changed_ordered setup bytes change =
     let new : Bytes = after setup change bytes in
-    bounds_of_ordered (changed_windows setup bytes change)
-    (ordered_append (windows_covered setup bytes change) (windows_covered setup new change) (covered_ordered setup bytes change) (covered_ordered setup new change))
-
--- they are joined of those before the change and those after it
-pub bounds_joined : (setup : Setup) (bytes : Bytes) (change : MapChange) (before later found : Option Changed) →
-    before ≡ bounds (windows_covered setup bytes change) → later ≡ bounds (windows_covered setup (after setup change bytes) change) →
-    found ≡ joined before later → found ≡ bounds (changed_windows setup bytes change)
-bounds_joined setup bytes change before later found before_is later_is is =
-    is
-    ∙ ap (λ (here : Option Changed). joined here later) before_is
-    ∙ ap (λ (there : Option Changed). joined (bounds (windows_covered setup bytes change)) there) later_is
-    ∙ sym (bounds-append (windows_covered setup bytes change) (windows_covered setup (after setup change bytes) change))
+    ordered_append (windows_covered setup bytes change) (windows_covered setup new change) (covered_ordered setup bytes change) (covered_ordered setup new change)

@@ -1,6 +1,5 @@
 -- After a change the ranges of a map are right again for each address outside the bounds of the changed windows.
-use Rattle.std.proofs.Common.{◌≡◌, ℕ, zero, suc, ◌+◌, ◌<◌, ◌≤◌, Bool, false, List, [], ◌∷◌, length, get_or, Option, Some, None, refl, sym, ◌∙◌, subst, arith}
-use Rattle.std.specs.Prelude.{MatchOption}
+use Rattle.std.proofs.Common.{◌≡◌, ℕ, zero, suc, ◌+◌, ◌<◌, ◌≤◌, Bool, false, List, [], ◌∷◌, length, get_or, refl, sym, ◌∙◌, subst, arith}
 use Rattle.board_base.specs.declared.access.Width.{Width}
 use Rattle.board_base.specs.declared.target.Reg.{Reg}
 use Rattle.board_spec.specs.declared.map_change.MapChange.{MapChange}
@@ -13,9 +12,11 @@ use Rattle.pci_bars.specs.Cards.{AreFitted, cards_of}
 use Rattle.addr_decode.specs.MapRegs.{MapBytes, StandsFor}
 use Rattle.map_builder.specs.declared.range.Changed.{Changed}
 use Rattle.map_builder.specs.Map.{HasBoard, IsMapOf}
-use Rattle.map_builder.specs.Build.{IsMapOutside}
-use Rattle.map_builder.specs.Changed.{after, changed_windows, bounds}
-use Rattle.map_builder.proofs.OutsideLemmas.{OutsideSome, outside_each}
+use Rattle.map_builder.specs.Build.{IsMapWhere, IsBeside}
+use Rattle.map_builder.specs.Sorted.{sorted}
+use Rattle.map_builder.specs.Changed.{after, changed_windows}
+use Rattle.map_builder.proofs.OutsideLemmas.{Outside}
+use Rattle.map_builder.proofs.SortedLemmas.{outside_sorted}
 use Rattle.map_builder.proofs.KeptStores.{top_after, changes_keep}
 use Rattle.map_builder.proofs.SameBoards.{boards_same, untouched_areas}
 
@@ -79,31 +80,23 @@ module _ (old new : MapBytes) (change : MapChange) (ranges : List MapRange) (is_
     };
   }
 
--- the ranges are a map but inside the bounds of the changed windows, and where there are none they are the map
-pub still_map : (old new : MapBytes) (change : MapChange) (ranges : List MapRange) (is_map : IsMapOf old ranges) →
-    StandsFor is_map.board.setup (after is_map.board.setup change is_map.board.bytes) new → (found : Option Changed) →
-    bounds (changed_windows is_map.board.setup is_map.board.bytes change) ≡ found → AreFitted new.cards →
-    MatchOption found (IsMapOf new ranges) (λ interval. IsMapOutside new interval ranges)
-still_map old new change ranges is_map stands found is fitted =
-    elim found as (λ it. found ≡ it → MatchOption it (IsMapOf new ranges) (λ interval. IsMapOutside new interval ranges)) [
-      | None ↦ λ none.
-          same_map old new change ranges is_map stands (λ addr. OutsideSome addr found) keeps (λ addr. subst (OutsideSome addr) (sym none) tt) fitted
-      | Some interval ↦ λ some. record {
-        tiles = is_map.tiles;
-        least = (is_map.map is_map.board.setup is_map.board.bytes is_map.board.stands).least;
-        right = λ setup bytes now k d within. record {
-          at_each = λ addr low high out.
-              still_right old new change ranges is_map stands (λ addr. OutsideSome addr found) keeps setup bytes now k d within addr low high
-              (subst (OutsideSome addr) (sym some) out);
-        };
-      }
-    ] refl
+-- where they are a map beside the windows that rise from those that changed
+pub beside_map : (old new : MapBytes) (change : MapChange) (ranges : List MapRange) (is_map : IsMapOf old ranges) →
+    StandsFor is_map.board.setup (after is_map.board.setup change is_map.board.bytes) new → (windows : List Changed) →
+    windows ≡ sorted (changed_windows is_map.board.setup is_map.board.bytes change) → IsMapWhere new (IsBeside windows) ranges
+beside_map old new change ranges is_map stands windows is = record {
+  tiles = is_map.tiles;
+  least = (is_map.map is_map.board.setup is_map.board.bytes is_map.board.stands).least;
+  right = λ setup bytes now k d within. record {
+    at_each = λ addr low high out. still_right old new change ranges is_map stands (IsBeside windows) keeps setup bytes now k d within addr low high out;
+  };
+}
   where
-    keeps : (addr : ℕ) → addr < address_count → OutsideSome addr found →
+    keeps : (addr : ℕ) → addr < address_count → IsBeside windows addr →
         six_areas is_map.board.setup (after is_map.board.setup change is_map.board.bytes) addr ≡ six_areas is_map.board.setup is_map.board.bytes addr
     keeps addr address out =
         changes_keep is_map.board.setup is_map.board.bytes change addr is_map.board.cards is_map.board.top address
-        (outside_each addr (changed_windows is_map.board.setup is_map.board.bytes change) (subst (OutsideSome addr) (sym is) out))
+        (outside_sorted addr (changed_windows is_map.board.setup is_map.board.bytes change) (subst (Outside addr) is out))
 
 -- a change that covers no byte on which the map depends leaves the map
 pub untouched_map : (old new : MapBytes) (change : MapChange) (ranges : List MapRange) (is_map : IsMapOf old ranges) →

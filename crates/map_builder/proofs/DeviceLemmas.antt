@@ -13,7 +13,7 @@ use Rattle.board_spec.specs.Bits.{is_within}
 use Rattle.board_spec.specs.Decode.{Bytes, Window, base_value, memory_window, rom_value, rom_window, rom_window_of, vga_window}
 use Rattle.pci_bars.specs.Cards.{CardBytes, HoldsRom, DecodesAs, AreCards, AreDecoded, cards_of}
 use Rattle.map_builder.specs.declared.range.Changed.{Changed}
-use Rattle.map_builder.specs.Changed.{decoded, bridge_windows, isa_windows, card_windows, windows_of, bounds}
+use Rattle.map_builder.specs.Changed.{decoded, bridge_windows, isa_windows, card_windows, windows_of}
 use Rattle.map_builder.specs.Held.{block, held_by, held_from, rom_held, vga_held, card_held, device_held}
 
 -- the windows of bases, the first of them base number `first`
@@ -134,13 +134,9 @@ no_line true false xs ys = refl
 no_line false true xs ys = refl
 no_line false false xs ys = refl
 
-none_is : None ≡ bounds []
-unfolding bounds
-none_is = refl
-
-pub windows_of_none : (setup : Setup) (bytes : Bytes) (reg : Reg) → reg.fun ≢ 0 → None ≡ bounds (windows_of setup bytes reg)
+pub windows_of_none : (setup : Setup) (bytes : Bytes) (reg : Reg) → reg.fun ≢ 0 → windows_of setup bytes reg ≡ []
 windows_of_none setup bytes reg function =
-    rw (ne_eqb reg.fun 0 function, no_line (reg.dev == 0) (reg.dev == 1) (bridge_windows reg.off) (isa_windows reg.off)) none_is
+    rw (ne_eqb reg.fun 0 function, no_line (reg.dev == 0) (reg.dev == 1) (bridge_windows reg.off) (isa_windows reg.off)) refl
 
 -- no register past offset FFh governs a window
 no_card_window : (bytes : Bytes) (off : ℕ) (card : FittedCard) → 256 ≤ off → card_windows bytes off card ≡ []
@@ -172,11 +168,11 @@ same_lines false true c none = refl
 same_lines false false true none = refl
 same_lines false false false none = refl
 
-pub windows_past : (setup : Setup) (bytes : Bytes) (reg : Reg) → 256 ≤ reg.off → None ≡ bounds (windows_of setup bytes reg)
+pub windows_past : (setup : Setup) (bytes : Bytes) (reg : Reg) → 256 ≤ reg.off → windows_of setup bytes reg ≡ []
 windows_past setup bytes reg past =
     rw (
       no_bridge_window reg.off past,
       no_isa_window reg.off past,
       no_device_window bytes reg.off (card_at setup reg.dev) past,
       same_lines (reg.dev == 0 && reg.fun == 0) (reg.dev == 1 && reg.fun == 0) (reg.fun == 0) [],
-    ) none_is
+    ) refl

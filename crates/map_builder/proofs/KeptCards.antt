@@ -15,9 +15,8 @@ use Rattle.board_spec.specs.Bits.{is_bit, is_within}
 use Rattle.board_spec.specs.Decode.{Bytes, Window, base_value, is_covered, rom_value, rom_window, rom_window_of, is_rom_on, vga_window, memory_windows, is_enabled_for, memory_claim}
 use Rattle.board_spec.specs.RegisterNames.{card_register}
 use Rattle.pci_bars.specs.Cards.{CardBytes}
-use Rattle.map_builder.specs.declared.range.Changed.{Changed}
 use Rattle.map_builder.specs.Changed.{decoded, base_windows, card_windows, windows_of}
-use Rattle.map_builder.specs.Held.{held_by, rom_held, card_held}
+use Rattle.map_builder.specs.Held.{held_by, card_held}
 use Rattle.map_builder.proofs.OutsideLemmas.{Outside, outside_left, outside_right, not_covered, none_covered, and_no}
 use Rattle.map_builder.proofs.DeviceLemmas.{from_base, Hold, HoldRom, card_is, windows_of_card}
 

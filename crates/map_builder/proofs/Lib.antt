@@ -11,5 +11,7 @@ pub mod KeptCards
 pub mod KeptLemmas
 pub mod KeptStores
 pub mod BoundsLemmas
+pub mod SortedLemmas
 pub mod SameBoards
 pub mod ChangeLemmas
+pub mod RowLemmas

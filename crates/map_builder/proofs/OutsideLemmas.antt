@@ -7,7 +7,7 @@ use Rattle.std.proofs.lemmas.Bool.{ne_eqb}
 use Rattle.std.proofs.lemmas.Nat.{pow_pos}
 use Rattle.board_spec.specs.Decode.{Window, is_covered}
 use Rattle.map_builder.specs.declared.range.Changed.{Changed}
-use Rattle.map_builder.specs.Changed.{from_to, decoded, bounds, bounds_or_zero, joined, IsOutside}
+use Rattle.map_builder.specs.Changed.{from_to, decoded, bounds, bounds_or_zero, both, joined, IsOutside}
 
 -- an address outside all of some windows
 abbrev pub Outside : ℕ → List Changed → Type 0
@@ -19,17 +19,20 @@ abbrev pub OutsideSome : ℕ → Option Changed → Type 0
 OutsideSome addr None = Unit {0}
 OutsideSome addr (Some interval) = IsOutside addr interval
 
-outside_both : (addr : ℕ) (here : Changed) (there : Option Changed) → OutsideSome addr (joined (Some here) there) →
+pub outside_both : (addr : ℕ) (here there : Changed) → IsOutside addr (both here there) → IsOutside addr here × IsOutside addr there
+outside_both addr here there (inl below) = (inl (omega arith), inl (omega arith))
+outside_both addr here there (inr above) = (inr (omega arith), inr (omega arith))
+
+outside_joined : (addr : ℕ) (here : Changed) (there : Option Changed) → OutsideSome addr (Some (joined here there)) →
     IsOutside addr here × OutsideSome addr there
-outside_both addr here None out = (out, tt)
-outside_both addr here (Some there) (inl below) = (inl (omega arith), inl (omega arith))
-outside_both addr here (Some there) (inr above) = (inr (omega arith), inr (omega arith))
+outside_joined addr here None out = (out, tt)
+outside_joined addr here (Some there) out = outside_both addr here there out
 
 pub outside_each : (addr : ℕ) (windows : List Changed) → OutsideSome addr (bounds windows) → Outside addr windows
 unfolding bounds
 outside_each addr [] out = tt
 outside_each addr (window ∷ later) out =
-    let both = outside_both addr window (bounds later) out in (both.0, outside_each addr later both.1)
+    let each = outside_joined addr window (bounds later) out in (each.0, outside_each addr later each.1)
 
 outside_some : (addr : ℕ) (found : Option Changed) → IsOutside addr (unwrap_or found (from_to 0 0)) → OutsideSome addr found
 outside_some addr None out = tt

@@ -1,20 +1,22 @@
--- What stays of a map that differs in an interval alone: the ranges below the interval, and those above it.
-use Rattle.std.proofs.Common.{◌≡◌, ◌≢◌, ℕ, zero, suc, ◌+◌, ◌-◌, ◌<◌, ◌≤◌, inl, inr, List, [], ◌∷◌, ◌++◌, length, map, take, drop, refl, sym, ◌∙◌, ap, subst, arith}
-use Rattle.std.specs.Prelude.{All}
-use Rattle.std.proofs.lemmas.List.{get_or-map, length-map, drop-map, map_more}
-use Rattle.std.proofs.lemmas.List.Elements.{All-cons, All-head, All-tail, All-drop}
+-- What stays of a map that differs in some windows alone: the ranges below them, between them and above them.
+use Rattle.std.proofs.Common.{◌≡◌, ◌≢◌, ℕ, zero, suc, ◌+◌, ◌-◌, ◌<◌, ◌≤◌, inl, inr, List, [], ◌∷◌, ◌++◌, length, map, take, drop, get_or, refl, sym, ◌∙◌, ap, subst, arith}
+use Rattle.std.specs.Prelude.{min}
+use Rattle.std.proofs.lemmas.List.{get_or-map, length-map, map_more, drop_more, drop_all}
+use Rattle.std.proofs.lemmas.Bool.{cases_lt}
 use Rattle.board_base.specs.declared.target.Area.{Area}
 use Rattle.board_spec.specs.Setup.{Setup}
 use Rattle.board_spec.specs.Decode.{Bytes}
-use Rattle.board_spec.specs.FlatMap.{address_count, MapRange, Tiles, NeighboursDiffer, IsRight}
+use Rattle.board_spec.specs.FlatMap.{address_count, MapRange, NeighboursDiffer, IsFlatMapOf}
 use Rattle.addr_decode.specs.MapRegs.{MapBytes, StandsFor}
 use Rattle.map_builder.specs.declared.range.Changed.{Changed}
 use Rattle.map_builder.specs.declared.range.Range.{Range}
 use Rattle.map_builder.specs.Map.{range_of}
 use Rattle.map_builder.specs.Find.{no_range, range_at, Holds}
-use Rattle.map_builder.specs.Build.{GoesOn, IsBuilt, IsRightOutside, IsMapOutside, IsMapFrom}
+use Rattle.map_builder.specs.Build.{GoesOn, IsBuilt, IsRightWhere, IsMapWhere, IsBelow, IsBetween, IsBeside}
+use Rattle.map_builder.specs.Changed.{from_to}
+use Rattle.map_builder.specs.Sorted.{AreAbove, Rise, rows_in}
 use Rattle.map_builder.proofs.BuildLemmas.{range}
-use Rattle.map_builder.proofs.FindLemmas.{Placed, placed, tiles_below}
+use Rattle.map_builder.proofs.FindLemmas.{Placed, placed}
 use Rattle.map_builder.proofs.StepLemmas.{AreasAt, one_address, same_at_each, is_built_first, built_step, built_over, built_range}
 
 -- ---- ranges by their indices
@@ -34,120 +36,218 @@ differ_at (here ∷ next ∷ later) zero differ within = λ same. differ.0 (sym 
 differ_at (here ∷ next ∷ later) (suc k) differ within =
     let place : suc k + 1 ≡ suc (k + 1) = omega arith in rw place (differ_at (next ∷ later) k differ.1 (omega arith))
 
-tiles_after : (from : ℕ) (ranges : List Range) (k : ℕ) → Tiles from (map range_of ranges) → k < length ranges →
-    Tiles ((range_at ranges k).hi + 1) (map range_of (drop (k + 1) ranges))
-tiles_after from [] k tiles within = absurd (omega arith)
-tiles_after from (here ∷ later) zero tiles within = tiles.2
-tiles_after from (here ∷ later) (suc k) tiles within =
-    let place : suc k + 1 ≡ suc (k + 1) = omega arith in rw place (tiles_after (here.hi + 1) later k tiles.2 (omega arith))
+-- a map that agrees at some addresses agrees at fewer
+pub fewer_where : (regs : MapBytes) (Where Less : ℕ → Type 0) (ranges : List MapRange) → ((addr : ℕ) → Less addr → Where addr) →
+    IsMapWhere regs Where ranges → IsMapWhere regs Less ranges
+fewer_where regs Where Less ranges less is = record {
+  tiles = is.tiles;
+  least = is.least;
+  right = λ setup bytes stands k d within. record {
+    at_each = λ addr low high there. (is.right setup bytes stands k d within).at_each addr low high (less addr there);
+  };
+}
 
-begin_from : (from : ℕ) (ranges : List MapRange) → Tiles from ranges → All (λ range. from ≤ range.lo) ranges
-begin_from from [] tiles k d within = absurd (omega arith)
-begin_from from (here ∷ later) tiles zero d within = omega (arith, tiles.0)
-begin_from from (here ∷ later) tiles (suc k) d within =
-    omega (arith, begin_from (here.hi + 1) later tiles.2 k d (omega arith), tiles.0, tiles.1)
+pub right_at : (regs : MapBytes) (Where : ℕ → Type 0) (ranges : List Range) → IsMapWhere regs Where (map range_of ranges) →
+    (setup : Setup) (bytes : Bytes) (k : ℕ) → StandsFor setup bytes regs → k < length ranges → IsRightWhere setup bytes Where (range_of (range_at ranges k))
+right_at regs Where ranges is setup bytes k stands within =
+    let long : length (map range_of ranges) ≡ length ranges = length-map ranges range_of in
+    subst (IsRightWhere setup bytes Where) (get_or-map range_of ranges k no_range (range_of no_range) within)
+    (is.right setup bytes stands k (range_of no_range) (omega arith))
 
-module _ (regs : MapBytes) (changed : Changed) (ranges : List Range) (outside : IsMapOutside regs changed (map range_of ranges)) where
-  right_at : (setup : Setup) (bytes : Bytes) (k : ℕ) → StandsFor setup bytes regs → k < length ranges →
-      IsRightOutside setup bytes changed (range_of (range_at ranges k))
-  right_at setup bytes k stands within =
-      let long : length (map range_of ranges) ≡ length ranges = length-map ranges range_of in
-      subst (IsRightOutside setup bytes changed) (get_or-map range_of ranges k no_range (range_of no_range) within)
-      (outside.right setup bytes stands k (range_of no_range) (omega arith))
+-- ---- below the first window
 
-  -- ---- above
-
-  rest_right : (setup : Setup) (bytes : Bytes) (k : ℕ) → StandsFor setup bytes regs → k < length ranges → changed.hi ≤ (range_at ranges k).hi →
-      All (IsRight setup bytes) (map range_of (drop (k + 1) ranges))
-  rest_right setup bytes k stands within above j d inside =
-      let right = subst (All (IsRightOutside setup bytes changed)) (drop-map range_of (k + 1) ranges)
-      (All-drop (IsRightOutside setup bytes changed) (k + 1) (map range_of ranges) (outside.right setup bytes stands)) in
-      let from = begin_from ((range_at ranges k).hi + 1) (map range_of (drop (k + 1) ranges)) (tiles_after 0 ranges k outside.tiles within) j d inside in
-      record { at_each = λ addr low high. (right j d inside).at_each addr low high (inr (omega arith)) }
-
-  -- the range that holds the first address above, cut there, and those after it
-  pub map_above : (k : ℕ) → Holds ranges k (changed.hi + 1) →
-      IsMapFrom regs (changed.hi + 1) (range (changed.hi + 1) (range_at ranges k).hi (row_at ranges k) ∷ map range_of (drop (k + 1) ranges))
-  map_above k holds = record {
-    tiles = (refl, holds.below, tiles_after 0 ranges k outside.tiles holds.within);
-    right = λ setup bytes stands.
-        let cut : MapRange = range (changed.hi + 1) (range_at ranges k).hi (row_at ranges k) in
-        let one : IsRight setup bytes cut = record {
-          at_each = λ addr low high.
-              (right_at setup bytes k stands holds.within).at_each addr (omega (arith, holds.above)) high (inr (omega arith));
-        } in
-        All-cons (IsRight setup bytes) cut (map range_of (drop (k + 1) ranges)) one
-        (rest_right setup bytes k stands holds.within (omega (arith, holds.below)));
-  }
-
-  -- ---- below
-
+module _ (regs : MapBytes) (lo : ℕ) (address : lo < address_count) (ranges : List Range) (agrees : IsMapWhere regs (IsBelow lo) (map range_of ranges)) where
   is : Placed 0 ranges
-  is = placed 0 ranges (omega arith) outside.tiles
+  is = placed 0 ranges (omega arith) agrees.tiles
 
-  module _ (address : changed.lo < address_count) where
-    right_below : (k addr : ℕ) → k < length ranges → (range_at ranges k).lo ≤ addr → addr ≤ (range_at ranges k).hi → addr < changed.lo →
-        AreasAt regs addr (row_at ranges k)
-    right_below k addr within above below outer setup bytes stands =
-        sym ((right_at setup bytes k stands within).at_each addr above below (inl outer))
+  right_below : (k addr : ℕ) → k < length ranges → (range_at ranges k).lo ≤ addr → addr ≤ (range_at ranges k).hi → addr < lo →
+      AreasAt regs addr (row_at ranges k)
+  right_below k addr within above below outer setup bytes stands =
+      sym ((right_at regs (IsBelow lo) ranges agrees setup bytes k stands within).at_each addr above below outer)
 
-    -- the ranges before the one that holds an address, and that one as the last, are built up to the address
-    built_below : (k addr : ℕ) → k < length ranges → (range_at ranges k).lo ≤ addr → addr ≤ (range_at ranges k).hi → addr < changed.lo →
-        IsBuilt regs (map range_of (take k ranges)) (open_at ranges k) addr
-    built_below zero addr within above below outer =
-        let right = λ (x : ℕ) (low : 0 ≤ x) (high : x ≤ addr). right_below 0 x within (omega (arith, is.first)) (omega arith) (omega arith) in
-        subst (λ (lo : ℕ). IsBuilt regs [] (range lo 0xFFFF_FFFF (row_at ranges 0)) addr) (sym is.first)
-        (built_over regs [] (range 0 0xFFFF_FFFF (row_at ranges 0)) 0 addr (omega arith) (same_at_each regs 0 addr (row_at ranges 0) (omega arith) right)
-        (is_built_first regs (row_at ranges 0) (right 0 (omega arith) (omega arith))))
-    built_below (suc k) addr within above below outer =
-        let here : Range = range_at ranges k in
-        let next : Range = range_at ranges (suc k) in
-        let place : k + 1 ≡ suc k = omega arith in
-        let joined : next.lo ≡ here.hi + 1 = rw place at (is.next k (omega arith)) in
-        let other = subst (λ (j : ℕ). row_at ranges j ≢ row_at ranges k) place (differ_at ranges k outside.least (omega arith)) in
-        let pushed : map range_of (take (suc k) ranges) ≡ map range_of (take k ranges) ++ range here.lo (next.lo - 1) here.row.areas ∷ [] =
-        rw place at (map_more range_of ranges k no_range (omega arith))
-        ∙ ap (λ (hi : ℕ). map range_of (take k ranges) ++ range here.lo hi here.row.areas ∷ []) (omega arith) in
-        built_range regs (map range_of (take k ranges)) (map range_of (take (suc k) ranges)) (open_at ranges k) (open_at ranges (suc k)) (range_of next)
-        here.hi addr joined above (omega arith) (λ x low high. right_below (suc k) x within low (omega arith) (omega arith)) (inr (other, pushed, refl))
-        (built_below k here.hi (omega arith) (is.whole k (omega arith)) (omega arith) (omega arith))
+  -- the ranges before the one that holds an address, and that one as the last, are built up to the address
+  built_below : (k addr : ℕ) → k < length ranges → (range_at ranges k).lo ≤ addr → addr ≤ (range_at ranges k).hi → addr < lo →
+      IsBuilt regs (map range_of (take k ranges)) (open_at ranges k) addr
+  built_below zero addr within above below outer =
+      let right = λ (x : ℕ) (low : 0 ≤ x) (high : x ≤ addr). right_below 0 x within (omega (arith, is.first)) (omega arith) (omega arith) in
+      subst (λ (lo : ℕ). IsBuilt regs [] (range lo 0xFFFF_FFFF (row_at ranges 0)) addr) (sym is.first)
+      (built_over regs [] (range 0 0xFFFF_FFFF (row_at ranges 0)) 0 addr (omega arith) (same_at_each regs 0 addr (row_at ranges 0) (omega arith) right)
+      (is_built_first regs (row_at ranges 0) (right 0 (omega arith) (omega arith))))
+  built_below (suc k) addr within above below outer =
+      let here : Range = range_at ranges k in
+      let next : Range = range_at ranges (suc k) in
+      let place : k + 1 ≡ suc k = omega arith in
+      let joined : next.lo ≡ here.hi + 1 = rw place at (is.next k (omega arith)) in
+      let other = subst (λ (j : ℕ). row_at ranges j ≢ row_at ranges k) place (differ_at ranges k agrees.least (omega arith)) in
+      let pushed : map range_of (take (suc k) ranges) ≡ map range_of (take k ranges) ++ range here.lo (next.lo - 1) here.row.areas ∷ [] =
+      rw place at (map_more range_of ranges k no_range (omega arith))
+      ∙ ap (λ (hi : ℕ). map range_of (take k ranges) ++ range here.lo hi here.row.areas ∷ []) (omega arith) in
+      built_range regs (map range_of (take k ranges)) (map range_of (take (suc k) ranges)) (open_at ranges k) (open_at ranges (suc k)) (range_of next)
+      here.hi addr joined above (omega arith) (λ x low high. right_below (suc k) x within low (omega arith) (omega arith)) (inr (other, pushed, refl))
+      (built_below k here.hi (omega arith) (is.whole k (omega arith)) (omega arith) (omega arith))
 
-    -- and go on at the first address of the interval
-    pub built_to_interval : (k : ℕ) (ranges' : List MapRange) (last' : MapRange) (areas : List Area) → Holds ranges k (changed.lo - 1) → 0 < changed.lo →
-        AreasAt regs changed.lo areas → GoesOn (map range_of (take k ranges)) ranges' (open_at ranges k) last' changed.lo areas →
-        IsBuilt regs ranges' last' changed.lo
-    built_to_interval k ranges' last' areas holds above at_lo on =
-        built_step regs (map range_of (take k ranges)) ranges' (open_at ranges k) last' (changed.lo - 1) changed.lo areas (omega arith) address
-        (one_address regs (changed.lo - 1) changed.lo (omega arith)) at_lo on
-        (built_below k (changed.lo - 1) holds.within holds.above holds.below (omega arith))
+  -- and go on at the first address of the interval
+  pub built_to_interval : (k : ℕ) (ranges' : List MapRange) (last' : MapRange) (areas : List Area) → Holds ranges k (lo - 1) → 0 < lo →
+      AreasAt regs lo areas → GoesOn (map range_of (take k ranges)) ranges' (open_at ranges k) last' lo areas →
+      IsBuilt regs ranges' last' lo
+  built_to_interval k ranges' last' areas holds above at_lo on =
+      built_step regs (map range_of (take k ranges)) ranges' (open_at ranges k) last' (lo - 1) lo areas (omega arith) address
+      (one_address regs (lo - 1) lo (omega arith)) at_lo on
+      (built_below k (lo - 1) holds.within holds.above holds.below (omega arith))
 
--- ---- both joined
+-- ---- between windows
 
--- the ranges are built up to an address, and those above it are right
-pub record Joins (regs : MapBytes) (ranges : List MapRange) (last : MapRange) (above : List MapRange) : Type 0 where
-  pub hi : ℕ
+-- the range that holds the next address
+pub holds_after : (ranges : List Range) (k addr : ℕ) → Placed 0 ranges → Holds ranges k addr → (range_at ranges k).hi ≤ addr → addr + 1 < address_count →
+    Holds ranges (k + 1) (addr + 1)
+holds_after ranges k addr is holds high address =
+    elim (cases_lt (k + 1) (length ranges)) [
+      | inl more ↦
+          let next : (range_at ranges (k + 1)).lo ≡ (range_at ranges k).hi + 1 = is.next k more in
+          record { within = more; above = omega (arith, holds.below); below = omega (arith, is.whole (k + 1) more, holds.below) }
+      | inr last ↦
+          let end : (range_at ranges k).hi + 1 ≡ address_count = is.last k (omega (arith, holds.within)) in
+          absurd (omega arith)
+    ]
+
+pub kept_on : (regs : MapBytes) (ranges ranges' : List MapRange) (last last' : MapRange) (old : List Range) (k after hi until : ℕ) →
+    IsMapWhere regs (IsBetween after until) (map range_of old) → Holds old k (hi + 1) → after ≤ hi → hi < until → until < address_count →
+    GoesOn ranges ranges' last last' (hi + 1) (row_at old k) → IsBuilt regs ranges last hi → IsBuilt regs ranges' last' (min until (range_at old k).hi)
+kept_on regs ranges ranges' last last' old k after hi until agrees holds from order address on built =
+    let next : MapRange = range (hi + 1) (min until (range_at old k).hi) (row_at old k) in
+    let low : (range_at old k).lo ≤ hi + 1 = holds.above in
+    let high : hi + 1 ≤ (range_at old k).hi = holds.below in
+    built_range regs ranges ranges' last last' next hi (min until (range_at old k).hi) refl (omega arith) (omega arith)
+    (λ x from_x to_x setup bytes stands.
+    sym ((right_at regs (IsBetween after until) old agrees setup bytes k stands holds.within).at_each x (omega arith) (omega arith) (omega arith, omega arith)))
+    on built
+
+-- ---- windows one after the other
+
+-- addresses below windows that rise lie outside them
+pub below_all : (addr high : ℕ) (windows : List Changed) → addr ≤ high → AreAbove high windows → IsBeside windows addr
+below_all addr high [] low above = tt
+below_all addr high (window ∷ later) low above = (inl (omega (arith, above.0)), below_all addr high later low above.1)
+
+pub below_first : (addr : ℕ) (window : Changed) (later : List Changed) → Rise (window ∷ later) → addr < window.lo → IsBeside (window ∷ later) addr
+below_first addr window later rise low = (inl low, below_all addr window.hi later (omega (arith, rise.0)) rise.1)
+
+-- after an address, and outside of the windows that are left
+abbrev pub IsLeft : ℕ → List Changed → ℕ → Type 0
+IsLeft hi windows addr = (hi < addr) × IsBeside windows addr
+
+pub record Sweep (regs : MapBytes) (ranges : List MapRange) (last : MapRange) (old : List MapRange) (hi : ℕ) (windows : List Changed) : Type 0 where
+  pub fits : hi < address_count
   pub built : IsBuilt regs ranges last hi
-  pub from : IsMapFrom regs (hi + 1) above
+  pub rise : Rise windows
+  pub above : AreAbove hi windows
+  pub left : IsMapWhere regs (IsLeft hi windows) old
 
-pub joins_step : (regs : MapBytes) (ranges ranges' : List MapRange) (last last' next : MapRange) (later : List MapRange) →
-    Joins regs ranges last (next ∷ later) → GoesOn ranges ranges' last last' next.lo next.areas → Joins regs ranges' last' later
-joins_step regs ranges ranges' last last' next later joins on =
-    let tiles = joins.from.tiles in
-    let address : next.hi + 1 ≤ address_count = tiles_below (next.hi + 1) later tiles.2 in
+-- up to the next window
+pub up_to_window : (regs : MapBytes) (old : List MapRange) (hi : ℕ) (window : Changed) (later : List Changed) → Rise (window ∷ later) → hi < window.lo →
+    IsMapWhere regs (IsLeft hi (window ∷ later)) old → IsMapWhere regs (IsBetween hi (window.lo - 1)) old
+up_to_window regs old hi window later rise above left =
+    fewer_where regs (IsLeft hi (window ∷ later)) (IsBetween hi (window.lo - 1)) old
+    (λ addr between. (between.0, below_first addr window later rise (omega (arith, between.1)))) left
+
+-- after it
+pub after_window : (regs : MapBytes) (old : List MapRange) (hi : ℕ) (window : Changed) (later : List Changed) → Rise (window ∷ later) → hi < window.lo →
+    IsMapWhere regs (IsLeft hi (window ∷ later)) old → IsMapWhere regs (IsLeft window.hi later) old
+after_window regs old hi window later rise above left =
+    fewer_where regs (IsLeft hi (window ∷ later)) (IsLeft window.hi later) old
+    (λ addr beyond. (omega (arith, beyond.0, rise.0), (inr beyond.0, beyond.1))) left
+
+-- up to the last address
+pub up_to_end : (regs : MapBytes) (old : List MapRange) (hi : ℕ) → IsMapWhere regs (IsLeft hi []) old → IsMapWhere regs (IsBetween hi 0xFFFF_FFFF) old
+up_to_end regs old hi left =
+    fewer_where regs (IsLeft hi []) (IsBetween hi 0xFFFF_FFFF) old (λ addr between. (between.0, tt)) left
+
+-- below the first window, and after it
+pub below_windows : (regs : MapBytes) (ranges : List MapRange) (window : Changed) (later : List Changed) → Rise (window ∷ later) →
+    IsMapWhere regs (IsBeside (window ∷ later)) ranges → IsMapWhere regs (IsBelow window.lo) ranges
+below_windows regs ranges window later rise beside =
+    fewer_where regs (IsBeside (window ∷ later)) (IsBelow window.lo) ranges (λ addr low. below_first addr window later rise low) beside
+
+pub after_first : (regs : MapBytes) (ranges : List MapRange) (window : Changed) (later : List Changed) → Rise (window ∷ later) →
+    IsMapWhere regs (IsBeside (window ∷ later)) ranges → IsMapWhere regs (IsLeft window.hi later) ranges
+after_first regs ranges window later rise beside =
+    fewer_where regs (IsBeside (window ∷ later)) (IsLeft window.hi later) ranges (λ addr beyond. (inr beyond.0, beyond.1)) beside
+
+-- without windows they are the map
+pub all_right : (regs : MapBytes) (ranges : List MapRange) → IsMapWhere regs (IsBeside []) ranges →
+    (setup : Setup) (bytes : Bytes) → StandsFor setup bytes regs → IsFlatMapOf setup bytes ranges
+all_right regs ranges is setup bytes stands = record {
+  tiles = is.tiles;
+  right = λ k d within. record { at_each = λ addr low high. (is.right setup bytes stands k d within).at_each addr low high tt };
+  least = is.least;
+}
+
+-- ---- the windows by their indices
+
+abbrev pub window_at : List Changed → ℕ → Changed
+window_at windows k = get_or windows k (from_to 0 0)
+
+next_window : (windows : List Changed) (k : ℕ) → k < length windows → drop k windows ≡ window_at windows k ∷ drop (k + 1) windows
+next_window windows k within = drop_more windows k (from_to 0 0) within
+
+pub first_below : (regs : MapBytes) (ranges : List MapRange) (windows : List Changed) → 0 < length windows → Rise windows →
+    IsMapWhere regs (IsBeside windows) ranges → IsMapWhere regs (IsBelow (window_at windows 0).lo) ranges
+first_below regs ranges windows some rise beside =
+    let head : windows ≡ window_at windows 0 ∷ drop 1 windows = next_window windows 0 some in
+    below_windows regs ranges (window_at windows 0) (drop 1 windows) (subst Rise head rise)
+    (subst (λ (all : List Changed). IsMapWhere regs (IsBeside all) ranges) head beside)
+
+pub order_at : (windows : List Changed) (k : ℕ) → k < length windows → Rise (drop k windows) → (window_at windows k).lo ≤ (window_at windows k).hi
+order_at windows k within rise = (subst Rise (next_window windows k within) rise).0
+
+pub sweep_first : (regs : MapBytes) (ranges before : List MapRange) (last : MapRange) (windows : List Changed) → 0 < length windows → Rise windows →
+    IsMapWhere regs (IsBeside windows) before → (window_at windows 0).hi < address_count → IsBuilt regs ranges last (window_at windows 0).hi →
+    Sweep regs ranges last before (window_at windows 0).hi (drop 1 windows)
+sweep_first regs ranges before last windows some rise beside fits built =
+    let head : windows ≡ window_at windows 0 ∷ drop 1 windows = next_window windows 0 some in
+    let rises : Rise (window_at windows 0 ∷ drop 1 windows) = subst Rise head rise in
     record {
-      hi = next.hi;
-      built =
-          built_range regs ranges ranges' last last' next joins.hi next.hi tiles.0 tiles.1 (omega arith)
-          (λ x low high setup bytes stands. sym ((All-head (IsRight setup bytes) next later (joins.from.right setup bytes stands)).at_each x low high)) on joins.built;
-      from = record {
-        tiles = tiles.2;
-        right = λ setup bytes stands. All-tail (IsRight setup bytes) next later (joins.from.right setup bytes stands);
-      };
+      fits = fits;
+      built = built;
+      rise = rises.2;
+      above = rises.1;
+      left = after_first regs before (window_at windows 0) (drop 1 windows) rises (subst (λ (all : List Changed). IsMapWhere regs (IsBeside all) before) head beside);
     }
 
--- where none are left above, they are built up to the last address
-pub joined_all : (regs : MapBytes) (ranges : List MapRange) (last : MapRange) → Joins regs ranges last [] → IsBuilt regs ranges last 0xFFFF_FFFF
-joined_all regs ranges last joins =
-    let end : joins.hi + 1 ≡ address_count = joins.from.tiles in
-    let at_end : joins.hi ≡ 0xFFFF_FFFF = omega arith in
-    subst (IsBuilt regs ranges last) at_end joins.built
+module _ (regs : MapBytes) (ranges before : List MapRange) (last : MapRange) (hi : ℕ) (windows : List Changed) (k : ℕ) (within : k < length windows)
+    (sweep : Sweep regs ranges last before hi (drop k windows)) where
+  rises : Rise (window_at windows k ∷ drop (k + 1) windows)
+  rises = subst Rise (next_window windows k within) sweep.rise
+
+  pub above : hi < (window_at windows k).lo
+  above = (subst (AreAbove hi) (next_window windows k within) sweep.above).0
+
+  left : IsMapWhere regs (IsLeft hi (window_at windows k ∷ drop (k + 1) windows)) before
+  left = subst (λ (all : List Changed). IsMapWhere regs (IsLeft hi all) before) (next_window windows k within) sweep.left
+
+  pub sweep_agrees : IsMapWhere regs (IsBetween hi ((window_at windows k).lo - 1)) before
+  sweep_agrees = up_to_window regs before hi (window_at windows k) (drop (k + 1) windows) rises above left
+
+  pub sweep_next : (ranges' : List MapRange) (last' : MapRange) → (window_at windows k).hi < address_count → IsBuilt regs ranges' last' (window_at windows k).hi →
+      Sweep regs ranges' last' before (window_at windows k).hi (drop (k + 1) windows)
+  sweep_next ranges' last' fits built = record {
+    fits = fits;
+    built = built;
+    rise = rises.2;
+    above = rises.1;
+    left = after_window regs before hi (window_at windows k) (drop (k + 1) windows) rises above left;
+  }
+
+pub sweep_end : (regs : MapBytes) (ranges before : List MapRange) (last : MapRange) (hi : ℕ) (windows : List Changed) (k : ℕ) → length windows ≤ k →
+    Sweep regs ranges last before hi (drop k windows) → IsMapWhere regs (IsBetween hi 0xFFFF_FFFF) before
+sweep_end regs ranges before last hi windows k past sweep =
+    up_to_end regs before hi (subst (λ (all : List Changed). IsMapWhere regs (IsLeft hi all) before) (drop_all k windows past) sweep.left)
+
+-- the rows of the windows from one on
+pub rows_at : (edges_above : ℕ → ℕ) (windows : List Changed) (k : ℕ) → k < length windows →
+    rows_in edges_above (drop k windows)
+    ≡ edges_above (window_at windows k).lo - edges_above (window_at windows k).hi + 1 + rows_in edges_above (drop (k + 1) windows)
+rows_at edges_above windows k within = ap (λ (all : List Changed). rows_in edges_above all) (next_window windows k within)
+
+pub no_rows : (edges_above : ℕ → ℕ) (windows : List Changed) (k : ℕ) → length windows ≤ k → rows_in edges_above (drop k windows) ≡ 0
+no_rows edges_above windows k past = ap (λ (all : List Changed). rows_in edges_above all) (drop_all k windows past)

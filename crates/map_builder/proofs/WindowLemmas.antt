@@ -1,6 +1,6 @@
 -- The windows that registers govern, as the code finds them.
-use Rattle.std.proofs.Common.{◌≡◌, ℕ, zero, suc, ◌+◌, ◌-◌, ◌*◌, ◌/◌, ◌^◌, ◌<◌, ◌≤◌, List, [], ◌∷◌, ◌++◌, length, map, drop, get_or, refl, sym, ◌∙◌, ap, arith, mul_comm}
-use Rattle.std.specs.Prelude.{min, max, Option, Some, None, slice_index, flat_map, take}
+use Rattle.std.proofs.Common.{◌≡◌, ℕ, zero, suc, ◌+◌, ◌-◌, ◌*◌, ◌/◌, ◌^◌, ◌<◌, ◌≤◌, List, [], ◌∷◌, ◌++◌, length, map, drop, get_or, refl, sym, ◌∙◌, ap, arith, mul_comm, append_assoc}
+use Rattle.std.specs.Prelude.{slice_index, flat_map, take}
 use Rattle.std.proofs.lemmas.List.{drop_all, drop_more, take_more, append-nil}
 use Rattle.std.proofs.lemmas.Grind.{flat_map-append}
 use Rattle.std.proofs.lemmas.Option.{slice_get-map, slice_get_past}
@@ -9,11 +9,9 @@ use Rattle.std.proofs.Math.Nat.{div-lt_iff_lt-mul}
 use Rattle.board_base.specs.declared.access.Width.{Width}
 use Rattle.board_base.specs.declared.access.Width.TheVariants.{One, Two, Four}
 use Rattle.board_base.specs.Access.{bytes_of}
-use Rattle.board_spec.specs.Setup.{Base}
 use Rattle.pci_bars.specs.declared.spec.BaseSpec.{BaseSpec}
 use Rattle.pci_bars.specs.Bases.{base_of}
 use Rattle.map_builder.specs.declared.range.Changed.{Changed}
-use Rattle.map_builder.specs.Changed.{bounds, joined}
 use Rattle.map_builder.specs.Held.{held_by, held_from, held_at}
 
 -- the last address of a block is an address
@@ -26,60 +24,6 @@ block_fits inside bits address few =
     let below : inside < 2 ^ (32 - bits) * 2 ^ bits = rw turned address in
     let place : inside / 2 ^ bits < 2 ^ (32 - bits) = (div-lt_iff_lt-mul positive).1 below in
     rw whole at (mul-add-lt (inside / 2 ^ bits) (2 ^ bits) (2 ^ bits - 1) (2 ^ (32 - bits)) place (omega arith))
-
--- ---- bounds
-
-joined-none : (here : Option Changed) → joined here None ≡ here
-joined-none None = refl
-joined-none (Some here) = refl
-
-pub joined_assoc : (a b c : Option Changed) → joined (joined a b) c ≡ joined a (joined b c)
-joined_assoc None b c = refl
-joined_assoc (Some a) None c = refl
-joined_assoc (Some a) (Some b) None = refl
-joined_assoc (Some a) (Some b) (Some c) =
-    let low : min (min a.lo b.lo) c.lo ≡ min a.lo (min b.lo c.lo) = omega arith in
-    let high : max (max a.hi b.hi) c.hi ≡ max a.hi (max b.hi c.hi) = omega arith in
-    cc
-
-pub bounds-append : (xs ys : List Changed) → bounds (xs ++ ys) ≡ joined (bounds xs) (bounds ys)
-unfolding bounds
-bounds-append [] ys = refl
-bounds-append (x ∷ xs) ys =
-    ap (joined (Some x)) (bounds-append xs ys) ∙ sym (joined_assoc (Some x) (bounds xs) (bounds ys))
-
-pub bounds-nil : bounds [] ≡ None
-unfolding bounds
-bounds-nil = refl
-
-pub joined_nil : (here : Option Changed) → joined here (bounds []) ≡ here
-joined_nil here = ap (joined here) bounds-nil ∙ joined-none here
-
--- ---- the bases of a card
-
-held_more : (values : List ℕ) (k : ℕ) (base : Base) (later : List Base) (found : Option Changed) →
-    joined (joined found (bounds (held_by base (slice_index values k)))) (bounds (held_from values (k + 1) later))
-    ≡ joined found (bounds (held_from values k (base ∷ later)))
-held_more values k base later found =
-    joined_assoc found (bounds (held_by base (slice_index values k))) (bounds (held_from values (k + 1) later))
-    ∙ ap (joined found) (sym (bounds-append (held_by base (slice_index values k)) (held_from values (k + 1) later)))
-
--- one more base
-pub held_on : (bases : List BaseSpec) (values : List ℕ) (k : ℕ) (d : BaseSpec) (found one next : Option Changed) → k < length bases →
-    one ≡ bounds (held_by (base_of (get_or bases k d)) (slice_index values k)) → next ≡ joined found one →
-    joined next (bounds (held_from values (k + 1) (map base_of (drop (k + 1) bases)))) ≡ joined found (bounds (held_from values k (map base_of (drop k bases))))
-held_on bases values k d found one next within is next_is =
-    rw (next_is, is, drop_more bases k d within) (held_more values k (base_of (get_or bases k d)) (map base_of (drop (k + 1) bases)) found)
-
--- no base is left
-pub held_all : (bases : List BaseSpec) (values : List ℕ) (k : ℕ) (found : Option Changed) → length bases ≤ k →
-    joined found (bounds (held_from values k (map base_of (drop k bases)))) ≡ found
-held_all bases values k found past = rw (drop_all k bases past) (joined_nil found)
-
--- there is no such base
-pub held_past : (values : List ℕ) (bases : List BaseSpec) (k : ℕ) → length bases ≤ k → None ≡ bounds (held_at values (map base_of bases) k)
-unfolding bounds
-held_past values bases k past = rw (slice_get-map base_of bases k, slice_get_past bases k past) refl
 
 -- ---- the registers that a store covers
 
@@ -99,17 +43,32 @@ bytes_few Two = omega arith
 bytes_few Four = omega arith
 
 -- one more register
-pub covered_on : (windows : ℕ → List Changed) (k : ℕ) (found one next : Option Changed) → k < 4 →
-    found ≡ bounds (flat_map windows (take k offsets)) → one ≡ bounds (windows k) → next ≡ joined found one →
-    next ≡ bounds (flat_map windows (take (k + 1) offsets))
-covered_on windows k found one next below found_is one_is next_is =
+pub covered_on : (windows : ℕ → List Changed) (k : ℕ) (first found next : List Changed) → k < 4 →
+    found ≡ first ++ flat_map windows (take k offsets) → next ≡ found ++ windows k → next ≡ first ++ flat_map windows (take (k + 1) offsets)
+covered_on windows k first found next below found_is next_is =
     rw (
       next_is,
       found_is,
-      one_is,
       take_more offsets k 0 below,
       offset_is k below,
       flat_map-append windows (take k offsets) (k ∷ []),
       append-nil (windows k),
-      bounds-append (flat_map windows (take k offsets)) (windows k),
+      append_assoc first (flat_map windows (take k offsets)) (windows k),
     ) refl
+
+-- one more base
+pub held_on : (bases : List BaseSpec) (values : List ℕ) (k : ℕ) (d : BaseSpec) (found next : List Changed) → k < length bases →
+    next ≡ found ++ held_by (base_of (get_or bases k d)) (slice_index values k) →
+    next ++ held_from values (k + 1) (map base_of (drop (k + 1) bases)) ≡ found ++ held_from values k (map base_of (drop k bases))
+held_on bases values k d found next within is =
+    rw (is, drop_more bases k d within)
+    (append_assoc found (held_by (base_of (get_or bases k d)) (slice_index values k)) (held_from values (k + 1) (map base_of (drop (k + 1) bases))))
+
+-- no base is left
+pub held_all : (bases : List BaseSpec) (values : List ℕ) (k : ℕ) (found : List Changed) → length bases ≤ k →
+    found ++ held_from values k (map base_of (drop k bases)) ≡ found
+held_all bases values k found past = rw (drop_all k bases past) (append-nil found)
+
+-- there is no such base
+pub held_past : (values : List ℕ) (bases : List BaseSpec) (k : ℕ) → length bases ≤ k → held_at values (map base_of bases) k ≡ []
+held_past values bases k past = rw (slice_get-map base_of bases k, slice_get_past bases k past) refl

@@ -1,5 +1,5 @@
 -- The ranges of a map as they are built, from the first address on: the last of them may still go on.
-use Rattle.std.specs.Prelude.{ℕ, ◌≡◌, ◌≢◌, ◌+◌, ◌-◌, ◌≤◌, ◌⊎◌, List, [], ◌∷◌, ◌++◌, length, All}
+use Rattle.std.specs.Prelude.{ℕ, ◌≡◌, ◌≢◌, ◌+◌, ◌-◌, ◌<◌, ◌≤◌, ◌⊎◌, List, [], ◌∷◌, ◌++◌, length, All}
 use Rattle.board_base.specs.declared.target.Area.{Area}
 use Rattle.board_spec.specs.Setup.{Setup}
 use Rattle.board_spec.specs.Decode.{Bytes}
@@ -8,6 +8,7 @@ use Rattle.addr_decode.specs.MapRegs.{MapBytes, StandsFor}
 use Rattle.addr_decode.specs.Edges.{edges_after}
 use Rattle.map_builder.specs.declared.range.Changed.{Changed}
 use Rattle.map_builder.specs.Map.{HasBoard}
+use Rattle.std.specs.List.{AllByRecursion}
 use Rattle.map_builder.specs.Changed.{IsOutside}
 
 -- how the ranges go on at an address with these areas: the last range has them too, or it ends below, and another begins
@@ -39,17 +40,30 @@ pub record IsBuilt (regs : MapBytes) (ranges : List MapRange) (last : MapRange) 
 
 -- ---- ranges that were those of a map before a change
 
--- each address of the range outside an interval has its areas
-pub record IsRightOutside (setup : Setup) (bytes : Bytes) (changed : Changed) (range : MapRange) : Type 0 where
-  pub at_each : (addr : ℕ) → range.lo ≤ addr → addr ≤ range.hi → IsOutside addr changed → six_areas setup bytes addr ≡ range.areas
+-- of these addresses each that lies in the range has its areas
+pub record IsRightWhere (setup : Setup) (bytes : Bytes) (Where : ℕ → Type 0) (range : MapRange) : Type 0 where
+  pub at_each : (addr : ℕ) → range.lo ≤ addr → addr ≤ range.hi → Where addr → six_areas setup bytes addr ≡ range.areas
 
--- they are a map of other registers, which differs from the map of these in an interval alone
-pub record IsMapOutside (regs : MapBytes) (changed : Changed) (ranges : List MapRange) : Type 0 where
+-- they are a map of other registers, which agrees with the map of these at some addresses
+pub record IsMapWhere (regs : MapBytes) (Where : ℕ → Type 0) (ranges : List MapRange) : Type 0 where
   pub tiles : Tiles 0 ranges
   pub least : NeighboursDiffer ranges
-  pub right : (setup : Setup) (bytes : Bytes) → StandsFor setup bytes regs → All (IsRightOutside setup bytes changed) ranges
+  pub right : (setup : Setup) (bytes : Bytes) → StandsFor setup bytes regs → All (IsRightWhere setup bytes Where) ranges
 
--- from an address on they are right for every board that has these registers
-pub record IsMapFrom (regs : MapBytes) (from : ℕ) (ranges : List MapRange) : Type 0 where
-  pub tiles : Tiles from ranges
-  pub right : (setup : Setup) (bytes : Bytes) → StandsFor setup bytes regs → All (IsRight setup bytes) ranges
+abbrev pub IsBelow : ℕ → ℕ → Type 0
+IsBelow end addr = addr < end
+
+-- after an address, and up to another
+abbrev pub IsBetween : ℕ → ℕ → ℕ → Type 0
+IsBetween after last addr = (after < addr) × (addr ≤ last)
+
+-- outside each of some windows
+abbrev pub IsBeside : List Changed → ℕ → Type 0
+IsBeside windows addr = AllByRecursion (IsOutside addr) windows
+
+-- the ranges of a board are built up to an address, and another map agrees with the board's after it up to another
+pub record IsKept (ranges : List MapRange) (last : MapRange) (before : List MapRange) (after until : ℕ) : Type 0 where
+  pub regs : MapBytes
+  pub board : HasBoard regs
+  pub built : IsBuilt regs ranges last after
+  pub agrees : IsMapWhere regs (IsBetween after until) before

@@ -1,7 +1,7 @@
 -- The windows of the address map that each register byte governs, and the bounds of those that a change may change.
-use Rattle.std.specs.Prelude.{ℕ, ◌+◌, ◌-◌, ◌*◌, ◌/◌, ◌^◌, ◌<◌, ◌⊎◌, ◌==◌, min, max, ◌&&◌, if◌then◌else◌, List, [], ◌∷◌, ◌++◌, take, map, filter, flat_map, Option, Some, None, unwrap_or}
+use Rattle.std.specs.Prelude.{ℕ, ◌+◌, ◌-◌, ◌*◌, ◌/◌, ◌^◌, ◌<◌, ◌⊎◌, ◌==◌, nat_lt, nat_le, min, max, Bool, ◌&&◌, length, if◌then◌else◌, List, [], ◌∷◌, ◌++◌, take, map, filter, flat_map, Option, Some, None, unwrap_or}
 use Rattle.std.specs.Option.{option_map_or}
-use Rattle.std.specs.List.{enumerate_from}
+use Rattle.std.specs.List.{enumerate_from, list_any}
 use Rattle.board_base.specs.declared.target.Reg.{Reg}
 use Rattle.board_base.specs.Access.{bytes_of}
 use Rattle.board_spec.specs.declared.map_change.MapChange.{MapChange}
@@ -12,7 +12,7 @@ use Rattle.board_spec.specs.Decode.{Bytes, Window, memory_window, rom_window, vg
 use Rattle.board_spec.specs.RegisterNames.{card_command}
 use Rattle.board_spec.specs.Registers.{changed_byte}
 use Rattle.board_spec.specs.MapWrites.{reg_after}
-use Rattle.addr_decode.specs.Edges.{first_address}
+use Rattle.addr_decode.specs.Edges.{edges_of, first_address}
 use Rattle.map_builder.specs.declared.range.Changed.{Changed}
 
 -- the addresses from a first one to a last one
@@ -80,15 +80,17 @@ changed_windows setup bytes change = windows_covered setup bytes change ++ windo
 -- ---- their bounds
 
 -- the least interval that holds both
-abbrev pub joined : Option Changed → Option Changed → Option Changed
-joined None there = there
-joined (Some here) None = Some here
-joined (Some here) (Some there) = Some (from_to (min here.lo there.lo) (max here.hi there.hi))
+abbrev pub both : Changed → Changed → Changed
+both here there = from_to (min here.lo there.lo) (max here.hi there.hi)
+
+abbrev pub joined : Changed → Option Changed → Changed
+joined here None = here
+joined here (Some there) = both here there
 
 -- the least first and the greatest last address of some windows
 unfoldable pub bounds : List Changed → Option Changed
 bounds [] = None
-bounds (window ∷ later) = joined (Some window) (bounds later)
+bounds (window ∷ later) = Some (joined window (bounds later))
 
 -- both are 0 where there is no window
 abbrev pub bounds_or_zero : List Changed → Changed
@@ -97,3 +99,29 @@ bounds_or_zero windows = unwrap_or (bounds windows) (from_to 0 0)
 -- an address lies outside an interval
 abbrev pub IsOutside : (addr : ℕ) → Changed → Type 0
 IsOutside addr interval = (addr < interval.lo) ⊎ (interval.hi < addr)
+
+-- ---- how many rows a change looks up at most
+
+-- an address lies in a window, above its first address
+abbrev pub is_above_first : ℕ → Changed → Bool
+is_above_first addr window = nat_lt window.lo addr && nat_le addr window.hi
+
+abbrev pub is_inside : List Changed → ℕ → Bool
+is_inside windows addr = list_any (is_above_first addr) windows
+
+-- the edges inside some windows
+abbrev pub edges_inside : Setup → Bytes → List Changed → ℕ
+edges_inside setup bytes windows = length (filter (is_inside windows) (edges_of setup bytes))
+
+abbrev pub is_window : Changed → Changed → Bool
+is_window window other = window.lo == other.lo && window.hi == other.hi
+
+-- how many windows there are, of which several may be the same
+unfoldable pub count_of : List Changed → ℕ
+count_of [] = 0
+count_of (window ∷ later) = count_of later + (if list_any (is_window window) later then 0 else 1)
+
+-- one row for each window, and one for each edge that lies inside them after the change
+abbrev pub most_rows : Setup → Bytes → MapChange → ℕ
+most_rows setup bytes change =
+    count_of (changed_windows setup bytes change) + edges_inside setup (after setup change bytes) (changed_windows setup bytes change)

@@ -1,10 +1,14 @@
 -- What the laws say: each is proved on a function of `laws`.
-use Rattle.std.specs.Prelude.{ℕ, ◌≡◌, ◌<◌, ◌≤◌, All}
+use Rattle.std.specs.Prelude.{ℕ, ◌≡◌, ◌<◌, ◌≤◌, [], None, All}
+use Rattle.board_base.specs.declared.access.Width.TheVariants.{One}
 use Rattle.board_spec.specs.declared.map_change.MapChange.{MapChange}
+use Rattle.board_spec.specs.declared.map_change.MapChange.TheVariants.{Store, Reset}
+use Rattle.board_spec.specs.RegisterNames.{pam, fdhc}
+use Rattle.board_spec.specs.RegisterTable.{reset_byte}
 use Rattle.board_spec.specs.Setup.{Setup, IsCardList}
 use Rattle.board_spec.specs.Decode.{Bytes, top_of}
 use Rattle.board_spec.specs.FlatMap.{address_count, six_areas}
-use Rattle.map_builder.specs.Changed.{after, changed_windows, IsOutside}
+use Rattle.map_builder.specs.Changed.{after, changed_windows, most_rows, IsOutside}
 
 -- an address outside the windows that a change may change has the same areas before and after. The last boundary
 -- register is a byte, so that DRAM ends at most at 255 times 8 MiB
@@ -14,3 +18,14 @@ WindowsHoldChanges =
     IsCardList setup.cards → top_of bytes ≤ 0x7F80_0000 → addr < address_count →
     All (IsOutside addr) (changed_windows setup bytes change) →
     six_areas setup (after setup change bytes) addr ≡ six_areas setup bytes addr
+
+-- a board of 1 MiB without cards
+abbrev pub plain_board : Setup
+plain_board = record { mib = 1; cards = []; rom = []; disk = None }
+
+-- after a reset a store to PAM0 looks up one row, one to FDHC two, one for each hole, and a hard reset no more than
+-- one for each edge of the board and one for the first address
+pub record RowsAreFew : Type 0 where
+  pub pam : most_rows plain_board (reset_byte plain_board) (Store (pam 0) One 0x10) ≡ 1
+  pub hole : most_rows plain_board (reset_byte plain_board) (Store fdhc One 0x80) ≡ 2
+  pub reset : most_rows plain_board (reset_byte plain_board) Reset ≡ 30

@@ -1,21 +1,25 @@
 //! The ranges of the memory map, built from the registers on which it depends: all of them, or those that a change of
 //! the registers may have changed.
-ghost use Rattle.std.specs.Prelude.{ℕ, ◌≡◌, ◌≤◌, ◌<◌, ◌+◌, [], length, map, unwrap_or, IfSome};
+ghost use Rattle.std.specs.Prelude.{ℕ, ◌≡◌, ◌≤◌, ◌<◌, ◌+◌, ◌-◌, [], length, map, unwrap_or, IfSome};
 ghost use Rattle.arrayvec.specs.ArrayVec.{array_vec_len};
 ghost use Rattle.board_spec.specs.Setup.{Setup};
 ghost use Rattle.board_spec.specs.Decode.{Bytes};
-ghost use Rattle.board_spec.specs.FlatMap.{Tiles, IsFlatMapOf};
+ghost use Rattle.board_spec.specs.FlatMap.{address_count, Tiles, IsFlatMapOf};
 ghost use Rattle.pci_bars.specs.Cards.{AreFitted};
 ghost use Rattle.addr_decode.specs.MapRegs.{MapBytes, StandsFor, map_bytes};
-ghost use Rattle.addr_decode.specs.Edges.{SameAreas};
+ghost use Rattle.addr_decode.specs.Edges.{SameAreas, edges_after};
 ghost use Rattle.map_builder.specs.Map.{range_of, HasBoard};
-ghost use Rattle.map_builder.specs.Build.{GoesOn, IsBuilt, IsMapOutside, IsMapFrom};
+ghost use Rattle.map_builder.specs.Find.{Holds};
+ghost use Rattle.map_builder.specs.Build.{GoesOn, IsBuilt, IsMapWhere, IsBelow, IsBetween, IsBeside, IsKept};
+ghost use Rattle.map_builder.specs.Sorted.{Rise, rows_in as rows_of};
 
 use crate::changed::EVERYTHING;
 use crate::find::index_of;
 use crate::range::{Changed, Range};
-use addr_decode::{MapRegs, SixAreas, areas_at, next_edge};
+use addr_decode::{MapRegs, SixAreas, next_edge, row};
 use arrayvec::ArrayVec;
+use board_base::Steps;
+use std::sync::ledger::Ledger;
 
 /// The most ranges that a map can keep. A board's map has at most 142.
 pub const CAPACITY: usize = 160;
@@ -26,7 +30,7 @@ const LAST_ADDRESS: u32 = 0xFFFF_FFFF;
 
 /// The flat map of registers: from the first address on, the areas at each edge go on in the range below where it has
 /// the same, and else begin a range.
-pub fn ranges_of(regs: &MapRegs) -> Ranges
+pub fn ranges_of<L: Ledger>(regs: &MapRegs, steps: &mut Steps<L>) -> Ranges
     requires cards { AreFitted regs.now.cards.items }
     requires board { HasBoard (map_bytes regs.now) }
     ensures tiles { Tiles 0 (map range_of result.items) }
@@ -35,97 +39,178 @@ pub fn ranges_of(regs: &MapRegs) -> Ranges
     ensures few { length result.items ≤ 142 }
 {
     let mut ranges = ArrayVec::new();
-    let first = first_range(regs);
-    let last = rows_in(&mut ranges, first, regs, EVERYTHING);
+    let first = first_range(regs, steps);
+    let last = rows_in(&mut ranges, first, regs, EVERYTHING, steps);
     ranges.push(last);
     ranges
 }
 
-/// Makes the ranges those of the registers, where they were a map that differs in an interval alone: the ranges below it
-/// and above it stay, those in it are built anew, and equal neighbours at its ends become one. What `above` holds before
-/// and after counts for nothing: it is room for the ranges above, which a list of its own would have to fill first.
-pub fn rebuild(ranges: &mut Ranges, above: &mut Ranges, regs: &MapRegs, changed: Changed)
+/// Makes the ranges those of the registers, where they were a map that differs in some windows alone: those in the
+/// windows are built anew, the others stay, and equal neighbours at the borders become one. What `before` holds, then
+/// and afterwards, counts for nothing: it is room for the ranges as they were.
+pub fn rebuild<L: Ledger>(
+    ranges: &mut Ranges,
+    before: &mut Ranges,
+    regs: &MapRegs,
+    windows: &[Changed],
+    steps: &mut Steps<L>,
+)
     requires cards { AreFitted regs.now.cards.items }
     requires board { HasBoard (map_bytes regs.now) }
-    requires order { changed.lo ≤ changed.hi }
-    requires outside { IsMapOutside (map_bytes regs.now) changed (map range_of ranges.old.items) }
+    requires rise { Rise windows.now }
+    requires beside { IsMapWhere (map_bytes regs.now) (IsBeside windows.now) (map range_of ranges.old.items) }
     ensures tiles { Tiles 0 (map range_of ranges.new.items) }
     ensures map { (setup : Setup) (bytes : Bytes) → StandsFor setup bytes (map_bytes regs.now)
         → IsFlatMapOf setup bytes (map range_of ranges.new.items) }
-    ensures few { length ranges.new.items ≤ 142 }
+    ensures rows { (setup : Setup) (bytes : Bytes) → StandsFor setup bytes (map_bytes regs.now)
+        → steps.new ≤ steps.old + rows_of (edges_after setup bytes) windows.now }
 {
-    copy_above(ranges, changed, above);
-    let first = cut_below(ranges, regs, changed);
-    let mut last = rows_in(ranges, first, regs, changed);
-    for range in above.as_slice() {
-        last = range_at(ranges, last, range.lo, range.row);
+    if windows.is_empty() {
+        return;
     }
+    before.clear();
+    before.try_extend_from_slice(ranges).unwrap();
+    let last = sweep(ranges, before, regs, windows, steps);
     ranges.push(last);
 }
 
+/// Builds the ranges in some windows anew, and takes the others from the map as it was. Gives the last range.
+fn sweep<L: Ledger>(
+    ranges: &mut Ranges,
+    before: &[Range],
+    regs: &MapRegs,
+    windows: &[Changed],
+    steps: &mut Steps<L>,
+) -> Range
+    requires cards { AreFitted regs.now.cards.items }
+    requires board { HasBoard (map_bytes regs.now) }
+    requires some { 0 < length windows.now }
+    requires rise { Rise windows.now }
+    requires same { ranges.old.items ≡ before.now }
+    requires beside { IsMapWhere (map_bytes regs.now) (IsBeside windows.now) (map range_of before.now) }
+    ensures built { IsBuilt (map_bytes regs.now) (map range_of ranges.new.items) (range_of result) 0xFFFF_FFFF }
+    ensures rows { (setup : Setup) (bytes : Bytes) → StandsFor setup bytes (map_bytes regs.now)
+        → steps.new ≤ steps.old + rows_of (edges_after setup bytes) windows.now }
+{
+    let first = windows[0];
+    let cut = cut_below(ranges, regs, first.lo, steps);
+    let mut last = rows_in(ranges, cut, regs, first, steps);
+    let mut hi = first.hi;
+    for index in 1..windows.len() {
+        let window = windows[index];
+        last = keep(ranges, last, before, hi, window.lo - 1);
+        last = row_at(ranges, last, regs, window.lo, steps);
+        last = rows_in(ranges, last, regs, window, steps);
+        hi = window.hi;
+    }
+    keep(ranges, last, before, hi, LAST_ADDRESS)
+}
+
 /// The range that begins at the first address, as long as no other follows.
-fn first_range(regs: &MapRegs) -> Range
+fn first_range<L: Ledger>(regs: &MapRegs, steps: &mut Steps<L>) -> Range
     requires cards { AreFitted regs.now.cards.items }
     ensures built { IsBuilt (map_bytes regs.now) [] (range_of result) 0 }
+    ensures step { steps.new ≡ steps.old + 1 }
 {
     Range {
         lo: 0,
         hi: LAST_ADDRESS,
-        row: areas_at(regs, 0),
+        row: row(regs, 0, steps),
     }
 }
 
-/// Makes `above` the ranges of a map above an interval, the first of them cut where it begins inside.
-fn copy_above(ranges: &[Range], changed: Changed, above: &mut Ranges)
-    requires tiles { Tiles 0 (map range_of ranges.now) }
-    requires few { length ranges.now ≤ 160 }
-    ensures above { (regs : MapBytes) → IsMapOutside regs changed (map range_of ranges.now)
-        → IsMapFrom regs (changed.hi + 1) (map range_of above.new.items) }
-{
-    above.clear();
-    if changed.hi == LAST_ADDRESS {
-        return;
-    }
-    let lo = changed.hi + 1;
-    let index = index_of(ranges, lo);
-    above.push(Range {
-        lo,
-        ..ranges[index]
-    });
-    above.try_extend_from_slice(&ranges[index + 1..]).unwrap();
-}
-
-/// Leaves of a map the ranges below an interval, and gives the last of them as it stands at the first address inside.
-fn cut_below(ranges: &mut Ranges, regs: &MapRegs, changed: Changed) -> Range
+/// Leaves of a map the ranges below an address, and gives the last range as it stands at the address.
+fn cut_below<L: Ledger>(ranges: &mut Ranges, regs: &MapRegs, lo: u32, steps: &mut Steps<L>) -> Range
     requires cards { AreFitted regs.now.cards.items }
-    requires outside { IsMapOutside (map_bytes regs.now) changed (map range_of ranges.old.items) }
-    ensures built { IsBuilt (map_bytes regs.now) (map range_of ranges.new.items) (range_of result) changed.lo }
+    requires below { IsMapWhere (map_bytes regs.now) (IsBelow lo) (map range_of ranges.old.items) }
+    ensures built { IsBuilt (map_bytes regs.now) (map range_of ranges.new.items) (range_of result) lo }
+    ensures step { steps.new ≡ steps.old + 1 }
 {
-    if changed.lo == 0 {
+    if lo == 0 {
         ranges.clear();
-        return first_range(regs);
+        return first_range(regs, steps);
     }
-    let index = index_of(ranges, changed.lo - 1);
+    let index = index_of(ranges, lo - 1);
     let last = Range {
         hi: LAST_ADDRESS,
         ..ranges[index]
     };
     ranges.truncate(index);
-    range_at(ranges, last, changed.lo, areas_at(regs, changed.lo))
+    range_at(ranges, last, lo, row(regs, lo, steps))
+}
+
+/// Goes on with the row of an address, where the ranges are built up to the one below it. Gives the last of them.
+fn row_at<L: Ledger>(
+    ranges: &mut Ranges,
+    last: Range,
+    regs: &MapRegs,
+    addr: u32,
+    steps: &mut Steps<L>,
+) -> Range
+    requires cards { AreFitted regs.now.cards.items }
+    requires board { HasBoard (map_bytes regs.now) }
+    requires above { 0 < addr }
+    requires built { IsBuilt (map_bytes regs.now) (map range_of ranges.old.items) (range_of last) (addr - 1) }
+    ensures built { IsBuilt (map_bytes regs.now) (map range_of ranges.new.items) (range_of result) addr }
+    ensures step { steps.new ≡ steps.old + 1 }
+{
+    range_at(ranges, last, addr, row(regs, addr, steps))
+}
+
+/// Goes on with the ranges of a map after an address up to another, and gives the last of them.
+fn keep(ranges: &mut Ranges, last: Range, before: &[Range], after: u32, until: u32) -> Range
+    requires tiles { Tiles 0 (map range_of before.now) }
+    requires order { after ≤ until }
+    requires kept { IsKept (map range_of ranges.old.items) (range_of last) (map range_of before.now) after until }
+    ensures built { (regs : MapBytes) → IsBuilt regs (map range_of ranges.old.items) (range_of last) after
+        → IsMapWhere regs (IsBetween after until) (map range_of before.now)
+        → IsBuilt regs (map range_of ranges.new.items) (range_of result) until }
+{
+    let mut last = last;
+    let mut hi = after;
+    let mut index = index_of(before, after);
+    while hi < until {
+        index = index_after(before, index, hi);
+        last = range_at(ranges, last, hi + 1, before[index].row);
+        hi = until.min(before[index].hi);
+    }
+    last
+}
+
+/// The index of the range that holds the address after one that the range at this index holds.
+fn index_after(ranges: &[Range], index: usize, addr: u32) -> usize
+    requires tiles { Tiles 0 (map range_of ranges.now) }
+    requires holds { Holds ranges.now index addr }
+    requires more { addr < 0xFFFF_FFFF }
+    ensures holds { Holds ranges.now result (addr + 1) }
+{
+    if addr < ranges[index].hi {
+        return index;
+    }
+    index + 1
 }
 
 /// Builds the ranges on from the first to the last address of an interval, and gives the last of them.
-fn rows_in(ranges: &mut Ranges, first: Range, regs: &MapRegs, interval: Changed) -> Range
+fn rows_in<L: Ledger>(
+    ranges: &mut Ranges,
+    first: Range,
+    regs: &MapRegs,
+    interval: Changed,
+    steps: &mut Steps<L>,
+) -> Range
     requires cards { AreFitted regs.now.cards.items }
     requires board { HasBoard (map_bytes regs.now) }
     requires order { interval.lo ≤ interval.hi }
     requires built { IsBuilt (map_bytes regs.now) (map range_of ranges.old.items) (range_of first) interval.lo }
     ensures built { IsBuilt (map_bytes regs.now) (map range_of ranges.new.items) (range_of result) interval.hi }
+    ensures rows { (setup : Setup) (bytes : Bytes) → StandsFor setup bytes (map_bytes regs.now)
+        → steps.new + edges_after setup bytes interval.hi ≤ steps.old + edges_after setup bytes interval.lo }
+    ensures fits { interval.hi < address_count }
 {
     let mut last = first;
     let mut addr = interval.lo;
     while let Some(edge) = edge_up_to(regs, addr, interval.hi) {
-        last = range_at(ranges, last, edge, areas_at(regs, edge));
+        last = range_at(ranges, last, edge, row(regs, edge, steps));
         addr = edge;
     }
     last
@@ -138,6 +223,8 @@ fn edge_up_to(regs: &MapRegs, addr: u32, hi: u32) -> Option<u32>
     ensures within { IfSome result (λ edge. edge ≤ hi) }
     ensures equal { (setup : Setup) (bytes : Bytes) → StandsFor setup bytes (map_bytes regs.now)
         → SameAreas setup bytes addr (unwrap_or result (hi + 1)) }
+    ensures fewer { (setup : Setup) (bytes : Bytes) → StandsFor setup bytes (map_bytes regs.now)
+        → IfSome result (λ edge. edges_after setup bytes edge < edges_after setup bytes addr) }
 {
     match next_edge(regs, addr) {
         Some(edge) if edge <= hi => Some(edge),

@@ -1,5 +1,5 @@
-//! The windows of the address map that a change of the registers may change, and their bounds.
-ghost use Rattle.std.specs.Prelude.{◌≡◌, ◌≤◌, ◌<◌, ◌+◌, ◌-◌, ◌*◌, ◌++◌, All, length, map};
+//! The windows of the address map that a change of the registers may change.
+ghost use Rattle.std.specs.Prelude.{◌≡◌, ◌≤◌, ◌<◌, ◌+◌, ◌-◌, ◌*◌, ◌++◌, [], ◌∷◌, All, length, map};
 ghost use Rattle.board_spec.specs.declared.map_change.MapChange.TheVariants.{Store};
 ghost use Rattle.board_spec.specs.Setup.{Setup, IsBase, IsCard, IsExpansionRom};
 ghost use Rattle.board_spec.specs.Decode.{Bytes};
@@ -7,136 +7,149 @@ ghost use Rattle.board_spec.specs.MapWrites.{reg_after};
 ghost use Rattle.pci_bars.specs.Bases.{base_of};
 ghost use Rattle.pci_bars.specs.Cards.{AreCards, AreFitted};
 ghost use Rattle.addr_decode.specs.MapRegs.{StandsFor, map_bytes};
-ghost use Rattle.map_builder.specs.Changed.{bridge_windows, isa_windows, windows_of, windows_covered, bounds, joined as joined_by, from_to};
+ghost use Rattle.map_builder.specs.Changed.{bridge_windows as windows_of_bridge, isa_windows as windows_of_isa, windows_of as windows_by, windows_covered, from_to};
 ghost use Rattle.map_builder.specs.Held.{block, held_by, held_from, held_at, rom_held, vga_held, card_held, device_held};
 
 use crate::range::Changed;
+use crate::windows::Windows;
 use addr_decode::{MapChange, MapRegs};
+use arrayvec::ArrayVec;
 use board_base::{Reg, Width};
 use board_spec::offset::{
     BASE0, BASE5_END, COMMAND, DRB0, DRB7, EXPANSION_ROM, EXPANSION_ROM_END, FDHC, HOST_BRIDGE,
     PAM0, PAM6, SMRAM, SOUTH_BRIDGE, XBCS,
 };
-use pci_bars::{BaseSpec, CardRegs};
+use board_spec::range::{
+    AddressRange, EXPANSION_RANGE, HOLE_AT_15_MIB, HOLE_AT_512_KIB, LARGEST_TOP, LOWER_BIOS,
+    SELECTABLE_BIOS, SMRAM_RANGE, SYSTEM_BIOS,
+};
+use pci_bars::{BaseSpec, CardRegs, card_at};
 
 /// Every address.
 pub const EVERYTHING: Changed = Changed {
     lo: 0,
     hi: 0xFFFF_FFFF,
 };
-/// The shadow window of PAM0.
-const PAM0_WINDOW: Changed = Changed {
-    lo: 0xF_0000,
-    hi: 0xF_FFFF,
-};
 /// The first PAM register that governs two shadow windows.
 const PAM1: u8 = PAM0 + 1;
-/// The first address of the windows of PAM1.
-const PAM1_WINDOWS: u32 = 0xC_0000;
-/// How many addresses the two windows of a PAM register have.
-const PAM_SIZE: u32 = 0x8000;
-/// The addresses that a row of DRAM can have, which ends at most at 255 times 8 MiB.
+/// The addresses that a row of DRAM can have.
 const ROWS: Changed = Changed {
     lo: 0,
-    hi: 0x7F7F_FFFF,
+    hi: LARGEST_TOP - 1,
 };
-/// From the hole at 512 KiB to the hole at 15 MiB.
-const HOLES: Changed = Changed {
-    lo: 0x8_0000,
-    hi: 0xFF_FFFF,
-};
-/// The addresses of SMRAM, which are those of the VGA window.
-const SMRAM_WINDOW: Changed = Changed {
-    lo: 0xA_0000,
-    hi: 0xB_FFFF,
-};
-/// From the first to the last of the ranges of the ROM that XBCS selects.
-const ROM: Changed = Changed {
-    lo: 0xE_0000,
-    hi: 0xFFFE_FFFF,
-};
+/// How many addresses the two windows of a PAM register have.
+const PAM_SIZE: u32 = 0x8000;
 
-/// The bounds of the windows that the registers govern which a change covers, by what they hold now. None where there
-/// is no window.
-#[tactic(auto, unfolding(crate::specs::Changed::windows_covered, crate::specs::Changed::bounds))]
-pub fn bounds_covered(regs: &MapRegs, change: &MapChange) -> Option<Changed>
+/// The windows that one register byte governs: at most six bases of a card, its expansion ROM and its VGA window.
+type Governed = ArrayVec<Changed, 8>;
+
+/// Adds the windows that the registers govern which a change covers, by what they hold now.
+#[tactic(auto, unfolding(crate::specs::Changed::windows_covered))]
+pub fn push_covered(windows: &mut Windows, regs: &MapRegs, change: &MapChange)
     requires cards { AreFitted regs.now.cards.items }
-    ensures bounds { (setup : Setup) (bytes : Bytes) → StandsFor setup bytes (map_bytes regs.now)
-        → result ≡ bounds (windows_covered setup bytes change.now) }
+    requires room { length windows.old.items ≤ 32 }
+    ensures few { length windows.new.items ≤ length windows.old.items + 32 }
+    ensures windows { (setup : Setup) (bytes : Bytes) → StandsFor setup bytes (map_bytes regs.now)
+        → windows.new.items ≡ windows.old.items ++ windows_covered setup bytes change.now }
 {
     match change {
-        MapChange::Store { reg, width, .. } => bounds_of_store(regs, *reg, *width),
-        MapChange::Reset => Some(EVERYTHING),
+        MapChange::Store { reg, width, .. } => push_of_store(windows, regs, *reg, *width),
+        MapChange::Reset => windows.push(EVERYTHING),
     }
 }
 
-/// The least interval that holds both, of which either may be missing.
-pub fn joined(here: Option<Changed>, there: Option<Changed>) -> Option<Changed>
-    ensures joined { result ≡ joined_by here there }
-{
-    match (here, there) {
-        (None, there) => there,
-        (Some(here), None) => Some(here),
-        (Some(here), Some(there)) => Some(Changed {
-            lo: here.lo.min(there.lo),
-            hi: here.hi.max(there.hi),
-        }),
-    }
-}
-
-/// The bounds of the windows of the registers that a store covers.
-fn bounds_of_store(regs: &MapRegs, reg: Reg, width: Width) -> Option<Changed>
+/// Adds the windows of the registers that a store covers.
+fn push_of_store(windows: &mut Windows, regs: &MapRegs, reg: Reg, width: Width)
     requires cards { AreFitted regs.now.cards.items }
-    ensures bounds { (setup : Setup) (bytes : Bytes) → StandsFor setup bytes (map_bytes regs.now)
-        → result ≡ bounds (windows_covered setup bytes (Store reg width 0)) }
+    requires room { length windows.old.items ≤ 32 }
+    ensures few { length windows.new.items ≤ length windows.old.items + 32 }
+    ensures windows { (setup : Setup) (bytes : Bytes) → StandsFor setup bytes (map_bytes regs.now)
+        → windows.new.items ≡ windows.old.items ++ windows_covered setup bytes (Store reg width 0) }
 {
-    let mut bounds = None;
     for k in 0..width.bytes() as u8 {
-        bounds = joined(bounds, bounds_after(regs, reg, k));
+        push_after(windows, regs, reg, k);
     }
-    bounds
 }
 
-/// The bounds of the windows of the register so many offsets after another. None past offset FFh.
-fn bounds_after(regs: &MapRegs, reg: Reg, k: u8) -> Option<Changed>
+/// Adds the windows of the register so many offsets after another.
+fn push_after(windows: &mut Windows, regs: &MapRegs, reg: Reg, k: u8)
     requires cards { AreFitted regs.now.cards.items }
-    ensures bounds { (setup : Setup) (bytes : Bytes) → StandsFor setup bytes (map_bytes regs.now)
-        → result ≡ bounds (windows_of setup bytes (reg_after reg k)) }
+    requires room { length windows.old.items ≤ 56 }
+    ensures few { length windows.new.items ≤ length windows.old.items + 8 }
+    ensures windows { (setup : Setup) (bytes : Bytes) → StandsFor setup bytes (map_bytes regs.now)
+        → windows.new.items ≡ windows.old.items ++ windows_by setup bytes (reg_after reg k) }
+{
+    let governed = windows_after(regs, reg, k);
+    windows.try_extend_from_slice(&governed).unwrap();
+}
+
+/// The windows of the register so many offsets after another. None past offset FFh.
+fn windows_after(regs: &MapRegs, reg: Reg, k: u8) -> Governed
+    requires cards { AreFitted regs.now.cards.items }
+    ensures windows { (setup : Setup) (bytes : Bytes) → StandsFor setup bytes (map_bytes regs.now)
+        → result.items ≡ windows_by setup bytes (reg_after reg k) }
 {
     match reg.off.checked_add(k) {
-        Some(off) => bounds_of(regs, Reg { off, ..reg }),
-        None => None,
+        Some(off) => windows_of(regs, Reg { off, ..reg }),
+        None => ArrayVec::new(),
     }
 }
 
-/// The bounds of the windows that a register governs.
-fn bounds_of(regs: &MapRegs, reg: Reg) -> Option<Changed>
+/// The windows that a register governs.
+fn windows_of(regs: &MapRegs, reg: Reg) -> Governed
     requires cards { AreFitted regs.now.cards.items }
-    ensures bounds { (setup : Setup) (bytes : Bytes) → StandsFor setup bytes (map_bytes regs.now)
-        → result ≡ bounds (windows_of setup bytes reg) }
+    ensures windows { (setup : Setup) (bytes : Bytes) → StandsFor setup bytes (map_bytes regs.now)
+        → result.items ≡ windows_by setup bytes reg }
 {
     if reg.fun != 0 {
-        return None;
+        return ArrayVec::new();
     }
     match reg.dev {
-        HOST_BRIDGE => bridge_bounds(reg.off),
-        SOUTH_BRIDGE => isa_bounds(reg.off),
-        dev => card_at_bounds(&regs.cards, dev, reg.off),
+        HOST_BRIDGE => bridge_windows(reg.off),
+        SOUTH_BRIDGE => isa_windows(reg.off),
+        dev => device_windows(&regs.cards, dev, reg.off),
     }
 }
 
-/// The bounds of the windows of a register of the host bridge.
-#[tactic(auto, unfolding(crate::specs::Changed::bounds))]
-fn bridge_bounds(off: u8) -> Option<Changed>
-    ensures bounds { result ≡ bounds (bridge_windows off) }
+/// One window.
+fn one(window: Changed) -> Governed
+    ensures windows { result.items ≡ window ∷ [] }
+{
+    let mut windows = ArrayVec::new();
+    windows.push(window);
+    windows
+}
+
+/// Two windows.
+fn two(first: Changed, second: Changed) -> Governed
+    ensures windows { result.items ≡ first ∷ second ∷ [] }
+{
+    let mut windows = one(first);
+    windows.push(second);
+    windows
+}
+
+/// The window of a range by its name.
+fn window(range: AddressRange) -> Changed
+    ensures window { result ≡ from_to range.first range.last }
+{
+    Changed {
+        lo: range.first,
+        hi: range.last,
+    }
+}
+
+/// The windows of a register of the host bridge.
+fn bridge_windows(off: u8) -> Governed
+    ensures windows { result.items ≡ windows_of_bridge off }
 {
     match off {
-        PAM0 => Some(PAM0_WINDOW),
-        PAM1..=PAM6 => Some(pam_windows(off)),
-        DRB0..=DRB7 => Some(ROWS),
-        FDHC => Some(HOLES),
-        SMRAM => Some(SMRAM_WINDOW),
-        _ => None,
+        PAM0 => one(window(SYSTEM_BIOS)),
+        PAM1..=PAM6 => one(pam_windows(off)),
+        DRB0..=DRB7 => one(ROWS),
+        FDHC => two(window(HOLE_AT_512_KIB), window(HOLE_AT_15_MIB)),
+        SMRAM => one(window(SMRAM_RANGE)),
+        _ => ArrayVec::new(),
     }
 }
 
@@ -146,137 +159,134 @@ fn pam_windows(off: u8) -> Changed
     requires last { off ≤ 0x5F }
     ensures windows { result ≡ from_to (0xC_0000 + 0x8000 * (off - 0x5A)) (0xC_7FFF + 0x8000 * (off - 0x5A)) }
 {
-    let lo = PAM1_WINDOWS + PAM_SIZE * u32::from(off - PAM1);
+    let lo = EXPANSION_RANGE.first + PAM_SIZE * u32::from(off - PAM1);
     Changed {
         lo,
         hi: lo + (PAM_SIZE - 1),
     }
 }
 
-/// The bounds of the windows of a register of the ISA bridge.
-#[tactic(auto, unfolding(crate::specs::Changed::bounds))]
-fn isa_bounds(off: u8) -> Option<Changed>
-    ensures bounds { result ≡ bounds (isa_windows off) }
+/// The windows of a register of the ISA bridge.
+fn isa_windows(off: u8) -> Governed
+    ensures windows { result.items ≡ windows_of_isa off }
 {
-    (off == XBCS).then_some(ROM)
+    if off == XBCS {
+        return two(window(LOWER_BIOS), window(SELECTABLE_BIOS));
+    }
+    ArrayVec::new()
 }
 
-/// The bounds of the windows of a register of the card at a device number. None where there is no such card.
-#[tactic(auto, unfolding(crate::specs::Changed::bounds))]
-fn card_at_bounds(cards: &[CardRegs], dev: u8, off: u8) -> Option<Changed>
+/// The windows of a register of the card at a device number. None where there is no such card.
+fn device_windows(cards: &[CardRegs], dev: u8, off: u8) -> Governed
     requires cards { AreCards cards.now }
-    ensures bounds { result ≡ bounds (device_held dev off cards.now) }
+    ensures windows { result.items ≡ device_held dev off cards.now }
 {
     for card in cards {
         if card.spec.dev == dev {
-            return card_bounds(card, off);
+            return card_windows(card, off);
         }
     }
-    None
+    ArrayVec::new()
 }
 
-/// The bounds of the windows of a register of a card.
-#[tactic(auto, unfolding(crate::specs::Changed::bounds))]
-fn card_bounds(card: &CardRegs, off: u8) -> Option<Changed>
+/// The windows of a register of a card.
+fn card_windows(card: &CardRegs, off: u8) -> Governed
     requires card { IsCard card.now.card }
-    ensures bounds { result ≡ bounds (card_held off card.now) }
+    ensures windows { result.items ≡ card_held off card.now }
 {
     match off {
-        COMMAND => command_bounds(card),
-        BASE0..=BASE5_END => base_bounds(card, usize::from((off - BASE0) / 4)),
-        EXPANSION_ROM..=EXPANSION_ROM_END => rom_bounds(card),
-        _ => None,
+        COMMAND => command_windows(card),
+        BASE0..=BASE5_END => base_window(card, usize::from((off - BASE0) / 4)),
+        EXPANSION_ROM..=EXPANSION_ROM_END => rom_window(card),
+        _ => ArrayVec::new(),
     }
 }
 
-/// The bounds of the memory bases of a card, of its expansion ROM and of its VGA window.
-fn command_bounds(card: &CardRegs) -> Option<Changed>
+/// The memory bases of a card, its expansion ROM and its VGA window.
+fn command_windows(card: &CardRegs) -> Governed
     requires card { IsCard card.now.card }
-    ensures bounds { result ≡ bounds (held_from card.now.bases 0 card.now.card.bases
-        ++ rom_held card.now.card.rom card.now.rom ++ vga_held card.now.card.vga) }
+    ensures windows { result.items ≡ held_from card.now.bases 0 card.now.card.bases
+        ++ rom_held card.now.card.rom card.now.rom ++ vga_held card.now.card.vga }
 {
-    let bases = bounds_of_bases(&card.spec.bases, &card.bases);
-    let with_rom = joined(bases, rom_bounds(card));
-    joined(with_rom, vga_bounds(card.spec.vga))
+    let mut windows = windows_of_bases(&card.spec.bases, &card.bases);
+    windows.try_extend_from_slice(&rom_window(card)).unwrap();
+    if card.spec.vga {
+        windows.push(window(SMRAM_RANGE));
+    }
+    windows
 }
 
-/// The bounds of the expansion ROM of a card. None where it has none.
-fn rom_bounds(card: &CardRegs) -> Option<Changed>
+/// The expansion ROM of a card. None where it has none.
+fn rom_window(card: &CardRegs) -> Governed
     requires card { IsCard card.now.card }
-    ensures bounds { result ≡ bounds (rom_held card.now.card.rom card.now.rom) }
+    ensures windows { result.items ≡ rom_held card.now.card.rom card.now.rom }
+    ensures few { length result.items ≤ 1 }
 {
-    bounds_of_rom(card.spec.rom, card.rom)
+    window_of_rom(card.spec.rom, card.rom)
 }
 
 /// The addresses that an expansion ROM with this register covers.
-#[tactic(auto, unfolding(crate::specs::Changed::bounds))]
-fn bounds_of_rom(rom: Option<u8>, register: u32) -> Option<Changed>
+fn window_of_rom(rom: Option<u8>, register: u32) -> Governed
     requires rom { IsExpansionRom rom }
-    ensures bounds { result ≡ bounds (rom_held rom register) }
+    ensures windows { result.items ≡ rom_held rom register }
+    ensures few { length result.items ≤ 1 }
 {
     match rom {
-        Some(bits) => Some(window_inside(register, bits)),
-        None => None,
+        Some(bits) => one(block(register, bits)),
+        None => ArrayVec::new(),
     }
 }
 
-/// The VGA window of a card that has one.
-#[tactic(auto, unfolding(crate::specs::Changed::bounds))]
-fn vga_bounds(vga: bool) -> Option<Changed>
-    ensures bounds { result ≡ bounds (vga_held vga) }
-{
-    vga.then_some(SMRAM_WINDOW)
-}
-
-/// The bounds of the memory bases among these that hold these values.
-fn bounds_of_bases(bases: &[BaseSpec], values: &[u32; 6]) -> Option<Changed>
+/// The memory bases among these that hold these values.
+fn windows_of_bases(bases: &[BaseSpec], values: &[u32; 6]) -> Governed
     requires bases { All IsBase (map base_of bases.now) }
     requires count { length bases.now ≤ 6 }
-    ensures bounds { result ≡ bounds (held_from values.now 0 (map base_of bases.now)) }
+    ensures windows { result.items ≡ held_from values.now 0 (map base_of bases.now) }
+    ensures few { length result.items ≤ 6 }
 {
-    let mut bounds = None;
+    let mut windows = ArrayVec::new();
     for (index, base) in bases.iter().enumerate() {
-        bounds = joined(bounds, window_of(*base, values[index]));
+        if let BaseSpec::Memory(bits) = base {
+            windows.push(block(values[index], *bits));
+        }
     }
-    bounds
+    windows
 }
 
-/// The bounds of a base of a card, 0 to 5. None where it does not exist, or is for I/O ports.
-fn base_bounds(card: &CardRegs, index: usize) -> Option<Changed>
+/// A base of a card, 0 to 5. None where it does not exist, or is for I/O ports.
+fn base_window(card: &CardRegs, index: usize) -> Governed
     requires card { IsCard card.now.card }
     requires index { index < 6 }
-    ensures bounds { result ≡ bounds (held_at card.now.bases card.now.card.bases index) }
+    ensures windows { result.items ≡ held_at card.now.bases card.now.card.bases index }
 {
-    bounds_of_base(&card.spec.bases, &card.bases, index)
+    window_of_base(&card.spec.bases, &card.bases, index)
 }
 
-/// The bounds of one of these bases that hold these values. None where it does not exist, or is for I/O ports.
-#[tactic(auto, unfolding(crate::specs::Changed::bounds))]
-fn bounds_of_base(bases: &[BaseSpec], values: &[u32; 6], index: usize) -> Option<Changed>
+/// One of these bases that hold these values. None where it does not exist, or is for I/O ports.
+fn window_of_base(bases: &[BaseSpec], values: &[u32; 6], index: usize) -> Governed
     requires bases { All IsBase (map base_of bases.now) }
     requires index { index < 6 }
-    ensures bounds { result ≡ bounds (held_at values.now (map base_of bases.now) index) }
+    ensures windows { result.items ≡ held_at values.now (map base_of bases.now) index }
 {
     match bases.get(index) {
         Some(base) => window_of(*base, values[index]),
-        None => None,
+        None => ArrayVec::new(),
     }
 }
 
 /// The addresses that a base decodes where it holds this value. None where it is for I/O ports.
-#[tactic(auto, unfolding(crate::specs::Changed::bounds))]
-fn window_of(base: BaseSpec, value: u32) -> Option<Changed>
+fn window_of(base: BaseSpec, value: u32) -> Governed
     requires base { IsBase (base_of base) }
-    ensures bounds { result ≡ bounds (held_by (base_of base) value) }
+    ensures windows { result.items ≡ held_by (base_of base) value }
 {
     match base {
-        BaseSpec::Memory(bits) => Some(window_inside(value, bits)),
-        BaseSpec::Io(_) => None,
+        BaseSpec::Memory(bits) => one(block(value, bits)),
+        BaseSpec::Io(_) => ArrayVec::new(),
     }
 }
 
 /// The addresses that agree with this one but in the low bits.
-fn window_inside(inside: u32, bits: u8) -> Changed
+fn block(inside: u32, bits: u8) -> Changed
     requires bits { bits ≤ 24 }
     ensures block { result ≡ block inside bits }
 {

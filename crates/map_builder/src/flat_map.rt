@@ -1,5 +1,5 @@
 //! The memory map as one list of ranges.
-ghost use Rattle.std.specs.Prelude.{◌≡◌, ◌≤◌, ◌<◌, ◌+◌, ℕ, false, if◌then◌else◌, length, map, IfSome, MatchOption};
+ghost use Rattle.std.specs.Prelude.{◌≡◌, ◌≤◌, ◌<◌, ◌+◌, ℕ, All, false, if◌then◌else◌, length, map};
 ghost use Rattle.board_base.specs.declared.access.Kind.{Kind};
 ghost use Rattle.board_spec.specs.Setup.{Setup};
 ghost use Rattle.board_spec.specs.declared.map_change.MapChange.TheVariants.{Store};
@@ -10,18 +10,19 @@ ghost use Rattle.board_spec.specs.FlatMap.{address_count, six_areas, Tiles, IsFl
 ghost use Rattle.pci_bars.specs.Cards.{AreCardsOf, AreFitted, cards_of};
 ghost use Rattle.addr_decode.specs.MapRegs.{StandsFor, map_bytes};
 ghost use Rattle.map_builder.specs.Map.{range_of, HasBoard, IsMapOf};
-ghost use Rattle.map_builder.specs.Build.{IsMapOutside};
-ghost use Rattle.map_builder.specs.Changed.{after, changed_windows, bounds_or_zero, IsOutside};
+ghost use Rattle.map_builder.specs.Changed.{after, changed_windows, bounds_or_zero, most_rows, IsOutside};
 
 use crate::build::{Ranges, ranges_of, rebuild};
-use crate::changed::{bounds_covered, joined};
+use crate::changed::push_covered;
 use crate::find::span_of;
 use crate::range::{Changed, Range, Span};
 use crate::widths::hold_widths;
+use crate::windows::{bounds_of, sorted};
 use addr_decode::{MapChange, MapRegs, touches};
 use arrayvec::ArrayVec;
-use board_base::{Kind, Reg, Width};
-use std::marker::Model;
+use board_base::{Kind, Reg, Steps, Width};
+use std::marker::{Brand, Model};
+use std::sync::ledger::{Blank, Ledger};
 
 /// The answer where no window changes.
 const NOTHING: Changed = Changed { lo: 0, hi: 0 };
@@ -32,8 +33,8 @@ const NOTHING: Changed = Changed { lo: 0, hi: 0 };
 pub struct FlatMap {
     regs: MapRegs,
     ranges: Ranges,
-    /// Room for the ranges above a change, while those below are built anew.
-    above: Ranges,
+    /// Room for the ranges as they were, while those that changed are built anew.
+    before: Ranges,
     version: u32,
 }
 
@@ -59,11 +60,11 @@ impl FlatMap {
         ensures few { length result.ranges ≤ 142 }
     {
         hold_widths(&regs);
-        let ranges = ranges_of(&regs);
+        let ranges = uncounted_ranges::<Brand>(&regs, Blank::new(1));
         FlatMap {
             regs,
             ranges,
-            above: ArrayVec::new(),
+            before: ArrayVec::new(),
             version: 0,
         }
     }
@@ -77,7 +78,7 @@ impl FlatMap {
         FlatMap {
             regs: self.regs.copy(),
             ranges,
-            above: ArrayVec::new(),
+            before: ArrayVec::new(),
             version: self.version,
         }
     }
@@ -117,7 +118,7 @@ impl FlatMap {
 
     /// Makes a change of the registers, which raises the version by one, and tells the bounds of the addresses whose
     /// areas it may change: the least first and the greatest last address of the windows that the registers govern
-    /// which it covers. Both are 0 where there is no such window.
+    /// which it covers. Both are 0 where there is no such window, and then no area changes.
     pub fn apply(&mut self, change: &MapChange) -> Changed
         requires version { self.old.version < 4_000_000 }
         ensures stands { (setup : Setup) (bytes : Bytes) → StandsFor setup bytes self.old.regs
@@ -133,13 +134,77 @@ impl FlatMap {
         ensures kept { (setup : Setup) (bytes : Bytes) → StandsFor setup bytes self.old.regs
             → (addr : ℕ) → addr < address_count → IsOutside addr result
             → six_areas setup (after setup change.now bytes) addr ≡ six_areas setup bytes addr }
+        ensures beside { (setup : Setup) (bytes : Bytes) → StandsFor setup bytes self.old.regs
+            → (addr : ℕ) → addr < address_count → All (IsOutside addr) (changed_windows setup bytes change.now)
+            → six_areas setup (after setup change.now bytes) addr ≡ six_areas setup bytes addr }
     {
-        let before = bounds_covered(&self.regs, change);
+        self.apply_uncounted::<Brand>(change, Blank::new(1))
+    }
+
+    /// Makes a change that nobody counts.
+    fn apply_uncounted<L: Ledger>(&mut self, change: &MapChange, blank: Blank) -> Changed
+        requires name { blank.name ≡ L.name }
+        requires parts { blank.parts ≡ L.parts }
+        requires some_part { 0 < L.parts }
+        requires version { self.old.version < 4_000_000 }
+        ensures stands { (setup : Setup) (bytes : Bytes) → StandsFor setup bytes self.old.regs
+            → StandsFor setup (λ reg. changed_byte setup change.now reg (bytes reg)) self.new.regs }
+        ensures cards { (setup : Setup) (bytes : Bytes) → AreCardsOf setup bytes self.old.regs.cards
+            → AreCardsOf setup (λ reg. changed_byte setup change.now reg (bytes reg)) self.new.regs.cards }
+        ensures same_cards { cards_of self.new.regs.cards ≡ cards_of self.old.regs.cards }
+        ensures version { self.new.version ≡ self.old.version + 1 }
+        ensures map { (setup : Setup) (bytes : Bytes) → StandsFor setup bytes self.new.regs
+            → IsFlatMapOf setup bytes self.new.ranges }
+        ensures changed { (setup : Setup) (bytes : Bytes) → StandsFor setup bytes self.old.regs
+            → result ≡ bounds_or_zero (changed_windows setup bytes change.now) }
+        ensures kept { (setup : Setup) (bytes : Bytes) → StandsFor setup bytes self.old.regs
+            → (addr : ℕ) → addr < address_count → IsOutside addr result
+            → six_areas setup (after setup change.now bytes) addr ≡ six_areas setup bytes addr }
+        ensures beside { (setup : Setup) (bytes : Bytes) → StandsFor setup bytes self.old.regs
+            → (addr : ℕ) → addr < address_count → All (IsOutside addr) (changed_windows setup bytes change.now)
+            → six_areas setup (after setup change.now bytes) addr ≡ six_areas setup bytes addr }
+    {
+        let mut steps = Steps::<L>::new(blank);
+        self.apply_counted(change, &mut steps)
+    }
+
+    /// Makes a change as `apply` does, and counts each row that is looked up as a step: at most one for each window, and one
+    /// for each edge that lies inside the windows after the change.
+    pub fn apply_counted<L: Ledger>(&mut self, change: &MapChange, steps: &mut Steps<L>) -> Changed
+        requires version { self.old.version < 4_000_000 }
+        ensures stands { (setup : Setup) (bytes : Bytes) → StandsFor setup bytes self.old.regs
+            → StandsFor setup (λ reg. changed_byte setup change.now reg (bytes reg)) self.new.regs }
+        ensures cards { (setup : Setup) (bytes : Bytes) → AreCardsOf setup bytes self.old.regs.cards
+            → AreCardsOf setup (λ reg. changed_byte setup change.now reg (bytes reg)) self.new.regs.cards }
+        ensures same_cards { cards_of self.new.regs.cards ≡ cards_of self.old.regs.cards }
+        ensures version { self.new.version ≡ self.old.version + 1 }
+        ensures map { (setup : Setup) (bytes : Bytes) → StandsFor setup bytes self.new.regs
+            → IsFlatMapOf setup bytes self.new.ranges }
+        ensures changed { (setup : Setup) (bytes : Bytes) → StandsFor setup bytes self.old.regs
+            → result ≡ bounds_or_zero (changed_windows setup bytes change.now) }
+        ensures kept { (setup : Setup) (bytes : Bytes) → StandsFor setup bytes self.old.regs
+            → (addr : ℕ) → addr < address_count → IsOutside addr result
+            → six_areas setup (after setup change.now bytes) addr ≡ six_areas setup bytes addr }
+        ensures beside { (setup : Setup) (bytes : Bytes) → StandsFor setup bytes self.old.regs
+            → (addr : ℕ) → addr < address_count → All (IsOutside addr) (changed_windows setup bytes change.now)
+            → six_areas setup (after setup change.now bytes) addr ≡ six_areas setup bytes addr }
+        ensures rows { (setup : Setup) (bytes : Bytes) → StandsFor setup bytes self.old.regs
+            → steps.new ≤ steps.old + most_rows setup bytes change.now }
+    {
+        let mut windows = ArrayVec::new();
+        push_covered(&mut windows, &self.regs, change);
         self.regs.apply(change);
-        let changed = joined(before, bounds_covered(&self.regs, change));
-        rebuild_within(&mut self.ranges, &mut self.above, &self.regs, changed);
+        push_covered(&mut windows, &self.regs, change);
+        let rising = sorted(&windows);
+        rebuild(
+            &mut self.ranges,
+            &mut self.before,
+            &self.regs,
+            &rising,
+            steps,
+        );
         self.version += 1;
-        changed.unwrap_or(NOTHING)
+        bounds_of(&windows).unwrap_or(NOTHING)
     }
 
     /// Stores the bytes of a value in rising offset. Where they cover a byte that the map depends on, this is a change
@@ -180,18 +245,18 @@ impl FlatMap {
     }
 }
 
-/// Makes the ranges those of the registers, where they were a map that differs inside bounds alone. Where there are no
-/// bounds they stay.
-fn rebuild_within(ranges: &mut Ranges, above: &mut Ranges, regs: &MapRegs, bounds: Option<Changed>)
+/// The flat map of registers, which nobody counts.
+fn uncounted_ranges<L: Ledger>(regs: &MapRegs, blank: Blank) -> Ranges
+    requires name { blank.name ≡ L.name }
+    requires parts { blank.parts ≡ L.parts }
+    requires some_part { 0 < L.parts }
     requires cards { AreFitted regs.now.cards.items }
     requires board { HasBoard (map_bytes regs.now) }
-    requires order { IfSome bounds (λ interval. interval.lo ≤ interval.hi) }
-    requires outside { MatchOption bounds (IsMapOf (map_bytes regs.now) (map range_of ranges.old.items))
-        (λ interval. IsMapOutside (map_bytes regs.now) interval (map range_of ranges.old.items)) }
-    ensures map { IsMapOf (map_bytes regs.now) (map range_of ranges.new.items) }
+    ensures tiles { Tiles 0 (map range_of result.items) }
+    ensures map { (setup : Setup) (bytes : Bytes) → StandsFor setup bytes (map_bytes regs.now)
+        → IsFlatMapOf setup bytes (map range_of result.items) }
+    ensures few { length result.items ≤ 142 }
 {
-    match bounds {
-        Some(interval) => rebuild(ranges, above, regs, interval),
-        None => {}
-    }
+    let mut steps = Steps::<L>::new(blank);
+    ranges_of(regs, &mut steps)
 }

@@ -8,6 +8,7 @@ mod flat_map;
 pub mod laws;
 mod range;
 mod widths;
+mod windows;
 
 pub use flat_map::FlatMap;
 pub use range::{Changed, Range, Span};

@@ -1,26 +1,49 @@
-ghost use Rattle.std.specs.Prelude.{◌≡◌};
+ghost use Rattle.std.specs.Prelude.{◌≡◌, ◌<◌, ◌+◌};
 ghost use Rattle.board_spec.specs.Setup.{IsCard};
 ghost use Rattle.pci_bars.specs.Cards.{AreFitted};
 
 use crate::{Changed, FlatMap, Span};
 use addr_decode::{MapChange, MapRegs};
 use arrayvec::ArrayVec;
-use board_base::{Area, Kind, Reg, Width};
+use board_base::{Area, Kind, Reg, Steps, Width};
 use pci_bars::{BaseSpec, CardSpec};
+use std::marker::Brand;
+use std::sync::ledger::{Blank, Ledger};
 
-/// A board of 8 MiB whose one card, device 2, has a memory base of 1 MiB, an I/O base and the VGA window.
+/// A board of 8 MiB with two cards: device 2 has a memory base of 1 MiB, an I/O base and the VGA window, and device 3 an
+/// expansion ROM of 64 KiB.
 fn board() -> MapRegs
     ensures fitted { AreFitted result.cards.items }
 {
     let mut bases = ArrayVec::new();
     bases.push(BaseSpec::Memory(20));
     bases.push(BaseSpec::Io(4));
-    MapRegs::reset_of(&[CardSpec {
-        dev: 2,
-        vga: true,
-        bases,
-        rom: None,
-    }])
+    MapRegs::reset_of(&[
+        CardSpec {
+            dev: 2,
+            vga: true,
+            bases,
+            rom: None,
+        },
+        CardSpec {
+            dev: 3,
+            vga: false,
+            bases: ArrayVec::new(),
+            rom: Some(16),
+        },
+    ])
+}
+
+/// Makes a change, counted under a ledger of its own.
+fn counted<L: Ledger>(map: &mut FlatMap, change: &MapChange, blank: Blank) -> Changed
+    requires name { blank.name ≡ L.name }
+    requires parts { blank.parts ≡ L.parts }
+    requires some_part { 0 < L.parts }
+    requires version { map.old.version < 4_000_000 }
+    ensures version { map.new.version ≡ map.old.version + 1 }
+{
+    let mut steps = Steps::<L>::new(blank);
+    map.apply_counted(change, &mut steps)
 }
 
 fn store(dev: u8, off: u8, width: Width, value: u32) -> MapChange {
@@ -55,6 +78,12 @@ fn changes_move_spans(rt: HostRuntime) {
     let (read, write) = (Kind::Read, Kind::Write);
     let (abort, card) = (Area::Abort, Area::Card(2, 0));
     let (vga, dram, smram) = (Area::Card(2, 7), Area::Dram(0), Area::Smram);
+    let rom = Area::Card(3, 6);
+    let placed = store(3, 0x30, Width::Four, 0xD000_0000);
+    let selected = store(3, 0x30, Width::Four, 0xD000_0001);
+    let enabled = store(3, 0x04, Width::One, 0x02);
+    let unselected = store(3, 0x30, Width::One, 0x00);
+    let holes = store(0, 0x68, Width::One, 0x80);
     let base = store(2, 0x10, Width::Four, 0xE000_0000);
     let on = store(2, 0x04, Width::One, 0x02);
     let moved = store(2, 0x10, Width::Four, 0xFFF0_0000);
@@ -113,6 +142,46 @@ fn changes_move_spans(rt: HostRuntime) {
             (0x000A_0000, 0x000B_FFFF, smram),
         ),
         (
+            placed,
+            (0x0000_0000, 0xD000_FFFF),
+            0xD000_0004,
+            read,
+            false,
+            (0x0080_0000, 0xFFEF_FFFF, abort),
+        ),
+        (
+            selected,
+            (0xD000_0000, 0xD000_FFFF),
+            0xD000_0004,
+            read,
+            false,
+            (0x0080_0000, 0xFFEF_FFFF, abort),
+        ),
+        (
+            enabled,
+            (0xD000_0000, 0xD000_FFFF),
+            0xD000_0004,
+            read,
+            false,
+            (0xD000_0000, 0xD000_FFFF, rom),
+        ),
+        (
+            unselected,
+            (0xD000_0000, 0xD000_FFFF),
+            0xD000_0004,
+            read,
+            false,
+            (0x0080_0000, 0xFFEF_FFFF, abort),
+        ),
+        (
+            holes,
+            (0x0008_0000, 0x00FF_FFFF),
+            0x00F0_0000,
+            read,
+            false,
+            (0x0080_0000, 0xFFEF_FFFF, abort),
+        ),
+        (
             MapChange::Reset,
             (0x0000_0000, 0xFFFF_FFFF),
             0x0009_FFFF,
@@ -122,10 +191,16 @@ fn changes_move_spans(rt: HostRuntime) {
         ),
     ] {
         let (lo, hi) = changed;
+        let mut copy = map.copy();
         assert_eq!(rt; map.apply(&change), Changed { lo, hi });
+        assert_eq!(rt;
+            counted::<Brand>(&mut copy, &change, Blank::new(1)),
+            Changed { lo, hi }
+        );
         version += 1;
+        let anew = FlatMap::from_scratch(map.regs().copy());
+        assert_eq!(rt; map.ranges(), anew.ranges());
         let (lo, hi, area) = span;
-        let copy = map.copy();
         assert_eq!(rt;
             map.find(addr, kind, smm),
             Span { lo, hi, area },
@@ -137,5 +212,27 @@ fn changes_move_spans(rt: HostRuntime) {
             "at {addr}"
         );
         assert_eq!(rt; copy.version(), version);
+    }
+}
+
+#[test]
+fn stores_count_map_writes(rt: HostRuntime) {
+    let mut map = FlatMap::from_scratch(board());
+    for (dev, off, width, value, version) in [
+        (2, 0x3C, Width::One, 0x0B, 0),
+        (3, 0x3C, Width::Four, 0x0C, 0),
+        (0, 0x59, Width::One, 0x10, 1),
+        (2, 0x3C, Width::Two, 0x0A, 1),
+        (2, 0x30, Width::Four, 0xFFFF_FFFF, 1),
+        (3, 0x33, Width::One, 0xD0, 2),
+    ] {
+        let reg = Reg { dev, fun: 0, off };
+        map.store(reg, width, value);
+        assert_eq!(rt; map.version(), version);
+    }
+    let expected = [(0x0A, 0x0000_0000), (0x0C, 0xD000_0000)];
+    assert_eq!(rt; map.regs().cards.len(), expected.len());
+    for (card, (line, rom)) in map.regs().cards.iter().zip(expected) {
+        assert_eq!(rt; (card.line, card.rom), (line, rom));
     }
 }

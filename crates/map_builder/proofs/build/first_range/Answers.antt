@@ -3,4 +3,4 @@ use Rattle.map_builder.proofs.StepLemmas.{is_built_first}
 use Rattle.map_builder.proofs.build.first_range.Goals as goal
 
 pub returns : goal.returns
-returns c = record { built = is_built_first (map_bytes c.args.regs.now) c.areas_at.result.areas c.areas_at.ensures.areas }
+returns g c = record { built = is_built_first (map_bytes c.args.regs.now) c.row.result.areas c.row.ensures.areas; step = c.row.ensures.step }

@@ -3,7 +3,10 @@ use Rattle.map_builder.proofs.tests.changes_move_spans.Given as goal
 
 abbrev pub invariant-loop-change : goal.invariant-loop-change
 invariant-loop-change g l = record {
-  seven : length l.change-items ≡ 7;
+  twelve : length l.change-items ≡ 12;
   map : l.map.version ≡ l.change-index;
   count : l.version ≡ l.change-index;
 }
+
+abbrev pub ghosts-counted : goal.ghosts-counted
+ghosts-counted g a = record { name = a.blank.name; parts = a.blank.parts }

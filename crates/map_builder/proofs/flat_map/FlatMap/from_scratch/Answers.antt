@@ -5,16 +5,16 @@ use Rattle.map_builder.specs.Map.{range_of}
 use Rattle.map_builder.proofs.BoardLemmas.{has_board}
 use Rattle.map_builder.proofs.flat_map.FlatMap.from_scratch.Goals as goal
 
-pub ranges_of-ranges-requires-clause-board : goal.ranges_of-ranges-requires-clause-board
-ranges_of-ranges-requires-clause-board c = has_board (map_bytes c.args.regs) c.requires.cards c.hold_widths.ensures.widths
+pub uncounted_ranges-ranges-requires-clause-board : goal.uncounted_ranges-ranges-requires-clause-board
+uncounted_ranges-ranges-requires-clause-board c = has_board (map_bytes c.args.regs) c.requires.cards c.hold_widths.ensures.widths
 
 pub invariant_of-result : goal.invariant_of-result
 invariant_of-result c = record {
   fitted = c.requires.cards;
   board = has_board (map_bytes c.args.regs) c.requires.cards c.hold_widths.ensures.widths;
-  tiles = c.ranges_of-ranges.ensures.tiles;
-  map = c.ranges_of-ranges.ensures.map;
+  tiles = c.uncounted_ranges-ranges.ensures.tiles;
+  map = c.uncounted_ranges-ranges.ensures.map;
 }
 
 pub returns-clause-few : goal.returns-clause-few
-returns-clause-few c = omega (arith, c.ranges_of-ranges.ensures.few, length-map c.ranges_of-ranges.result.items range_of)
+returns-clause-few c = omega (arith, c.uncounted_ranges-ranges.ensures.few, length-map c.uncounted_ranges-ranges.result.items range_of)

@@ -1,0 +1,96 @@
+use Rattle.std.proofs.Common.{map, arith}
+use Rattle.addr_decode.specs.MapRegs.{map_bytes}
+use Rattle.addr_decode.specs.Edges.{edges_after}
+use Rattle.map_builder.specs.Map.{range_of}
+use Rattle.map_builder.proofs.RebuildLemmas.{first_below, order_at, sweep_first, above, sweep_agrees, sweep_next, sweep_end, rows_at, no_rows}
+use Rattle.map_builder.proofs.build.sweep.Goals as goal
+
+pub cut_below-cut-requires-clause-below : goal.cut_below-cut-requires-clause-below
+cut_below-cut-requires-clause-below g c =
+    rw c.requires.same (first_below (map_bytes c.args.regs.now) (map range_of c.args.before.now) c.args.windows.now c.requires.some c.requires.rise c.requires.beside)
+
+pub rows_in-last-requires-clause-order : goal.rows_in-last-requires-clause-order
+rows_in-last-requires-clause-order g c = order_at c.args.windows.now 0 c.requires.some c.requires.rise
+
+pub loop-index-init : goal.loop-index-init
+loop-index-init g c = record {
+  sweep =
+      sweep_first (map_bytes c.args.regs.now) (map range_of c.rows_in-last.new.ranges.items) (map range_of c.args.before.now) (range_of c.rows_in-last.result)
+      c.args.windows.now c.requires.some c.requires.rise c.requires.beside c.rows_in-last.ensures.fits c.rows_in-last.ensures.built;
+  rows = λ setup bytes stands.
+      omega (arith, rows_at (edges_after setup bytes) c.args.windows.now 0 c.requires.some, c.rows_in-last.ensures.rows setup bytes stands, c.cut_below-cut.ensures.step);
+}
+
+pub keep-last-requires-clause-order : goal.keep-last-requires-clause-order
+keep-last-requires-clause-order g c =
+    omega (
+      arith,
+      above (map_bytes c.args.regs.now) (map range_of c.loop-index.ranges.items) (map range_of c.args.before.now) (range_of c.loop-index.last) c.loop-index.hi
+          c.args.windows.now c.loop-index.index (omega arith) c.loop-index.invariant.sweep,
+    )
+
+pub keep-last-requires-clause-kept : goal.keep-last-requires-clause-kept
+keep-last-requires-clause-kept g c = record {
+  regs = map_bytes c.args.regs.now;
+  board = c.requires.board;
+  built = c.loop-index.invariant.sweep.built;
+  agrees =
+      sweep_agrees (map_bytes c.args.regs.now) (map range_of c.loop-index.ranges.items) (map range_of c.args.before.now) (range_of c.loop-index.last) c.loop-index.hi
+      c.args.windows.now c.loop-index.index (omega arith) c.loop-index.invariant.sweep;
+}
+
+pub row_at-last-requires-clause-above : goal.row_at-last-requires-clause-above
+row_at-last-requires-clause-above g c =
+    omega (
+      arith,
+      above (map_bytes c.args.regs.now) (map range_of c.loop-index.ranges.items) (map range_of c.args.before.now) (range_of c.loop-index.last) c.loop-index.hi
+          c.args.windows.now c.loop-index.index (omega arith) c.loop-index.invariant.sweep,
+    )
+
+pub row_at-last-requires-clause-built : goal.row_at-last-requires-clause-built
+row_at-last-requires-clause-built g c =
+    c.keep-last.ensures.built (map_bytes c.args.regs.now) c.loop-index.invariant.sweep.built
+    (sweep_agrees (map_bytes c.args.regs.now) (map range_of c.loop-index.ranges.items) (map range_of c.args.before.now) (range_of c.loop-index.last) c.loop-index.hi
+    c.args.windows.now c.loop-index.index (omega arith) c.loop-index.invariant.sweep)
+
+pub rows_in-last-requires-in-loop-index-clause-order : goal.rows_in-last-requires-in-loop-index-clause-order
+rows_in-last-requires-in-loop-index-clause-order g c = order_at c.args.windows.now c.loop-index.index (omega arith) c.loop-index.invariant.sweep.rise
+
+pub loop-index-preserved : goal.loop-index-preserved
+loop-index-preserved g c = record {
+  sweep =
+      sweep_next (map_bytes c.args.regs.now) (map range_of c.loop-index.ranges.items) (map range_of c.args.before.now) (range_of c.loop-index.last) c.loop-index.hi
+      c.args.windows.now c.loop-index.index (omega arith) c.loop-index.invariant.sweep (map range_of c.rows_in-last-in-loop-index.new.ranges.items)
+      (range_of c.rows_in-last-in-loop-index.result) c.rows_in-last-in-loop-index.ensures.fits c.rows_in-last-in-loop-index.ensures.built;
+  rows = λ setup bytes stands.
+      omega (
+        arith,
+        rows_at (edges_after setup bytes) c.args.windows.now c.loop-index.index (omega arith),
+        c.loop-index.invariant.rows setup bytes stands,
+        c.rows_in-last-in-loop-index.ensures.rows setup bytes stands,
+        c.row_at-last.ensures.step,
+      );
+}
+
+pub keep-requires-clause-order : goal.keep-requires-clause-order
+keep-requires-clause-order g c = omega (arith, c.loop-index.invariant.sweep.fits)
+
+pub keep-requires-clause-kept : goal.keep-requires-clause-kept
+keep-requires-clause-kept g c = record {
+  regs = map_bytes c.args.regs.now;
+  board = c.requires.board;
+  built = c.loop-index.invariant.sweep.built;
+  agrees =
+      sweep_end (map_bytes c.args.regs.now) (map range_of c.loop-index.ranges.items) (map range_of c.args.before.now) (range_of c.loop-index.last) c.loop-index.hi
+      c.args.windows.now c.loop-index.index (omega arith) c.loop-index.invariant.sweep;
+}
+
+pub returns-clause-built : goal.returns-clause-built
+returns-clause-built g c =
+    c.keep.ensures.built (map_bytes c.args.regs.now) c.loop-index.invariant.sweep.built
+    (sweep_end (map_bytes c.args.regs.now) (map range_of c.loop-index.ranges.items) (map range_of c.args.before.now) (range_of c.loop-index.last) c.loop-index.hi
+    c.args.windows.now c.loop-index.index (omega arith) c.loop-index.invariant.sweep)
+
+pub returns-clause-rows : goal.returns-clause-rows
+returns-clause-rows g c = λ setup bytes stands.
+    omega (arith, c.loop-index.invariant.rows setup bytes stands, no_rows (edges_after setup bytes) c.args.windows.now c.loop-index.index (omega arith))

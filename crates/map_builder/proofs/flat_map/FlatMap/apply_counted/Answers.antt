@@ -1,0 +1,109 @@
+use Rattle.std.proofs.Common.{◌≡◌, ◌++◌, ◌∙◌, [], ap, arith, subst, sym, List, Option}
+use Rattle.std.specs.Prelude.{map, unwrap_or}
+use Rattle.std.proofs.lemmas.List.Elements.{recursion_from_All}
+use Rattle.board_spec.specs.declared.map_change.MapChange.{MapChange}
+use Rattle.board_spec.specs.Setup.{Setup}
+use Rattle.board_spec.specs.Decode.{Bytes}
+use Rattle.pci_bars.specs.Cards.{AreCardsOf}
+use Rattle.addr_decode.specs.MapRegs.{StandsFor, map_bytes}
+use Rattle.addr_decode.specs.Edges.{edges_after}
+use Rattle.map_builder.specs.declared.range.Changed.{Changed}
+use Rattle.map_builder.specs.Map.{Mapped, range_of}
+use Rattle.map_builder.specs.Changed.{after, windows_covered, bounds, bounds_or_zero, changed_windows, from_to, IsOutside}
+use Rattle.map_builder.specs.Sorted.{sorted, rows_in, Rise}
+use Rattle.map_builder.proofs.KeptStores.{beside_keeps}
+use Rattle.map_builder.proofs.OutsideLemmas.{outside_bounds}
+use Rattle.map_builder.proofs.BoundsLemmas.{changed_ordered}
+use Rattle.map_builder.proofs.SortedLemmas.{rise_sorted, rows_few}
+use Rattle.map_builder.proofs.ChangeLemmas.{board_after, beside_map}
+use Rattle.map_builder.proofs.flat_map.FlatMap.apply_counted.Goals as goal
+
+-- the registers inside a map are those that it is seen to have
+stood : (inside seen : Mapped) (setup : Setup) (bytes : Bytes) → inside ≡ seen → StandsFor setup bytes seen.regs → StandsFor setup bytes inside.regs
+stood inside seen setup bytes is stands = subst (λ (flat : Mapped). StandsFor setup bytes flat.regs) (sym is) stands
+
+-- the windows that were found are those that change, of each board that has the registers
+found : (setup : Setup) (bytes : Bytes) (change : MapChange) (none first both : List Changed) → none ≡ [] →
+    first ≡ none ++ windows_covered setup bytes change → both ≡ first ++ windows_covered setup (after setup change bytes) change →
+    both ≡ changed_windows setup bytes change
+found setup bytes change none first both none_is first_is both_is =
+    both_is
+    ∙ ap (λ (windows : List Changed). windows ++ windows_covered setup (after setup change bytes) change)
+    (first_is ∙ ap (λ (windows : List Changed). windows ++ windows_covered setup bytes change) none_is)
+
+pub rebuild-requires-clause-board : goal.rebuild-requires-clause-board
+rebuild-requires-clause-board g c =
+    let board = c.self.invariant.board in
+    board_after (map_bytes c.self.inside.regs) (map_bytes c.apply.new.self) c.args.change.now board (c.apply.ensures.stands board.setup board.bytes board.stands)
+
+pub rebuild-requires-clause-rise : goal.rebuild-requires-clause-rise
+rebuild-requires-clause-rise g c =
+    let board = c.self.invariant.board in
+    let windows = found board.setup board.bytes c.args.change.now c.new-windows.result.items c.push_covered.new.windows.items c.push_covered-2.new.windows.items
+    c.new-windows.ensures (c.push_covered.ensures.windows board.setup board.bytes board.stands)
+    (c.push_covered-2.ensures.windows board.setup (after board.setup c.args.change.now board.bytes) (c.apply.ensures.stands board.setup board.bytes board.stands)) in
+    let rising = c.deref-2.ensures.0 ∙ c.sorted-rising.ensures.sorted ∙ ap sorted (c.deref.ensures.0 ∙ windows) in
+    subst Rise (sym rising)
+    (rise_sorted (changed_windows board.setup board.bytes c.args.change.now) (changed_ordered board.setup board.bytes c.args.change.now))
+
+pub rebuild-requires-clause-beside : goal.rebuild-requires-clause-beside
+rebuild-requires-clause-beside g c =
+    let board = c.self.invariant.board in
+    let windows = found board.setup board.bytes c.args.change.now c.new-windows.result.items c.push_covered.new.windows.items c.push_covered-2.new.windows.items
+    c.new-windows.ensures (c.push_covered.ensures.windows board.setup board.bytes board.stands)
+    (c.push_covered-2.ensures.windows board.setup (after board.setup c.args.change.now board.bytes) (c.apply.ensures.stands board.setup board.bytes board.stands)) in
+    beside_map (map_bytes c.self.inside.regs) (map_bytes c.apply.new.self) c.args.change.now (map range_of c.self.inside.ranges.items) c.self.invariant
+    (c.apply.ensures.stands board.setup board.bytes board.stands) c.deref-2.result.now
+    (c.deref-2.ensures.0 ∙ c.sorted-rising.ensures.sorted ∙ ap sorted (c.deref.ensures.0 ∙ windows))
+
+pub invariant_of-self : goal.invariant_of-self
+invariant_of-self g c =
+    let board = c.self.invariant.board in
+    record {
+      fitted = c.apply.ensures.fitted;
+      board =
+          board_after (map_bytes c.self.inside.regs) (map_bytes c.apply.new.self) c.args.change.now board
+          (c.apply.ensures.stands board.setup board.bytes board.stands);
+      tiles = c.rebuild.ensures.tiles;
+      map = c.rebuild.ensures.map;
+    }
+
+pub returns-clause-stands : goal.returns-clause-stands
+returns-clause-stands g c = λ setup bytes stands. c.apply.ensures.stands setup bytes (stood _ c.args.self.now setup bytes c.self.view_is stands)
+
+pub returns-clause-cards : goal.returns-clause-cards
+returns-clause-cards g c = λ setup bytes are.
+    c.apply.ensures.cards setup bytes (subst (λ (flat : Mapped). AreCardsOf setup bytes flat.regs.cards) (sym c.self.view_is) are)
+
+pub returns-clause-kept : goal.returns-clause-kept
+returns-clause-kept g c = λ setup bytes stands addr address out.
+    let here = stood _ c.args.self.now setup bytes c.self.view_is stands in
+    let windows = found setup bytes c.args.change.now c.new-windows.result.items c.push_covered.new.windows.items c.push_covered-2.new.windows.items
+    c.new-windows.ensures (c.push_covered.ensures.windows setup bytes here)
+    (c.push_covered-2.ensures.windows setup (after setup c.args.change.now bytes) (c.apply.ensures.stands setup bytes here)) in
+    let result : c.unwrap_or.result ≡ bounds_or_zero (changed_windows setup bytes c.args.change.now) =
+    c.unwrap_or.ensures ∙ ap (λ (it : Option Changed). unwrap_or it (from_to 0 0)) (c.bounds_of.ensures.bounds ∙ ap bounds (c.deref-3.ensures.0 ∙ windows)) in
+    beside_keeps (map_bytes c.self.inside.regs) setup bytes c.self.invariant.board c.args.change.now addr here address
+    (outside_bounds addr (changed_windows setup bytes c.args.change.now) (subst (IsOutside addr) result out))
+
+pub returns-clause-beside : goal.returns-clause-beside
+returns-clause-beside g c = λ setup bytes stands addr address out.
+    beside_keeps (map_bytes c.self.inside.regs) setup bytes c.self.invariant.board c.args.change.now addr
+    (stood _ c.args.self.now setup bytes c.self.view_is stands) address
+    (recursion_from_All (IsOutside addr) (changed_windows setup bytes c.args.change.now) out)
+
+pub returns-clause-rows : goal.returns-clause-rows
+returns-clause-rows g c = λ setup bytes stands.
+    let here = stood _ c.args.self.now setup bytes c.self.view_is stands in
+    let new : Bytes = after setup c.args.change.now bytes in
+    let windows = found setup bytes c.args.change.now c.new-windows.result.items c.push_covered.new.windows.items c.push_covered-2.new.windows.items
+    c.new-windows.ensures (c.push_covered.ensures.windows setup bytes here)
+    (c.push_covered-2.ensures.windows setup new (c.apply.ensures.stands setup bytes here)) in
+    let rising : c.deref-2.result.now ≡ sorted (changed_windows setup bytes c.args.change.now) =
+    c.deref-2.ensures.0 ∙ c.sorted-rising.ensures.sorted ∙ ap sorted (c.deref.ensures.0 ∙ windows) in
+    omega (
+      arith,
+      c.rebuild.ensures.rows setup new (c.apply.ensures.stands setup bytes here),
+      ap (λ (all : List Changed). rows_in (edges_after setup new) all) rising,
+      rows_few setup new (changed_windows setup bytes c.args.change.now) (changed_ordered setup bytes c.args.change.now),
+    )

@@ -1,0 +1,7 @@
+use Rattle.std.proofs.Common.{◌≡◌}
+use Rattle.std.specs.Prelude.{drop}
+use Rattle.map_builder.specs.Changed.{bounds}
+use Rattle.map_builder.proofs.windows.bounds_of.Given as goal
+
+abbrev pub invariant-loop-index : goal.invariant-loop-index
+invariant-loop-index l = l.bounds ≡ bounds (drop l.index l.windows)
