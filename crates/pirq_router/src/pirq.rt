@@ -1,6 +1,13 @@
 //! The PIRQ route control registers, PIRQRC[A:D] of the PIIX3.
-ghost use Rattle.std.specs.Prelude.{◌≡◌, ℕ, ◌<◌, ◌-◌, if◌then◌else◌, replicate, IfSome, slice_index_or, false};
-ghost use Rattle.board_spec.specs.RegisterNames.{pirq};
+ghost use Rattle.std.specs.Prelude.{◌≡◌, ℕ, ◌<◌, ◌-◌, if◌then◌else◌, replicate, IfSome, slice_index_or, true, false};
+ghost use Rattle.board_base.specs.declared.access.Width.TheVariants.{One};
+ghost use Rattle.board_spec.specs.declared.map_change.MapChange.TheVariants.{Store};
+ghost use Rattle.board_spec.specs.Setup.{Setup};
+ghost use Rattle.board_spec.specs.RegisterTable.{reset_byte};
+ghost use Rattle.board_spec.specs.Registers.{changed_byte};
+ghost use Rattle.board_spec.specs.Decode.{Bytes};
+ghost use Rattle.board_spec.specs.RegisterNames.{isa, pirq};
+ghost use Rattle.pirq_router.specs.Routes.{AreRoutesIn};
 ghost use Rattle.device_spec.specs.Routing.{route_byte, routes_after_write, route_reset, is_line_driven, is_route_offset, line_of_route};
 
 use board_spec::bits::{is_set, merged};
@@ -42,6 +49,7 @@ impl Pirq {
     /// The registers after a reset, with every routing disabled.
     pub fn new() -> Pirq
         ensures disabled { result ≡ replicate 4 route_reset }
+        ensures reset { (setup : Setup) → AreRoutesIn (reset_byte setup) result }
     {
         Pirq {
             bytes: [DISABLED; 4],
@@ -51,6 +59,7 @@ impl Pirq {
     /// The byte at an offset of function 0, which is 0 where none of the registers stands.
     pub fn read(&self, offset: u8) -> u8
         ensures byte { result ≡ route_byte self.now offset }
+        ensures register { (bytes : Bytes) → AreRoutesIn bytes self.now → is_route_offset offset ≡ true → result ≡ bytes (isa offset) }
     {
         match pin_at(offset) {
             Some(pin) => self.bytes[pin],
@@ -61,6 +70,8 @@ impl Pirq {
     /// Writes the byte at an offset of function 0. A write where none of the registers stands is ignored.
     pub fn write(&mut self, offset: u8, byte: u8)
         ensures written { self.new ≡ routes_after_write self.old offset byte }
+        ensures stored { (setup : Setup) (bytes : Bytes) → AreRoutesIn bytes self.old
+            → AreRoutesIn (λ reg. changed_byte setup (Store (isa offset) One byte) reg (bytes reg)) self.new }
     {
         if let Some(pin) = pin_at(offset) {
             self.bytes[pin] = merged(WRITABLE, self.bytes[pin], byte);
@@ -70,6 +81,7 @@ impl Pirq {
     /// Disables every routing.
     pub fn reset(&mut self)
         ensures disabled { self.new ≡ replicate 4 route_reset }
+        ensures reset { (setup : Setup) → AreRoutesIn (reset_byte setup) self.new }
     {
         self.bytes = [DISABLED; 4];
     }

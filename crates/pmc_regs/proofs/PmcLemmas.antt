@@ -44,7 +44,7 @@ there setup bytes off written mask below apart is_mask =
 
 -- ---- the fixed registers stay
 
-reset_byte-small : (setup : Setup) (off : ℕ) → IsFixedOffset off → reset_byte setup (bridge off) < 256
+pub reset_byte-small : (setup : Setup) (off : ℕ) → IsFixedOffset off → reset_byte setup (bridge off) < 256
 reset_byte-small setup off fixed =
     elim (cases_lt off 12) [
       | inl below ↦ subst (λ n. n < 256) (reset_byte-header setup off below) (header_byte off below)

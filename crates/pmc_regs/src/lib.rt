@@ -7,5 +7,5 @@ mod pmc;
 mod rows;
 
 pub use hole::{fdhc_after, hole_of};
-pub use pmc::{DRB_RESET, FDHC_RESET, Pmc};
+pub use pmc::{DRB_RESET, FDHC_RESET, Pmc, fixed_byte};
 pub use rows::{end_of, row_of, top_of};

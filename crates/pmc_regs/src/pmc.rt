@@ -121,8 +121,8 @@ impl Pmc {
     }
 }
 
-/// The byte at an offset that nothing changes: the header, and 0 where nothing stands.
-fn fixed_byte(off: u8) -> u8
+/// The register at an offset where nothing changes it: the header, and 0 where nothing stands.
+pub fn fixed_byte(off: u8) -> u8
     requires offset { IsFixedOffset off }
     ensures byte { (setup : Setup) → result ≡ reset_byte setup (bridge off) }
 {

@@ -1,14 +1,18 @@
 -- The registers of the 82371SB that cannot be written, in the table of registers.
-use Rattle.std.proofs.Common.{◌≡◌, ◌≢◌, ℕ, ◌<◌, ◌≤◌, List, [], ◌∷◌, false, sym, refl, subst, arith, inl, inr, lit<}
+use Rattle.std.proofs.Common.{◌≡◌, ◌≢◌, ℕ, ◌-◌, ◌<◌, ◌≤◌, List, [], ◌∷◌, false, None, ◌∙◌, ap, sym, refl, subst, arith, inl, inr, lit<}
 use Rattle.std.specs.Prelude.{slice_index}
-use Rattle.std.proofs.lemmas.Bool.{cases_lt, cases_eq}
+use Rattle.std.proofs.lemmas.Bool.{cases_lt, cases_eq, cases_Bool, cond-true, cond-false}
 use Rattle.std.proofs.lemmas.Bool.Decides.{nat_tests}
 use Rattle.std.proofs.lemmas.List.{get_or_past}
+use Rattle.board_base.specs.declared.access.Width.TheVariants.{One}
 use Rattle.board_base.specs.declared.target.Reg.{Reg}
+use Rattle.board_spec.specs.declared.map_change.MapChange.TheVariants.{Store}
 use Rattle.board_spec.specs.Setup.{Setup}
-use Rattle.board_spec.specs.Bits.{is_within}
+use Rattle.board_spec.specs.Bits.{is_within, byte, merged}
 use Rattle.board_spec.specs.RegisterTable.{isa_bridge, ide_function, reset_byte, writable_bits}
-use Rattle.board_spec.specs.RegisterNames.{isa, ide}
+use Rattle.board_spec.specs.RegisterNames.{isa, ide, smram, is_same}
+use Rattle.board_spec.specs.Registers.{covers, byte_after, changed_byte}
+use Rattle.board_spec.proofs.MergedLemmas.{merged-none}
 use Rattle.board_spec.proofs.TableLemmas.{each_below}
 
 -- a register has this byte at all times
@@ -89,4 +93,22 @@ ide_fixed setup off command timing =
       | inr above ↦
           rw (get_or_past {X = ℕ} ide_header off 0 above)
           (record { reset = sym (reset_byte-ide_past setup off above timing); read_only = writable_bits-ide_past setup off above timing; fits = omega arith })
+    ]
+
+-- a board with nothing on it: the chip's registers are those of every board
+pub bare : Setup
+bare = record { mib = 1; cards = []; rom = []; disk = None }
+
+-- a store of a byte leaves a register that cannot be written
+pub kept_byte : (setup : Setup) (at : Reg) (written : ℕ) (reg : Reg) (old fixed : ℕ) → is_same reg smram ≡ false → IsFixedAt setup reg fixed → old ≡ fixed → changed_byte setup (Store at One written) reg old ≡ fixed
+kept_byte setup at written reg old fixed plain is_fixed is_old =
+    let put : ℕ = byte written (reg.off - at.off) in
+    elim (cases_Bool (covers at One reg)) [
+      | inl covered ↦
+          cond-true (covers at One reg) (byte_after setup reg old put) old covered
+          ∙ cond-false (is_same reg smram) _ _ plain
+          ∙ ap (λ mask. merged mask old put) is_fixed.read_only
+          ∙ merged-none old put (rw is_old is_fixed.fits)
+          ∙ is_old
+      | inr apart ↦ cond-false (covers at One reg) (byte_after setup reg old put) old apart ∙ is_old
     ]

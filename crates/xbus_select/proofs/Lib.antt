@@ -1,3 +1,4 @@
 pub mod FixedLemmas
+pub mod IdeLemmas
 pub mod PiixLemmas
 pub mod PortLemmas

@@ -1,2 +1,3 @@
+pub mod Ide
 pub mod Piix
 pub mod PortSelects

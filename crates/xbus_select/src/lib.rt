@@ -2,11 +2,14 @@
 //! function 01.1, the BIOS ranges of memory that XBCS selects, and the ports whose devices they select.
 #![tactic(auto)]
 
+mod header;
+mod ide;
 pub mod laws;
 mod piix;
 mod xbcs;
 
-pub use piix::Piix;
+pub use ide::Ide;
+pub use piix::{Piix, isa_fixed_byte};
 pub use xbcs::{
     XBCS_RESET, rom_offset, rom_selected, selects_clock, selects_keyboard, sends_bios_writes,
     xbcs_after,

@@ -1,31 +1,22 @@
 //! The functions 01.0 and 01.1 of the 82371SB, and the ports whose devices they select.
-ghost use Rattle.std.specs.Prelude.{◌≡◌, ◌+◌, ◌*◌, slice_index};
+ghost use Rattle.std.specs.Prelude.{◌≡◌, ◌+◌, ◌*◌};
 ghost use Rattle.board_base.specs.declared.access.Width.TheVariants.{One};
 ghost use Rattle.board_spec.specs.declared.map_change.MapChange.TheVariants.{Store};
 ghost use Rattle.board_spec.specs.Setup.{Setup};
 ghost use Rattle.board_spec.specs.RegisterTable.{reset_byte};
 ghost use Rattle.board_spec.specs.Registers.{changed_byte};
 ghost use Rattle.board_spec.specs.Decode.{Bytes};
-ghost use Rattle.board_spec.specs.RegisterNames.{isa, ide};
-ghost use Rattle.xbus_select.specs.Piix.{IsPiixRegister, piix_register, IsPiixOf, is_ide_decoded, is_selected};
+ghost use Rattle.board_spec.specs.RegisterNames.{isa};
+ghost use Rattle.xbus_select.specs.Piix.{IsPiixRegister, IsOffRouting, IsIsaFixed, piix_register, IsPiixOf, is_selected};
 
+use crate::header::header_byte;
+use crate::ide::Ide;
 use crate::xbcs::{XBCS_RESET, selects_clock, selects_keyboard, xbcs_after};
-use board_spec::bits::{is_set, merged};
-use board_spec::offset::{COMMAND, IDETIM, IDETIM_HIGH, ISA_BRIDGE, XBCS};
+use board_spec::offset::{ISA_BRIDGE, XBCS};
 use board_spec::port::{
     CLOCK_DATA, CLOCK_INDEX, DISK_CONTROL, DISK_DATA, DISK_STATUS, KEYBOARD_COMMAND, KEYBOARD_DATA,
 };
 use std::marker::Model;
-
-/// The bit of the IDE command that lets the function answer at its ports.
-const IO_SPACE_ENABLE: u32 = 0;
-/// The bit of the IDE command that lets the function be a bus master.
-const BUS_MASTER_ENABLE: u32 = 2;
-/// The bit of IDETIM's high byte, bit 15 of the register, that decodes the ports of the channel.
-const IDE_DECODE_ENABLE: u32 = 7;
-
-/// The bits of the IDE command that can be written. The others read 0.
-const COMMAND_WRITABLE: u8 = 1 << IO_SPACE_ENABLE | 1 << BUS_MASTER_ENABLE;
 
 /// The header of the ISA bridge, offsets 00h to 0Fh. It cannot be written.
 const ISA_BRIDGE_HEADER: [u8; 16] = [
@@ -35,22 +26,12 @@ const ISA_BRIDGE_HEADER: [u8; 16] = [
     0x00, 0x00, 0x80, 0x00, // header type: several functions
 ];
 
-/// The header of the IDE function after a reset, offsets 00h to 0Fh. Of it the command can be written.
-const IDE_HEADER: [u8; 16] = [
-    0x86, 0x80, 0x10, 0x70, // vendor 8086h, device 7010h
-    0x00, 0x00, 0x80, 0x02, // command, status
-    0x00, 0x80, 0x01, 0x01, // revision, class 010180h
-    0x00, 0x00, 0x00, 0x00, // header type
-];
-
-/// The registers of 01.0 and 01.1 but those that route interrupts. Contracts see
-/// the bytes that can be written; the others are fixed.
+/// The registers of 01.0 and 01.1 but those that route interrupts. Contracts see the bytes that can be written; the
+/// others are fixed.
 #[derive(Drop)]
 pub struct Piix {
     xbcs: u8,
-    ide_command: u8,
-    timing_low: u8,
-    timing_high: u8,
+    ide: Ide,
 }
 
 impl Model for Piix {
@@ -58,7 +39,7 @@ impl Model for Piix {
 
     ghost Value = { PiixBytes };
 
-    ghost view = { λ piix. record { xbcs = piix.xbcs; ide_command = piix.ide_command; timing_low = piix.timing_low; timing_high = piix.timing_high } };
+    ghost view = { λ piix. record { xbcs = piix.xbcs; ide = piix.ide } };
 }
 
 impl Piix {
@@ -68,9 +49,7 @@ impl Piix {
     {
         Piix {
             xbcs: XBCS_RESET,
-            ide_command: 0,
-            timing_low: 0,
-            timing_high: 0,
+            ide: Ide::new(),
         }
     }
 
@@ -81,30 +60,18 @@ impl Piix {
     {
         match fun {
             ISA_BRIDGE => self.isa_bridge_byte(off),
-            _ => self.ide_byte(off),
+            _ => self.ide.read(off),
         }
     }
 
     /// A register of the ISA bridge.
     fn isa_bridge_byte(&self, off: u8) -> u8
-        requires register { IsPiixRegister 0 off }
+        requires register { IsOffRouting off }
         ensures byte { (bytes : Bytes) → IsPiixOf bytes self.now → result ≡ bytes (isa off) }
     {
         match off {
             XBCS => self.xbcs,
-            _ => header_byte(&ISA_BRIDGE_HEADER, off),
-        }
-    }
-
-    /// A register of the IDE function.
-    fn ide_byte(&self, off: u8) -> u8
-        ensures byte { (bytes : Bytes) → IsPiixOf bytes self.now → result ≡ bytes (ide off) }
-    {
-        match off {
-            COMMAND => self.ide_command,
-            IDETIM => self.timing_low,
-            IDETIM_HIGH => self.timing_high,
-            _ => header_byte(&IDE_HEADER, off),
+            _ => isa_fixed_byte(off),
         }
     }
 
@@ -117,7 +84,7 @@ impl Piix {
     {
         match fun {
             ISA_BRIDGE => self.write_isa_bridge(off, byte),
-            _ => self.write_ide(off, byte),
+            _ => self.ide.write(off, byte),
         }
     }
 
@@ -128,19 +95,6 @@ impl Piix {
     {
         if off == XBCS {
             self.xbcs = xbcs_after(self.xbcs, byte);
-        }
-    }
-
-    /// Writes a register of the IDE function.
-    fn write_ide(&mut self, off: u8, byte: u8)
-        ensures written { (setup : Setup) (bytes : Bytes) → IsPiixOf bytes self.old
-            → IsPiixOf (λ reg. changed_byte setup (Store (ide off) One byte) reg (bytes reg)) self.new }
-    {
-        match off {
-            COMMAND => self.ide_command = merged(COMMAND_WRITABLE, self.ide_command, byte),
-            IDETIM => self.timing_low = byte,
-            IDETIM_HIGH => self.timing_high = byte,
-            _ => {}
         }
     }
 
@@ -160,16 +114,16 @@ impl Piix {
 
     /// The low byte of the IDE function's command.
     pub fn ide_command(&self) -> u8
-        ensures command { result ≡ self.now.ide_command }
+        ensures command { result ≡ self.now.ide.command }
     {
-        self.ide_command
+        self.ide.command()
     }
 
     /// The timing register of the primary IDE channel.
     pub fn idetim(&self) -> u16
-        ensures timing { result ≡ self.now.timing_low + 0x100 * self.now.timing_high }
+        ensures timing { result ≡ self.now.ide.timing_low + 0x100 * self.now.ide.timing_high }
     {
-        u16::from_le_bytes([self.timing_low, self.timing_high])
+        self.ide.timing()
     }
 
     /// Whether the device at a port is selected: the keyboard controller, the clock or the disk at its ports. False
@@ -180,30 +134,18 @@ impl Piix {
         match port {
             KEYBOARD_DATA | KEYBOARD_COMMAND => selects_keyboard(self.xbcs),
             CLOCK_INDEX | CLOCK_DATA => selects_clock(self.xbcs),
-            DISK_DATA..=DISK_STATUS | DISK_CONTROL => self.decodes_ide(),
+            DISK_DATA..=DISK_STATUS | DISK_CONTROL => self.ide.decodes(),
             _ => false,
         }
     }
-
-    /// Whether the IDE function answers at the ports of the primary channel.
-    fn decodes_ide(&self) -> bool
-        ensures decodes { (bytes : Bytes) → IsPiixOf bytes self.now
-            → result ≡ is_ide_decoded bytes }
-    {
-        is_set(self.ide_command.into(), IO_SPACE_ENABLE)
-            && is_set(self.timing_high.into(), IDE_DECODE_ENABLE)
-    }
 }
 
-/// The byte of a header at an offset, and 0 past its end.
-fn header_byte(header: &[u8; 16], off: u8) -> u8
-    ensures byte { result ≡ slice_index header.now off }
+/// The register at an offset of the ISA bridge where nothing changes it: the header, and 0 elsewhere.
+pub fn isa_fixed_byte(off: u8) -> u8
+    requires fixed { IsIsaFixed off }
+    ensures byte { (setup : Setup) → result ≡ reset_byte setup (isa off) }
 {
-    if off < 16 {
-        header[usize::from(off)]
-    } else {
-        0
-    }
+    header_byte(&ISA_BRIDGE_HEADER, off)
 }
 
 #[cfg(test)]
@@ -232,29 +174,6 @@ mod tests {
             assert_eq!(rt; piix.read(0, off % 0x60), ones, "at {off} after ones");
             piix.reset();
             assert_eq!(rt; piix.read(0, off % 0x60), reset, "at {off} after a reset");
-        }
-    }
-
-    #[test]
-    fn ide_function_holds_what_the_datasheet_lists(rt: HostRuntime) {
-        let mut piix = Piix::new();
-        for (off, reset, ones) in [
-            (0x02, 0x10, 0x10),
-            (0x04, 0x00, 0x05),
-            (0x06, 0x80, 0x80),
-            (0x09, 0x80, 0x80),
-            (0x0E, 0x00, 0x00),
-            (0x40, 0x00, 0xFF),
-            (0x41, 0x00, 0xFF),
-            (0x42, 0x00, 0x00),
-            (0x4E, 0x00, 0x00),
-            (0x60, 0x00, 0x00),
-        ] {
-            assert_eq!(rt; piix.read(1, off), reset, "at {off}");
-            piix.write(1, off, 0xFF);
-            assert_eq!(rt; piix.read(1, off), ones, "at {off} after ones");
-            piix.reset();
-            assert_eq!(rt; piix.read(1, off), reset, "at {off} after a reset");
         }
     }
 

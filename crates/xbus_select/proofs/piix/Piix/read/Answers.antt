@@ -8,4 +8,6 @@ returns-in-0 c =
 
 pub returns-in_default : goal.returns-in_default
 returns-in_default c =
-    record { byte = λ bytes is_piix. rw (ide_function_alone c.args.fun c.args.off c.requires.register (omega arith)) (c.ide_byte.ensures.byte bytes is_piix) }
+    record {
+      byte = rw (← c.self.view_is, ide_function_alone c.args.fun c.args.off c.requires.register (omega arith)) (λ bytes is_piix. c.read.ensures.byte bytes is_piix.ide);
+    }

@@ -1,0 +1,77 @@
+-- The route control registers in the table of registers: after a reset, and after a store of one byte.
+use Rattle.std.proofs.Common.{◌≡◌, ◌≢◌, ℕ, ◌+◌, ◌-◌, ◌<◌, [], ◌∷◌, true, false, ◌∙◌, refl, sym, ap, subst, arith, inl, inr}
+use Rattle.std.specs.Prelude.{slice_index, replicate, map}
+use Rattle.std.proofs.lemmas.Bool.{cases_Bool}
+use Rattle.std.proofs.lemmas.Bool.Decides.{nat_tests}
+use Rattle.device_spec.specs.Routing.{Routes, is_route_offset, routes_after_write, route_reset}
+use Rattle.board_base.specs.declared.access.Width.TheVariants.{One}
+use Rattle.board_spec.specs.declared.map_change.MapChange.TheVariants.{Store}
+use Rattle.board_spec.specs.Setup.{Setup}
+use Rattle.board_spec.specs.RegisterNames.{isa, pirq}
+use Rattle.board_spec.specs.RegisterTable.{isa_bridge, reset_byte, writable_bits}
+use Rattle.board_spec.specs.Registers.{changed_byte}
+use Rattle.board_spec.specs.Decode.{Bytes}
+use Rattle.board_spec.specs.Interrupts.{pirqs}
+use Rattle.board_spec.proofs.StoreLemmas.{changed_byte-one_same, changed_byte-one_other}
+use Rattle.board_spec.proofs.TableLemmas.{each_below}
+use Rattle.pirq_router.specs.Routes.{AreRoutesIn}
+
+pub routes_at_reset : (setup : Setup) → AreRoutesIn (reset_byte setup) (replicate 4 route_reset)
+unfolding reset_byte isa_bridge
+routes_at_reset setup = refl
+
+pub route_at : (bytes : Bytes) (off : ℕ) → is_route_offset off ≡ true → slice_index (map (λ k. bytes (pirq k)) pirqs) (off - 0x60) ≡ bytes (isa off)
+route_at bytes off is =
+    let from : 0x60 + (off - 0x60) ≡ off = grind (arith, nat_tests) in
+    each_below (λ k. slice_index (map (λ k. bytes (pirq k)) pirqs) k ≡ bytes (isa (0x60 + k))) 4 (off - 0x60)
+    (refl, (refl, (refl, (refl, tt)))) (grind (arith, nat_tests))
+    ∙ ap (λ at. bytes (isa at)) from
+
+-- the four registers after the store of a byte
+abbrev routes_stored : Setup → Bytes → (off byte : ℕ) → Routes
+routes_stored setup bytes off byte = map (λ k. changed_byte setup (Store (isa off) One byte) (pirq k) (bytes (pirq k))) pirqs
+
+abbrev IsStoredAt : Setup → Bytes → (byte off : ℕ) → Type 0
+IsStoredAt setup bytes byte off = routes_after_write (map (λ k. bytes (pirq k)) pirqs) off byte ≡ routes_stored setup bytes off byte
+
+abbrev IsHere : Setup → Bytes → (byte k : ℕ) → Type 0
+IsHere setup bytes byte k = IsStoredAt setup bytes byte (0x60 + k)
+
+here : (setup : Setup) (bytes : Bytes) (byte k : ℕ) → byte < 256 → k < 4 → IsStoredAt setup bytes byte (0x60 + k)
+unfolding writable_bits isa_bridge
+here setup bytes byte k small within =
+    let a : ℕ = bytes (pirq 0) in
+    let b : ℕ = bytes (pirq 1) in
+    let c : ℕ = bytes (pirq 2) in
+    let d : ℕ = bytes (pirq 3) in
+    each_below (IsHere setup bytes byte) 4 k (
+      sym (ap (λ n. n ∷ b ∷ c ∷ d ∷ []) (changed_byte-one_same setup (pirq 0) a byte small refl)),
+      (
+        sym (ap (λ n. a ∷ n ∷ c ∷ d ∷ []) (changed_byte-one_same setup (pirq 1) b byte small refl)),
+        (
+          sym (ap (λ n. a ∷ b ∷ n ∷ d ∷ []) (changed_byte-one_same setup (pirq 2) c byte small refl)),
+          (sym (ap (λ n. a ∷ b ∷ c ∷ n ∷ []) (changed_byte-one_same setup (pirq 3) d byte small refl)), tt),
+        ),
+      ),
+    ) within
+
+elsewhere : (setup : Setup) (bytes : Bytes) (byte off : ℕ) → 0x60 ≢ off → 0x61 ≢ off → 0x62 ≢ off → 0x63 ≢ off → is_route_offset off ≡ false → IsStoredAt setup bytes byte off
+elsewhere setup bytes byte off a b c d none =
+    rw (
+      none,
+      changed_byte-one_other setup (pirq 0) off (bytes (pirq 0)) byte a,
+      changed_byte-one_other setup (pirq 1) off (bytes (pirq 1)) byte b,
+      changed_byte-one_other setup (pirq 2) off (bytes (pirq 2)) byte c,
+      changed_byte-one_other setup (pirq 3) off (bytes (pirq 3)) byte d,
+    ) refl
+
+pub stored_byte : (setup : Setup) (bytes : Bytes) (routes : Routes) (off byte : ℕ) → byte < 256 → AreRoutesIn bytes routes →
+    AreRoutesIn (λ reg. changed_byte setup (Store (isa off) One byte) reg (bytes reg)) (routes_after_write routes off byte)
+stored_byte setup bytes routes off byte small are =
+    ap (λ now. routes_after_write now off byte) are
+    ∙ elim (cases_Bool (is_route_offset off)) [
+      | inl is ↦
+          let from : 0x60 + (off - 0x60) ≡ off = grind (arith, nat_tests) in
+          subst (IsStoredAt setup bytes byte) from (here setup bytes byte (off - 0x60) small (grind (arith, nat_tests)))
+      | inr none ↦ elsewhere setup bytes byte off (grind (arith, nat_tests)) (grind (arith, nat_tests)) (grind (arith, nat_tests)) (grind (arith, nat_tests)) none
+    ]
