@@ -1,37 +1,41 @@
 -- The cards in a list by their device numbers, and the bytes of their registers.
-use Rattle.std.proofs.Common.{◌≡◌, ◌≢◌, ℕ, zero, suc, ◌+◌, ◌*◌, ◌<◌, ◌≤◌, ◌⊎◌, inl, inr, Bool, true, false, List, [], ◌∷◌, length, get_or, set, Option, Some, None, refl, sym, ◌∙◌, ap, subst, arith, get_or-set_same, get_or-set_other, length-set}
-use Rattle.std.specs.Prelude.{◌==◌, is_some, find}
+use Rattle.std.proofs.Common.{◌≡◌, ◌≢◌, ℕ, zero, suc, ◌+◌, ◌*◌, ◌<◌, ◌≤◌, ◌⊎◌, inl, inr, Bool, true, false, List, [], ◌∷◌, ◌++◌, take, length, get_or, set, Bor, Option, Some, None, refl, sym, ◌∙◌, ap, subst, arith, get_or-set_same, get_or-set_other, length-set}
+use Rattle.std.specs.Prelude.{◌==◌, is_some, option_map, find, slice_index}
 use Rattle.std.specs.List.{position, position_from}
 use Rattle.std.proofs.Math.Seq.{map-set_same}
 use Rattle.std.proofs.lemmas.Bool.{cases_Bool, cases_eq, cases_lt, cond-true, cond-false, eq-eqb, ne_eqb, eqb-true}
-use Rattle.std.proofs.lemmas.List.{get_or-map, length-map}
+use Rattle.std.proofs.lemmas.List.{get_or-map, length-map, take_more}
 use Rattle.std.proofs.lemmas.List.Quantifiers.{position-Some}
 use Rattle.std.proofs.lemmas.Iterator.Adapters.{position_from-zero}
 use Rattle.board_spec.specs.Setup.{Setup, FittedCard, IsCard, IsCardList, Rises, card_at}
 use Rattle.board_spec.specs.RegisterTable.{reset_byte}
-use Rattle.board_spec.specs.Decode.{Bytes, base_value}
-use Rattle.board_spec.specs.RegisterNames.{card_register}
-use Rattle.pci_bars.specs.Cards.{CardBytes, DecodesAs, AreCards, AreDecoded, cards_of}
-use Rattle.addr_decode.specs.MapRegs.{AreFitted, AreReset, stored}
+use Rattle.board_spec.specs.Decode.{Bytes}
+use Rattle.board_spec.specs.RegisterNames.{card_register, base_register, expansion_rom}
+use Rattle.pci_bars.specs.declared.regs.CardRegs.{CardRegs}
+use Rattle.pci_bars.specs.Cards.{CardBytes, HoldsRom, DecodesAs, AreCards, AreDecoded, cards_of, AreFitted, AreReset}
+use Rattle.addr_decode.specs.MapRegs.{stored}
+use Rattle.pci_bars.proofs.CardLemmas.{holds-same}
 use Rattle.addr_decode.proofs.StoreLemmas.{stored-elsewhere}
 
--- the offsets on which the address map depends
-abbrev pub IsMapOffset : ℕ → Type 0
-IsMapOffset off = (off ≡ 0x04) ⊎ ((0x10 ≤ off) × (off ≤ 0x27))
+-- the offsets on which the address map depends: command, bases, and the register of an expansion ROM
+abbrev pub IsMapOffset : (rom : Option ℕ) → ℕ → Type 0
+IsMapOffset rom off = (off ≡ 0x04) ⊎ ((0x10 ≤ off) × (off ≤ 0x27)) ⊎ ((is_some rom ≡ true) × (0x30 ≤ off) × (off ≤ 0x33))
 
-abbrev pub SameCard : (bytes bytes' : Bytes) → ℕ → Type 0
-SameCard bytes bytes' dev = (off : ℕ) → IsMapOffset off → bytes' (card_register dev off) ≡ bytes (card_register dev off)
+abbrev pub SameCard : (bytes bytes' : Bytes) → (rom : Option ℕ) → ℕ → Type 0
+SameCard bytes bytes' rom dev = (off : ℕ) → IsMapOffset rom off → bytes' (card_register dev off) ≡ bytes (card_register dev off)
 
-same_base : (bytes bytes' : Bytes) (dev k : ℕ) → k < 6 → SameCard bytes bytes' dev → base_value bytes' dev k ≡ base_value bytes dev k
-same_base bytes bytes' dev k below same =
-    rw (same (0x10 + 4 * k) (inr (omega arith, omega arith)), same (0x10 + 4 * k + 1) (inr (omega arith, omega arith)), same (0x10 + 4 * k + 2) (inr (omega arith, omega arith)), same (0x10 + 4 * k + 3) (inr (omega arith, omega arith))) refl
+same_rom : (bytes bytes' : Bytes) (dev register : ℕ) (rom : Option ℕ) → SameCard bytes bytes' rom dev → HoldsRom bytes dev register rom → HoldsRom bytes' dev register rom
+same_rom bytes bytes' dev register None same is = is
+same_rom bytes bytes' dev register (Some bits) same is =
+    holds-same bytes bytes' (expansion_rom dev) register (λ j below. same (0x30 + j) (inr (inr (refl, omega arith, omega arith)))) is
 
-pub decodes-same : (setup : Setup) (bytes bytes' : Bytes) (card : CardBytes) → SameCard bytes bytes' card.card.dev → DecodesAs setup bytes card → DecodesAs setup bytes' card
+pub decodes-same : (setup : Setup) (bytes bytes' : Bytes) (card : CardBytes) → SameCard bytes bytes' card.card.rom card.card.dev → DecodesAs setup bytes card → DecodesAs setup bytes' card
 decodes-same setup bytes bytes' card same is = record {
   fitted = is.fitted;
   command = same 0x04 (inl refl) ∙ is.command;
-  bases = λ k below. same_base bytes bytes' card.card.dev k below same ∙ is.bases k below;
-  base_bytes = λ k j k_below j_below. same (0x10 + 4 * k + j) (inr (omega arith, omega arith)) ∙ is.base_bytes k j k_below j_below;
+  bases = λ k below.
+      holds-same bytes bytes' (base_register card.card.dev k) (slice_index card.bases k) (λ j j_below. same (0x10 + 4 * k + j) (inr (inl (omega arith, omega arith)))) (is.bases k below);
+  rom = same_rom bytes bytes' card.card.dev card.rom card.card.rom same is.rom;
 }
 
 true_is_not_false : (b : Bool) → b ≡ true → b ≡ false → ⊥
@@ -54,6 +58,10 @@ fitted_is setup cards dev same =
     ap (λ (place : Option ℕ). is_some place) (position_from-zero (λ card. card.card.dev == dev) cards)
     ∙ sym (found_from cards dev 0)
     ∙ ap (λ (fitted : List FittedCard). is_some (find (λ card. card.dev == dev) fitted)) (sym same)
+
+pub some_card : (lent : Option (Bor CardRegs)) → is_some lent ≡ is_some (option_map (λ card. card.now.card) lent)
+some_card None = refl
+some_card (Some card) = refl
 
 -- ---- the devices rise
 
@@ -151,12 +159,22 @@ pub reset_decoded : (setup : Setup) (cards : List CardBytes) → AreFitted cards
 reset_decoded setup cards fitted reset same = (
   same,
   (λ k d within.
-      reset k d within setup
+      (reset k d within setup
       (ap (λ (list : List FittedCard). find (λ card. card.dev == (get_or cards k d).card.dev) list) same
       ∙ subst (λ (card : FittedCard). find (λ other. other.dev == card.dev) (cards_of cards) ≡ Some card)
       (get_or-map (λ (it : CardBytes). it.card) cards k d d.card within)
-      (find_at (cards_of cards) fitted.rises k d.card (omega (arith, length-map cards (λ (it : CardBytes). it.card)))))),
+      (find_at (cards_of cards) fitted.rises k d.card (omega (arith, length-map cards (λ (it : CardBytes). it.card)))))).decodes),
 )
+
+-- one card more
+pub one_more_pushed : (items : List CardBytes) (i : ℕ) (item : CardBytes) (pushed : List FittedCard) (spec : FittedCard) → i < length items →
+    item ≡ get_or items i item → spec ≡ item.card → pushed ≡ take i (cards_of items) ++ spec ∷ [] → pushed ≡ take (i + 1) (cards_of items)
+one_more_pushed items i item pushed spec within at_i same is =
+    let here : get_or (cards_of items) i item.card ≡ spec =
+    get_or-map (λ (it : CardBytes). it.card) items i item item.card within ∙ ap (λ (it : CardBytes). it.card) (sym at_i) ∙ sym same in
+    is
+    ∙ ap (λ (it : FittedCard). take i (cards_of items) ++ it ∷ []) (sym here)
+    ∙ sym (take_more (cards_of items) i item.card (omega (arith, length-map items (λ (it : CardBytes). it.card))))
 
 -- ---- the same cards in other states
 

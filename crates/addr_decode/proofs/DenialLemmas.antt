@@ -6,25 +6,26 @@ use Rattle.board_base.specs.declared.target.Reg.{Reg}
 use Rattle.board_base.specs.declared.target.Denial.{Denial}
 use Rattle.board_base.specs.declared.target.Denial.TheVariants.{Register, NoRegister}
 use Rattle.board_spec.specs.Bits.{is_within}
-use Rattle.board_spec.specs.Decode.{Window, first_of, line_where, is_smram_range, command_of, pam_register, abort_denial}
+use Rattle.board_spec.specs.Decode.{Window, first_of, line_where, is_smram_range, command_of, rom_register_of, pam_register, abort_denial}
 use Rattle.board_spec.specs.RegisterNames.{bridge, isa}
 use Rattle.addr_decode.specs.Memory.{board_denial, card_denial}
 
-abbrev pub after_board : Option Denial → Option Window → ℕ → Denial
-after_board (Some denial) shut addr = denial
-after_board None shut addr = card_denial (option_map (λ window. window.dev) shut) addr
+abbrev pub after_board : Option Denial → (shut rom : Option Window) → ℕ → Denial
+after_board (Some denial) shut rom addr = denial
+after_board None shut rom addr = card_denial (option_map (λ window. window.dev) shut) (option_map (λ window. window.dev) rom) addr
 
-abbrev rest : Option Window → Bool → Denial
-rest shut dram = first_of (option_map command_of shut ∷ line_where dram (Register (bridge 0x67)) ∷ []) NoRegister
+abbrev rest : (shut rom : Option Window) → Bool → Denial
+rest shut rom dram = first_of (option_map command_of shut ∷ option_map rom_register_of rom ∷ line_where dram (Register (bridge 0x67)) ∷ []) NoRegister
 
-abbrev lines : (high smram windows some low dram : Bool) → Reg → Option Window → Denial
-lines high smram windows some low dram pam shut =
+abbrev lines : (high smram windows some low dram : Bool) → Reg → (shut rom : Option Window) → Denial
+lines high smram windows some low dram pam shut rom =
     first_of
     (line_where high (Register (isa 0x4E))
     ∷ line_where (smram && some) (Register (bridge 0x72))
     ∷ line_where (windows && some) (Register pam)
     ∷ line_where low (Register (bridge 0x68))
     ∷ option_map command_of shut
+    ∷ option_map rom_register_of rom
     ∷ line_where dram (Register (bridge 0x67))
     ∷ [])
     NoRegister
@@ -35,28 +36,29 @@ board high none smram windows low pam =
     if none then None else
     if smram then Some (Register (bridge 0x72)) else if windows then Some (Register pam) else line_where low (Register (bridge 0x68))
 
-by_dram : (dram : Bool) → rest None dram ≡ (if dram then Register (bridge 0x67) else NoRegister)
+by_dram : (dram : Bool) → rest None None dram ≡ (if dram then Register (bridge 0x67) else NoRegister)
 by_dram true = refl
 by_dram false = refl
 
-rest_in_order : (shut : Option Window) (addr : ℕ) → rest shut (nat_lt addr 0x7F80_0000) ≡ after_board None shut addr
-rest_in_order (Some window) addr = refl
-rest_in_order None addr = by_dram (nat_lt addr 0x7F80_0000)
+rest_in_order : (shut rom : Option Window) (addr : ℕ) → rest shut rom (nat_lt addr 0x7F80_0000) ≡ after_board None shut rom addr
+rest_in_order (Some window) rom addr = refl
+rest_in_order None (Some window) addr = refl
+rest_in_order None None addr = by_dram (nat_lt addr 0x7F80_0000)
 
 in_order :
-    (high none smram windows some low : Bool) (pam : Reg) (shut : Option Window) (addr : ℕ) →
+    (high none smram windows some low : Bool) (pam : Reg) (shut rom : Option Window) (addr : ℕ) →
     some ≡ not none → (none && low) ≡ false →
-    lines high smram windows some low (nat_lt addr 0x7F80_0000) pam shut ≡ after_board (board high none smram windows low pam) shut addr
-in_order true none smram windows some low pam shut addr has apart = refl
-in_order false true true true some false pam shut addr has apart = rw has (rest_in_order shut addr)
-in_order false true true false some false pam shut addr has apart = rw has (rest_in_order shut addr)
-in_order false true false true some false pam shut addr has apart = rw has (rest_in_order shut addr)
-in_order false true false false some false pam shut addr has apart = rest_in_order shut addr
-in_order false true smram windows some true pam shut addr has apart = cc
-in_order false false true windows some low pam shut addr has apart = rw has refl
-in_order false false false true some low pam shut addr has apart = rw has refl
-in_order false false false false some true pam shut addr has apart = refl
-in_order false false false false some false pam shut addr has apart = rest_in_order shut addr
+    lines high smram windows some low (nat_lt addr 0x7F80_0000) pam shut rom ≡ after_board (board high none smram windows low pam) shut rom addr
+in_order true none smram windows some low pam shut rom addr has apart = refl
+in_order false true true true some false pam shut rom addr has apart = rw has (rest_in_order shut rom addr)
+in_order false true true false some false pam shut rom addr has apart = rw has (rest_in_order shut rom addr)
+in_order false true false true some false pam shut rom addr has apart = rw has (rest_in_order shut rom addr)
+in_order false true false false some false pam shut rom addr has apart = rest_in_order shut rom addr
+in_order false true smram windows some true pam shut rom addr has apart = cc
+in_order false false true windows some low pam shut rom addr has apart = rw has refl
+in_order false false false true some low pam shut rom addr has apart = rw has refl
+in_order false false false false some true pam shut rom addr has apart = refl
+in_order false false false false some false pam shut rom addr has apart = rest_in_order shut rom addr
 
 some_dram : (top : ℕ) → nat_lt 0 top ≡ not (top == 0)
 some_dram top = grind (arith, nat_tests)
@@ -64,24 +66,30 @@ some_dram top = grind (arith, nat_tests)
 none_below : (top addr : ℕ) → ((top == 0) && nat_lt addr top) ≡ false
 none_below top addr = grind (arith, nat_tests)
 
-pub denials_in_order : (top : ℕ) (shut : Option Window) (addr : ℕ) → abort_denial top shut addr ≡ after_board (board_denial top addr) shut addr
+pub denials_in_order : (top : ℕ) (shut rom : Option Window) (addr : ℕ) → abort_denial top shut rom addr ≡ after_board (board_denial top addr) shut rom addr
 unfolding board_denial
-denials_in_order top shut addr =
+denials_in_order top shut rom addr =
     in_order (is_within 0xFFF8_0000 0xFFFE_FFFF addr) (top == 0) (is_smram_range addr) (is_within 0xC_0000 0xE_FFFF addr) (nat_lt 0 top) (nat_lt addr top)
-    (pam_register addr) shut addr (some_dram top) (none_below top addr)
+    (pam_register addr) shut rom addr (some_dram top) (none_below top addr)
 
 -- a register of the board denies
-pub board_denies : (top by addr : ℕ) (shut : Option Window) (denial : Denial) →
-    Some denial ≡ board_denial by addr → by ≡ top → denial ≡ abort_denial top shut addr
-board_denies top by addr shut denial is same =
-    ap (λ (found : Option Denial). after_board found shut addr) (is ∙ ap (λ (n : ℕ). board_denial n addr) same)
-    ∙ sym (denials_in_order top shut addr)
+pub board_denies : (top by addr : ℕ) (shut rom : Option Window) (denial : Denial) →
+    Some denial ≡ board_denial by addr → by ≡ top → denial ≡ abort_denial top shut rom addr
+board_denies top by addr shut rom denial is same =
+    ap (λ (found : Option Denial). after_board found shut rom addr) (is ∙ ap (λ (n : ℕ). board_denial n addr) same)
+    ∙ sym (denials_in_order top shut rom addr)
 
--- a card's command denies, or DRB7, or nothing
-pub card_denies : (top by addr : ℕ) (shut : Option Window) (dev : Option ℕ) →
+-- a card's command denies, or the register of its expansion ROM, or DRB7, or nothing
+pub card_denies : (top by addr : ℕ) (shut rom : Option Window) (dev : Option ℕ) →
     None ≡ board_denial by addr → by ≡ top → dev ≡ option_map (λ window. window.dev) shut →
-    card_denial dev addr ≡ abort_denial top shut addr
-card_denies top by addr shut dev is same found =
-    ap (λ (d : Option ℕ). card_denial d addr) found
-    ∙ ap (λ (denial : Option Denial). after_board denial shut addr) (is ∙ ap (λ (n : ℕ). board_denial n addr) same)
-    ∙ sym (denials_in_order top shut addr)
+    card_denial dev (option_map (λ window. window.dev) rom) addr ≡ abort_denial top shut rom addr
+card_denies top by addr shut rom dev is same found =
+    ap (λ (d : Option ℕ). card_denial d (option_map (λ window. window.dev) rom) addr) found
+    ∙ ap (λ (denial : Option Denial). after_board denial shut rom addr) (is ∙ ap (λ (n : ℕ). board_denial n addr) same)
+    ∙ sym (denials_in_order top shut rom addr)
+
+pub rom_denies : (top by addr : ℕ) (shut rom : Option Window) (dev : Option ℕ) →
+    None ≡ board_denial by addr → by ≡ top → None ≡ option_map (λ window. window.dev) shut → dev ≡ option_map (λ window. window.dev) rom →
+    card_denial None dev addr ≡ abort_denial top shut rom addr
+rom_denies top by addr shut rom dev is same none found =
+    ap (λ (d : Option ℕ). card_denial None d addr) found ∙ card_denies top by addr shut rom None is same none

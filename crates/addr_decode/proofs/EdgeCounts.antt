@@ -7,9 +7,8 @@ use Rattle.std.proofs.lemmas.Bool.Decides.{nat_tests}
 use Rattle.std.proofs.lemmas.List.{length-append, length-map}
 use Rattle.std.proofs.lemmas.List.Elements.{All-head, All-tail, All-map}
 use Rattle.board_spec.specs.Setup.{Base, MemoryBase, IoBase, FittedCard, Setup, IsCard, IsCardList}
-use Rattle.board_spec.specs.Decode.{Bytes, memory_window}
-use Rattle.pci_bars.specs.Cards.{CardBytes, AreDecoded, cards_of}
-use Rattle.addr_decode.specs.MapRegs.{AreFitted}
+use Rattle.board_spec.specs.Decode.{Bytes, memory_window, rom_window, rom_window_of}
+use Rattle.pci_bars.specs.Cards.{CardBytes, AreDecoded, cards_of, AreFitted}
 use Rattle.addr_decode.specs.Edges.{fixed_edges, window_edges, card_edges, edges_of, edges_after, IsNextEdge, FewEdges}
 use Rattle.addr_decode.proofs.EdgeSearchLemmas.{contains_cases}
 
@@ -20,13 +19,21 @@ few_of_bases bytes dev k [] = omega arith
 few_of_bases bytes dev k (MemoryBase bits ∷ later) = omega (arith, few_of_bases bytes dev (k + 1) later)
 few_of_bases bytes dev k (IoBase bits ∷ later) = omega (arith, few_of_bases bytes dev (k + 1) later)
 
-few_of_cards : (bytes : Bytes) (cards : List FittedCard) → All IsCard cards → length (flat_map (card_edges bytes) cards) ≤ 12 * length cards
+few_of_rom : (bytes : Bytes) (dev : ℕ) (rom : Option ℕ) → length (flat_map window_edges (rom_window_of bytes dev rom)) ≤ 2
+few_of_rom bytes dev None = omega arith
+few_of_rom bytes dev (Some bits) = omega arith
+
+few_of_cards : (bytes : Bytes) (cards : List FittedCard) → All IsCard cards → length (flat_map (card_edges bytes) cards) ≤ 14 * length cards
 few_of_cards bytes [] each = omega arith
 few_of_cards bytes (card ∷ later) each =
     let here : IsCard card = All-head IsCard card later each in
     let count : length card.bases ≤ 6 = here.count in
-    let one : length (card_edges bytes card) ≤ 2 * length card.bases = few_of_bases bytes card.dev 0 card.bases in
-    let rest : length (flat_map (card_edges bytes) later) ≤ 12 * length later = few_of_cards bytes later (All-tail IsCard card later each) in
+    let bases : List ℕ = flat_map (λ numbered. flat_map window_edges (memory_window bytes card.dev numbered.0 numbered.1)) (enumerate_from 0 card.bases) in
+    let rom : List ℕ = flat_map window_edges (rom_window bytes card) in
+    let two : length (card_edges bytes card) ≡ length bases + length rom = length-append bases rom in
+    let few : length bases ≤ 2 * length card.bases = few_of_bases bytes card.dev 0 card.bases in
+    let few_more : length rom ≤ 2 = few_of_rom bytes card.dev card.rom in
+    let rest : length (flat_map (card_edges bytes) later) ≤ 14 * length later = few_of_cards bytes later (All-tail IsCard card later each) in
     let all : length (card_edges bytes card ++ flat_map (card_edges bytes) later) ≡ length (card_edges bytes card) + length (flat_map (card_edges bytes) later) =
     length-append (card_edges bytes card) (flat_map (card_edges bytes) later) in
     omega arith
@@ -35,7 +42,7 @@ pub few_edges : FewEdges
 unfolding edges_of fixed_edges
 few_edges setup bytes cards =
     let count : length setup.cards ≤ 8 = cards.count in
-    let few : length (flat_map (card_edges bytes) setup.cards) ≤ 12 * length setup.cards = few_of_cards bytes setup.cards cards.each in
+    let few : length (flat_map (card_edges bytes) setup.cards) ≤ 14 * length setup.cards = few_of_cards bytes setup.cards cards.each in
     omega arith
 
 -- ---- above an address
@@ -48,8 +55,8 @@ few_kept addr (edge ∷ later) =
       | inr dropped ↦ rw dropped (omega (arith, few_kept addr later))
     ]
 
--- a board has at most 125 edges above an address
-pub few_edges_after : (setup : Setup) (bytes : Bytes) (addr : ℕ) → IsCardList setup.cards → edges_after setup bytes addr ≤ 125
+-- a board has at most 141 edges above an address
+pub few_edges_after : (setup : Setup) (bytes : Bytes) (addr : ℕ) → IsCardList setup.cards → edges_after setup bytes addr ≤ 141
 few_edges_after setup bytes addr cards = omega (arith, few_kept addr (edges_of setup bytes), few_edges setup bytes cards)
 
 -- the cards that a board's registers have are a list that a board can be fitted with
@@ -63,7 +70,7 @@ fitted_setup setup cards fitted count same =
 
 pub few_edges_of_fitted :
     (setup : Setup) (bytes : Bytes) (addr : ℕ) (cards : List CardBytes) → AreFitted cards → length cards ≤ 8 → AreDecoded setup bytes cards →
-    edges_after setup bytes addr ≤ 125
+    edges_after setup bytes addr ≤ 141
 few_edges_of_fitted setup bytes addr cards fitted count are = few_edges_after setup bytes addr (fitted_setup setup cards fitted count are.0)
 
 pub no_more : (low high : ℕ) (edges : List ℕ) → low ≤ high → length (filter (nat_lt high) edges) ≤ length (filter (nat_lt low) edges)

@@ -1,6 +1,6 @@
 -- Between two edges all addresses have the same areas.
 use Rattle.std.proofs.Common.{◌≡◌, ℕ, zero, suc, ◌+◌, ◌-◌, ◌*◌, ◌/◌, ◌^◌, ◌<◌, ◌≤◌, inl, inr, Bool, true, false, not, ◌&&◌, List, [], ◌∷◌, ◌++◌, Option, Some, None, refl, arith}
-use Rattle.std.specs.Prelude.{◌==◌, nat_lt, nat_le, All, flat_map, is_some, unwrap_or, option_map, slice_index_or, IfSome, IsNone}
+use Rattle.std.specs.Prelude.{◌==◌, nat_lt, nat_le, All, flat_map, is_some, unwrap_or, option_map, if◌then◌else◌, slice_index_or, IfSome, IsNone}
 use Rattle.std.specs.List.{Contains, AllByRecursion, enumerate_from}
 use Rattle.std.proofs.lemmas.Bool.{cases_Bool, cases_lt}
 use Rattle.std.proofs.lemmas.Bool.Decides.{nat_tests}
@@ -13,7 +13,7 @@ use Rattle.board_base.specs.declared.target.Area.TheVariants.{Dram, Shadow, Smra
 use Rattle.board_base.specs.declared.target.Reg.{Reg}
 use Rattle.board_spec.specs.Setup.{Base, MemoryBase, IoBase, FittedCard, Setup}
 use Rattle.board_spec.specs.Bits.{is_within}
-use Rattle.board_spec.specs.Decode.{Bytes, Window, boundary, row_of, is_in, hole_of, pam_register, is_high_window, nibble, is_open, is_shadow_range, is_shadowed, smram_answers, is_smram_range, is_rom_selected, is_covered, base_value, memory_window, vga_window, memory_windows, is_enabled_for, first_window, memory_claim, line_where, first_of, card_area, area_of}
+use Rattle.board_spec.specs.Decode.{Bytes, Window, boundary, row_of, is_in, hole_of, pam_register, is_high_window, nibble, is_open, is_shadow_range, is_shadowed, smram_answers, is_smram_range, is_rom_selected, is_covered, base_value, rom_value, memory_window, rom_window, rom_window_of, is_rom_on, vga_window, memory_windows, is_enabled_for, first_window, memory_claim, line_where, first_of, card_area, area_of}
 use Rattle.board_spec.specs.RegisterNames.{bridge, isa}
 use Rattle.board_spec.specs.FlatMap.{address_count, six_areas}
 use Rattle.addr_decode.specs.Edges.{fixed_edges, row_edges, first_address, window_edges, card_edges, edges_of, IsNextEdge, NoEdgeAbove, SameAreas, AreasChangeAtEdges}
@@ -257,14 +257,34 @@ vga_alike : (setup : Setup) (bytes : Bytes) (addr x : ℕ) (card : FittedCard) �
 vga_alike setup bytes addr x card between =
     elim (cases_Bool card.vga) [ inl vga ↦ rw vga (vga_same setup bytes addr x card.dev between, tt) | inr plain ↦ rw plain tt ]
 
+rom_alike : (bytes : Bytes) (addr x dev : ℕ) → addr ≤ x → (rom : Option ℕ) → AllByRecursion (Clear addr x) (flat_map window_edges (rom_window_of bytes dev rom)) →
+    AllByRecursion (IsCoveredAlike addr x) (rom_window_of bytes dev rom)
+rom_alike bytes addr x dev order None clear = tt
+rom_alike bytes addr x dev order (Some bits) clear =
+    (covered_same addr x (record { dev = dev; base = 6; inside = rom_value bytes dev; bits = bits }) order clear.0 clear.1.0, tt)
+
+selected_alike : (bytes : Bytes) (addr x : ℕ) (card : FittedCard) → addr ≤ x → AllByRecursion (Clear addr x) (flat_map window_edges (rom_window bytes card)) →
+    AllByRecursion (IsCoveredAlike addr x) (if is_rom_on bytes card.dev then rom_window bytes card else [])
+selected_alike bytes addr x card order clear =
+    elim (cases_Bool (is_rom_on bytes card.dev)) [
+      | inl selected ↦ rw selected (rom_alike bytes addr x card.dev order card.rom clear)
+      | inr unselected ↦ rw unselected tt
+    ]
+
 cards_alike :
     (setup : Setup) (bytes : Bytes) (addr x : ℕ) → Between setup bytes addr x → (cards : List FittedCard) →
     AllByRecursion (Clear addr x) (flat_map (card_edges bytes) cards) → AllByRecursion (IsCoveredAlike addr x) (flat_map (memory_windows bytes) cards)
 cards_alike setup bytes addr x between [] clear = tt
 cards_alike setup bytes addr x between (card ∷ later) clear =
+    let bases : List Window = flat_map (λ numbered. memory_window bytes card.dev numbered.0 numbered.1) (enumerate_from 0 card.bases) in
+    let rom : List Window = if is_rom_on bytes card.dev then rom_window bytes card else [] in
+    let base_ends : List ℕ = flat_map (λ numbered. flat_map window_edges (memory_window bytes card.dev numbered.0 numbered.1)) (enumerate_from 0 card.bases) in
+    let here : AllByRecursion (Clear addr x) (card_edges bytes card) = all_left (Clear addr x) (card_edges bytes card) (flat_map (card_edges bytes) later) clear in
     all_joined (IsCoveredAlike addr x) (memory_windows bytes card) (flat_map (memory_windows bytes) later)
-    (all_joined (IsCoveredAlike addr x) (flat_map (λ numbered. memory_window bytes card.dev numbered.0 numbered.1) (enumerate_from 0 card.bases)) (vga_window card)
-    (bases_alike bytes addr x card.dev between.order 0 card.bases (all_left (Clear addr x) (card_edges bytes card) (flat_map (card_edges bytes) later) clear))
+    (all_joined (IsCoveredAlike addr x) (bases ++ rom) (vga_window card)
+    (all_joined (IsCoveredAlike addr x) bases rom
+    (bases_alike bytes addr x card.dev between.order 0 card.bases (all_left (Clear addr x) base_ends (flat_map window_edges (rom_window bytes card)) here))
+    (selected_alike bytes addr x card between.order (all_right (Clear addr x) base_ends (flat_map window_edges (rom_window bytes card)) here)))
     (vga_alike setup bytes addr x card between))
     (cards_alike setup bytes addr x between later (all_right (Clear addr x) (card_edges bytes card) (flat_map (card_edges bytes) later) clear))
 

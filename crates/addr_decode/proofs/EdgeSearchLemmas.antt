@@ -8,13 +8,13 @@ use Rattle.std.proofs.lemmas.List.Elements.{All-head, All-tail}
 use Rattle.std.proofs.lemmas.List.Sums.{fold-append}
 use Rattle.std.proofs.lemmas.Option.{same_Some}
 use Rattle.board_spec.specs.Setup.{Base, MemoryBase, IoBase, Setup, IsCard}
-use Rattle.board_spec.specs.Decode.{Bytes, boundary, base_value, memory_window}
+use Rattle.board_spec.specs.Decode.{Bytes, boundary, base_value, memory_window, rom_window_of}
 use Rattle.board_spec.specs.RegisterNames.{bridge}
 use Rattle.board_spec.specs.FlatMap.{address_count}
 use Rattle.pmc_regs.specs.Pmc.{IsRowsOf}
-use Rattle.pci_bars.specs.Cards.{CardBytes, DecodesAs, AreCards, AreDecoded, cards_of}
+use Rattle.pci_bars.specs.Cards.{CardBytes, HoldsRom, DecodesAs, AreCards, AreDecoded, cards_of}
 use Rattle.addr_decode.specs.Edges.{fixed_edges, row_edges, window_edges, card_edges, edges_of, IsEdge, IsNextEdge, NoEdgeAbove}
-use Rattle.addr_decode.specs.EdgeSearch.{nearer, nearest, ends_from, ends_of_card}
+use Rattle.addr_decode.specs.EdgeSearch.{nearer, nearest, ends_from, ends_of_rom, ends_of_card}
 
 -- ---- the edges, as the code keeps them
 
@@ -28,6 +28,11 @@ ends_same bytes dev values same k (MemoryBase bits ∷ later) few =
     rw (same k (omega arith), ends_same bytes dev values same (k + 1) later (omega arith)) refl
 ends_same bytes dev values same k (IoBase bits ∷ later) few = ends_same bytes dev values same (k + 1) later (omega arith)
 
+rom_same : (bytes : Bytes) (dev register : ℕ) (rom : Option ℕ) → HoldsRom bytes dev register rom →
+    ends_of_rom rom register ≡ flat_map window_edges (rom_window_of bytes dev rom)
+rom_same bytes dev register None held = refl
+rom_same bytes dev register (Some bits) held = rw (sym held.number) refl
+
 cards_same :
     (setup : Setup) (bytes : Bytes) (cards : List CardBytes) → AreCards cards → All (DecodesAs setup bytes) cards →
     flat_map ends_of_card cards ≡ flat_map (card_edges bytes) (cards_of cards)
@@ -36,7 +41,8 @@ cards_same setup bytes (card ∷ later) fit are =
     let is : DecodesAs setup bytes card = All-head (DecodesAs setup bytes) card later are in
     let one : IsCard card.card = All-head (λ card. IsCard card.card) card later fit in
     let few : length card.card.bases ≤ 6 = one.count in
-    let here : ends_of_card card ≡ card_edges bytes card.card = ends_same bytes card.card.dev card.bases is.bases 0 card.card.bases (omega arith) in
+    let here : ends_of_card card ≡ card_edges bytes card.card =
+    rw (ends_same bytes card.card.dev card.bases (λ k below. (is.bases k below).number) 0 card.card.bases (omega arith), rom_same bytes card.card.dev card.rom card.card.rom is.rom) refl in
     let rest : flat_map ends_of_card later ≡ flat_map (card_edges bytes) (cards_of later) =
     cards_same setup bytes later (All-tail (λ card. IsCard card.card) card later fit) (All-tail (DecodesAs setup bytes) card later are) in
     rw (here, rest) refl
@@ -198,6 +204,11 @@ pub kept_above : (addr : ℕ) (drb : List ℕ) (cards : List CardBytes) (found :
 kept_above addr drb cards None is = tt
 kept_above addr drb cards (Some edge) is =
     let here : IsAbove addr (kept_edges drb cards) edge = found_above addr (kept_edges drb cards) (Some edge) is in here.above
+
+pub in_two : (addr : ℕ) (found first all : Option ℕ) (xs ys : List ℕ) → first ≡ nearest addr found xs → all ≡ nearest addr first ys →
+    all ≡ nearest addr found (xs ++ ys)
+unfolding nearest
+in_two addr found first all xs ys is_first is_all = rw (is_all, is_first, fold-append (nearer addr) found xs ys) refl
 
 pub in_parts :
     (addr : ℕ) (fixed rows all : Option ℕ) (drb : List ℕ) (cards : List CardBytes) →

@@ -1,5 +1,5 @@
 -- The registers of the address map among those of a board: after a reset, and where a byte is stored.
-use Rattle.std.proofs.Common.{◌≡◌, ◌≢◌, ℕ, ◌+◌, ◌-◌, ◌<◌, ◌≤◌, ◌⊎◌, inl, inr, List, [], ◌∷◌, length, get_or, set, refl, sym, ◌∙◌, ap, subst, arith, get_or-set_same, get_or-set_other, add-one}
+use Rattle.std.proofs.Common.{◌≡◌, ◌≢◌, ℕ, ◌+◌, ◌-◌, ◌<◌, ◌≤◌, ◌⊎◌, inl, inr, Option, List, [], ◌∷◌, length, get_or, set, refl, sym, ◌∙◌, ap, subst, arith, get_or-set_same, get_or-set_other, add-one}
 use Rattle.std.specs.Prelude.{slice_index}
 use Rattle.std.proofs.lemmas.Bool.{cases_eq}
 use Rattle.board_base.specs.declared.access.Width.{Width}
@@ -11,18 +11,19 @@ use Rattle.board_spec.specs.Bits.{merged, byte}
 use Rattle.board_spec.specs.RegisterTable.{isa_bridge, reset_byte, writable_bits}
 use Rattle.board_spec.specs.Registers.{changed_byte, smram_after}
 use Rattle.board_spec.specs.Decode.{Bytes}
-use Rattle.board_spec.specs.RegisterNames.{bridge, isa, card_register}
+use Rattle.board_spec.specs.RegisterNames.{bridge, isa, fdhc, xbcs, card_register}
 use Rattle.board_spec.specs.MapWrites.{reg_after}
 use Rattle.board_spec.specs.WideStores.{after_stores}
 use Rattle.board_spec.proofs.StoreLemmas.{changed_byte-one_same, byte_by_byte}
 use Rattle.pmc_regs.specs.Pmc.{IsRowsOf}
-use Rattle.pmc_regs.proofs.TableLemmas.{rows_at_reset, hole_at_reset, writable_bits-row, writable_bits-hole}
-use Rattle.pmc_regs.proofs.PmcLemmas.{merged-all, there}
+use Rattle.pmc_regs.proofs.TableLemmas.{rows_at_reset, hole_at_reset, writable_bits-row}
+use Rattle.board_spec.proofs.MergedLemmas.{merged-all}
+use Rattle.pmc_regs.proofs.PmcLemmas.{there}
 use Rattle.pam_windows.specs.Pam.{IsPamOffset, IsPamOf}
 use Rattle.pam_windows.proofs.PamLemmas.{zeros_at_reset}
 use Rattle.smram_ctl.proofs.ControlLemmas.{reset_byte-smram}
-use Rattle.pci_bars.specs.Cards.{CardBytes, AreCards, AreDecoded, cards_of}
-use Rattle.addr_decode.specs.MapRegs.{MapBytes, AreFitted, AreReset, IsRowOffset, StandsFor, stored}
+use Rattle.pci_bars.specs.Cards.{CardBytes, AreCards, AreDecoded, cards_of, AreFitted, AreReset}
+use Rattle.addr_decode.specs.MapRegs.{MapBytes, IsRowOffset, StandsFor, stored}
 use Rattle.addr_decode.proofs.StoreLemmas.{stored-elsewhere}
 use Rattle.addr_decode.proofs.CardLemmas.{IsMapOffset, SameCard, decodes-same, reset_decoded}
 
@@ -52,9 +53,10 @@ stands_at_reset setup cards fitted reset same = record {
   cards = reset_decoded setup cards fitted reset same;
 }
 
-below_256 : (at off : ℕ) → 256 ≤ at → IsMapOffset off → at ≢ off
-below_256 at off past (inl command) = omega arith
-below_256 at off past (inr bases) = omega (arith, bases.1)
+below_256 : (rom : Option ℕ) (at off : ℕ) → 256 ≤ at → IsMapOffset rom off → at ≢ off
+below_256 rom at off past (inl command) = omega arith
+below_256 rom at off past (inr (inl bases)) = omega (arith, bases.1)
+below_256 rom at off past (inr (inr in_rom)) = omega (arith, in_rom.2)
 
 -- ---- registers that agree
 
@@ -65,7 +67,7 @@ abbrev pub SameWindows : (bytes bytes' : Bytes) → Type 0
 SameWindows bytes bytes' = (off : ℕ) → IsPamOffset off → bytes' (bridge off) ≡ bytes (bridge off)
 
 abbrev pub SameCards : (bytes bytes' : Bytes) → Type 0
-SameCards bytes bytes' = (dev : ℕ) → 2 ≤ dev → SameCard bytes bytes' dev
+SameCards bytes bytes' = (rom : Option ℕ) (dev : ℕ) → 2 ≤ dev → SameCard bytes bytes' rom dev
 
 -- two states of the registers are the same in all that the address map depends on
 pub record SameMap (bytes bytes' : Bytes) : Type 0 where
@@ -88,7 +90,7 @@ cards-same setup bytes bytes' cards each same are = (
   are.0,
   (λ k d within.
       let card : CardBytes = get_or cards k d in
-      decodes-same setup bytes bytes' card (same card.card.dev (each k d within).first) (are.1 k d within)),
+      decodes-same setup bytes bytes' card (same card.card.rom card.card.dev (each k d within).first) (are.1 k d within)),
 )
 
 pub stands-same : (setup : Setup) (bytes bytes' : Bytes) (regs : MapBytes) → AreFitted regs.cards → SameMap bytes bytes' →
@@ -109,7 +111,7 @@ isa_stays : (setup : Setup) (bytes : Bytes) (off written : ℕ) → stored setup
 isa_stays setup bytes off written = stored-elsewhere setup bytes (bridge off) written (isa 0x4E) (inl (omega arith))
 
 cards_stay : (setup : Setup) (bytes : Bytes) (off written : ℕ) → SameCards bytes (stored setup bytes (bridge off) written)
-cards_stay setup bytes off written dev above at _ =
+cards_stay setup bytes off written rom dev above at _ =
     stored-elsewhere setup bytes (bridge off) written (card_register dev at) (inl (omega arith))
 
 rows_stay : (setup : Setup) (bytes : Bytes) (off written : ℕ) → (off < 0x60) ⊎ (0x67 < off) → SameRows bytes (stored setup bytes (bridge off) written)
@@ -181,12 +183,12 @@ row_stored setup bytes regs drb off written fitted within is stands =
 
 pub hole_stored :
     (setup : Setup) (bytes : Bytes) (regs : MapBytes) (written : ℕ) → AreFitted regs.cards → written < 256 →
-    StandsFor setup bytes regs → StandsFor setup (stored setup bytes (bridge 0x68) written) (record regs { fdhc = merged 0xC0 regs.fdhc written })
+    StandsFor setup bytes regs → StandsFor setup (stored setup bytes (bridge 0x68) written) (record regs { fdhc = merged (writable_bits setup fdhc) regs.fdhc written })
 hole_stored setup bytes regs written fitted below stands =
     let new : Bytes = stored setup bytes (bridge 0x68) written in
     record {
       rows = rows-same bytes new regs.drb (rows_stay setup bytes 0x68 written (inr (omega arith))) stands.rows;
-      hole = ap (λ (old : ℕ). merged 0xC0 old written) stands.hole ∙ sym (there setup bytes 0x68 written 0xC0 below (omega arith) (writable_bits-hole setup));
+      hole = ap (λ (old : ℕ). merged (writable_bits setup fdhc) old written) stands.hole ∙ sym (there setup bytes 0x68 written (writable_bits setup fdhc) below (omega arith) refl);
       windows = windows-same bytes new regs.pam (windows_stay setup bytes 0x68 written (inr (omega arith))) stands.windows;
       smram = stands.smram ∙ sym (one_stays setup bytes 0x68 written 0x72 (omega arith));
       xbcs = stands.xbcs ∙ sym (isa_stays setup bytes 0x68 written);
@@ -232,8 +234,7 @@ beside_stored setup bytes off written beside = record {
 -- ---- a byte is stored in the ISA bridge, in a function without registers of the map, or in a card
 
 isa_is_stored : (setup : Setup) (bytes : Bytes) (written : ℕ) → written < 256 →
-    merged 0xC7 (bytes (isa 0x4E)) written ≡ stored setup bytes (isa 0x4E) written (isa 0x4E)
-unfolding writable_bits isa_bridge
+    merged (writable_bits setup xbcs) (bytes xbcs) written ≡ stored setup bytes xbcs written xbcs
 isa_is_stored setup bytes written below = sym (changed_byte-one_same setup (isa 0x4E) (bytes (isa 0x4E)) written below refl)
 
 beside_bridge : (setup : Setup) (bytes : Bytes) (at : Reg) (written off : ℕ) → (at.dev ≢ 0) ⊎ (at.fun ≢ 0) →
@@ -242,12 +243,12 @@ beside_bridge setup bytes at written off (inl dev) = stored-elsewhere setup byte
 beside_bridge setup bytes at written off (inr fun) = stored-elsewhere setup bytes at written (bridge off) (inr (inl fun))
 
 beside_cards : (setup : Setup) (bytes : Bytes) (at : Reg) (written : ℕ) → (at.dev < 2) ⊎ (at.fun ≢ 0) → SameCards bytes (stored setup bytes at written)
-beside_cards setup bytes at written (inl low) dev above off _ = stored-elsewhere setup bytes at written (card_register dev off) (inl (omega arith))
-beside_cards setup bytes at written (inr fun) dev above off _ = stored-elsewhere setup bytes at written (card_register dev off) (inr (inl fun))
+beside_cards setup bytes at written (inl low) rom dev above off _ = stored-elsewhere setup bytes at written (card_register dev off) (inl (omega arith))
+beside_cards setup bytes at written (inr fun) rom dev above off _ = stored-elsewhere setup bytes at written (card_register dev off) (inr (inl fun))
 
 pub xbcs_stored :
     (setup : Setup) (bytes : Bytes) (regs : MapBytes) (written : ℕ) → AreFitted regs.cards → written < 256 →
-    StandsFor setup bytes regs → StandsFor setup (stored setup bytes (isa 0x4E) written) (record regs { xbcs = merged 0xC7 regs.xbcs written })
+    StandsFor setup bytes regs → StandsFor setup (stored setup bytes (isa 0x4E) written) (record regs { xbcs = merged (writable_bits setup xbcs) regs.xbcs written })
 xbcs_stored setup bytes regs written fitted below stands =
     let new : Bytes = stored setup bytes (isa 0x4E) written in
     let stays : (off : ℕ) → new (bridge off) ≡ bytes (bridge off) = λ off. beside_bridge setup bytes (isa 0x4E) written off (inl (omega arith)) in
@@ -256,7 +257,7 @@ xbcs_stored setup bytes regs written fitted below stands =
       hole = stands.hole ∙ sym (stays 0x68);
       windows = windows-same bytes new regs.pam (λ off _. stays off) stands.windows;
       smram = stands.smram ∙ sym (stays 0x72);
-      xbcs = ap (λ (old : ℕ). merged 0xC7 old written) stands.xbcs ∙ isa_is_stored setup bytes written below;
+      xbcs = ap (λ (old : ℕ). merged (writable_bits setup xbcs) old written) stands.xbcs ∙ isa_is_stored setup bytes written below;
       cards = cards-same setup bytes new regs.cards fitted.each (beside_cards setup bytes (isa 0x4E) written (inl (omega arith))) stands.cards;
     }
 
@@ -306,7 +307,7 @@ beyond setup bytes at written past = record {
   windows = λ off within. stored-elsewhere setup bytes at written (bridge off) (inr (inr (omega (arith, within.1))));
   smram = stored-elsewhere setup bytes at written (bridge 0x72) (inr (inr (omega arith)));
   xbcs = stored-elsewhere setup bytes at written (isa 0x4E) (inr (inr (omega arith)));
-  cards = λ dev above off inside. stored-elsewhere setup bytes at written (card_register dev off) (inr (inr (below_256 at.off off past inside)));
+  cards = λ rom dev above off inside. stored-elsewhere setup bytes at written (card_register dev off) (inr (inr (below_256 rom at.off off past inside)));
 }
 
 -- ---- the bytes of a store, one after the other
@@ -339,6 +340,6 @@ all_stored setup bytes at width value regs fitted stands =
       windows = λ off _. same (bridge off);
       smram = same (bridge 0x72);
       xbcs = same (isa 0x4E);
-      cards = λ dev _ off _. same (card_register dev off);
+      cards = λ _ dev _ off _. same (card_register dev off);
     })
     stands

@@ -1,5 +1,5 @@
 -- The next edge as the code looks for it: it keeps the least edge above an address.
-use Rattle.std.specs.Prelude.{ℕ, ◌+◌, ◌*◌, ◌/◌, ◌^◌, nat_lt, min, ◌&&◌, if◌then◌else◌, List, [], ◌∷◌, ◌++◌, Option, Some, unwrap_or, slice_index}
+use Rattle.std.specs.Prelude.{ℕ, ◌+◌, ◌*◌, ◌/◌, ◌^◌, nat_lt, min, ◌&&◌, if◌then◌else◌, List, [], ◌∷◌, ◌++◌, Option, Some, None, unwrap_or, slice_index}
 use Rattle.std.specs.List.{fold}
 use Rattle.board_spec.specs.Setup.{Base, MemoryBase, IoBase}
 use Rattle.board_spec.specs.FlatMap.{address_count}
@@ -24,5 +24,10 @@ abbrev pub ends_from : (values : List ℕ) → (k : ℕ) → List Base → List 
 ends_from values k [] = []
 ends_from values k (base ∷ later) = ends_of base (slice_index values k) ++ ends_from values (k + 1) later
 
+-- the edges of an expansion ROM with this register
+abbrev pub ends_of_rom : Option ℕ → (register : ℕ) → List ℕ
+ends_of_rom None register = []
+ends_of_rom (Some bits) register = ends_of (MemoryBase bits) register
+
 abbrev pub ends_of_card : CardBytes → List ℕ
-ends_of_card card = ends_from card.bases 0 card.card.bases
+ends_of_card card = ends_from card.bases 0 card.card.bases ++ ends_of_rom card.card.rom card.rom

@@ -2,7 +2,7 @@
 use Rattle.std.specs.Prelude.{ℕ, ◌≡◌, ◌+◌, ◌*◌, ◌/◌, ◌^◌, ◌<◌, ◌≤◌, nat_lt, List, [], ◌∷◌, ◌++◌, length, map, filter, flat_map}
 use Rattle.std.specs.List.{Contains, enumerate_from}
 use Rattle.board_spec.specs.Setup.{FittedCard, Setup, IsCardList}
-use Rattle.board_spec.specs.Decode.{Bytes, Window, boundary, memory_window}
+use Rattle.board_spec.specs.Decode.{Bytes, Window, boundary, memory_window, rom_window}
 use Rattle.board_spec.specs.FlatMap.{address_count, six_areas}
 
 -- those that no register moves: the ends of the hole at 512 KiB, of SMRAM, of the shadow windows of 16 KiB from C0000h
@@ -30,10 +30,11 @@ first_address window = window.inside / 2 ^ window.bits * 2 ^ window.bits
 abbrev pub window_edges : Window → List ℕ
 window_edges window = first_address window ∷ (first_address window + 2 ^ window.bits) ∷ []
 
--- the edges of the memory bases of a card, whether or not it is enabled
+-- the edges of the memory bases of a card and of its expansion ROM, whether or not they are enabled
 abbrev pub card_edges : Bytes → FittedCard → List ℕ
 card_edges bytes card =
     flat_map (λ numbered. flat_map window_edges (memory_window bytes card.dev numbered.0 numbered.1)) (enumerate_from 0 card.bases)
+    ++ flat_map window_edges (rom_window bytes card)
 
 -- all of them, in no order, and some perhaps twice
 unfoldable pub edges_of : Setup → Bytes → List ℕ
@@ -71,6 +72,7 @@ AreasChangeAtEdges =
     ((edge : ℕ) → IsEdge setup bytes edge → addr < edge → x < edge) →
     six_areas setup bytes x ≡ six_areas setup bytes addr
 
--- a board has at most 125 edges: 21 that are fixed, 8 of rows, and 2 of each of 6 bases of 8 cards
+-- a board has at most 141 edges: 21 that are fixed, 8 of rows, and 2 of each of 6 bases and of the expansion ROM
+-- of 8 cards
 abbrev pub FewEdges : Type 0
-FewEdges = (setup : Setup) (bytes : Bytes) → IsCardList setup.cards → length (edges_of setup bytes) ≤ 125
+FewEdges = (setup : Setup) (bytes : Bytes) → IsCardList setup.cards → length (edges_of setup bytes) ≤ 141

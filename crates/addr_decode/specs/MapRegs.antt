@@ -1,18 +1,17 @@
 -- The registers that the address map depends on.
-use Rattle.std.specs.Prelude.{◌≡◌, ◌≤◌, ℕ, ◌+◌, ◌/◌, nat_le, nat_lt, Bool, ◌&&◌, List, All, Some}
+use Rattle.std.specs.Prelude.{◌≡◌, ◌≤◌, ℕ, ◌+◌, ◌/◌, nat_le, nat_lt, Bool, ◌&&◌, List}
 use Rattle.board_base.specs.declared.access.Width.{Width}
 use Rattle.board_base.specs.declared.access.Width.TheVariants.{One}
 use Rattle.board_base.specs.declared.target.Reg.{Reg}
 use Rattle.board_base.specs.Access.{bytes_of}
 use Rattle.board_spec.specs.declared.map_change.MapChange.TheVariants.{Store}
-use Rattle.board_spec.specs.RegisterTable.{reset_byte}
 use Rattle.board_spec.specs.Registers.{changed_byte}
-use Rattle.board_spec.specs.Setup.{Setup, Rises, card_at}
+use Rattle.board_spec.specs.Setup.{Setup}
 use Rattle.board_spec.specs.Decode.{Bytes}
-use Rattle.board_spec.specs.RegisterNames.{bridge, isa, ide}
+use Rattle.board_spec.specs.RegisterNames.{drb, fdhc, smram, xbcs, ide_command as command_register, idetim_high}
 use Rattle.pmc_regs.specs.Pmc.{IsRowsOf}
 use Rattle.pam_windows.specs.Pam.{IsPamOf}
-use Rattle.pci_bars.specs.Cards.{CardBytes, DecodesAs, AreCards, AreDecoded, cards_of}
+use Rattle.pci_bars.specs.Cards.{CardBytes, AreDecoded}
 use Rattle.addr_decode.specs.declared.regs.MapRegs.{MapRegs}
 
 -- what they hold: DRB0 to DRB7, FDHC, PAM0 to PAM6 and SMRAM of the host bridge, XBCS of the ISA bridge, and
@@ -35,25 +34,13 @@ map_bytes regs = record {
   cards = regs.cards.items;
 }
 
--- cards as a board can be fitted with: each is one, and their devices rise
-pub record AreFitted (cards : List CardBytes) : Type 0 where
-  pub each : AreCards cards
-  pub rises : Rises (cards_of cards)
-
--- a card as a reset leaves it
-abbrev pub IsReset : CardBytes → Type 0
-IsReset card = (setup : Setup) → card_at setup card.card.dev ≡ Some card.card → DecodesAs setup (reset_byte setup) card
-
-abbrev pub AreReset : List CardBytes → Type 0
-AreReset cards = All IsReset cards
-
 -- the registers of a board after one byte is stored
 abbrev pub stored : Setup → Bytes → (at : Reg) → (written : ℕ) → Bytes
 stored setup bytes at written = λ reg. changed_byte setup (Store at One written) reg (bytes reg)
 
 -- the offsets of DRB0 to DRB7
 abbrev pub IsRowOffset : ℕ → Type 0
-IsRowOffset off = (0x60 ≤ off) × (off ≤ 0x67)
+IsRowOffset off = ((drb 0).off ≤ off) × (off ≤ (drb 7).off)
 
 -- a store from an offset on covers one of the offsets from first to last
 abbrev pub overlaps : (off : ℕ) → Width → (first last : ℕ) → Bool
@@ -63,13 +50,13 @@ overlaps off width first last = nat_le off last && nat_lt first (off + bytes_of 
 -- line of a card is none of these
 pub record StandsFor (setup : Setup) (bytes : Bytes) (regs : MapBytes) : Type 0 where
   pub rows : IsRowsOf bytes regs.drb
-  pub hole : regs.fdhc ≡ bytes (bridge 0x68)
+  pub hole : regs.fdhc ≡ bytes fdhc
   pub windows : IsPamOf bytes regs.pam
-  pub smram : regs.smram ≡ bytes (bridge 0x72)
-  pub xbcs : regs.xbcs ≡ bytes (isa 0x4E)
+  pub smram : regs.smram ≡ bytes smram
+  pub xbcs : regs.xbcs ≡ bytes xbcs
   pub cards : AreDecoded setup bytes regs.cards
 
 -- these are the command and the timing of the IDE function. Of the timing the high byte alone decides
 pub record IsIdeOf (bytes : Bytes) (ide_command idetim : ℕ) : Type 0 where
-  pub command : ide_command ≡ bytes (ide 0x04)
-  pub timing : idetim / 0x100 ≡ bytes (ide 0x41)
+  pub command : ide_command ≡ bytes command_register
+  pub timing : idetim / 0x100 ≡ bytes idetim_high

@@ -7,8 +7,10 @@ use Rattle.board_base.specs.declared.target.Dev.{Dev}
 use Rattle.board_base.specs.declared.target.Dev.TheVariants.{Reset, Pic0, Pic1, Pit, System, Keyboard, Clock, Elcr, Ata}
 use Rattle.board_base.specs.declared.target.Denial.{Denial}
 use Rattle.board_base.specs.declared.target.Denial.TheVariants.{Register, NoRegister}
-use Rattle.board_spec.specs.Bits.{is_bit, is_within}
-use Rattle.board_spec.specs.RegisterNames.{isa, ide}
+use Rattle.board_spec.specs.Bits.{is_bit}
+use Rattle.board_spec.specs.Ranges.{lies_in}
+use Rattle.board_spec.specs.PortNames.{reset_control_port, master_ports, slave_ports, timer_ports, system_port, elcr_ports, keyboard_data_port, keyboard_command_port, clock_ports, disk_data_port, disk_ports, disk_control_port}
+use Rattle.board_spec.specs.RegisterNames.{xbcs as select_register, ide_command, idetim}
 use Rattle.addr_decode.specs.declared.onboard.Onboard.{Onboard}
 use Rattle.addr_decode.specs.declared.onboard.Onboard.TheVariants.{Answers, Denied, Absent}
 
@@ -21,24 +23,24 @@ if_selected false dev denial = Denied denial
 abbrev pub disk_by : (disk : Bool) → (command timing : ℕ) → Onboard
 disk_by false command timing = Denied NoRegister
 disk_by true command timing =
-    if is_bit command 0 then if_selected (is_bit timing 15) Ata (Register (ide 0x40)) else Denied (Register (ide 0x04))
+    if is_bit command 0 then if_selected (is_bit timing 15) Ata (Register idetim) else Denied (Register ide_command)
 
 -- the registers of one byte
 unfoldable pub byte_port : (xbcs : ℕ) → (disk : Onboard) → ℕ → Onboard
 byte_port xbcs disk port =
-    if port == 0xCF9 then Answers Reset else
-    if is_within 0x20 0x21 port then Answers Pic0 else
-    if is_within 0xA0 0xA1 port then Answers Pic1 else
-    if is_within 0x40 0x43 port then Answers Pit else
-    if port == 0x61 then Answers System else
-    if is_within 0x4D0 0x4D1 port then Answers Elcr else
-    if port == 0x60 || port == 0x64 then if_selected (is_bit xbcs 1) Keyboard (Register (isa 0x4E)) else
-    if is_within 0x70 0x71 port then if_selected (is_bit xbcs 0) Clock (Register (isa 0x4E)) else
-    if is_within 0x1F1 0x1F7 port || port == 0x3F6 then disk else Absent
+    if port == reset_control_port then Answers Reset else
+    if lies_in master_ports port then Answers Pic0 else
+    if lies_in slave_ports port then Answers Pic1 else
+    if lies_in timer_ports port then Answers Pit else
+    if port == system_port then Answers System else
+    if lies_in elcr_ports port then Answers Elcr else
+    if port == keyboard_data_port || port == keyboard_command_port then if_selected (is_bit xbcs 1) Keyboard (Register select_register) else
+    if lies_in clock_ports port then if_selected (is_bit xbcs 0) Clock (Register select_register) else
+    if lies_in disk_ports port || port == disk_control_port then disk else Absent
 
 -- the data register of the disk, of two or four bytes
 abbrev pub wide_port : (disk : Onboard) → ℕ → Onboard
-wide_port disk port = if port == 0x1F0 then disk else Absent
+wide_port disk port = if port == disk_data_port then disk else Absent
 
 abbrev pub onboard_at : (xbcs : ℕ) → (disk : Onboard) → ℕ → Width → Onboard
 onboard_at xbcs disk port One = byte_port xbcs disk port

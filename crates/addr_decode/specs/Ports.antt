@@ -8,8 +8,9 @@ use Rattle.board_base.specs.declared.target.Denial.{Denial}
 use Rattle.board_base.specs.Access.{bytes_of}
 use Rattle.board_spec.specs.Setup.{Setup}
 use Rattle.board_spec.specs.Registers.{is_config_port, config_register}
+use Rattle.board_spec.specs.PortNames.{config_address_port}
 use Rattle.board_spec.specs.Decode.{Bytes}
-use Rattle.board_spec.specs.RegisterNames.{isa, ide}
+use Rattle.board_spec.specs.RegisterNames.{xbcs, ide_command}
 use Rattle.board_spec.specs.Ports.{Decoded, device, config_port, unselected, other_port}
 use Rattle.addr_decode.specs.declared.onboard.Onboard.{Onboard}
 use Rattle.addr_decode.specs.declared.onboard.Onboard.TheVariants.{Answers, Denied, Absent}
@@ -32,6 +33,6 @@ after_onboard setup bytes port Absent = other_port setup bytes port
 -- the ports in the order of the code
 unfoldable pub ports_in_order : Setup → Bytes → (address : ℕ) → (disk : Bool) → (timing : ℕ) → ℕ → Width → Decoded
 ports_in_order setup bytes address disk timing port width =
-    if port == 0xCF8 && bytes_of width == 4 then device AddressPort else
+    if port == config_address_port && bytes_of width == 4 then device AddressPort else
     if is_config_port port then config_port address (config_register setup address port) else
-    after_onboard setup bytes port (onboard_at (bytes (isa 0x4E)) (disk_by disk (bytes (ide 0x04)) timing) port width)
+    after_onboard setup bytes port (onboard_at (bytes xbcs) (disk_by disk (bytes ide_command) timing) port width)

@@ -3,11 +3,13 @@ ghost use Rattle.std.specs.Prelude.{◌≡◌, ◌+◌, false};
 ghost use Rattle.board_spec.specs.Setup.{Setup};
 ghost use Rattle.board_spec.specs.Decode.{Bytes, is_smram_range};
 ghost use Rattle.board_spec.specs.FlatMap.{six_areas};
-ghost use Rattle.addr_decode.specs.MapRegs.{AreFitted, StandsFor, map_bytes};
+ghost use Rattle.pci_bars.specs.Cards.{AreFitted};
+ghost use Rattle.addr_decode.specs.MapRegs.{StandsFor, map_bytes};
 
 use crate::memory::area_of;
 use crate::regs::MapRegs;
 use board_base::{Area, Kind, Steps};
+use board_spec::range::SMRAM_RANGE;
 use std::sync::ledger::Ledger;
 
 /// The areas of an address: of a fetch, a read and a write outside SMM, and then of these in SMM.
@@ -41,17 +43,10 @@ pub fn areas_at(regs: &MapRegs, addr: u32) -> SixAreas
     ensures areas { (setup : Setup) (bytes : Bytes) → StandsFor setup bytes (map_bytes regs.now)
         → result.areas ≡ six_areas setup bytes addr }
 {
-    if is_smram_address(addr) {
+    if SMRAM_RANGE.contains(addr) {
         return areas_in_smram(regs, addr);
     }
     areas_beside_smram(regs, addr)
-}
-
-/// Whether SMRAM can answer at an address.
-fn is_smram_address(addr: u32) -> bool
-    ensures smram { result ≡ is_smram_range addr }
-{
-    0xA_0000 <= addr && addr <= 0xB_FFFF
 }
 
 /// The areas of an address at which SMRAM can answer, so that each of them is looked up.

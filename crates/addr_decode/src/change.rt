@@ -1,23 +1,25 @@
 //! What a change of the configuration space makes of the registers that the address map depends on.
-ghost use Rattle.std.specs.Prelude.{◌≡◌, ◌||◌};
+ghost use Rattle.std.specs.Prelude.{◌≡◌, ◌&&◌, ◌||◌, is_some};
 ghost use Rattle.board_spec.specs.declared.map_change.MapChange.TheVariants.{Store};
 ghost use Rattle.board_spec.specs.Setup.{Setup};
 ghost use Rattle.board_spec.specs.Registers.{changed_byte};
 ghost use Rattle.board_spec.specs.Decode.{Bytes};
 ghost use Rattle.board_spec.specs.RegisterNames.{bridge, isa};
 ghost use Rattle.board_spec.specs.MapWrites.{reg_after, touches_map};
-ghost use Rattle.pci_bars.specs.Cards.{cards_of};
+ghost use Rattle.pci_bars.specs.Cards.{AreFitted, cards_of};
 ghost use Rattle.pmc_regs.specs.Pmc.{IsRowsOf};
-ghost use Rattle.addr_decode.specs.MapRegs.{AreFitted, IsRowOffset, StandsFor, map_bytes, stored, overlaps};
+ghost use Rattle.addr_decode.specs.MapRegs.{IsRowOffset, StandsFor, map_bytes, stored, overlaps};
 
-use crate::cards::{is_fitted, write_card};
+use crate::cards::write_card;
 use crate::regs::MapRegs;
 use board_base::{Reg, Width};
 use board_spec::MapChange;
 use board_spec::offset::{
-    BASES, BASES_END, COMMAND, DRB0, DRB7, FDHC, HOST_BRIDGE, PAM0, PAM6, SMRAM, SOUTH_BRIDGE, XBCS,
+    BASE0, BASE5_END, COMMAND, DRB0, DRB7, EXPANSION_ROM, EXPANSION_ROM_END, FDHC, HOST_BRIDGE,
+    PAM0, PAM6, SMRAM, SOUTH_BRIDGE, XBCS,
 };
 use pam_windows::store_pam;
+use pci_bars::{CardRegs, card_at};
 use pmc_regs::fdhc_after;
 use smram_ctl::smram_after;
 use xbus_select::xbcs_after;
@@ -35,7 +37,10 @@ pub fn touches(regs: &MapRegs, reg: Reg, width: Width) -> bool
     match reg.dev {
         HOST_BRIDGE => touches_bridge(reg.off, width),
         SOUTH_BRIDGE => overlaps(reg.off, width, XBCS, XBCS),
-        dev => touches_card(reg.off, width) && is_fitted(&regs.cards, dev),
+        dev => match card_at(&regs.cards, dev) {
+            Some(card) => touches_card(card, reg.off, width),
+            None => false,
+        },
     }
 }
 
@@ -46,11 +51,14 @@ fn touches_bridge(off: u8, width: Width) -> bool
     overlaps(off, width, PAM0, FDHC) || overlaps(off, width, SMRAM, SMRAM)
 }
 
-/// Whether a store to a card covers its command or a base.
-fn touches_card(off: u8, width: Width) -> bool
-    ensures touched { result ≡ (overlaps off width 0x04 0x04 || overlaps off width 0x10 0x27) }
+/// Whether a store to a card covers its command, a base or the register of its expansion ROM.
+fn touches_card(card: &CardRegs, off: u8, width: Width) -> bool
+    ensures touched { result ≡ (overlaps off width 0x04 0x04 || overlaps off width 0x10 0x27
+        || is_some card.now.card.rom && overlaps off width 0x30 0x33) }
 {
-    overlaps(off, width, COMMAND, COMMAND) || overlaps(off, width, BASES, BASES_END)
+    overlaps(off, width, COMMAND, COMMAND)
+        || overlaps(off, width, BASE0, BASE5_END)
+        || card.spec.rom.is_some() && overlaps(off, width, EXPANSION_ROM, EXPANSION_ROM_END)
 }
 
 /// Whether a store from an offset on covers one of the offsets from `first` to `last`.

@@ -2,31 +2,28 @@
 ghost use Rattle.std.specs.Prelude.{◌≡◌, ◌≤◌, Some, None};
 ghost use Rattle.board_base.specs.declared.target.Denial.TheVariants.{Register};
 ghost use Rattle.board_spec.specs.Setup.{Setup};
-ghost use Rattle.board_spec.specs.Decode.{Bytes, pam_register, top_of as top_by, memory_shut, abort_denial, rom_denial, denial_in};
-ghost use Rattle.board_spec.specs.RegisterNames.{isa};
-ghost use Rattle.addr_decode.specs.MapRegs.{AreFitted, StandsFor, map_bytes};
-ghost use Rattle.addr_decode.specs.Memory.{board_denial, card_denial};
+ghost use Rattle.board_spec.specs.Decode.{Bytes, pam_register, top_of as top_by, memory_shut, rom_unselected, abort_denial, rom_denial, denial_in};
+ghost use Rattle.board_spec.specs.RegisterNames.{xbcs as select_register};
+ghost use Rattle.pci_bars.specs.Cards.{AreFitted};
+ghost use Rattle.addr_decode.specs.MapRegs.{StandsFor, map_bytes};
+ghost use Rattle.addr_decode.specs.Memory.{board_denial, row_denial};
 
-use crate::denied_by::{card_command, host_bridge, isa_bridge};
+use crate::denied_by::{card_command, expansion_rom, host_bridge, isa_bridge};
 use crate::regs::MapRegs;
 use board_base::{Area, Denial, Kind};
-use board_spec::bits::is_set;
 use board_spec::offset::{DRB7, FDHC, SMRAM, XBCS};
+use board_spec::range::{EXPANSION_RANGE, LARGEST_TOP, SELECTABLE_BIOS, SMRAM_RANGE};
 use pam_windows::window_of;
-use pci_bars::shut_mem;
+use pci_bars::{shut_mem, unselected_rom};
 use pmc_regs::top_of;
-
-/// From here on no boundary register can put DRAM.
-const DRAM_END: u32 = 0x7F80_0000;
-/// The bit of XBCS that lets writes to the BIOS reach its chip.
-const BIOS_WRITE_ENABLE: u32 = 2;
+use xbus_select::sends_bios_writes;
 
 /// What denies an access that reaches this area. None where it is not denied.
 pub fn denial_in(regs: &MapRegs, area: Area, addr: u32, kind: Kind) -> Option<Denial>
     requires cards { AreFitted regs.now.cards.items }
     ensures denial { (setup : Setup) (bytes : Bytes) → StandsFor setup bytes (map_bytes regs.now)
-        → result ≡ denial_in area kind (abort_denial (top_by bytes) (memory_shut setup bytes addr) addr)
-        (rom_denial (bytes (isa 0x4E))) }
+        → result ≡ denial_in area kind (abort_denial (top_by bytes) (memory_shut setup bytes addr) (rom_unselected setup bytes addr) addr)
+        (rom_denial (bytes select_register)) }
 {
     match area {
         Area::Abort => Some(abort_denial(regs, addr)),
@@ -49,7 +46,7 @@ fn rom_denial_in(xbcs: u8, kind: Kind) -> Option<Denial>
 fn rom_denial(xbcs: u8) -> Denial
     ensures denial { result ≡ rom_denial xbcs }
 {
-    if is_set(xbcs.into(), BIOS_WRITE_ENABLE) {
+    if sends_bios_writes(xbcs) {
         return Denial::NoRegister;
     }
     isa_bridge(XBCS)
@@ -59,22 +56,25 @@ fn rom_denial(xbcs: u8) -> Denial
 fn abort_denial(regs: &MapRegs, addr: u32) -> Denial
     requires cards { AreFitted regs.now.cards.items }
     ensures denial { (setup : Setup) (bytes : Bytes) → StandsFor setup bytes (map_bytes regs.now)
-        → result ≡ abort_denial (top_by bytes) (memory_shut setup bytes addr) addr }
+        → result ≡ abort_denial (top_by bytes) (memory_shut setup bytes addr) (rom_unselected setup bytes addr) addr }
 {
     if let Some(denial) = board_denial(top_of(&regs.drb), addr) {
         return denial;
     }
-    match shut_mem(&regs.cards, addr) {
-        Some(dev) => card_command(dev),
+    if let Some(dev) = shut_mem(&regs.cards, addr) {
+        return card_command(dev);
+    }
+    match unselected_rom(&regs.cards, addr) {
+        Some(dev) => expansion_rom(dev),
         None => row_denial(addr),
     }
 }
 
 /// What denies an access above the top of DRAM: DRB7, where it could put DRAM there.
 fn row_denial(addr: u32) -> Denial
-    ensures denial { result ≡ card_denial None addr }
+    ensures denial { result ≡ row_denial addr }
 {
-    if addr < DRAM_END {
+    if addr < LARGEST_TOP {
         return host_bridge(DRB7);
     }
     Denial::NoRegister
@@ -86,17 +86,19 @@ fn row_denial(addr: u32) -> Denial
 fn board_denial(top: u32, addr: u32) -> Option<Denial>
     ensures denial { result ≡ board_denial top addr }
 {
-    if 0xFFF8_0000 <= addr && addr <= 0xFFFE_FFFF {
+    if SELECTABLE_BIOS.contains(addr) {
         return Some(isa_bridge(XBCS));
     }
     if top == 0 {
         return None;
     }
-    match addr {
-        0xA_0000..=0xB_FFFF => Some(host_bridge(SMRAM)),
-        0xC_0000..=0xE_FFFF => pam_denial(addr),
-        _ => (addr < top).then_some(host_bridge(FDHC)),
+    if SMRAM_RANGE.contains(addr) {
+        return Some(host_bridge(SMRAM));
     }
+    if EXPANSION_RANGE.contains(addr) {
+        return pam_denial(addr);
+    }
+    (addr < top).then_some(host_bridge(FDHC))
 }
 
 /// The PAM register of an address. None outside the shadow windows.

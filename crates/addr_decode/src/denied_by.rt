@@ -1,10 +1,10 @@
 //! Denials by the registers that the address decode names.
 ghost use Rattle.std.specs.Prelude.{◌≡◌};
 ghost use Rattle.board_base.specs.declared.target.Denial.TheVariants.{Register};
-ghost use Rattle.board_spec.specs.RegisterNames.{bridge, isa, ide, card_register};
+ghost use Rattle.board_spec.specs.RegisterNames.{bridge, isa, ide, card_command as command_register, expansion_rom as rom_register};
 
 use board_base::{Denial, Reg};
-use board_spec::offset::{COMMAND, HOST_BRIDGE, IDE, ISA_BRIDGE, SOUTH_BRIDGE};
+use board_spec::offset::{COMMAND, EXPANSION_ROM, HOST_BRIDGE, IDE, ISA_BRIDGE, SOUTH_BRIDGE};
 
 /// A denial by a register of the host bridge, 00.0.
 pub fn host_bridge(off: u8) -> Denial
@@ -41,11 +41,22 @@ pub fn ide_function(off: u8) -> Denial
 
 /// A denial by the command of the card at a device number.
 pub fn card_command(dev: u8) -> Denial
-    ensures register { result ≡ Register (card_register dev 0x04) }
+    ensures register { result ≡ Register (command_register dev) }
 {
     Denial::Register(Reg {
         dev,
         fun: 0,
         off: COMMAND,
+    })
+}
+
+/// A denial by the register of the expansion ROM of the card at a device number.
+pub fn expansion_rom(dev: u8) -> Denial
+    ensures register { result ≡ Register (rom_register dev) }
+{
+    Denial::Register(Reg {
+        dev,
+        fun: 0,
+        off: EXPANSION_ROM,
     })
 }

@@ -1,16 +1,16 @@
 //! The edges of the memory map: the addresses at which a row of it may differ from the one below.
 ghost use Rattle.std.specs.Prelude.{◌≡◌, ◌<◌, ◌≤◌, ◌*◌, ◌↔◌, ◌+◌, [], ◌∷◌, IfSome, IsNone, nat_lt, find, All, length, map, unwrap_or, flat_map};
-ghost use Rattle.board_spec.specs.Setup.{Setup, IsBase, IsCard};
+ghost use Rattle.board_spec.specs.Setup.{Setup, IsBase, IsCard, IsExpansionRom};
 ghost use Rattle.board_spec.specs.Decode.{Bytes};
 ghost use Rattle.board_spec.specs.FlatMap.{address_count};
 ghost use Rattle.pci_bars.specs.Bases.{base_of};
-ghost use Rattle.pci_bars.specs.Cards.{AreCards};
-ghost use Rattle.addr_decode.specs.MapRegs.{AreFitted, StandsFor, map_bytes};
+ghost use Rattle.pci_bars.specs.Cards.{AreCards, AreFitted};
+ghost use Rattle.addr_decode.specs.MapRegs.{StandsFor, map_bytes};
 ghost use Rattle.addr_decode.specs.Edges.{IsNextEdge, NoEdgeAbove, SameAreas, edges_after};
-ghost use Rattle.addr_decode.specs.EdgeSearch.{nearer as nearer_by, nearest as nearest_by, ends_of, ends_from, ends_of_card};
+ghost use Rattle.addr_decode.specs.EdgeSearch.{nearer as nearer_by, nearest as nearest_by, ends_of, ends_from, ends_of_rom, ends_of_card};
 
 use crate::regs::MapRegs;
-use pci_bars::{BaseSpec, CardRegs};
+use pci_bars::{BASE_COUNT, BaseSpec, CardRegs};
 use pmc_regs::end_of;
 
 /// The edges that no register moves: the ends of the hole at 512 KiB, of SMRAM, of the shadow windows, of the hole
@@ -38,9 +38,6 @@ const FIXED_EDGES: [u32; 21] = [
     0xFFFE_0000,
     0xFFFF_0000,
 ];
-
-/// How many base address registers a card has.
-const BASE_REGISTERS: usize = 6;
 
 /// The least address above this one at which a row of the memory map may change. None where the row stays the same
 /// up to the last address.
@@ -80,7 +77,8 @@ fn nearest_end_of_rows(found: Option<u32>, addr: u32, drb: &[u8; 8]) -> Option<u
     least
 }
 
-/// The least edge above an address: one found before, or an end of a memory base of these cards.
+/// The least edge above an address: one found before, or an end of a memory base or of an expansion ROM of these
+/// cards.
 #[tactic(auto, unfolding(crate::specs::EdgeSearch::nearest))]
 fn nearest_end_of_cards(found: Option<u32>, addr: u32, cards: &[CardRegs]) -> Option<u32>
     requires cards { AreCards cards.now }
@@ -93,12 +91,42 @@ fn nearest_end_of_cards(found: Option<u32>, addr: u32, cards: &[CardRegs]) -> Op
     least
 }
 
-/// The least edge above an address: one found before, or an end of a memory base of this card.
+/// The least edge above an address: one found before, or an end of a memory base or of the expansion ROM of this
+/// card.
 fn nearest_end_of_card(found: Option<u32>, addr: u32, card: &CardRegs) -> Option<u32>
     requires card { IsCard card.now.card }
     ensures nearest { result ≡ nearest_by addr found (ends_of_card card.now) }
 {
+    let least = nearest_end_of_its_bases(found, addr, card);
+    nearest_end_of_its_rom(least, addr, card)
+}
+
+/// The least edge above an address: one found before, or an end of a memory base of this card.
+fn nearest_end_of_its_bases(found: Option<u32>, addr: u32, card: &CardRegs) -> Option<u32>
+    requires card { IsCard card.now.card }
+    ensures nearest { result ≡ nearest_by addr found (ends_from card.now.bases 0 card.now.card.bases) }
+{
     nearest_end_of_bases(found, addr, &card.spec.bases, &card.bases)
+}
+
+/// The least edge above an address: one found before, or an end of the expansion ROM of this card.
+fn nearest_end_of_its_rom(found: Option<u32>, addr: u32, card: &CardRegs) -> Option<u32>
+    requires card { IsCard card.now.card }
+    ensures nearest { result ≡ nearest_by addr found (ends_of_rom card.now.card.rom card.now.rom) }
+{
+    nearest_end_of_rom(found, addr, card.spec.rom, card.rom)
+}
+
+/// The least edge above an address: one found before, or an end of an expansion ROM with this register.
+#[tactic(auto, unfolding(crate::specs::EdgeSearch::nearest))]
+fn nearest_end_of_rom(found: Option<u32>, addr: u32, rom: Option<u8>, register: u32) -> Option<u32>
+    requires rom { IsExpansionRom rom }
+    ensures nearest { result ≡ nearest_by addr found (ends_of_rom rom register) }
+{
+    match rom {
+        Some(bits) => nearest_end_of_base(found, addr, BaseSpec::Memory(bits), register),
+        None => found,
+    }
 }
 
 /// The least edge above an address: one found before, or an end of one of these bases that hold these values.
@@ -107,7 +135,7 @@ fn nearest_end_of_bases(
     found: Option<u32>,
     addr: u32,
     bases: &[BaseSpec],
-    values: &[u32; BASE_REGISTERS],
+    values: &[u32; BASE_COUNT],
 ) -> Option<u32>
     requires bases { All IsBase (map base_of bases.now) }
     requires count { length bases.now ≤ 6 }

@@ -7,7 +7,7 @@ pub fn law_areas_change_at_edges()
     ensures equal { AreasChangeAtEdges }
 {}
 
-/// A board has at most 125 edges, so that its memory map has at most 126 ranges.
+/// A board has at most 141 edges, so that its memory map has at most 142 ranges.
 pub fn law_few_edges()
     ensures few { FewEdges }
 {}

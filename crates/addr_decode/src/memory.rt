@@ -2,15 +2,17 @@
 ghost use Rattle.std.specs.Prelude.{◌≡◌, Some, option_map};
 ghost use Rattle.board_spec.specs.Setup.{Setup};
 ghost use Rattle.board_spec.specs.Decode.{Bytes, is_in, hole_of as hole_by, row_of as row_by, is_shadowed, smram_answers, area_of, denial_of};
-ghost use Rattle.board_spec.specs.RegisterNames.{bridge};
+ghost use Rattle.board_spec.specs.RegisterNames.{fdhc, smram};
 ghost use Rattle.pam_windows.specs.Pam.{IsPamOf};
-ghost use Rattle.addr_decode.specs.MapRegs.{AreFitted, StandsFor, map_bytes};
+ghost use Rattle.pci_bars.specs.Cards.{AreFitted};
+ghost use Rattle.addr_decode.specs.MapRegs.{StandsFor, map_bytes};
 ghost use Rattle.addr_decode.specs.Memory.{dram_area, row_area};
 
 use crate::denial::denial_in;
 use crate::regs::MapRegs;
 use board_base::{Area, Denial, Kind};
 use board_spec::offset::PAM0;
+use board_spec::range::{SHADOW_RANGE, SMRAM_RANGE};
 use pam_windows::window_of;
 use pci_bars::claim_mem;
 use pmc_regs::{hole_of, row_of};
@@ -51,8 +53,8 @@ pub(crate) fn area_of(regs: &MapRegs, addr: u32, kind: Kind, smm: bool) -> Area
 /// Where an access reaches DRAM: in SMRAM, through a shadow window or directly. None where it does not.
 fn dram_area(regs: &MapRegs, addr: u32, kind: Kind, smm: bool) -> Option<Area>
     ensures dram { (setup : Setup) (bytes : Bytes) → StandsFor setup bytes (map_bytes regs.now)
-        → result ≡ dram_area (row_by bytes addr) (smram_answers (bytes (bridge 0x72)) kind smm)
-        (is_shadowed bytes addr kind) (is_in (hole_by (bytes (bridge 0x68))) addr) addr }
+        → result ≡ dram_area (row_by bytes addr) (smram_answers (bytes smram) kind smm)
+        (is_shadowed bytes addr kind) (is_in (hole_by (bytes fdhc)) addr) addr }
 {
     match row_of(&regs.drb, addr) {
         Some(row) => row_area(regs, row, addr, kind, smm),
@@ -63,14 +65,16 @@ fn dram_area(regs: &MapRegs, addr: u32, kind: Kind, smm: bool) -> Option<Area>
 /// Where an access at an address of a row reaches DRAM.
 fn row_area(regs: &MapRegs, row: u8, addr: u32, kind: Kind, smm: bool) -> Option<Area>
     ensures dram { (setup : Setup) (bytes : Bytes) → StandsFor setup bytes (map_bytes regs.now)
-        → result ≡ row_area row (smram_answers (bytes (bridge 0x72)) kind smm)
-        (is_shadowed bytes addr kind) (is_in (hole_by (bytes (bridge 0x68))) addr) addr }
+        → result ≡ row_area row (smram_answers (bytes smram) kind smm)
+        (is_shadowed bytes addr kind) (is_in (hole_by (bytes fdhc)) addr) addr }
 {
-    match addr {
-        0xA_0000..=0xB_FFFF => smram_reaches(regs.smram, kind, smm).then_some(Area::Smram),
-        0xC_0000..=0xF_FFFF => is_shadowed(&regs.pam, addr, kind).then_some(Area::Shadow(row)),
-        _ => (!is_in_hole(regs.fdhc, addr)).then_some(Area::Dram(row)),
+    if SMRAM_RANGE.contains(addr) {
+        return smram_reaches(regs.smram, kind, smm).then_some(Area::Smram);
     }
+    if SHADOW_RANGE.contains(addr) {
+        return is_shadowed(&regs.pam, addr, kind).then_some(Area::Shadow(row));
+    }
+    (!is_in_hole(regs.fdhc, addr)).then_some(Area::Dram(row))
 }
 
 /// Whether a shadow window is open at an address.

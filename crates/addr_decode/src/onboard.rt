@@ -3,21 +3,20 @@ ghost use Rattle.std.specs.Prelude.{◌≡◌};
 ghost use Rattle.board_base.specs.declared.target.Dev.TheVariants.{Keyboard, Clock};
 ghost use Rattle.board_base.specs.declared.target.Denial.TheVariants.{Register};
 ghost use Rattle.board_spec.specs.Bits.{is_bit};
-ghost use Rattle.board_spec.specs.RegisterNames.{isa};
+ghost use Rattle.board_spec.specs.RegisterNames.{xbcs as select_register};
 ghost use Rattle.addr_decode.specs.Onboard.{if_selected, disk_by, byte_port, wide_port, onboard_at};
 
 use crate::denied_by::{ide_function, isa_bridge};
 use board_base::{Denial, Dev, Width};
 use board_spec::bits::is_set;
 use board_spec::offset::{COMMAND, IDETIM, XBCS};
+use board_spec::port::{
+    CLOCK_DATA, CLOCK_INDEX, DISK_CONTROL, DISK_DATA, DISK_ERROR, DISK_STATUS, ELCR, ELCR_HIGH,
+    KEYBOARD_COMMAND, KEYBOARD_DATA, MASTER, MASTER_ODD, RESET_CONTROL, SLAVE, SLAVE_ODD, SYSTEM,
+    TIMER, TIMER_CONTROL,
+};
+use xbus_select::{selects_clock, selects_keyboard};
 
-/// The data register of the primary IDE channel.
-const ATA_DATA: u16 = 0x1F0;
-
-/// The bit of XBCS that selects the clock.
-const CLOCK_SELECT: u32 = 0;
-/// The bit of XBCS that selects the keyboard controller.
-const KEYBOARD_SELECT: u32 = 1;
 /// The bit of the IDE command that enables its ports.
 const IO_ENABLE: u32 = 0;
 /// The bit of IDETIM that enables the primary channel.
@@ -50,15 +49,15 @@ fn byte_port(xbcs: u8, disk: Onboard, port: u16) -> Onboard
     ensures onboard { result ≡ byte_port xbcs disk port }
 {
     match port {
-        0xCF9 => Onboard::Answers(Dev::Reset),
-        0x20..=0x21 => Onboard::Answers(Dev::Pic0),
-        0xA0..=0xA1 => Onboard::Answers(Dev::Pic1),
-        0x40..=0x43 => Onboard::Answers(Dev::Pit),
-        0x61 => Onboard::Answers(Dev::System),
-        0x4D0..=0x4D1 => Onboard::Answers(Dev::Elcr),
-        0x60 | 0x64 => keyboard(xbcs),
-        0x70..=0x71 => clock(xbcs),
-        0x1F1..=0x1F7 | 0x3F6 => disk,
+        RESET_CONTROL => Onboard::Answers(Dev::Reset),
+        MASTER..=MASTER_ODD => Onboard::Answers(Dev::Pic0),
+        SLAVE..=SLAVE_ODD => Onboard::Answers(Dev::Pic1),
+        TIMER..=TIMER_CONTROL => Onboard::Answers(Dev::Pit),
+        SYSTEM => Onboard::Answers(Dev::System),
+        ELCR..=ELCR_HIGH => Onboard::Answers(Dev::Elcr),
+        KEYBOARD_DATA | KEYBOARD_COMMAND => keyboard(xbcs),
+        CLOCK_INDEX..=CLOCK_DATA => clock(xbcs),
+        DISK_ERROR..=DISK_STATUS | DISK_CONTROL => disk,
         _ => Onboard::Absent,
     }
 }
@@ -67,7 +66,7 @@ fn byte_port(xbcs: u8, disk: Onboard, port: u16) -> Onboard
 fn wide_port(disk: Onboard, port: u16) -> Onboard
     ensures onboard { result ≡ wide_port disk port }
 {
-    if port == ATA_DATA {
+    if port == DISK_DATA {
         disk
     } else {
         Onboard::Absent
@@ -76,9 +75,9 @@ fn wide_port(disk: Onboard, port: u16) -> Onboard
 
 /// The keyboard controller, where XBCS selects it.
 fn keyboard(xbcs: u8) -> Onboard
-    ensures selected { result ≡ if_selected (is_bit xbcs 1) Keyboard (Register (isa 0x4E)) }
+    ensures selected { result ≡ if_selected (is_bit xbcs 1) Keyboard (Register select_register) }
 {
-    if !is_set(xbcs.into(), KEYBOARD_SELECT) {
+    if !selects_keyboard(xbcs) {
         return Onboard::Denied(isa_bridge(XBCS));
     }
     Onboard::Answers(Dev::Keyboard)
@@ -86,9 +85,9 @@ fn keyboard(xbcs: u8) -> Onboard
 
 /// The clock, where XBCS selects it.
 fn clock(xbcs: u8) -> Onboard
-    ensures selected { result ≡ if_selected (is_bit xbcs 0) Clock (Register (isa 0x4E)) }
+    ensures selected { result ≡ if_selected (is_bit xbcs 0) Clock (Register select_register) }
 {
-    if !is_set(xbcs.into(), CLOCK_SELECT) {
+    if !selects_clock(xbcs) {
         return Onboard::Denied(isa_bridge(XBCS));
     }
     Onboard::Answers(Dev::Clock)

@@ -6,8 +6,8 @@ ghost use Rattle.board_spec.specs.RegisterTable.{function_at, function_exists};
 ghost use Rattle.board_spec.specs.Registers.{kept_address, config_register, is_config_port};
 ghost use Rattle.board_spec.specs.Decode.{Bytes, command_of, io_claim, io_shut};
 ghost use Rattle.board_spec.specs.Ports.{port_target_of, config_port, unselected, other_port};
-ghost use Rattle.pci_bars.specs.Cards.{AreCards, AreDecoded};
-ghost use Rattle.addr_decode.specs.MapRegs.{AreFitted, IsIdeOf, StandsFor, map_bytes};
+ghost use Rattle.pci_bars.specs.Cards.{AreCards, AreDecoded, AreFitted};
+ghost use Rattle.addr_decode.specs.MapRegs.{IsIdeOf, StandsFor, map_bytes};
 ghost use Rattle.addr_decode.specs.Ports.{as_decoded, IsDenied};
 
 use crate::cards::is_fitted;
@@ -16,15 +16,9 @@ use crate::onboard::{Onboard, disk_by, onboard_at};
 use crate::regs::MapRegs;
 use board_base::{Denial, Dev, Target, Width};
 use board_spec::offset::{HOST_BRIDGE, IDE, SOUTH_BRIDGE};
+use board_spec::port::{CONFIG_ADDRESS, CONFIG_DATA, CONFIG_DATA_END};
 use cfg_ports::{ConfAdd, Selected};
 use pci_bars::{CardRegs, claim_io, offset_in, shut_io};
-
-/// The port of the configuration address, which takes four bytes.
-const CONFIG_ADDRESS: u16 = 0xCF8;
-/// The first port of the configuration data.
-const CONFIG_DATA: u16 = 0xCFC;
-/// The last port of the configuration data.
-const CONFIG_DATA_END: u16 = 0xCFF;
 
 /// What the ports depend on beside the registers of the address map: the configuration address, of which the
 /// bits that it does not keep do not count, the command and the timing of the IDE function, and whether a

@@ -3,13 +3,12 @@ ghost use Rattle.std.specs.Prelude.{◌≡◌};
 ghost use Rattle.board_spec.specs.Setup.{Setup, IsCardList};
 ghost use Rattle.board_spec.specs.RegisterTable.{reset_byte};
 ghost use Rattle.board_spec.specs.Decode.{Bytes};
-ghost use Rattle.pci_bars.specs.Cards.{cards_of};
-ghost use Rattle.addr_decode.specs.MapRegs.{AreFitted, AreReset, StandsFor, map_bytes};
+ghost use Rattle.pci_bars.specs.Cards.{AreFitted, AreReset, cards_of};
+ghost use Rattle.addr_decode.specs.MapRegs.{StandsFor, map_bytes};
 
-use crate::cards::push_card;
 use arrayvec::ArrayVec;
 use pam_windows::PAM_RESET;
-use pci_bars::{CardRegs, CardSpec};
+use pci_bars::{CARD_COUNT, CardRegs, CardSpec, push_card};
 use pmc_regs::{DRB_RESET, FDHC_RESET};
 use smram_ctl::SMRAM_RESET;
 use xbus_select::XBCS_RESET;
@@ -23,7 +22,7 @@ pub struct MapRegs {
     pub pam: [u8; 7],
     pub smram: u8,
     pub xbcs: u8,
-    pub cards: ArrayVec<CardRegs, 8>,
+    pub cards: ArrayVec<CardRegs, CARD_COUNT>,
 }
 
 impl MapRegs {
@@ -75,7 +74,7 @@ impl MapRegs {
 }
 
 /// The registers after a reset, with cards that a reset left.
-fn after_reset(cards: ArrayVec<CardRegs, 8>) -> MapRegs
+fn after_reset(cards: ArrayVec<CardRegs, CARD_COUNT>) -> MapRegs
     requires reset { AreReset cards.items }
     requires cards { AreFitted cards.items }
     ensures stands { (setup : Setup) → setup.cards ≡ cards_of cards.items → StandsFor setup (reset_byte setup) (map_bytes result) }

@@ -1,7 +1,7 @@
 ghost use Rattle.std.specs.Prelude.{◌≡◌, ◌≤◌, ◌<◌, []};
 ghost use Rattle.board_spec.specs.Setup.{IsBase, IsCard};
 ghost use Rattle.pci_bars.specs.Bases.{base_of};
-ghost use Rattle.addr_decode.specs.MapRegs.{AreFitted};
+ghost use Rattle.pci_bars.specs.Cards.{AreFitted};
 
 use crate::{MapChange, MapRegs, PortRegs, SixAreas, decode, decode_port, next_edge, row, touches};
 use arrayvec::ArrayVec;
@@ -23,6 +23,7 @@ fn card(dev: u8, base: BaseSpec) -> CardSpec
         dev,
         vga: false,
         bases,
+        rom: None,
     }
 }
 
@@ -148,6 +149,87 @@ fn memory_of_a_board_with_cards(rt: HostRuntime) {
     }
 }
 
+/// A card with an expansion ROM of 64 KiB alone.
+fn rom_card(dev: u8) -> CardSpec
+    requires from { 2 ≤ dev }
+    requires to { dev ≤ 9 }
+    ensures card { IsCard result }
+    ensures dev { result.dev ≡ dev }
+{
+    CardSpec {
+        dev,
+        vga: false,
+        bases: ArrayVec::new(),
+        rom: Some(16),
+    }
+}
+
+#[test]
+fn memory_of_a_board_with_an_expansion_rom(rt: HostRuntime) {
+    let (read, write) = (Kind::Read, Kind::Write);
+    let (abort, rom) = (Area::Abort, Area::Card(2, 6));
+    let idle = nothing();
+    let ones = store(reg(2, 0, 0x30), Width::Four, 0xFFFF_FFFF);
+    let base = store(reg(2, 0, 0x30), Width::Four, 0xD000_0000);
+    let selected = store(reg(2, 0, 0x30), Width::Four, 0xD000_0001);
+    let unselected = store(reg(2, 0, 0x30), Width::One, 0x00);
+    let on = store(reg(2, 0, 0x04), Width::One, 0x02);
+    let mut regs = MapRegs::reset_of(&[rom_card(2)]);
+    for (change, addr, kind, area, denial, edge) in [
+        (ones, 0xFFFF_0004, read, Area::Rom, None, None),
+        (
+            ones,
+            0xD000_0004,
+            read,
+            abort,
+            Some(Denial::NoRegister),
+            Some(0xFFF8_0000),
+        ),
+        (
+            base,
+            0xD000_0004,
+            read,
+            abort,
+            Some(Denial::NoRegister),
+            Some(0xD001_0000),
+        ),
+        (
+            selected,
+            0xD000_0004,
+            read,
+            abort,
+            by(2, 0, 0x04),
+            Some(0xD001_0000),
+        ),
+        (on, 0xD000_0004, read, rom, None, Some(0xD001_0000)),
+        (idle, 0xD000_0004, write, rom, None, Some(0xD001_0000)),
+        (
+            idle,
+            0xCFFF_FFFF,
+            read,
+            abort,
+            Some(Denial::NoRegister),
+            Some(0xD000_0000),
+        ),
+        (
+            unselected,
+            0xD000_0004,
+            read,
+            abort,
+            by(2, 0, 0x30),
+            Some(0xD001_0000),
+        ),
+    ] {
+        regs.apply(&change);
+        assert_eq!(rt;
+            decode(&regs, addr, kind, false),
+            (area, denial),
+            "at {addr}"
+        );
+        assert_eq!(rt; next_edge(&regs, addr), edge, "above {addr}");
+    }
+}
+
 #[test]
 fn configuration_ports(rt: HostRuntime) {
     let (one, two, four) = (Width::One, Width::Two, Width::Four);
@@ -231,8 +313,13 @@ fn device_ports(rt: HostRuntime) {
 
 #[test]
 fn stores_cover_map_bytes(rt: HostRuntime) {
-    let regs = board(BaseSpec::Memory(20), BaseSpec::Memory(12));
+    let regs = MapRegs::reset_of(&[rom_card(2), card(3, BaseSpec::Memory(12))]);
     for (at, width, touched) in [
+        (reg(2, 0, 0x30), Width::One, true),
+        (reg(2, 0, 0x2F), Width::Two, true),
+        (reg(2, 0, 0x33), Width::One, true),
+        (reg(2, 0, 0x34), Width::Four, false),
+        (reg(3, 0, 0x30), Width::Four, false),
         (reg(0, 0, 0x55), Width::Four, false),
         (reg(0, 0, 0x56), Width::Four, true),
         (reg(0, 0, 0x68), Width::One, true),

@@ -13,9 +13,9 @@ pub const IDE: u8 = 1;
 /// The command register, its low byte, of every function.
 pub const COMMAND: u8 = 0x04;
 /// The first byte of the six base address registers of a card.
-pub const BASES: u8 = 0x10;
+pub const BASE0: u8 = 0x10;
 /// The last byte of the base address registers of a card.
-pub const BASES_END: u8 = 0x27;
+pub const BASE5_END: u8 = 0x27;
 /// The first byte of the expansion ROM base address register of a card.
 pub const EXPANSION_ROM: u8 = 0x30;
 /// The last byte of the expansion ROM base address register.

@@ -51,7 +51,7 @@ impl ConfAdd {
     pub fn write(&mut self, value: u32)
         ensures kept { self.new ≡ kept_address value }
     {
-        self.value = value & KEPT;
+        self.value = kept(value);
     }
 
     /// The four bytes of the register.
@@ -81,6 +81,14 @@ impl ConfAdd {
     {
         select(self.value, port)
     }
+}
+
+/// The bits of a configuration address that its register keeps. The others read 0.
+pub fn kept(address: u32) -> u32
+    ensures kept { result ≡ kept_address address }
+    ensures again { kept_address result ≡ result }
+{
+    address & KEPT
 }
 
 /// The register that an access at one of the ports 0CFCh to 0CFFh reaches by an address that the configuration

@@ -5,5 +5,5 @@
 mod conf_add;
 mod space;
 
-pub use conf_add::{ConfAdd, Selected, select};
+pub use conf_add::{ConfAdd, Selected, kept, select};
 pub use space::Space;

@@ -1,9 +1,10 @@
 -- Base registers as four bytes, and the bases of a card by their numbers.
-use Rattle.std.proofs.Common.{◌≡◌, ◌≢◌, ℕ, zero, suc, ◌<◌, List, length, get_or, set, map, Some, inl, inr, ◌∙◌, sym, ap, subst, arith, lit<, length-set, get_or-set_same, get_or-set_other}
+use Rattle.std.proofs.Common.{◌≡◌, ◌≢◌, ℕ, zero, suc, ◌^◌, ◌<◌, ◌≤◌, List, length, get_or, set, map, Some, inl, inr, ◌∙◌, sym, ap, subst, arith, lit<, length-set, get_or-set_same, get_or-set_other}
 use Rattle.std.specs.Prelude.{All, slice_get}
 use Rattle.std.specs.Int.{w32, from_le_bytes, to_le_bytes}
 use Rattle.std.proofs.lemmas.Bool.{cases_eq}
 use Rattle.std.proofs.lemmas.Nat.{le_bytes_4}
+use Rattle.std.proofs.Math.Pow.{pow_mono}
 use Rattle.std.proofs.lemmas.List.Elements.{All-get_or}
 use Rattle.std.proofs.lemmas.Option.{slice_get_within, get_or_from_slice_get}
 use Rattle.std.proofs.lemmas.List.{get_or-map, length-map}
@@ -59,3 +60,7 @@ is_base bases k base each there =
 pub base_within : (bases : List BaseSpec) (k : ℕ) (d : BaseSpec) → All IsBase (map base_of bases) → k < length bases → IsBase (base_of (get_or bases k d))
 base_within bases k d each below =
     subst IsBase (get_or-map base_of bases k d (base_of d) below) (All-get_or IsBase (map base_of bases) k (base_of d) (omega (arith, length-map bases base_of)) each)
+
+-- the size of an expansion ROM
+pub rom_size : (bits : ℕ) → 11 ≤ bits → bits ≤ 24 → (2 ^ 11 ≤ 2 ^ bits) × (2 ^ bits ≤ 2 ^ 24)
+rom_size bits least most = (pow_mono least, pow_mono most)

@@ -1,26 +1,28 @@
 -- The registers of a card after a reset, as they are read, and after a store of one byte.
-use Rattle.std.proofs.Common.{◌≡◌, ◌≢◌, ◌⊎◌, ℕ, zero, suc, ◌+◌, ◌*◌, ◌^◌, ◌<◌, ◌≤◌, false, List, [], ◌∷◌, length, get_or, set, Some, inl, inr, ◌∙◌, refl, sym, ap, subst, arith, lit<, lit≤, add-zero, get_or-set_same, get_or-set_other}
+use Rattle.std.proofs.Common.{◌≡◌, ◌≢◌, ◌⊎◌, ℕ, zero, suc, ◌+◌, ◌-◌, ◌*◌, ◌^◌, ◌<◌, ◌≤◌, false, Option, None, List, [], ◌∷◌, length, get_or, set, Some, inl, inr, ◌∙◌, refl, sym, ap, subst, arith, lit<, lit≤, add-zero, get_or-set_same, get_or-set_other}
 use Rattle.std.specs.Prelude.{◌==◌, bit_and, slice_index}
-use Rattle.std.proofs.lemmas.Bool.{and_left, ne_eqb, cases_eq}
+use Rattle.std.proofs.lemmas.Bool.{and_left, ne_eqb, cases_eq, cases_lt}
 use Rattle.std.proofs.lemmas.Bool.Decides.{nat_tests}
 use Rattle.std.proofs.lemmas.Nat.{and_mask}
 use Rattle.std.specs.Int.Bits.{and_zero_r, or_zero_l, or_zero_r}
 use Rattle.board_base.specs.declared.access.Width.TheVariants.{One, Four}
+use Rattle.board_base.specs.declared.target.Reg.{Reg}
 use Rattle.board_spec.specs.declared.map_change.MapChange.TheVariants.{Store}
 use Rattle.board_spec.specs.Setup.{Base, MemoryBase, IoBase, FittedCard, Setup, IsCard, card_at}
 use Rattle.board_spec.specs.Bits.{byte, merged, wide}
-use Rattle.board_spec.specs.RegisterTable.{card_function, listed, base_reset, base_writable, reset_byte}
-use Rattle.board_spec.specs.Registers.{is_smram_register, changed_byte}
-use Rattle.board_spec.specs.Decode.{Bytes, base_value}
-use Rattle.board_spec.specs.RegisterNames.{card_register}
+use Rattle.board_spec.specs.RegisterTable.{card_function, listed, base_reset, base_writable, rom_writable, reset_byte}
+use Rattle.board_spec.specs.Registers.{changed_byte}
+use Rattle.board_spec.specs.MapWrites.{reg_after}
+use Rattle.board_spec.specs.Decode.{Bytes}
+use Rattle.board_spec.specs.RegisterNames.{card_register, base_register, expansion_rom, smram, is_same}
 use Rattle.board_spec.proofs.StoreLemmas.{changed_byte-one_same, changed_byte-one_other}
 use Rattle.pci_bars.specs.Bases.{of_base}
-use Rattle.pci_bars.specs.Cards.{CardBytes, DecodesAs, IsCardOf, is_kept_offset, header_of}
-use Rattle.pci_bars.proofs.TableLemmas.{is_fixed, reset_byte-card, writable_bits-card, reset-base, writable-base, reset-header, reset-pin, reset-line, reset-command, writable-line, writable-command, past_pin}
+use Rattle.pci_bars.specs.Cards.{CardBytes, HoldsLong, HoldsRom, DecodesAs, IsCardOf, is_kept_offset, header_of}
+use Rattle.pci_bars.proofs.TableLemmas.{byte_of_zero, kept_nowhere, is_fixed, reset_byte-card, writable_bits-card, reset-base, writable-base, reset-rom, writable-rom, reset-header, reset-pin, reset-line, reset-command, writable-line, writable-command, past_pin}
 
 -- ---- four bytes as a number
 
-wide_of_bytes :
+pub wide_of_bytes :
     (f : ℕ → ℕ) (from n : ℕ) → n < 2 ^ 32 → ((j : ℕ) → j < 4 → f (from + j) ≡ byte n j) → wide f from Four ≡ n
 wide_of_bytes f from n below each =
     let b0 : f from ≡ byte n 0 = ap f (sym (add-zero from)) ∙ each 0 (lit< tt) in
@@ -29,19 +31,22 @@ wide_of_bytes f from n below each =
     let b3 : f (from + 3) ≡ byte n 3 = each 3 (lit< tt) in
     omega arith
 
-wide_same :
-    (f g : ℕ → ℕ) (from : ℕ) → ((j : ℕ) → j < 4 → f (from + j) ≡ g (from + j)) → wide f from Four ≡ wide g from Four
-wide_same f g from each =
-    let b0 : f from ≡ g from = ap f (sym (add-zero from)) ∙ each 0 (lit< tt) ∙ ap g (add-zero from) in
-    let b1 : f (from + 1) ≡ g (from + 1) = each 1 (lit< tt) in
-    let b2 : f (from + 2) ≡ g (from + 2) = each 2 (lit< tt) in
-    let b3 : f (from + 3) ≡ g (from + 3) = each 3 (lit< tt) in
-    cc
+-- where the bytes are the same, so is the doubleword
+pub holds-same :
+    (bytes bytes' : Bytes) (first : Reg) (value : ℕ) → ((j : ℕ) → j < 4 → bytes' (reg_after first j) ≡ bytes (reg_after first j)) →
+    HoldsLong bytes first value → HoldsLong bytes' first value
+holds-same bytes bytes' first value same is =
+    let zero_on : record first { off = first.off + 0 } ≡ record first { off = first.off } = ap (λ off. record first { off = off }) (add-zero first.off) in
+    let b0 : bytes' (record first { off = first.off }) ≡ bytes (record first { off = first.off }) = ap bytes' (sym zero_on) ∙ same 0 (lit< tt) ∙ ap bytes zero_on in
+    record {
+      number = rw (b0, same 1 (lit< tt), same 2 (lit< tt), same 3 (lit< tt)) is.number;
+      each = λ j below. same j below ∙ is.each j below;
+    }
 
 -- ---- after a reset
 
 abbrev new_card : FittedCard → List ℕ → CardBytes
-new_card card values = record { card = card; command = 0; line = 0; bases = values }
+new_card card values = record { card = card; command = 0; line = 0; bases = values; rom = 0 }
 
 small_reset : (base : Base) → base_reset base < 2 ^ 32
 small_reset base = elim base as (λ b. base_reset b < 2 ^ 32) [ MemoryBase bits ↦ lit< tt | IoBase bits ↦ lit< tt ]
@@ -51,14 +56,25 @@ small_reset_of [] k = lit< tt
 small_reset_of (base ∷ later) zero = small_reset base
 small_reset_of (base ∷ later) (suc k) = small_reset_of later k
 
-reset_base_byte :
-    (setup : Setup) (card : FittedCard) (values : List ℕ) → IsCard card → card_at setup card.dev ≡ Some card →
-    ((k : ℕ) → slice_index values k ≡ of_base base_reset card.bases k) →
-    (k j : ℕ) → k < 6 → j < 4 → reset_byte setup (card_register card.dev (0x10 + 4 * k + j)) ≡ byte (slice_index values k) j
-reset_base_byte setup card values fit fitted is_reset k j k_below j_below =
-    reset_byte-card setup card (0x10 + 4 * k + j) fit.first fitted
-    ∙ reset-base card k j k_below j_below
-    ∙ ap (λ n. byte n j) (sym (is_reset k))
+-- a doubleword of the table
+reset_long :
+    (setup : Setup) (card : FittedCard) (from value : ℕ) → IsCard card → card_at setup card.dev ≡ Some card → value < 2 ^ 32 →
+    ((j : ℕ) → j < 4 → listed (λ entry. entry.reset) (card_function card) (from + j) ≡ byte value j) →
+    HoldsLong (reset_byte setup) (card_register card.dev from) value
+reset_long setup card from value fit fitted below in_table =
+    let each : (j : ℕ) → j < 4 → reset_byte setup (card_register card.dev (from + j)) ≡ byte value j =
+    λ j j_below. reset_byte-card setup card (from + j) fit.first fitted ∙ in_table j j_below in
+    record {
+      number = wide_of_bytes (λ off. reset_byte setup (card_register card.dev off)) from value below each;
+      each = each;
+    }
+
+reset_rom :
+    (setup : Setup) (card : FittedCard) → IsCard card → card_at setup card.dev ≡ Some card →
+    (rom : Option ℕ) → HoldsRom (reset_byte setup) card.dev 0 rom
+reset_rom setup card fit fitted None = refl
+reset_rom setup card fit fitted (Some bits) =
+    reset_long setup card 0x30 0 fit fitted (lit< tt) (λ j below. reset-rom card j fit.count below ∙ sym (byte_of_zero j))
 
 pub card_at_reset :
     (setup : Setup) (card : FittedCard) (values : List ℕ) → IsCard card → card_at setup card.dev ≡ Some card →
@@ -69,16 +85,23 @@ card_at_reset setup card values fit fitted is_reset =
       decodes = record {
         fitted = fitted;
         command = reset_byte-card setup card 0x04 fit.first fitted ∙ reset-command card;
-        bases = λ k below. wide_of_bytes (λ off. reset_byte setup (card_register card.dev off)) (0x10 + 4 * k) (slice_index values k)
+        bases = λ k below. reset_long setup card (0x10 + 4 * k) (slice_index values k) fit fitted
             (subst (λ n. n < 2 ^ 32) (sym (is_reset k)) (small_reset_of card.bases k))
-            (λ j j_below. reset_base_byte setup card values fit fitted is_reset k j below j_below);
-        base_bytes = reset_base_byte setup card values fit fitted is_reset;
+            (λ j j_below. reset-base card k j below j_below ∙ ap (λ n. byte n j) (sym (is_reset k)));
+        rom = reset_rom setup card fit fitted card.rom;
       };
       line = reset_byte-card setup card 0x3C fit.first fitted ∙ reset-line card fit.count;
       fixed = λ off _. refl;
     }
 
 -- ---- as they are read
+
+-- what is not kept reads as after a reset
+pub read-fixed :
+    (setup : Setup) (bytes : Bytes) (card : CardBytes) (off : ℕ) → IsCard card.card → IsCardOf setup bytes card → is_kept_offset card.card off ≡ false →
+    bytes (card_register card.card.dev off) ≡ listed (λ entry. entry.reset) (card_function card.card) off
+read-fixed setup bytes card off fit is not_kept =
+    is.fixed off not_kept ∙ reset_byte-card setup card.card off fit.first is.decodes.fitted
 
 pub read-header :
     (setup : Setup) (bytes : Bytes) (card : CardBytes) (off : ℕ) → IsCard card.card → IsCardOf setup bytes card → off < 16 →
@@ -87,31 +110,46 @@ read-header setup bytes card off fit is below =
     elim (cases_eq off 4) [
       | inl command ↦ rw command (sym is.decodes.command)
       | inr apart ↦
-          let not_kept : is_kept_offset off ≡ false = grind (arith, nat_tests) in
           sym (reset-header card off below apart)
-          ∙ sym (reset_byte-card setup card.card off fit.first is.decodes.fitted)
-          ∙ sym (is.fixed off not_kept)
+          ∙ sym (read-fixed setup bytes card off fit is (kept_nowhere card.card.rom off (grind (arith, nat_tests)) (inl (omega arith))))
     ]
 
 pub read-base :
     (setup : Setup) (bytes : Bytes) (card : CardBytes) (off k j : ℕ) → DecodesAs setup bytes card → k < 6 → j < 4 → off ≡ 0x10 + 4 * k + j →
     byte (slice_index card.bases k) j ≡ bytes (card_register card.card.dev off)
-read-base setup bytes card off k j is k_below j_below place = sym (is.base_bytes k j k_below j_below) ∙ ap (λ at. bytes (card_register card.card.dev at)) (sym place)
+read-base setup bytes card off k j is k_below j_below place =
+    let held : HoldsLong bytes (base_register card.card.dev k) (slice_index card.bases k) = is.bases k k_below in
+    sym (held.each j j_below) ∙ ap (λ at. bytes (card_register card.card.dev at)) (sym place)
+
+pub read-rom :
+    (setup : Setup) (bytes : Bytes) (card : CardBytes) (off : ℕ) → IsCard card.card → IsCardOf setup bytes card → 0x30 ≤ off → off ≤ 0x33 →
+    byte card.rom (off - 0x30) ≡ bytes (card_register card.card.dev off)
+read-rom setup bytes card off fit is from to = of_rom card.card.rom refl is.decodes.rom
+  where
+    place : 0x30 + (off - 0x30) ≡ off
+    place = omega arith
+
+    of_rom : (rom : Option ℕ) → card.card.rom ≡ rom → HoldsRom bytes card.card.dev card.rom rom → byte card.rom (off - 0x30) ≡ bytes (card_register card.card.dev off)
+    of_rom None none held =
+        ap (λ n. byte n (off - 0x30)) held
+        ∙ byte_of_zero (off - 0x30)
+        ∙ sym (reset-rom card.card (off - 0x30) fit.count (omega arith))
+        ∙ ap (λ at. listed (λ entry. entry.reset) (card_function card.card) at) place
+        ∙ sym (read-fixed setup bytes card off fit is (rw none (grind (arith, nat_tests))))
+    of_rom (Some bits) some held = sym (held.each (off - 0x30) (omega arith)) ∙ ap (λ at. bytes (card_register card.card.dev at)) place
 
 pub read-pin :
     (setup : Setup) (bytes : Bytes) (card : CardBytes) → IsCard card.card → IsCardOf setup bytes card →
     1 ≡ bytes (card_register card.card.dev 0x3D)
 read-pin setup bytes card fit is =
-    sym (reset-pin card.card fit.count) ∙ sym (reset_byte-card setup card.card 0x3D fit.first is.decodes.fitted) ∙ sym (is.fixed 0x3D refl)
+    sym (reset-pin card.card fit.count) ∙ sym (read-fixed setup bytes card 0x3D fit is (kept_nowhere card.card.rom 0x3D refl (inr (lit≤ tt))))
 
 pub read-rest :
     (setup : Setup) (bytes : Bytes) (card : CardBytes) (off : ℕ) → IsCard card.card → IsCardOf setup bytes card →
-    0x28 ≤ off → off ≢ 0x3C → off ≢ 0x3D → 0 ≡ bytes (card_register card.card.dev off)
-read-rest setup bytes card off fit is above not_line not_pin =
-    let not_kept : is_kept_offset off ≡ false = grind (arith, nat_tests) in
-    sym (past_pin (λ entry. entry.reset) card.card off fit.count above not_line not_pin)
-    ∙ sym (reset_byte-card setup card.card off fit.first is.decodes.fitted)
-    ∙ sym (is.fixed off not_kept)
+    0x28 ≤ off → (off < 0x30) ⊎ (0x34 ≤ off) → off ≢ 0x3C → off ≢ 0x3D → 0 ≡ bytes (card_register card.card.dev off)
+read-rest setup bytes card off fit is above off_rom not_line not_pin =
+    sym (past_pin (λ entry. entry.reset) card.card off fit.count above off_rom not_line not_pin)
+    ∙ sym (read-fixed setup bytes card off fit is (kept_nowhere card.card.rom off (grind (arith, nat_tests)) off_rom))
 
 -- ---- after a store of one byte
 
@@ -119,7 +157,7 @@ read-rest setup bytes card off fit is above not_line not_pin =
 abbrev pub stored : Setup → Bytes → (dev off written : ℕ) → Bytes
 stored setup bytes dev off written = λ reg. changed_byte setup (Store (card_register dev off) One written) reg (bytes reg)
 
-not_smram : (dev off : ℕ) → 2 ≤ dev → is_smram_register (card_register dev off) ≡ false
+not_smram : (dev off : ℕ) → 2 ≤ dev → is_same (card_register dev off) smram ≡ false
 not_smram dev off above =
     let not_bridge : (dev == 0) ≡ false = ne_eqb dev 0 (λ (e : dev ≡ 0). omega arith) in and_left _ _ (and_left _ _ not_bridge)
 
@@ -137,21 +175,33 @@ stored-same setup bytes card off written fit fitted below =
     changed_byte-one_same setup (card_register card.dev off) (bytes (card_register card.dev off)) written below (not_smram card.dev off fit.first)
     ∙ ap (λ mask. merged mask (bytes (card_register card.dev off)) written) (writable_bits-card setup card off fit.first fitted)
 
+-- an offset lies in none of the four registers from another on
+abbrev pub IsOffLong : (from off : ℕ) → Type 0
+IsOffLong from off = (off < from) ⊎ (from + 4 ≤ off)
+
+-- a doubleword where the byte is stored elsewhere
+long-apart :
+    (setup : Setup) (bytes : Bytes) (dev off written from value : ℕ) → IsOffLong from off → HoldsLong bytes (card_register dev from) value →
+    HoldsLong (stored setup bytes dev off written) (card_register dev from) value
+long-apart setup bytes dev off written from value outside is =
+    holds-same bytes (stored setup bytes dev off written) (card_register dev from) value
+    (λ j below. stored-other setup bytes dev off written (from + j) (λ e. elim outside [ inl before ↦ omega arith | inr past ↦ omega arith ])) is
+
+rom-apart :
+    (setup : Setup) (bytes : Bytes) (dev off written value : ℕ) → IsOffLong 0x30 off → (rom : Option ℕ) → HoldsRom bytes dev value rom →
+    HoldsRom (stored setup bytes dev off written) dev value rom
+rom-apart setup bytes dev off written value outside None is = is
+rom-apart setup bytes dev off written value outside (Some bits) is = long-apart setup bytes dev off written 0x30 value outside is
+
 -- an offset on which the address map does not depend
 pub record IsApart (off : ℕ) : Type 0 where
   pub command : off ≢ 0x04
   pub bases : (off < 0x10) ⊎ (0x28 ≤ off)
+  pub rom : IsOffLong 0x30 off
 
-not_a_base : (off k j : ℕ) → (off < 0x10) ⊎ (0x28 ≤ off) → k < 6 → j < 4 → 0x10 + 4 * k + j ≢ off
-not_a_base off k j outside k_below j_below =
-    λ e. elim outside [ inl below ↦ omega arith | inr above ↦ omega arith ]
-
-same_base :
-    (setup : Setup) (bytes : Bytes) (dev off written k : ℕ) → ((j : ℕ) → j < 4 → 0x10 + 4 * k + j ≢ off) →
-    base_value (stored setup bytes dev off written) dev k ≡ base_value bytes dev k
-same_base setup bytes dev off written k apart =
-    wide_same (λ at. stored setup bytes dev off written (card_register dev at)) (λ at. bytes (card_register dev at)) (0x10 + 4 * k)
-    (λ j below. stored-other setup bytes dev off written (0x10 + 4 * k + j) (apart j below))
+off_base : (off k : ℕ) → (off < 0x10) ⊎ (0x28 ≤ off) → k < 6 → IsOffLong (0x10 + 4 * k) off
+off_base off k (inl below) within = inl (omega arith)
+off_base off k (inr above) within = inr (omega arith)
 
 pub decodes-apart :
     (setup : Setup) (bytes : Bytes) (card : CardBytes) (line off written : ℕ) → IsApart off → DecodesAs setup bytes card →
@@ -160,8 +210,8 @@ decodes-apart setup bytes card line off written apart is =
     record {
       fitted = is.fitted;
       command = stored-other setup bytes card.card.dev off written 0x04 (λ e. apart.command (sym e)) ∙ is.command;
-      bases = λ k below. same_base setup bytes card.card.dev off written k (λ j j_below. not_a_base off k j apart.bases below j_below) ∙ is.bases k below;
-      base_bytes = λ k j below j_below. stored-other setup bytes card.card.dev off written (0x10 + 4 * k + j) (not_a_base off k j apart.bases below j_below) ∙ is.base_bytes k j below j_below;
+      bases = λ k below. long-apart setup bytes card.card.dev off written (0x10 + 4 * k) (slice_index card.bases k) (off_base off k apart.bases below) (is.bases k below);
+      rom = rom-apart setup bytes card.card.dev off written card.rom apart.rom card.card.rom is.rom;
     }
 
 pub decodes-command :
@@ -174,8 +224,8 @@ decodes-command setup bytes card written fit below is =
           stored-same setup bytes card.card 0x04 written fit is.fitted below
           ∙ ap (λ mask. merged mask (bytes (card_register card.card.dev 0x04)) written) (writable-command card.card)
           ∙ ap (λ old. merged 0x07 old written) is.command;
-      bases = λ k k_below. same_base setup bytes card.card.dev 0x04 written k (λ j j_below e. omega arith) ∙ is.bases k k_below;
-      base_bytes = λ k j k_below j_below. stored-other setup bytes card.card.dev 0x04 written (0x10 + 4 * k + j) (λ e. omega arith) ∙ is.base_bytes k j k_below j_below;
+      bases = λ k k_below. long-apart setup bytes card.card.dev 0x04 written (0x10 + 4 * k) (slice_index card.bases k) (inl (omega arith)) (is.bases k k_below);
+      rom = rom-apart setup bytes card.card.dev 0x04 written card.rom (inl (lit< tt)) card.card.rom is.rom;
     }
 
 -- a number after one of its four bytes was written
@@ -184,74 +234,116 @@ pub record IsByteWrite (writable old lane written new : ℕ) : Type 0 where
   pub here : byte new lane ≡ merged (byte writable lane) (byte old lane) written
   pub others : (j : ℕ) → j < 4 → j ≢ lane → byte new j ≡ byte old j
 
-module _ (setup : Setup) (bytes : Bytes) (card : CardBytes) (index lane written new : ℕ) (fit : IsCard card.card) (below : written < 256) (six : length card.bases ≡ 6) (in_bases : index < 6) (in_long : lane < 4) (write : IsByteWrite (of_base base_writable card.card.bases index) (slice_index card.bases index) lane written new) (is : DecodesAs setup bytes card) where
-  abbrev place : ℕ
-  place = 0x10 + 4 * index + lane
+-- a doubleword where one of its bytes is stored
+long-stored :
+    (setup : Setup) (bytes : Bytes) (card : FittedCard) (from lane written mask old new : ℕ) → IsCard card → card_at setup card.dev ≡ Some card → written < 256 → lane < 4 →
+    listed (λ entry. entry.writable) (card_function card) (from + lane) ≡ byte mask lane → IsByteWrite mask old lane written new →
+    HoldsLong bytes (card_register card.dev from) old →
+    HoldsLong (stored setup bytes card.dev (from + lane) written) (card_register card.dev from) new
+long-stored setup bytes card from lane written mask old new fit fitted below in_long in_table write is =
+    record { number = wide_of_bytes (λ at. stored setup bytes card.dev (from + lane) written (card_register card.dev at)) from new write.fits each; each = each }
+  where
+    here : stored setup bytes card.dev (from + lane) written (card_register card.dev (from + lane)) ≡ byte new lane
+    here =
+        stored-same setup bytes card (from + lane) written fit fitted below
+        ∙ ap (λ bits. merged bits (bytes (card_register card.dev (from + lane))) written) in_table
+        ∙ ap (λ byte_before. merged (byte mask lane) byte_before written) (is.each lane in_long)
+        ∙ sym write.here
 
-  new_base : slice_index (set card.bases index new) index ≡ new
-  new_base = get_or-set_same card.bases index new 0 (omega arith)
-
-  old_base : (k : ℕ) → k ≢ index → slice_index (set card.bases index new) k ≡ slice_index card.bases k
-  old_base k apart = get_or-set_other card.bases index k new 0 apart
-
-  byte_here : stored setup bytes card.card.dev place written (card_register card.card.dev place) ≡ byte new lane
-  byte_here =
-      stored-same setup bytes card.card place written fit is.fitted below
-      ∙ ap (λ mask. merged mask (bytes (card_register card.card.dev place)) written) (writable-base card.card index lane in_bases in_long)
-      ∙ ap (λ old. merged (byte (of_base base_writable card.card.bases index) lane) old written) (is.base_bytes index lane in_bases in_long)
-      ∙ sym write.here
-
-  byte_in : (j : ℕ) → j < 4 → stored setup bytes card.card.dev place written (card_register card.card.dev (0x10 + 4 * index + j)) ≡ byte new j
-  byte_in j j_below =
-      elim (cases_eq j lane) [
-        | inl same ↦ subst (λ i. stored setup bytes card.card.dev place written (card_register card.card.dev (0x10 + 4 * index + i)) ≡ byte new i) (sym same) byte_here
-        | inr apart ↦
-            stored-other setup bytes card.card.dev place written (0x10 + 4 * index + j) (λ e. apart (omega arith))
-            ∙ is.base_bytes index j in_bases j_below
-            ∙ sym (write.others j j_below apart)
-      ]
-
-  byte_at :
-      (k j : ℕ) → k < 6 → j < 4 →
-      stored setup bytes card.card.dev place written (card_register card.card.dev (0x10 + 4 * k + j)) ≡ byte (slice_index (set card.bases index new) k) j
-  byte_at k j k_below j_below =
-      elim (cases_eq k index) [
-        | inl same ↦
-            subst (λ i. stored setup bytes card.card.dev place written (card_register card.card.dev (0x10 + 4 * i + j)) ≡ byte (slice_index (set card.bases index new) i) j) (sym same)
-            (byte_in j j_below ∙ ap (λ n. byte n j) (sym new_base))
-        | inr apart ↦
-            stored-other setup bytes card.card.dev place written (0x10 + 4 * k + j) (λ e. apart (omega arith))
-            ∙ is.base_bytes k j k_below j_below
-            ∙ ap (λ n. byte n j) (sym (old_base k apart))
-      ]
-
-  value_at :
-      (k : ℕ) → k < 6 →
-      base_value (stored setup bytes card.card.dev place written) card.card.dev k ≡ slice_index (set card.bases index new) k
-  value_at k k_below =
-      elim (cases_eq k index) [
-        | inl same ↦
-            subst (λ i. base_value (stored setup bytes card.card.dev place written) card.card.dev i ≡ slice_index (set card.bases index new) i) (sym same)
-            (wide_of_bytes (λ at. stored setup bytes card.card.dev place written (card_register card.card.dev at)) (0x10 + 4 * index) new write.fits byte_in ∙ sym new_base)
-        | inr apart ↦
-            same_base setup bytes card.card.dev place written k (λ j j_below e. apart (omega arith))
-            ∙ is.bases k k_below
-            ∙ sym (old_base k apart)
-      ]
-
-  pub decodes-base : DecodesAs setup (stored setup bytes card.card.dev place written) (record card { bases = set card.bases index new })
-  decodes-base =
-      record {
-        fitted = is.fitted;
-        command = stored-other setup bytes card.card.dev place written 0x04 (λ e. omega arith) ∙ is.command;
-        bases = value_at;
-        base_bytes = byte_at;
-      }
-
--- ---- all the registers of the card
+    each : (j : ℕ) → j < 4 → stored setup bytes card.dev (from + lane) written (card_register card.dev (from + j)) ≡ byte new j
+    each j j_below =
+        elim (cases_eq j lane) [
+          | inl same ↦ subst (λ i. stored setup bytes card.dev (from + lane) written (card_register card.dev (from + i)) ≡ byte new i) (sym same) here
+          | inr apart ↦
+              stored-other setup bytes card.dev (from + lane) written (from + j) (λ e. apart (omega arith))
+              ∙ is.each j j_below
+              ∙ sym (write.others j j_below apart)
+        ]
 
 merged_none : (old written : ℕ) → old < 256 → merged 0 old written ≡ old
 merged_none old written below = rw (and_zero_r written, or_zero_l (bit_and old 255)) (and_mask old 8 ∙ omega arith)
+
+-- ---- a byte of a base, and of the expansion ROM's register
+
+-- what a card's base register is after a byte at an offset is written
+pub record IsBaseStore (card : CardBytes) (off index lane written new : ℕ) : Type 0 where
+  pub in_bases : index < 6
+  pub in_long : lane < 4
+  pub place : off ≡ 0x10 + 4 * index + lane
+  pub write : IsByteWrite (of_base base_writable card.card.bases index) (slice_index card.bases index) lane written new
+
+-- a base of the card after a byte is stored
+abbrev HeldAt : Setup → Bytes → (dev written off k value : ℕ) → Type 0
+HeldAt setup bytes dev written off k value = HoldsLong (stored setup bytes dev off written) (base_register dev k) value
+
+pub decodes-base_stored :
+    (setup : Setup) (bytes : Bytes) (card : CardBytes) (off index lane written new : ℕ) → IsCard card.card → written < 256 → length card.bases ≡ 6 →
+    IsBaseStore card off index lane written new → DecodesAs setup bytes card →
+    DecodesAs setup (stored setup bytes card.card.dev off written) (record card { bases = set card.bases index new })
+decodes-base_stored setup bytes card off index lane written new fit below six store is =
+    record {
+      fitted = is.fitted;
+      command = stored-other setup bytes card.card.dev off written 0x04 (λ e. let place = store.place in omega arith) ∙ is.command;
+      bases = base_at;
+      rom = rom-apart setup bytes card.card.dev off written card.rom (inl (let place = store.place in let i = store.in_bases in let j = store.in_long in omega arith)) card.card.rom is.rom;
+    }
+  where
+    here : HeldAt setup bytes card.card.dev written off index new
+    here =
+        subst (λ at. HeldAt setup bytes card.card.dev written at index new) (sym store.place)
+        (long-stored setup bytes card.card (0x10 + 4 * index) lane written (of_base base_writable card.card.bases index) (slice_index card.bases index) new fit is.fitted below store.in_long
+        (writable-base card.card index lane store.in_bases store.in_long) store.write (is.bases index store.in_bases))
+
+    off_other : (k : ℕ) → k ≢ index → IsOffLong (0x10 + 4 * k) off
+    off_other k apart =
+        let place = store.place in let in_long = store.in_long in
+        elim (cases_lt k index) [ inl before ↦ inr (omega arith) | inr after ↦ inl (omega arith) ]
+
+    base_at : (k : ℕ) → k < 6 → HeldAt setup bytes card.card.dev written off k (slice_index (set card.bases index new) k)
+    base_at k k_below =
+        elim (cases_eq k index) [
+          | inl same ↦ rw same (subst (HeldAt setup bytes card.card.dev written off index) (sym (get_or-set_same card.bases index new 0 (let i = store.in_bases in omega arith))) here)
+          | inr apart ↦
+              subst (HeldAt setup bytes card.card.dev written off k) (sym (get_or-set_other card.bases index k new 0 apart))
+              (long-apart setup bytes card.card.dev off written (0x10 + 4 * k) (slice_index card.bases k) (off_other k apart) (is.bases k k_below))
+        ]
+
+-- what the register of a card's expansion ROM is after a byte at an offset is written
+pub record IsRomStore (card : CardBytes) (off lane written new : ℕ) : Type 0 where
+  pub in_long : lane < 4
+  pub place : off ≡ 0x30 + lane
+  pub write : IsByteWrite (rom_writable card.card.rom) card.rom lane written new
+
+pub decodes-rom_stored :
+    (setup : Setup) (bytes : Bytes) (card : CardBytes) (off lane written new : ℕ) → IsCard card.card → written < 256 →
+    IsRomStore card off lane written new → DecodesAs setup bytes card →
+    DecodesAs setup (stored setup bytes card.card.dev off written) (record card { rom = new })
+decodes-rom_stored setup bytes card off lane written new fit below store is =
+    record {
+      fitted = is.fitted;
+      command = stored-other setup bytes card.card.dev off written 0x04 (λ e. let place = store.place in omega arith) ∙ is.command;
+      bases = λ k k_below. long-apart setup bytes card.card.dev off written (0x10 + 4 * k) (slice_index card.bases k) (inr (let place = store.place in omega arith)) (is.bases k k_below);
+      rom = rom_held card.card.rom refl is.rom;
+    }
+  where
+    none_written : (lane written new : ℕ) → lane < 4 → IsByteWrite 0 0 lane written new → new ≡ 0
+    none_written lane written new in_long write =
+        let here : byte new lane ≡ 0 = write.here ∙ rw (byte_of_zero lane) (merged_none 0 written (lit< tt)) in
+        let each : (j : ℕ) → j < 4 → byte new j ≡ 0 =
+        λ j below. elim (cases_eq j lane) [ inl same ↦ ap (byte new) same ∙ here | inr apart ↦ write.others j below apart ∙ byte_of_zero j ] in
+        let fits = write.fits in
+        let b0 = each 0 (lit< tt) in let b1 = each 1 (lit< tt) in let b2 = each 2 (lit< tt) in let b3 = each 3 (lit< tt) in
+        omega arith
+
+    rom_held : (rom : Option ℕ) → card.card.rom ≡ rom → HoldsRom bytes card.card.dev card.rom rom → HoldsRom (stored setup bytes card.card.dev off written) card.card.dev new rom
+    rom_held None none held =
+        none_written lane written new store.in_long (subst (λ old. IsByteWrite 0 old lane written new) held (subst (λ rom. IsByteWrite (rom_writable rom) card.rom lane written new) none store.write))
+    rom_held (Some bits) some held =
+        subst (λ at. HoldsLong (stored setup bytes card.card.dev at written) (expansion_rom card.card.dev) new) (sym store.place)
+        (long-stored setup bytes card.card 0x30 lane written (rom_writable card.card.rom) card.rom new fit is.fitted below store.in_long
+        (writable-rom card.card lane fit.count store.in_long) store.write held)
+
+-- ---- all the registers of the card
 
 merged_all : (old written : ℕ) → written < 256 → merged 0xFF old written ≡ written
 merged_all old written below = rw (and_zero_r old, or_zero_r (bit_and written 255)) (and_mask written 8 ∙ omega arith)
@@ -259,7 +351,7 @@ merged_all old written below = rw (and_zero_r old, or_zero_r (bit_and written 25
 -- what is not kept stays, wherever the byte is stored
 pub fixed-stored :
     (setup : Setup) (bytes : Bytes) (card : CardBytes) (off written : ℕ) → IsCard card.card → written < 256 → IsCardOf setup bytes card →
-    (at : ℕ) → is_kept_offset at ≡ false →
+    (at : ℕ) → is_kept_offset card.card at ≡ false →
     stored setup bytes card.card.dev off written (card_register card.card.dev at) ≡ reset_byte setup (card_register card.card.dev at)
 fixed-stored setup bytes card off written fit below is at not_kept =
     elim (cases_eq at off) [
@@ -267,7 +359,7 @@ fixed-stored setup bytes card off written fit below is at not_kept =
       | inr apart ↦ stored-other setup bytes card.card.dev off written at apart ∙ is.fixed at not_kept
     ]
   where
-    here : (at : ℕ) → is_kept_offset at ≡ false → stored setup bytes card.card.dev at written (card_register card.card.dev at) ≡ reset_byte setup (card_register card.card.dev at)
+    here : (at : ℕ) → is_kept_offset card.card at ≡ false → stored setup bytes card.card.dev at written (card_register card.card.dev at) ≡ reset_byte setup (card_register card.card.dev at)
     here at not_kept =
         let fixed = is_fixed card.card fit at not_kept in
         let stands = is.fixed at not_kept in
@@ -302,7 +394,7 @@ pub card-line_stored :
     IsCardOf setup (stored setup bytes card.card.dev 0x3C written) (record card { line = written })
 card-line_stored setup bytes card written fit below is =
     record {
-      decodes = decodes-apart setup bytes card written 0x3C written (record { command = λ e. grind arith; bases = inr (lit≤ tt) }) is.decodes;
+      decodes = decodes-apart setup bytes card written 0x3C written (record { command = λ e. grind arith; bases = inr (lit≤ tt); rom = inr (lit≤ tt) }) is.decodes;
       line = line-stored setup bytes card written fit below is;
       fixed = fixed-stored setup bytes card 0x3C written fit below is;
     }
@@ -320,21 +412,6 @@ card-command setup bytes card written fit below is =
     card-stored setup bytes card (record card { command = merged 0x07 card.command written }) 0x04 written fit below is (λ e. grind arith) refl refl
     (decodes-command setup bytes card written fit below is.decodes)
 
--- what a card's base register is after a byte at an offset is written
-pub record IsBaseStore (card : CardBytes) (off index lane written new : ℕ) : Type 0 where
-  pub in_bases : index < 6
-  pub in_long : lane < 4
-  pub place : off ≡ 0x10 + 4 * index + lane
-  pub write : IsByteWrite (of_base base_writable card.card.bases index) (slice_index card.bases index) lane written new
-
-pub decodes-base_stored :
-    (setup : Setup) (bytes : Bytes) (card : CardBytes) (off index lane written new : ℕ) → IsCard card.card → written < 256 → length card.bases ≡ 6 →
-    IsBaseStore card off index lane written new → DecodesAs setup bytes card →
-    DecodesAs setup (stored setup bytes card.card.dev off written) (record card { bases = set card.bases index new })
-decodes-base_stored setup bytes card off index lane written new fit below six store is =
-    subst (λ at. DecodesAs setup (stored setup bytes card.card.dev at written) (record card { bases = set card.bases index new })) (sym store.place)
-    (decodes-base setup bytes card index lane written new fit below six store.in_bases store.in_long store.write is)
-
 pub card-base_stored :
     (setup : Setup) (bytes : Bytes) (card : CardBytes) (off index lane written new : ℕ) → IsCard card.card → written < 256 → length card.bases ≡ 6 →
     IsBaseStore card off index lane written new → IsCardOf setup bytes card →
@@ -345,3 +422,13 @@ card-base_stored setup bytes card off index lane written new fit below six store
     let place = store.place in
     card-stored setup bytes card (record card { bases = set card.bases index new }) off written fit below is (λ e. omega arith) refl refl
     (decodes-base_stored setup bytes card off index lane written new fit below six store is.decodes)
+
+pub card-rom_stored :
+    (setup : Setup) (bytes : Bytes) (card : CardBytes) (off lane written new : ℕ) → IsCard card.card → written < 256 →
+    IsRomStore card off lane written new → IsCardOf setup bytes card →
+    IsCardOf setup (stored setup bytes card.card.dev off written) (record card { rom = new })
+card-rom_stored setup bytes card off lane written new fit below store is =
+    let in_long = store.in_long in
+    let place = store.place in
+    card-stored setup bytes card (record card { rom = new }) off written fit below is (λ e. omega arith) refl refl
+    (decodes-rom_stored setup bytes card off lane written new fit below store is.decodes)

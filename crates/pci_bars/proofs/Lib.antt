@@ -1,5 +1,6 @@
 pub mod BaseLemmas
 pub mod CardLemmas
+pub mod CardListLemmas
 pub mod ClaimLemmas
 pub mod ContentsLemmas
 pub mod TableLemmas

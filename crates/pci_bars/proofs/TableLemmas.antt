@@ -1,12 +1,12 @@
 -- A card in the table of registers.
-use Rattle.std.proofs.Common.{◌≡◌, ◌≢◌, ◌⊎◌, ℕ, zero, suc, ◌+◌, ◌-◌, ◌*◌, ◌<◌, ◌≤◌, Bool, true, false, List, [], ◌∷◌, length, get_or, Some, inl, inr, ◌∙◌, refl, sym, ap, subst, arith, lit<, lit≤}
-use Rattle.std.specs.Prelude.{◌==◌, flat_map, if◌then◌else◌}
+use Rattle.std.proofs.Common.{◌≡◌, ◌≢◌, ◌⊎◌, ℕ, zero, suc, ◌+◌, ◌-◌, ◌*◌, ◌<◌, ◌≤◌, Bool, true, false, Option, None, List, [], ◌∷◌, length, get_or, Some, inl, inr, ◌∙◌, refl, sym, ap, subst, arith, lit<, lit≤}
+use Rattle.std.specs.Prelude.{◌==◌, ◌&&◌, ◌||◌, flat_map, if◌then◌else◌, is_some, replicate}
 use Rattle.std.proofs.lemmas.Bool.{ne_eqb, cases_lt, cases_eq}
 use Rattle.std.proofs.lemmas.Bool.Decides.{nat_tests}
 use Rattle.std.proofs.lemmas.List.{get_or_append_left, get_or-append_right}
 use Rattle.board_spec.specs.Setup.{Base, FittedCard, Setup, IsCard, card_at}
-use Rattle.board_spec.specs.Bits.{byte, long_bytes}
-use Rattle.board_spec.specs.RegisterTable.{Line, line, read_only, card_function, function_lines, listed, base_reset, base_writable, reset_byte, writable_bits}
+use Rattle.board_spec.specs.Bits.{byte, is_within, long_bytes}
+use Rattle.board_spec.specs.RegisterTable.{Line, line, read_only, card_function, function_lines, listed, base_reset, base_writable, rom_writable, reset_byte, writable_bits}
 use Rattle.board_spec.specs.RegisterNames.{card_register}
 use Rattle.board_spec.proofs.TableLemmas.{listed-past, listed-before, listed-here, each_below}
 use Rattle.pci_bars.specs.Bases.{of_base}
@@ -46,7 +46,7 @@ length-base_bytes number_of [] = refl
 length-base_bytes number_of (base ∷ later) =
     let rest = length-base_bytes number_of later in omega arith
 
-byte_of_zero : (j : ℕ) → byte 0 j ≡ 0
+pub byte_of_zero : (j : ℕ) → byte 0 j ≡ 0
 byte_of_zero j = grind arith
 
 long_byte : (n j : ℕ) → j < 4 → get_or (long_bytes n) j 0 ≡ byte n j
@@ -92,6 +92,9 @@ base_line column number_of bases entry later k j first count same below rest =
 abbrev base_entry : FittedCard → Line
 base_entry card = line 0x10 (base_bytes base_reset card.bases) (base_bytes base_writable card.bases)
 
+abbrev rom_entry : FittedCard → Line
+rom_entry card = line 0x30 (replicate 4 0x00) (long_bytes (rom_writable card.rom))
+
 abbrev last_entry : Line
 last_entry = line 0x3C (0x00 ∷ 0x01 ∷ []) (0xFF ∷ [])
 
@@ -106,39 +109,43 @@ class_entry card = line 0x08 (0x00 ∷ 0x00 ∷ 0x00 ∷ (if card.vga then 0x03 
 
 past_header :
     (column : Line → List ℕ) (card : FittedCard) (off : ℕ) → 0x10 ≤ off →
-    listed column (card_function card) off ≡ listed column (base_entry card ∷ last_entry ∷ []) off
+    listed column (card_function card) off ≡ listed column (base_entry card ∷ rom_entry card ∷ last_entry ∷ []) off
 unfolding card_function
 past_header column card off above =
-    listed-past column (ids_entry card) (command_entry ∷ class_entry card ∷ base_entry card ∷ last_entry ∷ []) off (omega arith)
-    ∙ listed-past column command_entry (class_entry card ∷ base_entry card ∷ last_entry ∷ []) off (omega arith)
-    ∙ listed-past column (class_entry card) (base_entry card ∷ last_entry ∷ []) off (omega arith)
+    listed-past column (ids_entry card) (command_entry ∷ class_entry card ∷ base_entry card ∷ rom_entry card ∷ last_entry ∷ []) off (omega arith)
+    ∙ listed-past column command_entry (class_entry card ∷ base_entry card ∷ rom_entry card ∷ last_entry ∷ []) off (omega arith)
+    ∙ listed-past column (class_entry card) (base_entry card ∷ rom_entry card ∷ last_entry ∷ []) off (omega arith)
 
 before_last : (column : Line → List ℕ) (off : ℕ) → off < 0x3C → listed column (last_entry ∷ []) off ≡ 0
 before_last column off below = listed-before column last_entry [] off below
+
+before_rom : (column : Line → List ℕ) (card : FittedCard) (off : ℕ) → off < 0x30 → listed column (rom_entry card ∷ last_entry ∷ []) off ≡ 0
+before_rom column card off below =
+    listed-before column (rom_entry card) (last_entry ∷ []) off below ∙ before_last column off (omega arith)
 
 pub reset-base :
     (card : FittedCard) (k j : ℕ) → k < 6 → j < 4 →
     listed (λ entry. entry.reset) (card_function card) (0x10 + 4 * k + j) ≡ byte (of_base base_reset card.bases k) j
 reset-base card k j k_below j_below =
     past_header (λ entry. entry.reset) card (0x10 + 4 * k + j) (omega arith)
-    ∙ base_line (λ entry. entry.reset) base_reset card.bases (base_entry card) (last_entry ∷ []) k j refl (length-base_bytes base_reset card.bases) refl j_below
-    (before_last (λ entry. entry.reset) (0x10 + 4 * k + j) (omega arith))
+    ∙ base_line (λ entry. entry.reset) base_reset card.bases (base_entry card) (rom_entry card ∷ last_entry ∷ []) k j refl (length-base_bytes base_reset card.bases) refl j_below
+    (before_rom (λ entry. entry.reset) card (0x10 + 4 * k + j) (omega arith))
 
 pub writable-base :
     (card : FittedCard) (k j : ℕ) → k < 6 → j < 4 →
     listed (λ entry. entry.writable) (card_function card) (0x10 + 4 * k + j) ≡ byte (of_base base_writable card.bases k) j
 writable-base card k j k_below j_below =
     past_header (λ entry. entry.writable) card (0x10 + 4 * k + j) (omega arith)
-    ∙ base_line (λ entry. entry.writable) base_writable card.bases (base_entry card) (last_entry ∷ []) k j refl (length-base_bytes base_reset card.bases) refl j_below
-    (before_last (λ entry. entry.writable) (0x10 + 4 * k + j) (omega arith))
+    ∙ base_line (λ entry. entry.writable) base_writable card.bases (base_entry card) (rom_entry card ∷ last_entry ∷ []) k j refl (length-base_bytes base_reset card.bases) refl j_below
+    (before_rom (λ entry. entry.writable) card (0x10 + 4 * k + j) (omega arith))
 
 -- past the bases
 past_bases :
     (column : Line → List ℕ) (card : FittedCard) (off : ℕ) → length card.bases ≤ 6 → 0x28 ≤ off →
-    listed column (card_function card) off ≡ listed column (last_entry ∷ []) off
+    listed column (card_function card) off ≡ listed column (rom_entry card ∷ last_entry ∷ []) off
 past_bases column card off count above =
     past_header column card off (omega arith)
-    ∙ listed-past column (base_entry card) (last_entry ∷ []) off (let size = length-base_bytes base_reset card.bases in omega arith)
+    ∙ listed-past column (base_entry card) (rom_entry card ∷ last_entry ∷ []) off (let size = length-base_bytes base_reset card.bases in omega arith)
 
 -- ---- the header, and what is not kept
 
@@ -210,28 +217,61 @@ fixed-header card last off below =
       ),
     ) below
 
--- past the bases only the interrupt line and pin are listed
+-- ---- the expansion ROM, and past it
+
+in_rom :
+    (column : Line → List ℕ) (card : FittedCard) (j : ℕ) → length card.bases ≤ 6 → j < 4 →
+    listed column (card_function card) (0x30 + j) ≡ get_or (column (rom_entry card)) j 0
+in_rom column card j count below =
+    past_bases column card (0x30 + j) count (omega arith)
+    ∙ listed-here column (rom_entry card) (last_entry ∷ []) (0x30 + j) (omega arith) (omega arith)
+    ∙ ap (λ i. get_or (column (rom_entry card)) i 0) (omega arith)
+
+no_byte : (j : ℕ) → j < 4 → ◌≡◌ {A = ℕ} (get_or (replicate 4 0x00) j 0x00) 0
+no_byte zero below = refl
+no_byte (suc zero) below = refl
+no_byte (suc (suc zero)) below = refl
+no_byte (suc (suc (suc zero))) below = refl
+no_byte (suc (suc (suc (suc j)))) below = absurd (omega arith)
+
+pub reset-rom : (card : FittedCard) (j : ℕ) → length card.bases ≤ 6 → j < 4 → listed (λ entry. entry.reset) (card_function card) (0x30 + j) ≡ 0
+reset-rom card j count below = in_rom (λ entry. entry.reset) card j count below ∙ no_byte j below
+
+pub writable-rom :
+    (card : FittedCard) (j : ℕ) → length card.bases ≤ 6 → j < 4 →
+    listed (λ entry. entry.writable) (card_function card) (0x30 + j) ≡ byte (rom_writable card.rom) j
+writable-rom card j count below = in_rom (λ entry. entry.writable) card j count below ∙ long_byte (rom_writable card.rom) j below
+
+past_rom :
+    (column : Line → List ℕ) (card : FittedCard) (off : ℕ) → length card.bases ≤ 6 → 0x34 ≤ off →
+    listed column (card_function card) off ≡ listed column (last_entry ∷ []) off
+past_rom column card off count above =
+    past_bases column card off count (omega arith)
+    ∙ listed-past column (rom_entry card) (last_entry ∷ []) off above
+
+-- past the bases only the expansion ROM and the interrupt line and pin are listed
 pub past_pin :
-    (column : Line → List ℕ) (card : FittedCard) (off : ℕ) → length card.bases ≤ 6 → 0x28 ≤ off → off ≢ 0x3C → off ≢ 0x3D →
+    (column : Line → List ℕ) (card : FittedCard) (off : ℕ) → length card.bases ≤ 6 → 0x28 ≤ off → (off < 0x30) ⊎ (0x34 ≤ off) → off ≢ 0x3C → off ≢ 0x3D →
     listed column (card_function card) off ≡ 0
-past_pin column card off count above not_line not_pin =
-    past_bases column card off count above
+past_pin column card off count above (inl before) not_line not_pin = past_bases column card off count above ∙ before_rom column card off before
+past_pin column card off count above (inr past) not_line not_pin =
+    past_rom column card off count past
     ∙ elim (cases_lt off 0x3C) [
       | inl before ↦ listed-before column last_entry [] off before
-      | inr past ↦ listed-past column last_entry [] off (omega arith)
+      | inr beyond ↦ listed-past column last_entry [] off (omega arith)
     ]
 
 pub reset-pin : (card : FittedCard) → length card.bases ≤ 6 → listed (λ entry. entry.reset) (card_function card) 0x3D ≡ 1
-reset-pin card count = past_bases (λ entry. entry.reset) card 0x3D count (lit≤ tt)
+reset-pin card count = past_rom (λ entry. entry.reset) card 0x3D count (lit≤ tt)
 
 writable-pin : (card : FittedCard) → length card.bases ≤ 6 → listed (λ entry. entry.writable) (card_function card) 0x3D ≡ 0
-writable-pin card count = past_bases (λ entry. entry.writable) card 0x3D count (lit≤ tt)
+writable-pin card count = past_rom (λ entry. entry.writable) card 0x3D count (lit≤ tt)
 
 pub reset-line : (card : FittedCard) → length card.bases ≤ 6 → listed (λ entry. entry.reset) (card_function card) 0x3C ≡ 0
-reset-line card count = past_bases (λ entry. entry.reset) card 0x3C count (lit≤ tt)
+reset-line card count = past_rom (λ entry. entry.reset) card 0x3C count (lit≤ tt)
 
 pub writable-line : (card : FittedCard) → length card.bases ≤ 6 → listed (λ entry. entry.writable) (card_function card) 0x3C ≡ 0xFF
-writable-line card count = past_bases (λ entry. entry.writable) card 0x3C count (lit≤ tt)
+writable-line card count = past_rom (λ entry. entry.writable) card 0x3C count (lit≤ tt)
 
 pub reset-command : (card : FittedCard) → listed (λ entry. entry.reset) (card_function card) 0x04 ≡ 0
 unfolding card_function
@@ -241,35 +281,74 @@ pub writable-command : (card : FittedCard) → listed (λ entry. entry.writable)
 unfolding card_function
 writable-command card = refl
 
-fixed-past : (card : FittedCard) (off : ℕ) → length card.bases ≤ 6 → 0x28 ≤ off → off ≢ 0x3C → IsFixed card off
-fixed-past card off count above not_line =
+-- an offset is none of an expansion ROM's register
+abbrev pub IsOffRom : FittedCard → ℕ → Type 0
+IsOffRom card off = ((off < 0x30) ⊎ (0x34 ≤ off)) ⊎ ((card.rom ≡ None) × (0x30 ≤ off) × (off ≤ 0x33))
+
+-- without a ROM its register is fixed
+no_rom : (card : FittedCard) (j : ℕ) → length card.bases ≤ 6 → card.rom ≡ None → j < 4 → IsFixed card (0x30 + j)
+no_rom card j count none below = record {
+  byte = rw (reset-rom card j count below) (lit< tt);
+  writable = writable-rom card j count below ∙ ap (λ rom. byte (rom_writable rom) j) none ∙ byte_of_zero j;
+}
+
+fixed-past : (card : FittedCard) (off : ℕ) → length card.bases ≤ 6 → 0x28 ≤ off → IsOffRom card off → off ≢ 0x3C → IsFixed card off
+fixed-past card off count above (inr (none, from, to)) not_line =
+    subst (IsFixed card) (omega arith) (no_rom card (off - 0x30) count none (omega arith))
+fixed-past card off count above (inl apart) not_line =
     elim (cases_eq off 0x3D) [
       | inl pin ↦ subst (IsFixed card) (sym pin) (record { byte = rw (reset-pin card count) (lit< tt); writable = writable-pin card count })
       | inr not_pin ↦ record {
-        byte = rw (past_pin (λ entry. entry.reset) card off count above not_line not_pin) (lit< tt);
-        writable = past_pin (λ entry. entry.writable) card off count above not_line not_pin;
+        byte = rw (past_pin (λ entry. entry.reset) card off count above apart not_line not_pin) (lit< tt);
+        writable = past_pin (λ entry. entry.writable) card off count above apart not_line not_pin;
       }
     ]
 
 -- ---- kept offsets
 
-pub record IsElsewhere (off : ℕ) : Type 0 where
+-- an offset is none of those that a card keeps
+pub kept_nowhere :
+    (rom : Option ℕ) (off : ℕ) → (off == 0x04 || is_within 0x10 0x27 off || off == 0x3C) ≡ false → (off < 0x30) ⊎ (0x34 ≤ off) →
+    (off == 0x04 || is_within 0x10 0x27 off || is_some rom && is_within 0x30 0x33 off || off == 0x3C) ≡ false
+kept_nowhere None off plain off_rom = grind (arith, nat_tests)
+kept_nowhere (Some bits) off plain (inl below) = grind (arith, nat_tests)
+kept_nowhere (Some bits) off plain (inr above) = grind (arith, nat_tests)
+
+pub record IsElsewhere (card : FittedCard) (off : ℕ) : Type 0 where
   pub command : off ≢ 0x04
   pub bases : (off < 0x10) ⊎ (0x28 ≤ off)
+  pub rom : IsOffRom card off
   pub line : off ≢ 0x3C
 
-pub elsewhere : (off : ℕ) → is_kept_offset off ≡ false → IsElsewhere off
-elsewhere off not_kept =
+pub elsewhere : (card : FittedCard) (off : ℕ) → is_kept_offset card off ≡ false → IsElsewhere card off
+elsewhere card off not_kept =
     record {
       command = λ e. grind (arith, nat_tests);
       bases = elim (cases_lt off 0x10) [ inl below ↦ inl below | inr above ↦ inr (grind (arith, nat_tests)) ];
+      rom = off_rom card off not_kept;
       line = λ e. grind (arith, nat_tests);
     }
+  where
+    no_rom_here :
+        (rom : Option ℕ) (off : ℕ) → 0x30 ≤ off → off ≤ 0x33 →
+        (off == 0x04 || is_within 0x10 0x27 off || is_some rom && is_within 0x30 0x33 off || off == 0x3C) ≡ false → rom ≡ None
+    no_rom_here None off from to not_kept = refl
+    no_rom_here (Some bits) off from to not_kept = absurd (grind (arith, nat_tests))
 
-pub is_fixed : (card : FittedCard) → IsCard card → (off : ℕ) → is_kept_offset off ≡ false → IsFixed card off
+    off_rom : (card : FittedCard) (off : ℕ) → is_kept_offset card off ≡ false → IsOffRom card off
+    off_rom card off not_kept =
+        elim (cases_lt off 0x30) [
+          | inl below ↦ inl (inl below)
+          | inr from ↦ elim (cases_lt 0x33 off) [
+            | inl past ↦ inl (inr past)
+            | inr to ↦ inr (no_rom_here card.rom off from to not_kept, from, to)
+          ]
+        ]
+
+pub is_fixed : (card : FittedCard) → IsCard card → (off : ℕ) → is_kept_offset card off ≡ false → IsFixed card off
 is_fixed card fit off not_kept =
-    let apart = elsewhere off not_kept in
+    let apart = elsewhere card off not_kept in
     elim (apart.bases) [
       | inl below ↦ fixed-header card fit.last off below apart.command
-      | inr above ↦ fixed-past card off fit.count above apart.line
+      | inr above ↦ fixed-past card off fit.count above apart.rom apart.line
     ]

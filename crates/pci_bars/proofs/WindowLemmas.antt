@@ -1,31 +1,31 @@
 -- The window that claims a place has the size of its base, and an access that it claims lies in its contents.
-use Rattle.std.proofs.Common.{◌≡◌, ℕ, ◌+◌, ◌-◌, ◌*◌, ◌/◌, ◌%◌, ◌^◌, ◌<◌, ◌≤◌, Bool, false, ◌&&◌, List, [], ◌∷◌, length, Some, inl, inr, ◌∙◌, refl, sym, ap, subst, arith, lit<, lit≤}
+use Rattle.std.proofs.Common.{◌≡◌, ◌≢◌, ℕ, ◌+◌, ◌-◌, ◌*◌, ◌/◌, ◌%◌, ◌^◌, ◌<◌, ◌≤◌, Bool, false, ◌&&◌, List, [], ◌∷◌, ◌++◌, length, Option, None, Some, inl, inr, ◌∙◌, refl, sym, ap, subst, arith, lit<, lit≤}
 use Rattle.std.specs.Prelude.{◌==◌, All, find, flat_map, slice_get}
 use Rattle.std.proofs.lemmas.Bool.{cases_Bool, ne_eqb}
 use Rattle.std.proofs.lemmas.Nat.{pow-add, pow_pos, mod-pow-add}
 use Rattle.std.proofs.Math.Nat.{mod-lt}
 use Rattle.std.proofs.lemmas.List.Elements.{All-nil, All-cons, All-head, All-tail, All-append}
-use Rattle.board_spec.specs.Setup.{Base, MemoryBase, IoBase, FittedCard, Setup, IsBase, IsCard, card_at}
+use Rattle.board_spec.specs.Setup.{Base, MemoryBase, IoBase, FittedCard, Setup, IsBase, IsExpansionRom, IsCard, card_at}
 use Rattle.board_base.specs.declared.access.Width.{Width}
 use Rattle.board_base.specs.declared.access.Width.TheVariants.{One, Two, Four}
 use Rattle.board_base.specs.Access.{bytes_of}
 use Rattle.board_spec.specs.declared.event.Entry.{Entry}
 use Rattle.board_spec.specs.Answer.{window_bits, bits_of_base}
-use Rattle.board_spec.specs.Decode.{Bytes, Window, is_covered, vga_window, is_enabled_for, memory_claim, io_claim, base_value}
-use Rattle.pci_bars.specs.declared.claims.Space.{Space}
-use Rattle.pci_bars.specs.declared.claims.Space.TheVariants.{Memory, Ports}
+use Rattle.board_spec.specs.Decode.{Bytes, Window, is_covered, rom_window_of, is_rom_on, io_windows, is_enabled_for, memory_claim, io_claim, base_value}
+use Rattle.pci_bars.specs.declared.claims.Windows.{Windows}
+use Rattle.pci_bars.specs.declared.claims.Windows.TheVariants.{Memory, UnselectedRom, Ports}
 use Rattle.pci_bars.specs.Cards.{CardBytes, DecodesAs, AreCards, AreDecoded, cards_of}
 use Rattle.pci_bars.specs.Bases.{base_size}
-use Rattle.pci_bars.specs.Contents.{IsBaseNumber, LiesIn, IsContentsOf, window_size}
+use Rattle.pci_bars.specs.Contents.{IsBaseNumber, LiesIn, IsContentsOf, kept_size}
 use Rattle.pci_bars.proofs.BaseLemmas.{is_base}
-use Rattle.pci_bars.proofs.ClaimLemmas.{window_in, base_windows, windows_in}
+use Rattle.pci_bars.proofs.ClaimLemmas.{window_in, base_windows, rom_windows, vga_windows, windows_in, same_windows, io_windows_are}
 
 -- a window is that of a base of the setup's cards, and has its size
 pub record IsSized (setup : Setup) (window : Window) : Type 0 where
   pub number : IsBaseNumber window.dev window.base
   pub least : 2 ≤ window.bits
   pub bits : window.bits ≡ window_bits setup window.dev window.base
-  pub size : window_size (card_at setup window.dev) window.base ≡ 2 ^ window.bits
+  pub size : window.base ≢ 6 → kept_size (card_at setup window.dev) window.base ≡ 2 ^ window.bits
 
 All-find : (P : Window → Type 0) (test : Window → Bool) (windows : List Window) (window : Window) → All P windows → find test windows ≡ Some window → P window
 All-find P test [] window each found = absurd (cc)
@@ -49,22 +49,23 @@ sized :
     slice_get card.bases k ≡ Some base → IsSized setup (record { dev = card.dev; base = k; inside = value; bits = bits_of_base (Some base) })
 sized setup card k value base fit fitted below at =
     let not_vga : (k == 7) ≡ false = ne_eqb k 7 (λ (e : k ≡ 7). omega arith) in
+    let not_rom : (k == 6) ≡ false = ne_eqb k 6 (λ (e : k ≡ 6). omega arith) in
     record {
       number = record { first = fit.first; last = fit.last; below = omega arith };
       least = least_bits base (is_base card.bases k base fit.each at);
-      bits = rw (not_vga, fitted, at) refl;
-      size = rw (fitted, not_vga, at) (size_of_bits base);
+      bits = rw (not_vga, not_rom, fitted, at) refl;
+      size = λ _. rw (fitted, not_vga, at) (size_of_bits base);
     }
 
 sized_bases :
-    (space : Space) (setup : Setup) (bytes : Bytes) (card : FittedCard) → IsCard card → card_at setup card.dev ≡ Some card →
+    (windows : Windows) (setup : Setup) (bytes : Bytes) (card : FittedCard) → IsCard card → card_at setup card.dev ≡ Some card →
     (k : ℕ) (bases : List Base) → k + length bases ≤ 6 → ((i : ℕ) → slice_get card.bases (k + i) ≡ slice_get bases i) →
-    All (IsSized setup) (base_windows space bytes card.dev k bases)
-sized_bases space setup bytes card fit fitted k [] few same = All-nil (IsSized setup)
-sized_bases space setup bytes card fit fitted k (base ∷ later) few same =
-    All-append (IsSized setup) (window_in space bytes card.dev k base) (base_windows space bytes card.dev (k + 1) later)
-    (one space base (ap (slice_get card.bases) (plus_zero k) ∙ same 0))
-    (sized_bases space setup bytes card fit fitted (k + 1) later (omega arith) (λ i. ap (slice_get card.bases) (omega arith) ∙ same (i + 1) ∙ next later base i))
+    All (IsSized setup) (base_windows windows bytes card.dev k bases)
+sized_bases windows setup bytes card fit fitted k [] few same = All-nil (IsSized setup)
+sized_bases windows setup bytes card fit fitted k (base ∷ later) few same =
+    All-append (IsSized setup) (window_in windows bytes card.dev k base) (base_windows windows bytes card.dev (k + 1) later)
+    (one windows base (ap (slice_get card.bases) (plus_zero k) ∙ same 0))
+    (sized_bases windows setup bytes card fit fitted (k + 1) later (omega arith) (λ i. ap (slice_get card.bases) (omega arith) ∙ same (i + 1) ∙ next later base i))
   where
     plus_zero : (k : ℕ) → k ≡ k + 0
     plus_zero k = omega arith
@@ -72,44 +73,74 @@ sized_bases space setup bytes card fit fitted k (base ∷ later) few same =
     next : (later : List Base) (base : Base) (i : ℕ) → slice_get (base ∷ later) (i + 1) ≡ slice_get later i
     next later base i = grind arith
 
-    one : (space : Space) (base : Base) → slice_get card.bases k ≡ Some base → All (IsSized setup) (window_in space bytes card.dev k base)
+    one : (windows : Windows) (base : Base) → slice_get card.bases k ≡ Some base → All (IsSized setup) (window_in windows bytes card.dev k base)
     one Memory (MemoryBase bits) at = All-cons (IsSized setup) _ [] (sized setup card k (base_value bytes card.dev k) (MemoryBase bits) fit fitted (omega arith) at) (All-nil (IsSized setup))
     one Memory (IoBase bits) at = All-nil (IsSized setup)
+    one UnselectedRom base at = All-nil (IsSized setup)
     one Ports (MemoryBase bits) at = All-nil (IsSized setup)
     one Ports (IoBase bits) at = All-cons (IsSized setup) _ [] (sized setup card k (base_value bytes card.dev k) (IoBase bits) fit fitted (omega arith) at) (All-nil (IsSized setup))
 
-sized_vga : (setup : Setup) (card : FittedCard) → IsCard card → card_at setup card.dev ≡ Some card → All (IsSized setup) (vga_window card)
-sized_vga setup card fit fitted =
+sized_vga : (windows : Windows) (setup : Setup) (card : FittedCard) → IsCard card → card_at setup card.dev ≡ Some card → All (IsSized setup) (vga_windows windows card)
+sized_vga Memory setup card fit fitted =
     elim (cases_Bool card.vga) [
       | inl vga ↦
           rw vga (All-cons (IsSized setup) _ [] (record {
             number = record { first = fit.first; last = fit.last; below = lit< tt };
             least = lit≤ tt;
             bits = refl;
-            size = rw (fitted, vga) refl;
+            size = λ _. rw (fitted, vga) refl;
           }) (All-nil (IsSized setup)))
       | inr plain ↦ rw plain (All-nil (IsSized setup))
     ]
+sized_vga UnselectedRom setup card fit fitted = All-nil (IsSized setup)
+sized_vga Ports setup card fit fitted = All-nil (IsSized setup)
+
+sized_rom_of :
+    (setup : Setup) (bytes : Bytes) (card : FittedCard) → IsCard card → card_at setup card.dev ≡ Some card →
+    (rom : Option ℕ) → card.rom ≡ rom → IsExpansionRom rom → All (IsSized setup) (rom_window_of bytes card.dev rom)
+sized_rom_of setup bytes card fit fitted None none size = All-nil (IsSized setup)
+sized_rom_of setup bytes card fit fitted (Some bits) some size =
+    All-cons (IsSized setup) _ [] (record {
+      number = record { first = fit.first; last = fit.last; below = lit< tt };
+      least = omega (arith, size.0);
+      bits = rw (fitted, some) refl;
+      size = λ not_rom. absurd (not_rom refl);
+    }) (All-nil (IsSized setup))
+
+sized_rom :
+    (windows : Windows) (setup : Setup) (bytes : Bytes) (card : FittedCard) → IsCard card → card_at setup card.dev ≡ Some card →
+    All (IsSized setup) (rom_windows windows bytes card)
+sized_rom Memory setup bytes card fit fitted =
+    elim (cases_Bool (is_rom_on bytes card.dev)) [
+      | inl selected ↦ rw selected (sized_rom_of setup bytes card fit fitted card.rom refl fit.rom)
+      | inr not ↦ rw not (All-nil (IsSized setup))
+    ]
+sized_rom UnselectedRom setup bytes card fit fitted =
+    elim (cases_Bool (is_rom_on bytes card.dev)) [
+      | inl selected ↦ rw selected (All-nil (IsSized setup))
+      | inr not ↦ rw not (sized_rom_of setup bytes card fit fitted card.rom refl fit.rom)
+    ]
+sized_rom Ports setup bytes card fit fitted = All-nil (IsSized setup)
 
 sized_card :
-    (space : Space) (setup : Setup) (bytes : Bytes) (card : FittedCard) → IsCard card → card_at setup card.dev ≡ Some card →
-    All (IsSized setup) (windows_in space bytes card)
-sized_card Memory setup bytes card fit fitted =
-    All-append (IsSized setup) (base_windows Memory bytes card.dev 0 card.bases) (vga_window card)
-    (sized_bases Memory setup bytes card fit fitted 0 card.bases (let few = fit.count in omega arith) (λ i. ap (slice_get card.bases) (omega arith)))
-    (sized_vga setup card fit fitted)
-sized_card Ports setup bytes card fit fitted =
-    sized_bases Ports setup bytes card fit fitted 0 card.bases (let few = fit.count in omega arith) (λ i. ap (slice_get card.bases) (omega arith))
+    (windows : Windows) (setup : Setup) (bytes : Bytes) (card : FittedCard) → IsCard card → card_at setup card.dev ≡ Some card →
+    All (IsSized setup) (windows_in windows bytes card)
+sized_card windows setup bytes card fit fitted =
+    All-append (IsSized setup) (base_windows windows bytes card.dev 0 card.bases ++ rom_windows windows bytes card) (vga_windows windows card)
+    (All-append (IsSized setup) (base_windows windows bytes card.dev 0 card.bases) (rom_windows windows bytes card)
+    (sized_bases windows setup bytes card fit fitted 0 card.bases (let few = fit.count in omega arith) (λ i. ap (slice_get card.bases) (omega arith)))
+    (sized_rom windows setup bytes card fit fitted))
+    (sized_vga windows setup card fit fitted)
 
 sized_cards :
-    (space : Space) (setup : Setup) (bytes : Bytes) (cards : List CardBytes) → AreCards cards → All (DecodesAs setup bytes) cards →
-    All (IsSized setup) (flat_map (windows_in space bytes) (cards_of cards))
-sized_cards space setup bytes [] fit are = All-nil (IsSized setup)
-sized_cards space setup bytes (card ∷ later) fit are =
+    (windows : Windows) (setup : Setup) (bytes : Bytes) (cards : List CardBytes) → AreCards cards → All (DecodesAs setup bytes) cards →
+    All (IsSized setup) (flat_map (windows_in windows bytes) (cards_of cards))
+sized_cards windows setup bytes [] fit are = All-nil (IsSized setup)
+sized_cards windows setup bytes (card ∷ later) fit are =
     let is : DecodesAs setup bytes card = All-head (DecodesAs setup bytes) card later are in
-    All-append (IsSized setup) (windows_in space bytes card.card) (flat_map (windows_in space bytes) (cards_of later))
-    (sized_card space setup bytes card.card (All-head (λ card. IsCard card.card) card later fit) is.fitted)
-    (sized_cards space setup bytes later (All-tail (λ card. IsCard card.card) card later fit) (All-tail (DecodesAs setup bytes) card later are))
+    All-append (IsSized setup) (windows_in windows bytes card.card) (flat_map (windows_in windows bytes) (cards_of later))
+    (sized_card windows setup bytes card.card (All-head (λ card. IsCard card.card) card later fit) is.fitted)
+    (sized_cards windows setup bytes later (All-tail (λ card. IsCard card.card) card later fit) (All-tail (DecodesAs setup bytes) card later are))
 
 -- the window that claims an address is that of a base
 pub memory_claim_sized :
@@ -127,7 +158,8 @@ pub io_claim_sized :
 unfolding io_claim
 io_claim_sized setup bytes cards port window fit are found =
     All-find (IsSized setup) (λ window. is_enabled_for 0 bytes window.dev && is_covered port window) (flat_map (windows_in Ports bytes) (cards_of cards)) window
-    (sized_cards Ports setup bytes cards fit are.1) (rw are.0 at found)
+    (sized_cards Ports setup bytes cards fit are.1)
+    (same_windows (is_enabled_for 0 bytes) port (windows_in Ports bytes) (io_windows bytes) (io_windows_are bytes) (cards_of cards) ∙ rw are.0 at found)
 
 -- ---- an aligned access in a window
 
@@ -159,5 +191,5 @@ pub lies_in_window :
 lies_in_window setup history contents window place width sized is aligned =
     record {
       number = sized.number;
-      fits = rw (is.sizes window.dev window.base sized.number ∙ sized.size) (fits_window place window.bits width sized.least aligned);
+      fits = λ not_rom. rw (is.sizes window.dev window.base sized.number ∙ sized.size not_rom) (fits_window place window.bits width sized.least aligned);
     }

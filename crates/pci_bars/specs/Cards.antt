@@ -1,36 +1,51 @@
 -- The registers of a card, and what it means that they are those of a board's configuration space.
-use Rattle.std.specs.Prelude.{◌≡◌, ℕ, ◌+◌, ◌*◌, ◌<◌, ◌==◌, Bool, false, ◌||◌, List, map, All, slice_index, Some, [], ◌∷◌, if◌then◌else◌}
-use Rattle.board_spec.specs.Setup.{FittedCard, Setup, IsCard, card_at}
-use Rattle.board_spec.specs.Bits.{byte, is_within}
+use Rattle.std.specs.Prelude.{◌≡◌, ℕ, ◌<◌, ◌==◌, Bool, false, ◌&&◌, ◌||◌, List, map, All, slice_index, Option, Some, None, is_some, [], ◌∷◌, if◌then◌else◌}
+use Rattle.board_base.specs.declared.access.Width.TheVariants.{Four}
+use Rattle.board_base.specs.declared.target.Reg.{Reg}
+use Rattle.board_spec.specs.Setup.{FittedCard, Setup, IsCard, Rises, card_at}
+use Rattle.board_spec.specs.Bits.{byte, is_within, wide}
+use Rattle.board_spec.specs.RegisterNames.{card_register, card_command, base_register, expansion_rom, interrupt_line}
 use Rattle.board_spec.specs.RegisterTable.{reset_byte}
-use Rattle.board_spec.specs.Decode.{Bytes, base_value}
-use Rattle.board_spec.specs.RegisterNames.{card_register}
+use Rattle.board_spec.specs.MapWrites.{reg_after}
+use Rattle.board_spec.specs.Decode.{Bytes}
 
--- a card, its command register, its interrupt line and its six base address registers
+-- a card, its command register, its interrupt line, its six base address registers, and the register of its
+-- expansion ROM
 pub record CardBytes : Type 0 where
   pub card : FittedCard
   pub command : ℕ
   pub line : ℕ
   pub bases : List ℕ
+  pub rom : ℕ
 
--- these are the registers of a card of the setup on which the address map depends: the command, and
--- the six bases, each as a number and byte by byte
+-- four registers from one on hold a doubleword, as a number and byte by byte
+pub record HoldsLong (bytes : Bytes) (first : Reg) (value : ℕ) : Type 0 where
+  pub number : wide (λ off. bytes (record first { off = off })) first.off Four ≡ value
+  pub each : (j : ℕ) → j < 4 → bytes (reg_after first j) ≡ byte value j
+
+-- the register of an expansion ROM, and 0 for a card without one
+abbrev pub HoldsRom : Bytes → (dev rom : ℕ) → Option ℕ → Type 0
+HoldsRom bytes dev rom None = rom ≡ 0
+HoldsRom bytes dev rom (Some bits) = HoldsLong bytes (expansion_rom dev) rom
+
+-- these are the registers of a card of the setup on which the address map depends: the command, the six bases
+-- and the expansion ROM's
 pub record DecodesAs (setup : Setup) (bytes : Bytes) (card : CardBytes) : Type 0 where
   pub fitted : card_at setup card.card.dev ≡ Some card.card
-  pub command : bytes (card_register card.card.dev 0x04) ≡ card.command
-  pub bases : (k : ℕ) → k < 6 → base_value bytes card.card.dev k ≡ slice_index card.bases k
-  pub base_bytes : (k j : ℕ) → k < 6 → j < 4 →
-      bytes (card_register card.card.dev (0x10 + 4 * k + j)) ≡ byte (slice_index card.bases k) j
+  pub command : bytes (card_command card.card.dev) ≡ card.command
+  pub bases : (k : ℕ) → k < 6 → HoldsLong bytes (base_register card.card.dev k) (slice_index card.bases k)
+  pub rom : HoldsRom bytes card.card.dev card.rom card.card.rom
 
--- the offsets at which a card keeps what is written: command, bases and interrupt line
-abbrev pub is_kept_offset : ℕ → Bool
-is_kept_offset off = off == 0x04 || is_within 0x10 0x27 off || off == 0x3C
+-- the offsets at which a card keeps what is written: command, bases, expansion ROM and interrupt line
+abbrev pub is_kept_offset : FittedCard → ℕ → Bool
+is_kept_offset card off =
+    off == 0x04 || is_within 0x10 0x27 off || is_some card.rom && is_within 0x30 0x33 off || off == 0x3C
 
 -- these are all the registers of a card of the setup. Those that it does not keep stand as after a reset
 pub record IsCardOf (setup : Setup) (bytes : Bytes) (card : CardBytes) : Type 0 where
   pub decodes : DecodesAs setup bytes card
-  pub line : bytes (card_register card.card.dev 0x3C) ≡ card.line
-  pub fixed : (off : ℕ) → is_kept_offset off ≡ false →
+  pub line : bytes (interrupt_line card.card.dev) ≡ card.line
+  pub fixed : (off : ℕ) → is_kept_offset card.card off ≡ false →
       bytes (card_register card.card.dev off) ≡ reset_byte setup (card_register card.card.dev off)
 
 abbrev pub cards_of : List CardBytes → List FittedCard
@@ -46,6 +61,18 @@ AreCardsOf setup bytes cards = (setup.cards ≡ cards_of cards) × All (IsCardOf
 -- each can be fitted to a board
 abbrev pub AreCards : List CardBytes → Type 0
 AreCards cards = All (λ card. IsCard card.card) cards
+
+-- cards as a board can be fitted with: each is one, and their devices rise
+pub record AreFitted (cards : List CardBytes) : Type 0 where
+  pub each : AreCards cards
+  pub rises : Rises (cards_of cards)
+
+-- a card as a reset leaves it, in each setup that has it
+abbrev pub IsReset : CardBytes → Type 0
+IsReset card = (setup : Setup) → card_at setup card.card.dev ≡ Some card.card → IsCardOf setup (reset_byte setup) card
+
+abbrev pub AreReset : List CardBytes → Type 0
+AreReset cards = All IsReset cards
 
 -- the first sixteen registers
 abbrev pub header_of : CardBytes → List ℕ

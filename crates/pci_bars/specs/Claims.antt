@@ -3,49 +3,73 @@ use Rattle.std.specs.Prelude.{ℕ, ◌+◌, ◌/◌, ◌^◌, ◌==◌, Bool, tr
 use Rattle.std.specs.Option.{option_or}
 use Rattle.board_spec.specs.Setup.{Base, MemoryBase, IoBase}
 use Rattle.board_spec.specs.Bits.{is_bit}
-use Rattle.pci_bars.specs.declared.claims.Space.{Space}
-use Rattle.pci_bars.specs.declared.claims.Space.TheVariants.{Memory, Ports}
+use Rattle.board_spec.specs.Ranges.{smram_range}
+use Rattle.pci_bars.specs.declared.claims.Gate.{Gate}
+use Rattle.pci_bars.specs.declared.claims.Gate.TheVariants.{Open, Shut}
+use Rattle.pci_bars.specs.declared.claims.Windows.{Windows}
+use Rattle.pci_bars.specs.declared.claims.Windows.TheVariants.{Memory, UnselectedRom, Ports}
 use Rattle.pci_bars.specs.Cards.{CardBytes}
 
 -- two places agree but in the low bits
 abbrev pub agrees : (bits value place : ℕ) → Bool
 agrees bits value place = value / 2 ^ bits == place / 2 ^ bits
 
-abbrev pub covers : Space → Base → (value place : ℕ) → Bool
+abbrev pub covers : Windows → Base → (value place : ℕ) → Bool
 covers Memory (MemoryBase bits) value place = agrees bits value place
 covers Memory (IoBase bits) value place = false
+covers UnselectedRom base value place = false
 covers Ports (MemoryBase bits) value place = false
 covers Ports (IoBase bits) value place = agrees bits value place
 
 -- the first of these bases that covers a place, where the first of them is number k
-abbrev pub covering : Space → (values : List ℕ) → (place : ℕ) → ℕ → List Base → Option ℕ
-covering space values place k [] = None
-covering space values place k (base ∷ later) =
-    if covers space base (slice_index values k) place then Some k else covering space values place (k + 1) later
+abbrev pub covering : Windows → (values : List ℕ) → (place : ℕ) → ℕ → List Base → Option ℕ
+covering windows values place k [] = None
+covering windows values place k (base ∷ later) =
+    if covers windows base (slice_index values k) place then Some k else covering windows values place (k + 1) later
+
+-- an expansion ROM covers the places that agree with its register
+abbrev pub rom_covers : Option ℕ → (register place : ℕ) → Bool
+rom_covers None register place = false
+rom_covers (Some bits) register place = agrees bits register place
+
+-- the expansion ROM as base 6, among the memory windows where bit 0 of its register selects it
+abbrev pub rom_claim : Windows → Option ℕ → (register place : ℕ) → Option ℕ
+rom_claim Memory rom register place = if is_bit register 0 && rom_covers rom register place then Some 6 else None
+rom_claim UnselectedRom rom register place =
+    if not (is_bit register 0) && rom_covers rom register place then Some 6 else None
+rom_claim Ports rom register place = None
 
 -- the VGA window A0000h to BFFFFh as base 7
-abbrev pub vga_claim : Space → Bool → ℕ → Option ℕ
-vga_claim Memory vga place = if vga && agrees 17 0xA_0000 place then Some 7 else None
+abbrev pub vga_claim : Windows → Bool → ℕ → Option ℕ
+vga_claim Memory vga place = if vga && agrees 17 smram_range.0 place then Some 7 else None
+vga_claim UnselectedRom vga place = None
 vga_claim Ports vga place = None
 
 -- the base of a card that covers a place
-abbrev pub covering_base : Space → (place : ℕ) → CardBytes → Option ℕ
-covering_base space place card =
-    option_or (covering space card.bases place 0 card.card.bases) (vga_claim space card.card.vga place)
+abbrev pub covering_base : Windows → (place : ℕ) → CardBytes → Option ℕ
+covering_base windows place card =
+    option_or
+    (option_or (covering windows card.bases place 0 card.card.bases) (rom_claim windows card.card.rom card.rom place))
+    (vga_claim windows card.card.vga place)
 
 -- a card's command lets it decode memory by bit 1, and ports by bit 0
-abbrev pub is_enabled : Space → CardBytes → Bool
+abbrev pub is_enabled : Windows → CardBytes → Bool
 is_enabled Memory card = is_bit card.command 1
+is_enabled UnselectedRom card = is_bit card.command 1
 is_enabled Ports card = is_bit card.command 0
 
-abbrev pub same_bool : Bool → Bool → Bool
-same_bool true b = b
-same_bool false b = not b
+abbrev pub gate_of : Bool → Gate
+gate_of true = Open
+gate_of false = Shut
 
--- the first card that is enabled, or that is not, and covers a place: its device and its base
-abbrev pub first_claim : Space → (enabled : Bool) → (place : ℕ) → List CardBytes → Option (ℕ × ℕ)
-first_claim space enabled place [] = None
-first_claim space enabled place (card ∷ later) =
+abbrev pub is_gate : Gate → Bool → Bool
+is_gate Open enabled = enabled
+is_gate Shut enabled = not enabled
+
+-- the first card at whose gate one stands, and that covers a place: its device and its base
+abbrev pub first_claim : Windows → Gate → (place : ℕ) → List CardBytes → Option (ℕ × ℕ)
+first_claim windows gate place [] = None
+first_claim windows gate place (card ∷ later) =
     option_or
-    (if same_bool enabled (is_enabled space card) then option_map (λ base. (card.card.dev, base)) (covering_base space place card) else None)
-    (first_claim space enabled place later)
+    (if is_gate gate (is_enabled windows card) then option_map (λ base. (card.card.dev, base)) (covering_base windows place card) else None)
+    (first_claim windows gate place later)

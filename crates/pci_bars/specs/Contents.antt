@@ -1,13 +1,13 @@
 -- The contents of the cards' bases: a list of bytes each, found by device and base.
-use Rattle.std.specs.Prelude.{◌≡◌, ℕ, ◌+◌, ◌-◌, ◌*◌, ◌<◌, ◌≤◌, ◌==◌, if◌then◌else◌, List, [], Option, Some, None, get_or, length, slice_index}
+use Rattle.std.specs.Prelude.{◌≡◌, ◌≢◌, ℕ, ◌+◌, ◌-◌, ◌*◌, ◌<◌, ◌≤◌, ◌==◌, if◌then◌else◌, List, [], Option, Some, None, get_or, length, slice_index}
 use Rattle.board_base.specs.declared.access.Width.{Width}
 use Rattle.board_base.specs.Access.{bytes_of}
 use Rattle.board_spec.specs.declared.event.Entry.{Entry}
 use Rattle.board_spec.specs.Setup.{FittedCard, Setup, card_at}
-use Rattle.board_spec.specs.Stored.{CardCell, stored_of}
+use Rattle.board_spec.specs.Stored.{card_byte, expansion_byte}
 use Rattle.pci_bars.specs.Bases.{base_size, of_base}
 
--- devices 2 to 9 have bases 0 to 5, the VGA window as base 7, and 6 for none
+-- devices 2 to 9 have bases 0 to 5, the expansion ROM as base 6, and the VGA window as base 7
 pub record IsBaseNumber (dev base : ℕ) : Type 0 where
   pub first : 2 ≤ dev
   pub last : dev ≤ 9
@@ -17,27 +17,30 @@ pub record IsBaseNumber (dev base : ℕ) : Type 0 where
 abbrev pub slot_number : ℕ → ℕ → ℕ
 slot_number dev base = (dev - 2) * 8 + base
 
--- the bytes of a base. There are none where the base does not exist
+-- the bytes that are kept of a base. There are none where the base does not exist, and of an expansion ROM
 abbrev pub held : List (List ℕ) → (dev base : ℕ) → List ℕ
 held contents dev base = get_or contents (slot_number dev base) []
 
+-- a byte of a base. That of an expansion ROM is fixed
 abbrev pub held_byte : List (List ℕ) → (dev base off : ℕ) → ℕ
-held_byte contents dev base off = slice_index (held contents dev base) off
+held_byte contents dev base off =
+    if base == 6 then expansion_byte dev off else slice_index (held contents dev base) off
 
--- how many bytes a base of a card has. The VGA window has 128 KiB
-abbrev pub window_size : Option FittedCard → ℕ → ℕ
-window_size None base = 0
-window_size (Some card) base =
+-- how many bytes are kept of a base of a card. The VGA window has 128 KiB
+abbrev pub kept_size : Option FittedCard → ℕ → ℕ
+kept_size None base = 0
+kept_size (Some card) base =
     if base == 7 then (if card.vga then 0x2_0000 else 0) else of_base base_size card.bases base
 
--- the base exists, and an access lies in it
+-- an access lies in the bytes that are kept of a base, or in an expansion ROM
 pub record LiesIn (contents : List (List ℕ)) (dev base off : ℕ) (width : Width) : Type 0 where
   pub number : IsBaseNumber dev base
-  pub fits : off + bytes_of width ≤ length (held contents dev base)
+  pub fits : base ≢ 6 → off + bytes_of width ≤ length (held contents dev base)
 
--- each base of the setup's cards has its size, and holds what the last write in a history left there
+-- each base of the setup's cards has its size, and holds what the last write in a history left there, or the
+-- fixed bytes of an expansion ROM
 pub record IsContentsOf (setup : Setup) (history : List Entry) (contents : List (List ℕ)) : Type 0 where
   pub sizes : (dev base : ℕ) → IsBaseNumber dev base →
-      length (held contents dev base) ≡ window_size (card_at setup dev) base
-  pub bytes : (dev base off : ℕ) → IsBaseNumber dev base → off < window_size (card_at setup dev) base →
-      held_byte contents dev base off ≡ stored_of history (CardCell dev base off)
+      length (held contents dev base) ≡ kept_size (card_at setup dev) base
+  pub bytes : (dev base off : ℕ) → IsBaseNumber dev base → off < kept_size (card_at setup dev) base →
+      held_byte contents dev base off ≡ card_byte history dev base off

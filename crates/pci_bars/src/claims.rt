@@ -1,37 +1,48 @@
 //! Which card answers at an address or a port (PCI Local Bus 2.1, sections 6.2.2 and 6.2.5).
-ghost use Rattle.std.specs.Prelude.{◌≡◌, ◌≤◌, ◌%◌, ◌^◌, ◌==◌, ℕ, All, Some, false, find, length, map, option_map};
-ghost use Rattle.board_spec.specs.Setup.{Setup, IsBase, IsCard};
+ghost use Rattle.std.specs.Prelude.{◌≡◌, ◌≤◌, ◌%◌, ◌^◌, ◌==◌, ℕ, All, None, find, length, map, option_map};
+ghost use Rattle.board_spec.specs.Setup.{Setup, IsBase, IsCard, IsExpansionRom};
 ghost use Rattle.board_spec.specs.Answer.{window_bits};
-ghost use Rattle.board_spec.specs.Decode.{Bytes, Window, memory_claim, memory_shut, io_claim, io_shut};
+ghost use Rattle.board_spec.specs.Decode.{Bytes, Window, memory_claim, memory_shut, rom_unselected, io_claim, io_shut};
 ghost use Rattle.pci_bars.specs.Bases.{base_of, bits_in};
 ghost use Rattle.pci_bars.specs.Cards.{AreCards, AreDecoded, cards_of};
-ghost use Rattle.pci_bars.specs.Claims.{covers, covering, vga_claim, covering_base, is_enabled, first_claim};
+ghost use Rattle.pci_bars.specs.Claims.{covers, covering, covering_base, first_claim, gate_of, is_enabled, rom_claim, rom_covers, vga_claim};
 
+use crate::cards::card_at;
 use crate::regs::CardRegs;
-use crate::spec::{BASES, BaseSpec, VGA_BASE, VGA_BITS};
+use crate::spec::{BASE_COUNT, BaseSpec, ROM_BASE, ROM_ENABLE, VGA_BASE, VGA_BITS};
+use board_spec::bits::is_set;
+use board_spec::range::SMRAM_RANGE;
 
 /// The bit of the command register that lets a card decode memory.
-const MEMORY_ENABLE: u8 = 1 << 1;
+const MEMORY_ENABLE: u32 = 1;
 /// The bit of the command register that lets a card decode I/O ports.
-const IO_ENABLE: u8 = 1 << 0;
-/// The first address of the VGA window.
-const VGA_WINDOW: u32 = 0xA_0000;
+const IO_ENABLE: u32 = 0;
 
-/// Where an access goes: to memory or to I/O ports.
+/// Which windows of a card are asked: those in memory, an expansion ROM that is not selected, or those among the
+/// I/O ports.
 #[derive(Clone, Copy, PartialEq, Eq, Debug)]
-enum Space {
+enum Windows {
     Memory,
+    UnselectedRom,
     Ports,
 }
 
-/// The card that answers at an address: its device, and the number of its base, which is 7 for the VGA
-/// window. Of several the lowest device, and then the lowest base. None where nothing enabled covers it.
+/// Whether a card's command register lets it decode.
+#[derive(Clone, Copy, PartialEq, Eq, Debug)]
+enum Gate {
+    Open,
+    Shut,
+}
+
+/// The card that answers at an address: its device, and the number of its base, which is 6 for a selected
+/// expansion ROM and 7 for the VGA window. Of several the lowest device, and then the lowest base. None where
+/// nothing enabled covers it.
 pub fn claim_mem(cards: &[CardRegs], addr: u32) -> Option<(u8, u8)>
     requires cards { AreCards cards.now }
     ensures claim { (setup : Setup) (bytes : Bytes) → AreDecoded setup bytes cards.now
         → result ≡ option_map (λ window. (window.dev, window.base)) (memory_claim setup bytes addr) }
 {
-    first(cards, Space::Memory, true, addr)
+    first(cards, Windows::Memory, Gate::Open, addr)
 }
 
 /// The card that answers at an I/O port: its device, and the number of its base. Of several the lowest
@@ -41,16 +52,17 @@ pub fn claim_io(cards: &[CardRegs], port: u16) -> Option<(u8, u8)>
     ensures claim { (setup : Setup) (bytes : Bytes) → AreDecoded setup bytes cards.now
         → result ≡ option_map (λ window. (window.dev, window.base)) (io_claim setup bytes port) }
 {
-    first(cards, Space::Ports, true, u32::from(port))
+    first(cards, Windows::Ports, Gate::Open, u32::from(port))
 }
 
-/// The least device that covers an address and may not decode memory. None where there is none.
+/// The least device that covers an address, by a base, a selected expansion ROM or the VGA window, and may not
+/// decode memory. None where there is none.
 pub fn shut_mem(cards: &[CardRegs], addr: u32) -> Option<u8>
     requires cards { AreCards cards.now }
     ensures shut { (setup : Setup) (bytes : Bytes) → AreDecoded setup bytes cards.now
         → result ≡ option_map (λ window. window.dev) (memory_shut setup bytes addr) }
 {
-    first_shut(cards, Space::Memory, addr)
+    first_device(cards, Windows::Memory, Gate::Shut, addr)
 }
 
 /// The least device that covers an I/O port and may not decode ports. None where there is none.
@@ -59,7 +71,17 @@ pub fn shut_io(cards: &[CardRegs], port: u16) -> Option<u8>
     ensures shut { (setup : Setup) (bytes : Bytes) → AreDecoded setup bytes cards.now
         → result ≡ option_map (λ window. window.dev) (io_shut setup bytes port) }
 {
-    first_shut(cards, Space::Ports, u32::from(port))
+    first_device(cards, Windows::Ports, Gate::Shut, u32::from(port))
+}
+
+/// The least device that may decode memory and whose expansion ROM covers an address, but is not selected by
+/// bit 0 of its register. None where there is none.
+pub fn unselected_rom(cards: &[CardRegs], addr: u32) -> Option<u8>
+    requires cards { AreCards cards.now }
+    ensures unselected { (setup : Setup) (bytes : Bytes) → AreDecoded setup bytes cards.now
+        → result ≡ option_map (λ window. window.dev) (rom_unselected setup bytes addr) }
+{
+    first_device(cards, Windows::UnselectedRom, Gate::Open, addr)
 }
 
 /// Where a place lies in a base of a card: the remainder by the size of the base, which is 128 KiB for
@@ -86,36 +108,42 @@ fn low_bits(number: u32, count: u8) -> u32
     number % (1 << count)
 }
 
-/// The power of two of the size of a base of a card. 0 where no card has it.
+/// log2 of the size of a base of a card. 0 where no card has it.
 fn bits_at(cards: &[CardRegs], dev: u8, base: u8) -> u8
     requires cards { AreCards cards.now }
     ensures bits { result ≡ bits_in (find (λ card. card.dev == dev) (cards_of cards.now)) base }
     ensures most { result ≤ 24 }
 {
-    for fitted in cards {
-        if fitted.spec.dev == dev {
-            return fitted.spec.window_bits(base);
-        }
+    match card_at(cards, dev) {
+        Some(card) => card.spec.window_bits(base),
+        None => bits_of_none(base),
     }
+}
+
+/// What counts as the size of a base that no card has.
+fn bits_of_none(base: u8) -> u8
+    ensures bits { result ≡ bits_in None base }
+    ensures most { result ≤ 24 }
+{
     if base == VGA_BASE { VGA_BITS } else { 0 }
 }
 
-/// The first device that covers a place and is not enabled.
-fn first_shut(cards: &[CardRegs], space: Space, place: u32) -> Option<u8>
+/// The first device that covers a place by such a window, and whose gate is like this.
+fn first_device(cards: &[CardRegs], windows: Windows, gate: Gate, place: u32) -> Option<u8>
     requires cards { AreCards cards.now }
-    ensures shut { result ≡ option_map {T = ℕ × ℕ} (λ named. named.0) (first_claim space false place cards.now) }
+    ensures device { result ≡ option_map {T = ℕ × ℕ} (λ named. named.0) (first_claim windows gate place cards.now) }
 {
-    first(cards, space, false, place).map(|(dev, _)| dev)
+    first(cards, windows, gate, place).map(|(dev, _)| dev)
 }
 
-/// The first card, by device and then by base, that covers a place and is enabled, or is not.
-fn first(cards: &[CardRegs], space: Space, enabled: bool, place: u32) -> Option<(u8, u8)>
+/// The first card, by device and then by base, that covers a place by such a window, and whose gate is like this.
+fn first(cards: &[CardRegs], windows: Windows, gate: Gate, place: u32) -> Option<(u8, u8)>
     requires cards { AreCards cards.now }
-    ensures first { result ≡ first_claim space enabled place cards.now }
+    ensures first { result ≡ first_claim windows gate place cards.now }
 {
     for card in cards {
-        if is_enabled_for(card, space) == enabled {
-            if let Some(base) = base_at(card, space, place) {
+        if gate_of(card, windows) == gate {
+            if let Some(base) = base_at(card, windows, place) {
                 return Some((card.spec.dev, base));
             }
         }
@@ -123,57 +151,95 @@ fn first(cards: &[CardRegs], space: Space, enabled: bool, place: u32) -> Option<
     None
 }
 
-/// Whether the command register lets a card decode this space.
-fn is_enabled_for(card: &CardRegs, space: Space) -> bool
-    ensures enabled { result ≡ is_enabled space card.now }
+/// Whether the command register lets a card decode the space of these windows.
+fn gate_of(card: &CardRegs, windows: Windows) -> Gate
+    ensures gate { result ≡ gate_of (is_enabled windows card.now) }
 {
-    match space {
-        Space::Memory => card.command & MEMORY_ENABLE != 0,
-        Space::Ports => card.command & IO_ENABLE != 0,
+    let enable = match windows {
+        Windows::Memory | Windows::UnselectedRom => MEMORY_ENABLE,
+        Windows::Ports => IO_ENABLE,
+    };
+    if is_set(u32::from(card.command), enable) {
+        Gate::Open
+    } else {
+        Gate::Shut
     }
 }
 
-/// The lowest base of a card that covers a place, whether or not it is enabled.
-fn base_at(card: &CardRegs, space: Space, place: u32) -> Option<u8>
+/// The lowest base of a card that covers a place, whatever its gate.
+fn base_at(card: &CardRegs, windows: Windows, place: u32) -> Option<u8>
     requires card { IsCard card.now.card }
-    ensures base { result ≡ covering_base space place card.now }
+    ensures base { result ≡ covering_base windows place card.now }
 {
     let spec = &card.spec;
-    first_covering(&spec.bases, &card.bases, space, place).or(vga_at(spec.vga, space, place))
+    first_covering(&spec.bases, &card.bases, windows, place)
+        .or(rom_at(spec.rom, card.rom, windows, place))
+        .or(vga_at(spec.vga, windows, place))
 }
 
 /// The number of the first base that covers a place.
-fn first_covering(bases: &[BaseSpec], values: &[u32; BASES], space: Space, place: u32) -> Option<u8>
+fn first_covering(
+    bases: &[BaseSpec],
+    values: &[u32; BASE_COUNT],
+    windows: Windows,
+    place: u32,
+) -> Option<u8>
     requires bases { All IsBase (map base_of bases.now) }
     requires count { length bases.now ≤ 6 }
-    ensures first { result ≡ covering space values.now place 0 (map base_of bases.now) }
+    ensures first { result ≡ covering windows values.now place 0 (map base_of bases.now) }
 {
     for (index, base) in bases.iter().enumerate() {
-        if is_covered(*base, space, values[index], place) {
+        if is_covered(*base, windows, values[index], place) {
             return Some(index as u8);
         }
     }
     None
 }
 
-/// The VGA window as a base, where the card is a VGA adapter and the window covers the place.
-fn vga_at(vga: bool, space: Space, place: u32) -> Option<u8>
-    ensures claim { result ≡ vga_claim space vga place }
+/// The expansion ROM as a base, where it is among these windows and covers the place.
+fn rom_at(rom: Option<u8>, register: u32, windows: Windows, place: u32) -> Option<u8>
+    requires rom { IsExpansionRom rom }
+    ensures claim { result ≡ rom_claim windows rom register place }
 {
-    match space {
-        Space::Memory if vga && place >> VGA_BITS == VGA_WINDOW >> VGA_BITS => Some(VGA_BASE),
+    let selected = is_set(register, ROM_ENABLE);
+    match windows {
+        Windows::Memory if selected && rom_covers(rom, register, place) => Some(ROM_BASE),
+        Windows::UnselectedRom if !selected && rom_covers(rom, register, place) => Some(ROM_BASE),
+        _ => None,
+    }
+}
+
+/// Whether an expansion ROM with this register covers a place, selected or not.
+fn rom_covers(rom: Option<u8>, register: u32, place: u32) -> bool
+    requires rom { IsExpansionRom rom }
+    ensures covers { result ≡ rom_covers rom register place }
+{
+    match rom {
+        Some(bits) => register >> bits == place >> bits,
+        None => false,
+    }
+}
+
+/// The VGA window as a base, where it is among these windows, the card is a VGA adapter, and it covers the place.
+fn vga_at(vga: bool, windows: Windows, place: u32) -> Option<u8>
+    ensures claim { result ≡ vga_claim windows vga place }
+{
+    match windows {
+        Windows::Memory if vga && place >> VGA_BITS == SMRAM_RANGE.first >> VGA_BITS => Some(
+            VGA_BASE,
+        ),
         _ => None,
     }
 }
 
 /// Whether a base that holds this value decodes a place.
-fn is_covered(base: BaseSpec, space: Space, value: u32, place: u32) -> bool
+fn is_covered(base: BaseSpec, windows: Windows, value: u32, place: u32) -> bool
     requires base { IsBase (base_of base) }
-    ensures covers { result ≡ covers space (base_of base) value place }
+    ensures covers { result ≡ covers windows (base_of base) value place }
 {
-    match (space, base) {
-        (Space::Memory, BaseSpec::Memory(bits)) => value >> bits == place >> bits,
-        (Space::Ports, BaseSpec::Io(bits)) => value >> bits == place >> bits,
+    match (windows, base) {
+        (Windows::Memory, BaseSpec::Memory(bits)) => value >> bits == place >> bits,
+        (Windows::Ports, BaseSpec::Io(bits)) => value >> bits == place >> bits,
         _ => false,
     }
 }

@@ -1,17 +1,17 @@
 //! The bytes behind the bases of the cards.
-ghost use Rattle.std.specs.Prelude.{◌≡◌, ◌≤◌, ◌<◌, ◌+◌, ◌-◌, ◌==◌, ◌&&◌, nat_le, nat_lt, if◌then◌else◌, ℕ, List, [], ◌∷◌, All, find, length, slice_index, IfOk, unwrap_or};
+ghost use Rattle.std.specs.Prelude.{◌≡◌, ◌≢◌, ◌≤◌, ◌<◌, ◌==◌, ℕ, List, [], ◌∷◌, All, find, length, IfOk, unwrap_or};
 ghost use Rattle.board_base.specs.declared.access.Width.{Width};
 ghost use Rattle.board_base.specs.declared.target.Target.TheVariants.{Card};
-ghost use Rattle.board_base.specs.Access.{bytes_of, largest_of};
+ghost use Rattle.board_base.specs.Access.{largest_of};
 ghost use Rattle.board_spec.specs.declared.event.Entry.{Entry};
 ghost use Rattle.board_spec.specs.Setup.{Setup, IsCard};
-ghost use Rattle.board_spec.specs.Bits.{byte, wide};
-ghost use Rattle.board_spec.specs.Stored.{CardCell, byte_put, entry_put, stored_of};
-ghost use Rattle.pci_bars.specs.Contents.{IsBaseNumber, slot_number, held, held_byte, window_size, LiesIn, IsContentsOf};
+ghost use Rattle.board_spec.specs.Bits.{wide};
+ghost use Rattle.board_spec.specs.Stored.{CardCell, byte_put, card_byte, entry_put, expansion_byte};
+ghost use Rattle.pci_bars.specs.Contents.{IsBaseNumber, slot_number, held, held_byte, kept_size, LiesIn, IsContentsOf};
 
-use crate::spec::CardSpec;
+use crate::spec::{CardSpec, ROM_BASE};
 use board_base::{NoMemory, Width};
-use byteorder::{ByteOrder, LittleEndian};
+use board_spec::wide::{read_at, write_at};
 use std::alloc::Global;
 use std::marker::Model;
 
@@ -19,10 +19,18 @@ use std::marker::Model;
 const FIRST_DEVICE: u8 = 2;
 
 const DEVICES: u8 = 8;
-/// How many base numbers a card has: 0 to 5 for its bases, and 7 for the VGA window.
+/// How many base numbers a card has: 0 to 5 for its bases, 6 for its expansion ROM, and 7 for the VGA window.
 const BASE_NUMBERS: u8 = 8;
 
-/// The bytes of each base and of each VGA window, which begin with zeros.
+/// The byte of a device's expansion ROM at an offset: the sum of the two modulo 256.
+pub fn expansion_byte(dev: u8, off: u32) -> u8
+    ensures byte { result ≡ expansion_byte dev off }
+{
+    dev.wrapping_add((off % 0x100) as u8)
+}
+
+/// The bytes of each base and of each VGA window, which begin with zeros. Those of an expansion ROM are not kept,
+/// since they are `expansion_byte`'s.
 #[derive(Drop)]
 pub struct Contents {
     buffers: Vec<Vec<u8>>,
@@ -43,8 +51,8 @@ impl Contents {
     pub fn open(alloc: Global, specs: &[CardSpec]) -> Result<Contents, NoMemory>
         requires cards { All IsCard specs.now }
         ensures sizes { IfOk result (λ contents. (dev base : ℕ) → IsBaseNumber dev base
-            → length (held contents dev base) ≡ window_size (find (λ card. card.dev == dev) specs.now) base) }
-        ensures zeros { IfOk result (λ contents. (dev base off : ℕ) → held_byte contents dev base off ≡ 0) }
+            → length (held contents dev base) ≡ kept_size (find (λ card. card.dev == dev) specs.now) base) }
+        ensures zeros { IfOk result (λ contents. (dev base off : ℕ) → base ≢ 6 → held_byte contents dev base off ≡ 0) }
         ensures stored { IfOk result (λ contents. (setup : Setup) → setup.cards ≡ specs.now
             → IsContentsOf setup [] contents) }
     {
@@ -60,8 +68,8 @@ impl Contents {
         Ok(Contents { buffers })
     }
 
-    /// How many bytes a base has: none where it does not exist. Devices are 2 to 9, and base numbers 0 to 7,
-    /// of which 7 is the VGA window.
+    /// How many bytes are kept of a base: none where it does not exist, and of an expansion ROM. Devices are 2 to
+    /// 9, and base numbers 0 to 7, of which 6 is the expansion ROM and 7 the VGA window.
     pub fn size(&self, dev: u8, base: u8) -> usize
         requires number { IsBaseNumber dev base }
         ensures size { result ≡ length (held self.now dev base) }
@@ -69,23 +77,20 @@ impl Contents {
         self.buffers[slot_of(dev, base)].len()
     }
 
-    /// The value at an offset in a base.
+    /// The value at an offset in a base, its low byte first.
     pub fn read(&self, dev: u8, base: u8, off: u32, width: Width) -> u32
         requires place { LiesIn self.now dev base off width }
         ensures value { result ≡ wide (held_byte self.now dev base) off width }
         ensures stored { (setup : Setup) (history : List Entry) → IsContentsOf setup history self.now
-            → result ≡ wide (λ at. stored_of history (CardCell dev base at)) off width }
+            → result ≡ wide (card_byte history dev base) off width }
     {
-        let bytes = &self.buffers[slot_of(dev, base)];
-        let at = off as usize;
-        match width {
-            Width::One => u32::from(bytes[at]),
-            Width::Two => u32::from(LittleEndian::read_u16(&bytes[at..])),
-            Width::Four => LittleEndian::read_u32(&bytes[at..]),
+        if base == ROM_BASE {
+            return rom_value(dev, off, width);
         }
+        read_at(&self.buffers[slot_of(dev, base)], off as usize, width)
     }
 
-    /// Writes a value at an offset in a base, its low byte first.
+    /// Writes a value at an offset in a base, its low byte first. A write to an expansion ROM is lost.
     pub fn write(&mut self, dev: u8, base: u8, off: u32, width: Width, value: u32)
         requires place { LiesIn self.old dev base off width }
         requires value { value ≤ largest_of width }
@@ -98,12 +103,14 @@ impl Contents {
             ≡ byte_put (Card dev base off) place width value (CardCell d b at))
             → IsContentsOf setup (entry ∷ history) self.new }
     {
-        put(
-            &mut self.buffers[slot_of(dev, base)],
-            off as usize,
-            width,
-            value,
-        );
+        if base != ROM_BASE {
+            write_at(
+                &mut self.buffers[slot_of(dev, base)],
+                off as usize,
+                width,
+                value,
+            );
+        }
     }
 }
 
@@ -119,26 +126,25 @@ fn slot_of(dev: u8, base: u8) -> usize
 /// How many bytes a base of a device has. None where it does not exist.
 fn size_of(specs: &[CardSpec], dev: u8, base: u8) -> usize
     requires cards { All IsCard specs.now }
-    ensures size { result ≡ window_size (find (λ card. card.dev == dev) specs.now) base }
+    ensures size { result ≡ kept_size (find (λ card. card.dev == dev) specs.now) base }
 {
     for spec in specs {
         if spec.dev == dev {
-            return spec.window_size(base);
+            return spec.kept_size(base);
         }
     }
     0
 }
 
-/// Writes a value from a place on, its low byte first.
-fn put(bytes: &mut [u8], at: usize, width: Width, value: u32)
-    requires place { at + bytes_of width ≤ length bytes.old }
-    requires value { value ≤ largest_of width }
-    ensures bytes { (k : ℕ) → slice_index bytes.new k
-        ≡ (if nat_le at k && nat_lt k (at + bytes_of width) then byte value (k - at) else slice_index bytes.old k) }
+/// The value at an offset of a device's expansion ROM.
+fn rom_value(dev: u8, off: u32, width: Width) -> u32
+    ensures value { result ≡ wide (expansion_byte dev) off width }
 {
-    match width {
-        Width::One => bytes[at] = value as u8,
-        Width::Two => LittleEndian::write_u16(&mut bytes[at..], value as u16),
-        Width::Four => LittleEndian::write_u32(&mut bytes[at..], value),
-    }
+    let bytes = [
+        expansion_byte(dev, off),
+        expansion_byte(dev, off.wrapping_add(1)),
+        expansion_byte(dev, off.wrapping_add(2)),
+        expansion_byte(dev, off.wrapping_add(3)),
+    ];
+    read_at(&bytes, 0, width)
 }

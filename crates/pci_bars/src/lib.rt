@@ -2,15 +2,17 @@
 //! address or a port, and the bytes behind their bases.
 #![tactic(auto)]
 
+mod cards;
 mod claims;
 mod contents;
 mod regs;
 mod spec;
 
-pub use claims::{claim_io, claim_mem, offset_in, shut_io, shut_mem};
-pub use contents::Contents;
+pub use cards::{CARD_COUNT, card_at, card_index, push_card};
+pub use claims::{claim_io, claim_mem, offset_in, shut_io, shut_mem, unselected_rom};
+pub use contents::{Contents, expansion_byte};
 pub use regs::CardRegs;
-pub use spec::{BaseSpec, CardSpec};
+pub use spec::{BASE_COUNT, BaseSpec, CardSpec, ROM_BASE, VGA_BASE};
 
 #[cfg(test)]
 mod tests;

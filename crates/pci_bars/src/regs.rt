@@ -10,9 +10,11 @@ ghost use Rattle.board_spec.specs.Decode.{Bytes};
 ghost use Rattle.board_spec.specs.RegisterNames.{card_register};
 ghost use Rattle.pci_bars.specs.Cards.{DecodesAs, IsCardOf, header_of};
 
-use crate::spec::{BASES, CardSpec};
+use crate::spec::{BASE_COUNT, CardSpec};
 use board_spec::bits::merged;
-use board_spec::offset::{self, COMMAND, INTERRUPT_LINE, INTERRUPT_PIN};
+use board_spec::offset::{
+    BASE0, BASE5_END, COMMAND, EXPANSION_ROM, EXPANSION_ROM_END, INTERRUPT_LINE, INTERRUPT_PIN,
+};
 use std::marker::Model;
 
 /// The bits of the command register that can be written: I/O ports, memory and bus master.
@@ -20,14 +22,15 @@ const COMMAND_WRITABLE: u8 = 0x07;
 /// The value of the interrupt pin register for INTA#.
 const INTA: u8 = 0x01;
 
-/// A card's registers: its command, 0 to 7, its interrupt line, and its six base address registers.
-/// Those that the card does not have are 0.
+/// A card's registers: its command, 0 to 7, its interrupt line, its six base address registers, and that of its
+/// expansion ROM. Those that the card does not have are 0.
 #[derive(Drop, Debug)]
 pub struct CardRegs {
     pub spec: CardSpec,
     pub command: u8,
     pub line: u8,
-    pub bases: [u32; BASES],
+    pub bases: [u32; BASE_COUNT],
+    pub rom: u32,
 }
 
 impl Model for CardRegs {
@@ -35,7 +38,7 @@ impl Model for CardRegs {
 
     ghost Value = { CardBytes };
 
-    ghost view = { λ regs. record { card = regs.spec; command = regs.command; line = regs.line; bases = regs.bases } };
+    ghost view = { λ regs. record { card = regs.spec; command = regs.command; line = regs.line; bases = regs.bases; rom = regs.rom } };
 }
 
 impl Default for CardRegs {
@@ -44,7 +47,8 @@ impl Default for CardRegs {
             spec: CardSpec::default(),
             command: 0,
             line: 0,
-            bases: [0; BASES],
+            bases: [0; BASE_COUNT],
+            rom: 0,
         }
     }
 }
@@ -62,6 +66,7 @@ impl CardRegs {
             command: 0,
             line: 0,
             bases,
+            rom: 0,
         }
     }
 
@@ -74,6 +79,7 @@ impl CardRegs {
             command: self.command,
             line: self.line,
             bases: self.bases,
+            rom: self.rom,
         }
     }
 
@@ -85,7 +91,8 @@ impl CardRegs {
     {
         match off {
             0x00..=0x0F => self.header()[usize::from(off)],
-            offset::BASES..=offset::BASES_END => self.base_byte(off - offset::BASES),
+            BASE0..=BASE5_END => self.base_byte(off - BASE0),
+            EXPANSION_ROM..=EXPANSION_ROM_END => byte_of(self.rom, off - EXPANSION_ROM),
             INTERRUPT_LINE => self.line,
             INTERRUPT_PIN => INTA,
             _ => 0,
@@ -103,8 +110,8 @@ impl CardRegs {
     {
         match off {
             COMMAND => self.command = merged(COMMAND_WRITABLE, self.command, byte),
-            offset::BASES..=offset::BASES_END => {
-                let index = usize::from((off - offset::BASES) / 4);
+            BASE0..=BASE5_END => {
+                let index = usize::from((off - BASE0) / 4);
                 let writable = self.spec.writable(index);
                 self.bases[index] = with_byte(
                     self.bases[index],
@@ -112,6 +119,10 @@ impl CardRegs {
                     usize::from(off % 4),
                     byte,
                 );
+            }
+            EXPANSION_ROM..=EXPANSION_ROM_END => {
+                let writable = self.spec.rom_writable();
+                self.rom = with_byte(self.rom, writable, usize::from(off % 4), byte);
             }
             INTERRUPT_LINE => self.line = byte,
             _ => {}
@@ -159,11 +170,19 @@ impl CardRegs {
         requires at { at < 24 }
         ensures byte { result ≡ byte (slice_index self.now.bases (at / 4)) (at % 4) }
     {
-        self.bases[usize::from(at / 4)].to_le_bytes()[usize::from(at % 4)]
+        byte_of(self.bases[usize::from(at / 4)], at % 4)
     }
 }
 
-/// A base address register after one of its bytes is written, 0 to 3: its writable bits become those written.
+/// A byte of a register of four, 0 to 3.
+fn byte_of(register: u32, lane: u8) -> u8
+    requires lane { lane < 4 }
+    ensures byte { result ≡ byte register lane }
+{
+    register.to_le_bytes()[usize::from(lane)]
+}
+
+/// A register of four bytes after one of them is written, 0 to 3: its writable bits become those written.
 fn with_byte(register: u32, writable: u32, lane: usize, written: u8) -> u32
     requires lane { lane < 4 }
     ensures here { byte result lane ≡ merged (byte writable lane) (byte register lane) written }

@@ -2,19 +2,24 @@
 ghost use Rattle.std.specs.Prelude.{◌≡◌, ◌^◌, ◌≤◌, ℕ, Some, option_map, slice_get, slice_index};
 ghost use Rattle.board_spec.specs.Setup.{IsBase, IsCard};
 ghost use Rattle.board_spec.specs.Answer.{bits_of_base};
-ghost use Rattle.board_spec.specs.RegisterTable.{base_reset, base_writable};
+ghost use Rattle.board_spec.specs.RegisterTable.{base_reset, base_writable, rom_writable};
 ghost use Rattle.pci_bars.specs.Bases.{base_of, base_size, bits_in, of_base};
-ghost use Rattle.pci_bars.specs.Contents.{window_size};
+ghost use Rattle.pci_bars.specs.Contents.{kept_size};
 
 use arrayvec::ArrayVec;
 use std::marker::Model;
 
 /// How many base address registers a card can have.
-pub const BASES: usize = 6;
+pub const BASE_COUNT: usize = 6;
+/// The base number of the expansion ROM.
+pub const ROM_BASE: u8 = 6;
 /// The base number of the VGA window, which has 2^17 bytes from A0000h on.
 pub const VGA_BASE: u8 = 7;
 
 pub const VGA_BITS: u8 = 17;
+
+/// The number of the bit of the expansion ROM's register that selects the ROM.
+pub const ROM_ENABLE: u32 = 0;
 
 /// A base address register for memory or for I/O ports, by the power of two of its size: 4 to 24 for
 /// memory, and 2 to 8 for ports.
@@ -31,7 +36,7 @@ impl Default for BaseSpec {
 }
 
 impl BaseSpec {
-    /// The power of two.
+    /// log2 of its size in bytes or ports.
     fn bits(self) -> u8
         requires base { IsBase (base_of self) }
         ensures bits { result ≡ bits_of_base (Some (base_of self)) }
@@ -71,13 +76,14 @@ impl BaseSpec {
     }
 }
 
-/// A PCI card: its device number, 2 to 9, whether it is a VGA adapter, and the bases that it has from
-/// offset 10h on.
+/// A PCI card: its device number, 2 to 9, whether it is a VGA adapter, the bases that it has from offset
+/// 10h on, and log2 of the size of its expansion ROM, 11 to 24, where it has one.
 #[derive(Drop, Debug)]
 pub struct CardSpec {
     pub dev: u8,
     pub vga: bool,
-    pub bases: ArrayVec<BaseSpec, BASES>,
+    pub bases: ArrayVec<BaseSpec, BASE_COUNT>,
+    pub rom: Option<u8>,
 }
 
 impl Model for CardSpec {
@@ -87,7 +93,7 @@ impl Model for CardSpec {
 
     ghost Value = { FittedCard };
 
-    ghost view = { λ card. record { dev = card.dev; vga = card.vga; bases = map base_of card.bases.items } };
+    ghost view = { λ card. record { dev = card.dev; vga = card.vga; bases = map base_of card.bases.items; rom = card.rom } };
 }
 
 impl Default for CardSpec {
@@ -96,6 +102,7 @@ impl Default for CardSpec {
             dev: 2,
             vga: false,
             bases: ArrayVec::new(),
+            rom: None,
         }
     }
 }
@@ -111,6 +118,7 @@ impl CardSpec {
             dev: self.dev,
             vga: self.vga,
             bases,
+            rom: self.rom,
         }
     }
 
@@ -122,10 +130,10 @@ impl CardSpec {
     }
 
     /// The base address registers after a reset. Where the card has no base, 0.
-    pub(crate) fn reset_bases(&self) -> [u32; BASES]
+    pub(crate) fn reset_bases(&self) -> [u32; BASE_COUNT]
         ensures reset { (k : ℕ) → slice_index result k ≡ of_base base_reset self.now.bases k }
     {
-        let mut values = [0; BASES];
+        let mut values = [0; BASE_COUNT];
         for (index, base) in self.bases.iter().enumerate() {
             values[index] = base.after_reset();
         }
@@ -143,10 +151,23 @@ impl CardSpec {
         }
     }
 
-    /// How many bytes a base has. None where it does not exist. Base 7 is the VGA window.
-    pub(crate) fn window_size(&self, base: u8) -> usize
+    /// The bits of the register of the expansion ROM that can be written: those that place it, and bit 0. None
+    /// of them where the card has no ROM.
+    pub(crate) fn rom_writable(&self) -> u32
         requires card { IsCard self.now }
-        ensures size { result ≡ window_size (Some self.now) base }
+        ensures writable { result ≡ rom_writable self.now.rom }
+    {
+        match self.rom {
+            Some(bits) => rom_mask(bits),
+            None => 0,
+        }
+    }
+
+    /// How many bytes are kept of a base, by its number: 0 to 5, or 7 for the VGA window. 0 where it does not
+    /// exist, and of an expansion ROM, whose bytes are fixed.
+    pub(crate) fn kept_size(&self, base: u8) -> usize
+        requires card { IsCard self.now }
+        ensures size { result ≡ kept_size (Some self.now) base }
     {
         if base == VGA_BASE {
             return if self.vga { 1 << VGA_BITS } else { 0 };
@@ -157,8 +178,8 @@ impl CardSpec {
         }
     }
 
-    /// How many low bits of an address lie within a base: the power of two of its size. 0 where it does
-    /// not exist. Base 7 is the VGA window.
+    /// log2 of the size of a base in bytes or ports. 0 where it does not exist. Base 6 is the expansion ROM, and
+    /// base 7 the VGA window.
     pub(crate) fn window_bits(&self, base: u8) -> u8
         requires card { IsCard self.now }
         ensures bits { result ≡ bits_in (Some self.now) base }
@@ -167,9 +188,21 @@ impl CardSpec {
         if base == VGA_BASE {
             return VGA_BITS;
         }
+        if base == ROM_BASE {
+            return self.rom.unwrap_or(0);
+        }
         match self.base(usize::from(base)) {
             Some(spec) => spec.bits(),
             None => 0,
         }
     }
+}
+
+/// The writable bits of the register of an expansion ROM of 2^bits bytes.
+fn rom_mask(bits: u8) -> u32
+    requires least { 11 ≤ bits }
+    requires most { bits ≤ 24 }
+    ensures writable { result ≡ rom_writable (Some bits) }
+{
+    !((1 << bits) - (1 << (ROM_ENABLE + 1)))
 }

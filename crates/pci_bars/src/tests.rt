@@ -29,7 +29,12 @@ fn spec(dev: u8, vga: bool, first: BaseSpec, second: BaseSpec) -> CardSpec
     let mut bases = ArrayVec::new();
     bases.push(first);
     bases.push(second);
-    CardSpec { dev, vga, bases }
+    CardSpec {
+        dev,
+        vga,
+        bases,
+        rom: None,
+    }
 }
 
 /// Writes a doubleword of the registers, the low byte first.
@@ -207,11 +212,96 @@ fn a_card_answers_where_its_base_was_put(rt: HostRuntime) {
     }
 }
 
+/// A card that has an expansion ROM of 64 KiB alone, just reset.
+fn rom_card(dev: u8) -> CardRegs
+    requires from { 2 ≤ dev }
+    requires to { dev ≤ 9 }
+    ensures card { IsCard result.card }
+{
+    CardRegs::new(CardSpec {
+        dev,
+        vga: false,
+        bases: ArrayVec::new(),
+        rom: Some(16),
+    })
+}
+
+#[test]
+fn an_expansion_rom_keeps_its_base_and_bit_0(rt: HostRuntime) {
+    for (written, kept) in [
+        (0xFFFF_FFFF, 0xFFFF_0001),
+        (0xD000_0000, 0xD000_0000),
+        (0xD000_FFFE, 0xD000_0000),
+        (0xD000_0001, 0xD000_0001),
+    ] {
+        let mut card = rom_card(2);
+        write_long(&mut card, 0x30, written);
+        assert_eq!(rt; read_long(&card, 0x30), kept, "after {written}");
+        assert_eq!(rt; read_long(&card.copy(), 0x30), kept, "of a copy");
+        card.reset();
+        assert_eq!(rt; read_long(&card, 0x30), 0, "after a reset");
+    }
+    let mut plain = card(3, false, BaseSpec::Memory(12), BaseSpec::Io(4));
+    write_long(&mut plain, 0x30, 0xFFFF_FFFF);
+    assert_eq!(rt; read_long(&plain, 0x30), 0, "without a ROM");
+}
+
+/// Two cards with an expansion ROM of 64 KiB at the same place, each with its command.
+fn two_rom_cards(register: u32, low: u8, high: u8) -> [CardRegs; 2]
+    ensures cards { AreCards result }
+{
+    let mut second = rom_card(2);
+    write_long(&mut second, 0x30, register);
+    second.write(0x04, low);
+    let mut third = rom_card(3);
+    write_long(&mut third, 0x30, register);
+    third.write(0x04, high);
+    [second, third]
+}
+
+#[test]
+fn an_expansion_rom_answers_as_base_6(rt: HostRuntime) {
+    for (register, low, high, addr, claim, shut, unselected) in [
+        (0xD000_0000, 0, 0, 0xD000_0004, None, None, None),
+        (0xD000_0001, 0, 0, 0xD000_0004, None, Some(2), None),
+        (0xD000_0001, 2, 0, 0xD000_0004, Some((2, 6)), Some(3), None),
+        (0xD000_0001, 0, 2, 0xD000_FFFF, Some((3, 6)), Some(2), None),
+        (0xD000_0001, 2, 2, 0xD001_0000, None, None, None),
+        (0xD000_0001, 2, 2, 0xCFFF_FFFF, None, None, None),
+        (0xD000_0000, 2, 2, 0xD000_0004, None, None, Some(2)),
+        (0xD000_0000, 0, 2, 0xD000_0004, None, None, Some(3)),
+        (0xD000_0000, 1, 1, 0xD000_0004, None, None, None),
+    ] {
+        let cards = two_rom_cards(register, low, high);
+        assert_eq!(rt;
+            claim_mem(&cards, addr),
+            claim,
+            "at {addr} of {register} under {low} and {high}"
+        );
+        assert_eq!(rt;
+            shut_mem(&cards, addr),
+            shut,
+            "at {addr} of {register} under {low} and {high}"
+        );
+        assert_eq!(rt;
+            unselected_rom(&cards, addr),
+            unselected,
+            "at {addr} of {register} under {low} and {high}"
+        );
+        assert_eq!(rt; offset_in(&cards, 2, 6, 0xD000_0004), 4);
+        assert_eq!(rt; card_at(&cards, 3).is_some(), true);
+        assert_eq!(rt; card_at(&cards, 4).is_some(), false);
+    }
+    for (dev, off, byte) in [(2, 0x4, 0x06), (2, 0xFE, 0x00), (9, 0xFFFF, 0x08)] {
+        assert_eq!(rt; expansion_byte(dev, off), byte, "of {dev} at {off}");
+    }
+}
+
 /// What a base holds at an offset, where it has so many bytes.
 fn read_at(contents: &Contents, dev: u8, base: u8, off: u32, width: Width) -> Option<u32> {
     if !(2..=9).contains(&dev)
         || base > 7
-        || contents.size(dev, base) < off as usize + width.bytes() as usize
+        || base != 6 && contents.size(dev, base) < off as usize + width.bytes() as usize
     {
         return None;
     }
@@ -221,7 +311,7 @@ fn read_at(contents: &Contents, dev: u8, base: u8, off: u32, width: Width) -> Op
 fn write_at(contents: &mut Contents, dev: u8, base: u8, off: u32, width: Width, value: u32) {
     if (2..=9).contains(&dev)
         && base < 8
-        && off as usize + width.bytes() as usize <= contents.size(dev, base)
+        && (base == 6 || off as usize + width.bytes() as usize <= contents.size(dev, base))
         && value <= width.largest()
     {
         contents.write(dev, base, off, width, value);
@@ -263,6 +353,7 @@ fn contents_give_back_the_last_write(rt: HostRuntime) {
     write_at(&mut contents, 2, 7, 0x10, Width::Four, 0x4433_2211);
     write_at(&mut contents, 2, 0, 0x10, Width::Two, 0xBBAA);
     write_at(&mut contents, 9, 1, 0x10, Width::One, 0xCC);
+    write_at(&mut contents, 2, 6, 0x04, Width::One, 0x55);
     for (dev, base, off, width, value) in [
         (2, 7, 0x10, Width::Four, 0x4433_2211),
         (2, 7, 0x12, Width::Two, 0x4433),
@@ -271,6 +362,8 @@ fn contents_give_back_the_last_write(rt: HostRuntime) {
         (2, 0, 0x10, Width::Four, 0xBBAA),
         (9, 1, 0x10, Width::Four, 0xCC),
         (9, 0, 0x0C, Width::Four, 0),
+        (2, 6, 0x04, Width::One, 0x06),
+        (2, 6, 0x04, Width::Four, 0x0908_0706),
     ] {
         assert_eq!(rt;
             read_at(&contents, dev, base, off, width),

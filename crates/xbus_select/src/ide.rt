@@ -3,6 +3,7 @@ ghost use Rattle.std.specs.Prelude.{◌≡◌, ◌+◌, ◌*◌, ◌/◌};
 ghost use Rattle.board_base.specs.declared.access.Width.TheVariants.{One};
 ghost use Rattle.board_spec.specs.declared.map_change.MapChange.TheVariants.{Store};
 ghost use Rattle.board_spec.specs.Setup.{Setup};
+ghost use Rattle.board_spec.specs.Bits.{is_bit};
 ghost use Rattle.board_spec.specs.RegisterTable.{reset_byte};
 ghost use Rattle.board_spec.specs.Registers.{changed_byte};
 ghost use Rattle.board_spec.specs.Decode.{Bytes};
@@ -112,9 +113,22 @@ impl Ide {
     pub(crate) fn decodes(&self) -> bool
         ensures decodes { (bytes : Bytes) → IsIdeOf bytes self.now → result ≡ is_ide_decoded bytes }
     {
-        is_set(self.command.into(), IO_SPACE_ENABLE)
-            && is_set(self.timing_high.into(), IDE_DECODE_ENABLE)
+        enables_ide_ports(self.command) && is_set(self.timing_high.into(), IDE_DECODE_ENABLE)
     }
+}
+
+/// Whether the command of the IDE function lets it answer at its ports.
+pub fn enables_ide_ports(command: u8) -> bool
+    ensures enabled { result ≡ is_bit command 0 }
+{
+    is_set(command.into(), IO_SPACE_ENABLE)
+}
+
+/// Whether IDETIM decodes the ports of the primary channel.
+pub fn decodes_ide_channel(idetim: u16) -> bool
+    ensures decoded { result ≡ is_bit (idetim / 0x100) 7 }
+{
+    is_set((idetim >> 8).into(), IDE_DECODE_ENABLE)
 }
 
 #[cfg(test)]

@@ -8,7 +8,7 @@ pub mod laws;
 mod piix;
 mod xbcs;
 
-pub use ide::Ide;
+pub use ide::{Ide, decodes_ide_channel, enables_ide_ports};
 pub use piix::{Piix, isa_fixed_byte};
 pub use xbcs::{
     XBCS_RESET, rom_offset, rom_selected, selects_clock, selects_keyboard, sends_bios_writes,

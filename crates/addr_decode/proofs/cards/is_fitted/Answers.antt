@@ -1,12 +1,11 @@
-use Rattle.std.proofs.Common.{◌∙◌, ap, ℕ, Option}
+use Rattle.std.proofs.Common.{◌∙◌, ap, Option, sym}
 use Rattle.std.specs.Prelude.{is_some}
-use Rattle.addr_decode.proofs.CardLemmas.{fitted_is}
+use Rattle.board_spec.specs.Setup.{FittedCard}
+use Rattle.addr_decode.proofs.CardLemmas.{some_card}
 use Rattle.addr_decode.proofs.cards.is_fitted.Goals as goal
 
 pub returns : goal.returns
 returns c = record {
   fitted = λ setup bytes are.
-      c.is_some.ensures
-      ∙ ap (λ (place : Option ℕ). is_some place) c.card_index.ensures.index
-      ∙ fitted_is setup c.args.cards.now c.args.dev are.0;
+      c.is_some.ensures ∙ some_card c.card_at.result ∙ ap (λ (card : Option FittedCard). is_some card) (c.card_at.ensures.fitted setup are.0);
 }

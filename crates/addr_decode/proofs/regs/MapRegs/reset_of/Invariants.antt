@@ -1,7 +1,6 @@
 use Rattle.std.proofs.Common.{◌≡◌, take}
 use Rattle.arrayvec.specs.ArrayVec.{array_vec_len}
-use Rattle.pci_bars.specs.Cards.{cards_of}
-use Rattle.addr_decode.specs.MapRegs.{AreReset}
+use Rattle.pci_bars.specs.Cards.{cards_of, AreReset}
 use Rattle.addr_decode.proofs.regs.MapRegs.reset_of.Given as goal
 
 abbrev pub invariant-loop-spec : goal.invariant-loop-spec

@@ -6,7 +6,7 @@ use Rattle.addr_decode.proofs.regs.MapRegs.store_bridge.Goals as goal
 
 pub returns-in-104-clause-stands : goal.returns-in-104-clause-stands
 returns-in-104-clause-stands c = λ setup bytes stands.
-    rw (c.in-104.is, c.fdhc_after-self.ensures.merged) (hole_stored setup bytes (map_bytes c.args.self.now) c.args.byte c.requires.cards c.ranges.byte.fits stands)
+    rw (c.in-104.is, c.fdhc_after-self.ensures.merged setup) (hole_stored setup bytes (map_bytes c.args.self.now) c.args.byte c.requires.cards c.ranges.byte.fits stands)
 
 pub returns-in-114-clause-stands : goal.returns-in-114-clause-stands
 returns-in-114-clause-stands c = λ setup bytes stands.

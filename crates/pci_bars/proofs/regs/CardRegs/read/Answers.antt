@@ -1,5 +1,5 @@
-use Rattle.std.proofs.Common.{arith}
-use Rattle.pci_bars.proofs.CardLemmas.{read-header, read-pin, read-rest}
+use Rattle.std.proofs.Common.{arith, inl, inr}
+use Rattle.pci_bars.proofs.CardLemmas.{read-header, read-rom, read-pin, read-rest}
 use Rattle.pci_bars.proofs.regs.CardRegs.read.Goals as goal
 
 pub returns-in-61 : goal.returns-in-61
@@ -9,6 +9,15 @@ pub returns-in-0-to-15 : goal.returns-in-0-to-15
 returns-in-0-to-15 c =
     record { byte = rw (c.header.ensures.header, c.from.ensures) (λ setup bytes is. read-header setup bytes c.args.self.now c.args.off c.requires.card is (omega arith)) }
 
+pub returns-in-48-to-51 : goal.returns-in-48-to-51
+returns-in-48-to-51 c =
+    let fit = rw (← c.self.view_is) at c.requires.card in
+    record { byte = rw (c.byte_of.ensures.byte, ← c.self.view_is) (λ setup bytes is. read-rom setup bytes _ c.args.off fit is (omega arith) (omega arith)) }
+
 pub returns-in_default : goal.returns-in_default
 returns-in_default c =
-    record { byte = λ setup bytes is. read-rest setup bytes c.args.self.now c.args.off c.requires.card is (omega arith) (λ e. omega arith) (λ e. omega arith) }
+    record { byte = λ setup bytes is. read-rest setup bytes c.args.self.now c.args.off c.requires.card is (omega arith) (inl (omega arith)) (λ e. omega arith) (λ e. omega arith) }
+
+pub returns-in_default-2 : goal.returns-in_default-2
+returns-in_default-2 c =
+    record { byte = λ setup bytes is. read-rest setup bytes c.args.self.now c.args.off c.requires.card is (omega arith) (inr (omega arith)) (λ e. omega arith) (λ e. omega arith) }

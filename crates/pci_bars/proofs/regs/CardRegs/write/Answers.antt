@@ -1,7 +1,7 @@
 use Rattle.std.proofs.Common.{◌≡◌, ◌+◌, ◌*◌, ◌<◌, inl, inr, arith, slice_index}
-use Rattle.board_spec.specs.RegisterTable.{base_writable}
+use Rattle.board_spec.specs.RegisterTable.{base_writable, rom_writable}
 use Rattle.pci_bars.specs.Bases.{of_base}
-use Rattle.pci_bars.proofs.CardLemmas.{IsByteWrite, decodes-command, card-command, decodes-base_stored, card-base_stored, card-apart, card-line_stored}
+use Rattle.pci_bars.proofs.CardLemmas.{IsByteWrite, decodes-command, card-command, decodes-base_stored, card-base_stored, card-apart, card-line_stored, decodes-apart, decodes-rom_stored, card-rom_stored}
 use Rattle.pci_bars.proofs.regs.CardRegs.write.Goals as goal
 
 pub returns-in-4-clause-decodes : goal.returns-in-4-clause-decodes
@@ -17,7 +17,7 @@ returns-in-4-clause-written c =
 pub returns-then-off-lt16-clause-written : goal.returns-then-off-lt16-clause-written
 returns-then-off-lt16-clause-written c =
     λ setup bytes is. card-apart setup bytes c.args.self.now c.args.off c.args.byte c.requires.card c.ranges.byte.fits
-    (record { command = λ e. omega arith; bases = inl (omega arith) }) (λ e. omega arith) is
+    (record { command = λ e. omega arith; bases = inl (omega arith); rom = inl (omega arith) }) (λ e. omega arith) is
 
 pub returns-in-16-to-39-clause-written : goal.returns-in-16-to-39-clause-written
 returns-in-16-to-39-clause-written c =
@@ -39,10 +39,35 @@ returns-in-16-to-39-clause-decodes c =
     let place : c.args.off ≡ 0x10 + 4 * c.from-index.result + c.from.result = omega arith in
     rw (← c.self.view_is) (λ setup bytes is. decodes-base_stored setup bytes _ c.args.off c.from-index.result c.from.result c.args.byte c.with_byte.result fit c.ranges.byte.fits c.self.told (record { in_bases = in_bases; in_long = in_long; place = place; write = write }) is)
 
-pub returns-else-off-lt40-clause-written : goal.returns-else-off-lt40-clause-written
-returns-else-off-lt40-clause-written c =
+pub returns-else-off-lt52-clause-written : goal.returns-else-off-lt52-clause-written
+returns-else-off-lt52-clause-written c =
     λ setup bytes is. card-apart setup bytes c.args.self.now c.args.off c.args.byte c.requires.card c.ranges.byte.fits
-    (record { command = λ e. omega arith; bases = inr (omega arith) }) (λ e. omega arith) is
+    (record { command = λ e. omega arith; bases = inr (omega arith); rom = inr (omega arith) }) (λ e. omega arith) is
+
+pub returns-then-off-lt48-clause-written : goal.returns-then-off-lt48-clause-written
+returns-then-off-lt48-clause-written c =
+    λ setup bytes is. card-apart setup bytes c.args.self.now c.args.off c.args.byte c.requires.card c.ranges.byte.fits
+    (record { command = λ e. omega arith; bases = inr (omega arith); rom = inl (omega arith) }) (λ e. omega arith) is
+
+pub returns-in-60-clause-decodes : goal.returns-in-60-clause-decodes
+returns-in-60-clause-decodes c =
+    rw (← c.self.view_is, c.in-60.is) (λ setup bytes is. decodes-apart setup bytes _ c.args.byte 0x3C c.args.byte (record { command = λ e. omega arith; bases = inr (omega arith); rom = inr (omega arith) }) is)
+
+pub returns-in-48-to-51-clause-written : goal.returns-in-48-to-51-clause-written
+returns-in-48-to-51-clause-written c =
+    let fit = rw (← c.self.view_is) at c.requires.card in
+    let write : IsByteWrite (rom_writable c.self.inside.spec.rom) c.self.inside.rom c.from-in-48-to-51.result c.args.byte c.with_byte-self-inside.result =
+    record { fits = c.with_byte-self-inside.type_inv; here = rw c.rom_writable-writable.ensures.writable at c.with_byte-self-inside.ensures.here; others = c.with_byte-self-inside.ensures.others } in
+    rw (← c.self.view_is) (λ setup bytes is. card-rom_stored setup bytes _ c.args.off c.from-in-48-to-51.result c.args.byte c.with_byte-self-inside.result fit c.ranges.byte.fits
+    (record { in_long = omega arith; place = omega arith; write = write }) is)
+
+pub returns-in-48-to-51-clause-decodes : goal.returns-in-48-to-51-clause-decodes
+returns-in-48-to-51-clause-decodes c =
+    let fit = rw (← c.self.view_is) at c.requires.card in
+    let write : IsByteWrite (rom_writable c.self.inside.spec.rom) c.self.inside.rom c.from-in-48-to-51.result c.args.byte c.with_byte-self-inside.result =
+    record { fits = c.with_byte-self-inside.type_inv; here = rw c.rom_writable-writable.ensures.writable at c.with_byte-self-inside.ensures.here; others = c.with_byte-self-inside.ensures.others } in
+    rw (← c.self.view_is) (λ setup bytes is. decodes-rom_stored setup bytes _ c.args.off c.from-in-48-to-51.result c.args.byte c.with_byte-self-inside.result fit c.ranges.byte.fits
+    (record { in_long = omega arith; place = omega arith; write = write }) is)
 
 pub returns-in-60-clause-written : goal.returns-in-60-clause-written
 returns-in-60-clause-written c =

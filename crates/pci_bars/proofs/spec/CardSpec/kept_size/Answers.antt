@@ -1,0 +1,9 @@
+use Rattle.std.proofs.Common.{sym, ◌∙◌, ap}
+use Rattle.std.specs.Prelude.{option_map}
+use Rattle.pci_bars.specs.Bases.{base_of}
+use Rattle.pci_bars.proofs.BaseLemmas.{is_base}
+use Rattle.pci_bars.proofs.spec.CardSpec.kept_size.Goals as goal
+
+pub size-requires : goal.size-requires
+size-requires c =
+    record { base = is_base c.args.self.now.bases c.from.result (base_of c.in-Some.spec) c.requires.card.each (sym c.base.ensures.base ∙ ap (option_map base_of) c.in-Some.is) }
