@@ -1,0 +1,58 @@
+-- A register that nothing changes holds after every history what a reset leaves.
+use Rattle.std.proofs.Common.{◌≡◌, ◌-◌, ◌<◌, ℕ, List, [], ◌∷◌, false, Option, Some, None, ◌∙◌, refl, sym, ap, inl, inr, arith}
+use Rattle.std.proofs.lemmas.Bool.{cases_Bool, cond-true, cond-false, ne_eqb}
+use Rattle.board_base.specs.declared.target.Reg.{Reg}
+use Rattle.board_spec.specs.declared.event.Entry.{Entry}
+use Rattle.board_spec.specs.declared.map_change.MapChange.{MapChange}
+use Rattle.board_spec.specs.declared.map_change.MapChange.TheVariants.{Store, Reset}
+use Rattle.board_spec.specs.Setup.{Setup}
+use Rattle.board_spec.specs.Bits.{byte, merged}
+use Rattle.board_spec.specs.RegisterNames.{bridge, isa, smram, is_same}
+use Rattle.board_spec.specs.RegisterTable.{reset_byte, writable_bits}
+use Rattle.board_spec.specs.Registers.{covers, byte_after, byte_with, register_change, byte_of}
+use Rattle.board_spec.proofs.MergedLemmas.{merged-none}
+use Rattle.pmc_regs.specs.Pmc.{IsFixedOffset}
+use Rattle.pmc_regs.proofs.TableLemmas.{writable_bits-fixed}
+use Rattle.pmc_regs.proofs.PmcLemmas.{reset_byte-small}
+use Rattle.xbus_select.specs.Piix.{IsIsaFixed}
+use Rattle.xbus_select.proofs.PiixLemmas.{fixed_at}
+
+record IsFixed (setup : Setup) (reg : Reg) : Type 0 where
+  plain : is_same reg smram ≡ false
+  read_only : writable_bits setup reg ≡ 0
+  fits : reset_byte setup reg < 256
+
+stays : (setup : Setup) (change : Option MapChange) (reg : Reg) (old : ℕ) → IsFixed setup reg → old ≡ reset_byte setup reg →
+    byte_with setup change reg old ≡ reset_byte setup reg
+stays setup None reg old fixed is = is
+stays setup (Some Reset) reg old fixed is = refl
+stays setup (Some (Store at width value)) reg old fixed is =
+    let put : ℕ = byte value (reg.off - at.off) in
+    elim (cases_Bool (covers at width reg)) [
+      | inl covered ↦
+          cond-true (covers at width reg) (byte_after setup reg old put) old covered
+          ∙ cond-false (is_same reg smram) _ _ fixed.plain
+          ∙ ap (λ mask. merged mask old put) fixed.read_only
+          ∙ merged-none old put (rw is fixed.fits)
+          ∙ is
+      | inr apart ↦ cond-false (covers at width reg) (byte_after setup reg old put) old apart ∙ is
+    ]
+
+always : (setup : Setup) (history : List Entry) (reg : Reg) → IsFixed setup reg → byte_of setup history reg ≡ reset_byte setup reg
+unfolding byte_of
+always setup [] reg fixed = refl
+always setup (entry ∷ before) reg fixed =
+    stays setup (register_change setup before entry.event) reg (byte_of setup before reg) fixed (always setup before reg fixed)
+
+pub bridge_always : (setup : Setup) (history : List Entry) (off : ℕ) → IsFixedOffset off → byte_of setup history (bridge off) ≡ reset_byte setup (bridge off)
+bridge_always setup history off fixed =
+    always setup history (bridge off) (record {
+      plain = ne_eqb off 0x72 (omega arith);
+      read_only = writable_bits-fixed setup off fixed;
+      fits = reset_byte-small setup off fixed;
+    })
+
+pub isa_always : (setup : Setup) (history : List Entry) (off : ℕ) → IsIsaFixed off → byte_of setup history (isa off) ≡ reset_byte setup (isa off)
+isa_always setup history off fixed =
+    let it = fixed_at setup off fixed in
+    always setup history (isa off) (record { plain = refl; read_only = it.read_only; fits = rw (← it.reset) it.fits })

@@ -1,0 +1,97 @@
+-- Which functions exist, and the card at a device number.
+use Rattle.std.proofs.Common.{◌≡◌, ◌≢◌, ℕ, ◌+◌, ◌<◌, ◌⊎◌, inl, inr, true, false, List, [], ◌∷◌, Option, Some, None, refl, sym, ◌∙◌, ap, subst, arith}
+use Rattle.std.specs.Prelude.{◌==◌, All, find, is_some, option_map}
+use Rattle.std.proofs.lemmas.Bool.{cases_Bool, cases_eq, eqb-true, ne_eqb}
+use Rattle.std.proofs.lemmas.List.Elements.{All-head, All-tail}
+use Rattle.board_base.specs.declared.access.Width.{Width}
+use Rattle.board_base.specs.declared.access.Width.TheVariants.{One, Two, Four}
+use Rattle.board_base.specs.declared.target.Reg.{Reg}
+use Rattle.board_base.specs.Access.{bytes_of}
+use Rattle.board_spec.specs.Setup.{Setup, FittedCard, card_at}
+use Rattle.board_spec.specs.Bits.{wide}
+use Rattle.board_spec.specs.RegisterTable.{card_function, function_at}
+use Rattle.pci_bars.specs.Cards.{CardBytes, cards_of}
+
+-- ---- the functions that exist
+
+abbrev Exists : Setup → (dev fun : ℕ) → Type 0
+Exists setup dev fun = is_some (function_at setup dev fun) ≡ true
+
+pub bridge_exists : (setup : Setup) (dev fun : ℕ) → dev ≡ 0 → Exists setup dev fun → fun ≡ 0
+bridge_exists setup dev fun at exists' =
+    elim (cases_eq fun 0) [
+      | inl zero' ↦ zero'
+      | inr apart ↦ let none : false ≡ true = rw (at, ne_eqb fun 0 apart) at exists' in absurd (cc)
+    ]
+
+pub south_function : (setup : Setup) (dev fun : ℕ) → dev ≡ 1 → Exists setup dev fun → (fun ≡ 0) ⊎ (fun ≡ 1)
+south_function setup dev fun at exists' =
+    elim (cases_eq fun 0) [
+      | inl zero' ↦ inl zero'
+      | inr not0 ↦ elim (cases_eq fun 1) [
+        | inl one ↦ inr one
+        | inr not1 ↦ let none : false ≡ true = rw (at, ne_eqb fun 0 not0, ne_eqb fun 1 not1) at exists' in absurd (cc)
+      ]
+    ]
+
+fitted_card : (fitted : Option FittedCard) → is_some (option_map card_function fitted) ≡ true → is_some fitted ≡ true
+fitted_card None none = absurd (cc)
+fitted_card (Some card) some = refl
+
+pub card_exists : (setup : Setup) (dev fun : ℕ) → dev ≢ 0 → dev ≢ 1 → Exists setup dev fun → (fun ≡ 0) × (is_some (card_at setup dev) ≡ true)
+card_exists setup dev fun not0 not1 exists' =
+    elim (cases_eq fun 0) [
+      | inl zero' ↦ (zero', fitted_card (card_at setup dev) (rw (ne_eqb dev 0 not0, ne_eqb dev 1 not1, zero') at exists'))
+      | inr apart ↦ let none : false ≡ true = rw (ne_eqb dev 0 not0, ne_eqb dev 1 not1, ne_eqb fun 0 apart) at exists' in absurd (cc)
+    ]
+
+-- ---- a card is found by its device
+
+pub found : (P : CardBytes → Type 0) (cards : List CardBytes) (dev : ℕ) (card : CardBytes) → All P cards →
+    find (λ card. card.card.dev == dev) cards ≡ Some card → P card × (card.card.dev ≡ dev)
+found P [] dev card each is = absurd (cc)
+found P (first ∷ later) dev card each is =
+    elim (cases_Bool (first.card.dev == dev)) [
+      | inl here ↦
+          let same : Some first ≡ Some card = rw here at is in
+          let first_is : first ≡ card = cc in
+          (subst P first_is (All-head P first later each), ap (λ (it : CardBytes). it.card.dev) (sym first_is) ∙ eqb-true _ _ here)
+      | inr not ↦ found P later dev card (All-tail P first later each) (rw not at is)
+    ]
+
+not_found : (cards : List CardBytes) (dev : ℕ) → find (λ card. card.card.dev == dev) cards ≡ None →
+    is_some (find (λ card. card.dev == dev) (cards_of cards)) ≡ false
+not_found [] dev none = refl
+not_found (first ∷ later) dev none =
+    elim (cases_Bool (first.card.dev == dev)) [
+      | inl here ↦ let some : Some first ≡ None = rw here at none in absurd (cc)
+      | inr not ↦ rw not (not_found later dev (rw not at none))
+    ]
+
+pub no_card : (setup : Setup) (cards : List CardBytes) (dev : ℕ) → setup.cards ≡ cards_of cards → find (λ card. card.card.dev == dev) cards ≡ None →
+    is_some (card_at setup dev) ≡ true → ⊥
+no_card setup cards dev same none exists' =
+    let not : is_some (card_at setup dev) ≡ false =
+    ap (λ (fitted : List FittedCard). is_some (find (λ card. card.dev == dev) fitted)) same ∙ not_found cards dev none in
+    cc
+
+-- ---- several bytes
+
+pub wide_shifted : (f g : ℕ → ℕ) (at : ℕ) (width : Width) → ((k : ℕ) → k < bytes_of width → f k ≡ g (at + k)) → wide f 0 width ≡ wide g at width
+wide_shifted f g at One same = same 0 (omega arith) ∙ ap g (omega arith)
+wide_shifted f g at Two same =
+    let none : at + 0 ≡ at = omega arith in
+    rw (same 0 (omega arith), same 1 (omega arith), none) refl
+wide_shifted f g at Four same =
+    let none : at + 0 ≡ at = omega arith in
+    rw (same 0 (omega arith), same 1 (omega arith), same 2 (omega arith), same 3 (omega arith), none) refl
+
+-- a register of a function
+abbrev reg_made : (dev fun off : ℕ) → Reg
+reg_made dev fun off = record { dev = dev; fun = fun; off = off }
+
+pub of_device : (reg : Reg) (dev : ℕ) → reg.dev ≡ dev → reg_made dev reg.fun reg.off ≡ reg
+of_device reg dev is = ap (λ (d : ℕ). reg_made d reg.fun reg.off) (sym is)
+
+pub of_function : (reg : Reg) (dev fun : ℕ) → reg.dev ≡ dev → reg.fun ≡ fun → reg_made dev fun reg.off ≡ reg
+of_function reg dev fun is_dev is_fun = ap (λ (f : ℕ). reg_made dev f reg.off) (sym is_fun) ∙ of_device reg dev is_dev

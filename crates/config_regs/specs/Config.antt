@@ -1,0 +1,19 @@
+-- The registers in configuration space, among the register bytes of a board.
+use Rattle.board_spec.specs.Setup.{Setup}
+use Rattle.board_spec.specs.Decode.{Bytes}
+use Rattle.pirq_router.specs.Routes.{AreRoutesIn}
+use Rattle.xbus_select.specs.Ide.{IsIdeOf}
+use Rattle.pci_bars.specs.Cards.{AreCardsOf}
+use Rattle.addr_decode.specs.MapRegs.{MapBytes, StandsFor}
+use Rattle.config_regs.specs.declared.south.South.{South}
+
+-- these are the registers of the 82371SB on which the memory map does not depend
+pub record IsSouthOf (bytes : Bytes) (south : South) : Type 0 where
+  pub routes : AreRoutesIn bytes south.routes
+  pub ide : IsIdeOf bytes south.ide
+
+-- these are all that are kept: those of the map, the cards with their interrupt lines, and those of the 82371SB
+pub record AreKeptOf (setup : Setup) (bytes : Bytes) (regs : MapBytes) (south : South) : Type 0 where
+  pub map : StandsFor setup bytes regs
+  pub cards : AreCardsOf setup bytes regs.cards
+  pub south : IsSouthOf bytes south
