@@ -1,7 +1,7 @@
 -- The edges that the code looks through are those of the board, and what it finds is the next one.
 use Rattle.std.proofs.Common.{◌≡◌, ℕ, zero, suc, ◌+◌, ◌*◌, ◌<◌, ◌≤◌, ◌⊎◌, inl, inr, ◌&&◌, List, [], ◌∷◌, ◌++◌, length, map, Option, Some, None, refl, sym, ◌∙◌, ap, subst, arith}
 use Rattle.std.specs.Prelude.{nat_lt, min, All, flat_map, slice_index, IfSome, IsNone, ◌↔◌}
-use Rattle.std.specs.List.{Contains, enumerate_from, fold}
+use Rattle.std.specs.List.{Contains, enumerate_from}
 use Rattle.std.proofs.lemmas.Bool.{cases_Bool, cases_lt}
 use Rattle.std.proofs.lemmas.Bool.Decides.{nat_tests}
 use Rattle.std.proofs.lemmas.List.Elements.{All-head, All-tail}
@@ -205,24 +205,19 @@ kept_above addr drb cards None is = tt
 kept_above addr drb cards (Some edge) is =
     let here : IsAbove addr (kept_edges drb cards) edge = found_above addr (kept_edges drb cards) (Some edge) is in here.above
 
-pub in_two : (addr : ℕ) (found first all : Option ℕ) (xs ys : List ℕ) → first ≡ nearest addr found xs → all ≡ nearest addr first ys →
+-- one list after another, above the same address
+pub in_two : (addr addr' : ℕ) (found first all : Option ℕ) (xs ys : List ℕ) → addr' ≡ addr → first ≡ nearest addr found xs → all ≡ nearest addr' first ys →
     all ≡ nearest addr found (xs ++ ys)
 unfolding nearest
-in_two addr found first all xs ys is_first is_all = rw (is_all, is_first, fold-append (nearer addr) found xs ys) refl
+in_two addr addr' found first all xs ys same is_first is_all = rw (is_all, same, is_first, fold-append (nearer addr) found xs ys) refl
 
 pub in_parts :
-    (addr : ℕ) (fixed rows all : Option ℕ) (drb : List ℕ) (cards : List CardBytes) →
+    (addr addr' : ℕ) (fixed rows all : Option ℕ) (drb : List ℕ) (cards : List CardBytes) → addr' ≡ addr →
     fixed ≡ nearest addr None fixed_edges → rows ≡ nearest addr fixed (map (λ b. b * 0x80_0000) drb) →
-    all ≡ nearest addr rows (flat_map ends_of_card cards) → all ≡ nearest addr None (kept_edges drb cards)
-unfolding nearest
-in_parts addr fixed rows all drb cards is_fixed is_rows is_all =
-    rw (
-      is_all,
-      is_rows,
-      is_fixed,
-      fold-append (nearer addr) None fixed_edges (map (λ b. b * 0x80_0000) drb ++ flat_map ends_of_card cards),
-      fold-append (nearer addr) (fold (nearer addr) None fixed_edges) (map (λ b. b * 0x80_0000) drb) (flat_map ends_of_card cards),
-    ) refl
+    all ≡ nearest addr' rows (flat_map ends_of_card cards) → all ≡ nearest addr None (kept_edges drb cards)
+in_parts addr addr' fixed rows all drb cards same is_fixed is_rows is_all =
+    in_two addr addr None fixed all fixed_edges (map (λ b. b * 0x80_0000) drb ++ flat_map ends_of_card cards) refl is_fixed
+    (in_two addr addr' fixed rows all (map (λ b. b * 0x80_0000) drb) (flat_map ends_of_card cards) same is_rows is_all)
 
 pub kept_are_edges :
     (setup : Setup) (bytes : Bytes) (drb : List ℕ) (cards : List CardBytes) → length drb ≡ 8 → IsRowsOf bytes drb →

@@ -1,5 +1,5 @@
 -- The ports in the order of the code are those of the definitions.
-use Rattle.std.proofs.Common.{◌≡◌, ◌≢◌, ℕ, List, ◌/◌, ◌%◌, Bool, true, false, ◌&&◌, ◌||◌, Option, Some, None, refl, inl, inr, ◌∙◌, sym, ap, arith}
+use Rattle.std.proofs.Common.{◌≡◌, ◌≢◌, ℕ, List, ◌/◌, Bool, true, false, ◌&&◌, ◌||◌, Option, Some, None, refl, inl, inr, ◌∙◌, sym, ap}
 use Rattle.std.specs.Prelude.{[], ◌∷◌, ◌==◌, is_some, option_map, if◌then◌else◌}
 use Rattle.std.proofs.lemmas.Bool.{cases_Bool, cond-false, ne_eqb}
 use Rattle.board_base.specs.declared.access.Width.{Width}
@@ -27,16 +27,11 @@ use Rattle.addr_decode.specs.Onboard.{if_selected, disk_by, byte_port, onboard_a
 use Rattle.addr_decode.specs.MapRegs.{IsIdeOf}
 use Rattle.addr_decode.specs.Ports.{as_decoded, after_onboard, ports_in_order}
 
--- bit 15 of IDETIM is bit 7 of its high byte
-high_bit : (timing high : ℕ) → timing / 0x100 ≡ high → is_bit timing 15 ≡ is_bit high 7
-high_bit timing high is =
-    let same : timing / 0x8000 % 2 ≡ high / 0x80 % 2 = omega arith in ap (λ n. n == 1) same
-
 disk_in_order : (setup : Setup) (bytes : Bytes) (disk : Bool) (timing port : ℕ) → timing / 0x100 ≡ bytes (ide 0x41) →
     disk_port setup bytes disk port ≡ after_onboard setup bytes port (disk_by disk (bytes (ide 0x04)) timing)
 disk_in_order setup bytes false timing port is = refl
 disk_in_order setup bytes true timing port is =
-    rw (high_bit timing (bytes (ide 0x41)) is)
+    rw is
     elim (cases_Bool (is_bit (bytes (ide 0x04)) 0)) [
       | inl on ↦ elim (cases_Bool (is_bit (bytes (ide 0x41)) 7)) [ inl open' ↦ rw (on, open') refl | inr shut ↦ rw (on, shut) refl ]
       | inr off ↦ rw off refl

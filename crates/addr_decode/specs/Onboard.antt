@@ -1,6 +1,6 @@
 -- What the board's own devices say to a port access: one answers, or the device of the port is not
 -- selected, or the port is no device's.
-use Rattle.std.specs.Prelude.{ℕ, ◌==◌, Bool, true, false, ◌||◌, if◌then◌else◌}
+use Rattle.std.specs.Prelude.{ℕ, ◌/◌, ◌==◌, Bool, true, false, ◌||◌, if◌then◌else◌}
 use Rattle.board_base.specs.declared.access.Width.{Width}
 use Rattle.board_base.specs.declared.access.Width.TheVariants.{One, Two, Four}
 use Rattle.board_base.specs.declared.target.Dev.{Dev}
@@ -23,7 +23,7 @@ if_selected false dev denial = Denied denial
 abbrev pub disk_by : (disk : Bool) → (command timing : ℕ) → Onboard
 disk_by false command timing = Denied NoRegister
 disk_by true command timing =
-    if is_bit command 0 then if_selected (is_bit timing 15) Ata (Register idetim) else Denied (Register ide_command)
+    if is_bit command 0 then if_selected (is_bit (timing / 0x100) 7) Ata (Register idetim) else Denied (Register ide_command)
 
 -- the registers of one byte
 unfoldable pub byte_port : (xbcs : ℕ) → (disk : Onboard) → ℕ → Onboard

@@ -8,19 +8,13 @@ ghost use Rattle.addr_decode.specs.Onboard.{if_selected, disk_by, byte_port, wid
 
 use crate::denied_by::{ide_function, isa_bridge};
 use board_base::{Denial, Dev, Width};
-use board_spec::bits::is_set;
 use board_spec::offset::{COMMAND, IDETIM, XBCS};
 use board_spec::port::{
     CLOCK_DATA, CLOCK_INDEX, DISK_CONTROL, DISK_DATA, DISK_ERROR, DISK_STATUS, ELCR, ELCR_HIGH,
     KEYBOARD_COMMAND, KEYBOARD_DATA, MASTER, MASTER_ODD, RESET_CONTROL, SLAVE, SLAVE_ODD, SYSTEM,
     TIMER, TIMER_CONTROL,
 };
-use xbus_select::{selects_clock, selects_keyboard};
-
-/// The bit of the IDE command that enables its ports.
-const IO_ENABLE: u32 = 0;
-/// The bit of IDETIM that enables the primary channel.
-const CHANNEL_ENABLE: u32 = 15;
+use xbus_select::{decodes_ide_channel, enables_ide_ports, selects_clock, selects_keyboard};
 
 /// What the board's own devices say to a port access.
 #[derive(Clone, Copy, PartialEq, Eq, Debug)]
@@ -100,10 +94,10 @@ pub fn disk_by(disk: bool, ide_command: u8, idetim: u16) -> Onboard
     if !disk {
         return Onboard::Denied(Denial::NoRegister);
     }
-    if !is_set(ide_command.into(), IO_ENABLE) {
+    if !enables_ide_ports(ide_command) {
         return Onboard::Denied(ide_function(COMMAND));
     }
-    if !is_set(idetim.into(), CHANNEL_ENABLE) {
+    if !decodes_ide_channel(idetim) {
         return Onboard::Denied(ide_function(IDETIM));
     }
     Onboard::Answers(Dev::Ata)

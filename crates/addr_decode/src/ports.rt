@@ -17,7 +17,7 @@ use crate::regs::MapRegs;
 use board_base::{Denial, Dev, Target, Width};
 use board_spec::offset::{HOST_BRIDGE, IDE, SOUTH_BRIDGE};
 use board_spec::port::{CONFIG_ADDRESS, CONFIG_DATA, CONFIG_DATA_END};
-use cfg_ports::{ConfAdd, Selected};
+use cfg_ports::{Selected, kept, select};
 use pci_bars::{CardRegs, claim_io, offset_in, shut_io};
 
 /// What the ports depend on beside the registers of the address map: the configuration address, of which the
@@ -93,9 +93,7 @@ fn config_port(cards: &[CardRegs], confadd: u32, port: u16) -> (Target, Option<D
         → as_decoded result ≡ config_port (kept_address confadd) (config_register setup (kept_address confadd) port) }
     ensures denied { IsDenied result }
 {
-    let mut address = ConfAdd::new();
-    address.write(confadd);
-    match address.select(port) {
+    match select(kept(confadd), port) {
         Some(selected) => selected_port(cards, selected),
         None => denied(Denial::Confadd),
     }

@@ -1,4 +1,4 @@
-use Rattle.std.proofs.Common.{◌∙◌, ap, Option, sym}
+use Rattle.std.proofs.Common.{◌∙◌, ap, Option}
 use Rattle.std.specs.Prelude.{is_some}
 use Rattle.board_spec.specs.Setup.{FittedCard}
 use Rattle.addr_decode.proofs.CardLemmas.{some_card}

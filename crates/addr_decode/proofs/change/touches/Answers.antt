@@ -1,4 +1,4 @@
-use Rattle.std.proofs.Common.{◌≡◌, Option, List, sym, ◌∙◌, ap, subst, refl, arith}
+use Rattle.std.proofs.Common.{Option, List, sym, ◌∙◌, ap, refl, arith}
 use Rattle.std.specs.Prelude.{is_some}
 use Rattle.board_base.specs.declared.target.Reg.{Reg}
 use Rattle.board_spec.specs.declared.map_change.MapChange.TheVariants.{Store}
