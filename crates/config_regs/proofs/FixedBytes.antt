@@ -1,6 +1,6 @@
 -- A register that nothing changes holds after every history what a reset leaves.
-use Rattle.std.proofs.Common.{◌≡◌, ◌-◌, ◌<◌, ℕ, List, [], ◌∷◌, false, Option, Some, None, ◌∙◌, refl, sym, ap, inl, inr, arith}
-use Rattle.std.proofs.lemmas.Bool.{cases_Bool, cond-true, cond-false, ne_eqb}
+use Rattle.std.proofs.Common.{◌≡◌, ◌≢◌, ◌-◌, ◌<◌, ℕ, List, [], ◌∷◌, false, Option, Some, None, ◌∙◌, refl, ap, inl, inr, arith}
+use Rattle.std.proofs.lemmas.Bool.{cases_Bool, cases_lt, cond-true, cond-false, ne_eqb}
 use Rattle.board_base.specs.declared.target.Reg.{Reg}
 use Rattle.board_spec.specs.declared.event.Entry.{Entry}
 use Rattle.board_spec.specs.declared.map_change.MapChange.{MapChange}
@@ -56,3 +56,13 @@ pub isa_always : (setup : Setup) (history : List Entry) (off : ℕ) → IsIsaFix
 isa_always setup history off fixed =
     let it = fixed_at setup off fixed in
     always setup history (isa off) (record { plain = refl; read_only = it.read_only; fits = rw (← it.reset) it.fits })
+
+pub fixed_below : (off : ℕ) → off < 0x59 → IsFixedOffset off
+fixed_below off below = ((omega arith, inl below, inl (omega arith)), inl (omega arith))
+
+pub fixed_above : (off : ℕ) → off < 256 → 0x68 < off → off ≢ 0x72 → IsFixedOffset off
+fixed_above off small above apart =
+    elim (cases_lt off 0x72) [
+      | inl low ↦ ((omega arith, inr (omega arith), inl low), inr above)
+      | inr high ↦ ((omega arith, inr (omega arith), inr (omega arith)), inr above)
+    ]

@@ -14,7 +14,7 @@ use Rattle.pci_bars.specs.Cards.{CardBytes, cards_of}
 
 -- ---- the functions that exist
 
-abbrev Exists : Setup → (dev fun : ℕ) → Type 0
+abbrev pub Exists : Setup → (dev fun : ℕ) → Type 0
 Exists setup dev fun = is_some (function_at setup dev fun) ≡ true
 
 pub bridge_exists : (setup : Setup) (dev fun : ℕ) → dev ≡ 0 → Exists setup dev fun → fun ≡ 0

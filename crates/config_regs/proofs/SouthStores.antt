@@ -1,7 +1,7 @@
 -- What a store leaves of the registers of the 82371SB.
-use Rattle.std.proofs.Common.{◌≡◌, ◌≢◌, ℕ, ◌+◌, ◌&&◌, Bool, true, false, refl, sym, ◌∙◌, ap, add-one, arith}
-use Rattle.std.specs.Prelude.{◌==◌, map}
-use Rattle.std.proofs.lemmas.Bool.{cond-false, ne_eqb, and_left, and_right}
+use Rattle.std.proofs.Common.{◌≡◌, ◌≢◌, ℕ, ◌+◌, ◌&&◌, false, sym, ◌∙◌, add-one}
+use Rattle.std.specs.Prelude.{◌==◌}
+use Rattle.std.proofs.lemmas.Bool.{cond-false, ne_eqb, and_left}
 use Rattle.board_base.specs.declared.access.Width.{Width}
 use Rattle.board_base.specs.declared.access.Width.TheVariants.{One}
 use Rattle.board_base.specs.declared.target.Reg.{Reg}
@@ -14,7 +14,6 @@ use Rattle.board_spec.specs.MapWrites.{reg_after}
 use Rattle.board_spec.specs.WideStores.{after_stores}
 use Rattle.board_spec.specs.Decode.{Bytes}
 use Rattle.board_spec.proofs.StoreLemmas.{byte_by_byte}
-use Rattle.xbus_select.specs.Ide.{IdeBytes}
 use Rattle.xbus_select.specs.Piix.{piix_register}
 use Rattle.config_regs.specs.declared.south.South.{South}
 use Rattle.config_regs.specs.Config.{IsSouthOf}
@@ -44,23 +43,6 @@ pub other_device : (setup : Setup) (bytes : Bytes) (at : Reg) (width : Width) (v
 other_device setup bytes at width value south apart =
     south_agrees bytes (λ r. changed_byte setup (Store at width value) r (bytes r)) south
     (λ fun off. elsewhere setup at width value (piix_register fun off) (bytes (piix_register fun off)) (and_left _ _ (ne_eqb at.dev 1 apart)))
-
-pub other_function : (setup : Setup) (bytes : Bytes) (fun off : ℕ) (value : ℕ) (south : South) → fun ≢ 0 → fun ≢ 1 → IsSouthOf bytes south →
-    IsSouthOf (λ r. changed_byte setup (Store (piix_register fun off) One value) r (bytes r)) south
-other_function setup bytes fun off value south not0 not1 is =
-    let to_isa : (at : ℕ) → changed_byte setup (Store (piix_register fun off) One value) (piix_register 0 at) (bytes (piix_register 0 at)) ≡ bytes (piix_register 0 at) =
-    λ at. elsewhere setup (piix_register fun off) One value (piix_register 0 at) (bytes (piix_register 0 at)) (and_right _ _ (ne_eqb fun 0 not0)) in
-    let to_ide : (at : ℕ) → changed_byte setup (Store (piix_register fun off) One value) (piix_register 1 at) (bytes (piix_register 1 at)) ≡ bytes (piix_register 1 at) =
-    λ at. elsewhere setup (piix_register fun off) One value (piix_register 1 at) (bytes (piix_register 1 at)) (and_right _ _ (ne_eqb fun 1 not1)) in
-    record {
-      routes = rw (to_isa 0x60, to_isa 0x61, to_isa 0x62, to_isa 0x63) is.routes;
-      ide = record {
-        command = is.ide.command ∙ sym (to_ide 0x04);
-        timing_low = is.ide.timing_low ∙ sym (to_ide 0x40);
-        timing_high = is.ide.timing_high ∙ sym (to_ide 0x41);
-        fixed = λ other at fixed. to_ide at ∙ is.ide.fixed other at fixed;
-      };
-    }
 
 -- ---- the bytes of a value, one after the other
 

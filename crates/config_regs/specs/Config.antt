@@ -13,7 +13,7 @@ pub record IsSouthOf (bytes : Bytes) (south : South) : Type 0 where
   pub ide : IsIdeOf bytes south.ide
 
 -- these are all that are kept: those of the map, the cards with their interrupt lines, and those of the 82371SB
-pub record AreKeptOf (setup : Setup) (bytes : Bytes) (regs : MapBytes) (south : South) : Type 0 where
+pub record AreKeptOf (setup : Setup) (bytes : Bytes) (regs : MapBytes) (beside : South) : Type 0 where
   pub map : StandsFor setup bytes regs
   pub cards : AreCardsOf setup bytes regs.cards
-  pub south : IsSouthOf bytes south
+  pub south : IsSouthOf bytes beside

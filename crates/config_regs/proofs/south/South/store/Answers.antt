@@ -1,0 +1,20 @@
+use Rattle.std.proofs.Common.{subst, arith}
+use Rattle.board_base.specs.declared.target.Reg.{Reg}
+use Rattle.board_spec.specs.declared.map_change.MapChange.TheVariants.{Store}
+use Rattle.board_spec.specs.Registers.{changed_byte}
+use Rattle.config_regs.specs.Config.{IsSouthOf}
+use Rattle.config_regs.proofs.Functions.{of_device}
+use Rattle.config_regs.proofs.SouthStores.{other_device}
+use Rattle.config_regs.proofs.south.South.store.Goals as goal
+
+pub returns-then-reg-eq-SOUTH_BRIDGE : goal.returns-then-reg-eq-SOUTH_BRIDGE
+returns-then-reg-eq-SOUTH_BRIDGE c = record {
+  stored = λ setup bytes is.
+      subst (λ (at : Reg). IsSouthOf (λ r. changed_byte setup (Store at c.args.width c.args.value) r (bytes r)) c.store_bytes.new.self)
+      (of_device c.args.reg 1 (omega arith)) (c.store_bytes.ensures.stored setup bytes is);
+}
+
+pub returns-else-reg-eq-SOUTH_BRIDGE : goal.returns-else-reg-eq-SOUTH_BRIDGE
+returns-else-reg-eq-SOUTH_BRIDGE c = record {
+  stored = λ setup bytes is. other_device setup bytes c.args.reg c.args.width c.args.value c.args.self.now (omega arith) is;
+}

@@ -1,0 +1,13 @@
+-- The registers so far are those after the first bytes.
+use Rattle.board_spec.specs.Setup.{Setup}
+use Rattle.board_spec.specs.Decode.{Bytes}
+use Rattle.xbus_select.specs.Piix.{piix_register}
+use Rattle.config_regs.specs.Config.{IsSouthOf}
+use Rattle.config_regs.proofs.SouthStores.{so_far}
+use Rattle.config_regs.proofs.south.South.store_bytes.Given as goal
+
+abbrev pub invariant-loop-index : goal.invariant-loop-index
+invariant-loop-index l = record {
+  stored : (setup : Setup) (bytes : Bytes) → IsSouthOf bytes l.fn.self →
+      IsSouthOf (so_far setup bytes (piix_register l.fun l.off) l.value l.index) l.self;
+}
