@@ -1,0 +1,4 @@
+pub mod Targets
+pub mod Puts
+pub mod Ready
+pub mod Cycles

@@ -1,0 +1,75 @@
+//! Accesses to memory.
+ghost use Rattle.std.specs.Prelude.{◌≡◌, ◌≤◌, ℕ, true, List, length};
+ghost use Rattle.board_base.specs.Access.{largest_of};
+ghost use Rattle.board_spec.specs.declared.event.Entry.{Entry};
+ghost use Rattle.board_spec.specs.Setup.{Setup, IsRomSize};
+ghost use Rattle.board_spec.specs.Stored.{is_write, memory_put};
+ghost use Rattle.board_spec.specs.Answer.{target_at, value_at, part_answer};
+ghost use Rattle.board_spec.specs.Registers.{byte_of};
+ghost use Rattle.pci_bars.specs.Cards.{AreCards, AreFitted, cards_of};
+ghost use Rattle.addr_decode.specs.MapRegs.{StandsFor, map_bytes};
+ghost use Rattle.board_stores.specs.Puts.{HasStores, ArePut};
+ghost use Rattle.board_stores.specs.Ready.{IsReady};
+
+use crate::stores::Stores;
+use addr_decode::{MapRegs, decode};
+use board_base::{Access, Area, Target};
+use board_spec::Part;
+use board_spec::wide::read_at;
+use pci_bars::offset_in;
+
+/// What an access reaches, and what denies it.
+pub fn decoded(map: &MapRegs, rom: &[u8], access: &Access) -> Part
+    requires cards { AreFitted map.now.cards.items }
+    requires rom { IsRomSize (length rom.now) }
+    ensures decoded { (setup : Setup) (history : List Entry) → StandsFor setup (byte_of setup history) (map_bytes map.now)
+        → setup.rom ≡ rom.now → result ≡ part_answer setup history access.now }
+{
+    let (area, denial) = decode(map, access.addr, access.kind, access.smm);
+    Part {
+        target: target_in(map, rom, area, access.addr),
+        denial,
+    }
+}
+
+/// What an access to an area reaches: the ROM of so many bytes and the cards by the address modulo their size.
+fn target_in(map: &MapRegs, rom: &[u8], area: Area, addr: u32) -> Target
+    requires cards { AreCards map.now.cards.items }
+    requires rom { IsRomSize (length rom.now) }
+    ensures target { (setup : Setup) → setup.cards ≡ cards_of map.now.cards.items → setup.rom ≡ rom.now
+        → result ≡ target_at setup area addr }
+{
+    match area {
+        Area::Dram(row) => Target::Dram(row),
+        Area::Shadow(row) => Target::Shadow(row),
+        Area::Smram => Target::Smram,
+        Area::Rom => Target::Rom(addr % rom.len() as u32),
+        Area::Card(dev, base) => Target::Card(dev, base, offset_in(&map.cards, dev, base, addr)),
+        Area::Abort => Target::Abort,
+    }
+}
+
+/// What a read with this answer gives.
+pub fn read(stores: &Stores, rom: &[u8], access: &Access, answer: &Part) -> u32
+    requires ready { IsReady rom.now stores.now.contents access.now answer.now }
+    ensures value { (setup : Setup) (history : List Entry) → HasStores setup history stores.now → setup.rom ≡ rom.now
+        → result ≡ value_at setup history answer.now.target access.now.addr access.now.width }
+    ensures fits { result ≤ largest_of access.now.width }
+{
+    match answer.target {
+        Target::Rom(off) => read_at(rom, off as usize, access.width),
+        target => stores.read(target, access.addr, access.width),
+    }
+}
+
+/// Writes where an access that writes has this answer. A write to the ROM is lost.
+pub fn write(stores: &mut Stores, access: &Access, answer: &Part)
+    requires ready { (rom : List ℕ) × IsReady rom stores.old.contents access.now answer.now }
+    requires writes { is_write access.now.kind ≡ true }
+    ensures put { ArePut (memory_put access.now answer.now.target) stores.old stores.new }
+{
+    match answer.target {
+        Target::Rom(_) => {}
+        target => stores.write(target, access.addr, access.width, access.value),
+    }
+}

@@ -1,0 +1,65 @@
+//! The DRAM, and the contents of the cards.
+ghost use Rattle.std.specs.Prelude.{◌≡◌, ◌≤◌, ◌%◌, ℕ, List, [], IfOk};
+ghost use Rattle.board_base.specs.Access.{bytes_of, largest_of};
+ghost use Rattle.board_spec.specs.declared.event.Entry.{Entry};
+ghost use Rattle.board_spec.specs.Setup.{Setup, IsCardList};
+ghost use Rattle.board_spec.specs.Stored.{byte_put};
+ghost use Rattle.board_spec.specs.Answer.{value_at};
+ghost use Rattle.board_stores.specs.Targets.{IsStored};
+ghost use Rattle.board_stores.specs.Puts.{HasStores, ArePut};
+
+use board_base::{NoMemory, Target, Width};
+use dram_store::Dram;
+use pci_bars::{CardSpec, Contents};
+use std::alloc::Global;
+
+/// The DRAM, and the bytes behind each base of the cards.
+#[derive(Drop)]
+pub struct Stores {
+    pub dram: Dram,
+    pub contents: Contents,
+}
+
+impl Stores {
+    /// `mib` MiB of DRAM, 1 to 64, and the contents of these cards, all zeros.
+    pub fn open(alloc: Global, mib: u32, specs: &[CardSpec]) -> Result<Stores, NoMemory>
+        requires low { 1 ≤ mib }
+        requires high { mib ≤ 64 }
+        requires cards { IsCardList specs.now }
+        ensures fresh { IfOk result (λ stores. (setup : Setup) → setup.mib ≡ mib → setup.cards ≡ specs.now → HasStores setup [] stores) }
+    {
+        let dram = Dram::open(alloc, mib)?;
+        let contents = Contents::open(alloc, specs)?;
+        Ok(Stores { dram, contents })
+    }
+
+    /// What a read gives that has this target, at this address or port. Nobody's reads give all ones.
+    pub fn read(&self, target: Target, place: u32, width: Width) -> u32
+        requires stored { IsStored self.now.contents target width }
+        requires aligned { place % bytes_of width ≡ 0 }
+        ensures value { (setup : Setup) (history : List Entry) → HasStores setup history self.now
+            → result ≡ value_at setup history target place width }
+    {
+        match target {
+            Target::Dram(_) | Target::Shadow(_) | Target::Smram => self.dram.read(place, width),
+            Target::Card(dev, base, off) => self.contents.read(dev, base, off, width),
+            _ => width.largest(),
+        }
+    }
+
+    /// Writes where this target stores the bytes of an access at this address or port. A write to nobody is lost.
+    pub fn write(&mut self, target: Target, place: u32, width: Width, value: u32)
+        requires stored { IsStored self.old.contents target width }
+        requires aligned { place % bytes_of width ≡ 0 }
+        requires value { value ≤ largest_of width }
+        ensures put { ArePut (byte_put target place width value) self.old self.new }
+    {
+        match target {
+            Target::Dram(_) | Target::Shadow(_) | Target::Smram => {
+                self.dram.write(place, width, value);
+            }
+            Target::Card(dev, base, off) => self.contents.write(dev, base, off, width, value),
+            _ => {}
+        }
+    }
+}
