@@ -1,6 +1,6 @@
 -- The cards in a list by their device numbers, and the bytes of their registers.
 use Rattle.std.proofs.Common.{◌≡◌, ◌≢◌, ℕ, zero, suc, ◌+◌, ◌*◌, ◌<◌, ◌≤◌, ◌⊎◌, inl, inr, Bool, true, false, List, [], ◌∷◌, ◌++◌, take, length, get_or, set, Bor, Option, Some, None, refl, sym, ◌∙◌, ap, subst, arith, get_or-set_same, get_or-set_other, length-set}
-use Rattle.std.specs.Prelude.{◌==◌, is_some, option_map, find, slice_index}
+use Rattle.std.specs.Prelude.{◌==◌, All, is_some, option_map, find, slice_index}
 use Rattle.std.specs.List.{position, position_from}
 use Rattle.std.proofs.Math.Seq.{map-set_same}
 use Rattle.std.proofs.lemmas.Bool.{cases_Bool, cases_eq, cases_lt, cond-true, cond-false, eq-eqb, ne_eqb, eqb-true}
@@ -8,14 +8,15 @@ use Rattle.std.proofs.lemmas.List.{get_or-map, length-map, take_more}
 use Rattle.std.proofs.lemmas.List.Quantifiers.{position-Some}
 use Rattle.std.proofs.lemmas.Iterator.Adapters.{position_from-zero}
 use Rattle.board_spec.specs.Setup.{Setup, FittedCard, IsCard, IsCardList, Rises, card_at}
+use Rattle.board_base.specs.declared.target.Reg.{Reg}
 use Rattle.board_spec.specs.RegisterTable.{reset_byte}
 use Rattle.board_spec.specs.Decode.{Bytes}
 use Rattle.board_spec.specs.RegisterNames.{card_register, base_register, expansion_rom}
 use Rattle.pci_bars.specs.declared.regs.CardRegs.{CardRegs}
-use Rattle.pci_bars.specs.Cards.{CardBytes, HoldsRom, DecodesAs, AreCards, AreDecoded, cards_of, AreFitted, AreReset}
+use Rattle.pci_bars.specs.Cards.{CardBytes, HoldsRom, DecodesAs, IsCardOf, AreCards, AreCardsOf, AreDecoded, cards_of, AreFitted, AreReset}
 use Rattle.addr_decode.specs.MapRegs.{stored}
-use Rattle.pci_bars.proofs.CardLemmas.{holds-same}
-use Rattle.addr_decode.proofs.StoreLemmas.{stored-elsewhere}
+use Rattle.pci_bars.proofs.CardLemmas.{holds-same, card-apart}
+use Rattle.addr_decode.proofs.StoreLemmas.{stored-elsewhere, in_function_0}
 
 -- the offsets on which the address map depends: command, bases, and the register of an expansion ROM
 abbrev pub IsMapOffset : (rom : Option ℕ) → ℕ → Type 0
@@ -37,6 +38,29 @@ decodes-same setup bytes bytes' card same is = record {
       holds-same bytes bytes' (base_register card.card.dev k) (slice_index card.bases k) (λ j j_below. same (0x10 + 4 * k + j) (inr (inl (omega arith, omega arith)))) (is.bases k below);
   rom = same_rom bytes bytes' card.card.dev card.rom card.card.rom same is.rom;
 }
+
+-- all the registers of a card
+pub card_agrees : (setup : Setup) (bytes bytes' : Bytes) (card : CardBytes) →
+    ((off : ℕ) → bytes' (card_register card.card.dev off) ≡ bytes (card_register card.card.dev off)) →
+    IsCardOf setup bytes card → IsCardOf setup bytes' card
+card_agrees setup bytes bytes' card same is = record {
+  decodes = decodes-same setup bytes bytes' card (λ off _. same off) is.decodes;
+  line = same 0x3C ∙ is.line;
+  no_rom = is.no_rom;
+  fixed = λ off fixed. same off ∙ is.fixed off fixed;
+}
+
+pub cards_agree : (setup : Setup) (bytes bytes' : Bytes) (cards : List CardBytes) → AreCards cards →
+    ((dev off : ℕ) → 2 ≤ dev → bytes' (card_register dev off) ≡ bytes (card_register dev off)) →
+    AreCardsOf setup bytes cards → AreCardsOf setup bytes' cards
+cards_agree setup bytes bytes' cards each same are = (
+  are.0,
+  λ k d within. card_agrees setup bytes bytes' (get_or cards k d) (λ off. same (get_or cards k d).card.dev off (each k d within).first) (are.1 k d within),
+)
+
+-- of a board's registers those of its cards are decoded
+pub cards_decoded : (setup : Setup) (bytes : Bytes) (cards : List CardBytes) → AreCardsOf setup bytes cards → AreDecoded setup bytes cards
+cards_decoded setup bytes cards are = (are.0, λ k d within. (are.1 k d within).decodes)
 
 true_is_not_false : (b : Bool) → b ≡ true → b ≡ false → ⊥
 true_is_not_false b yes' no' = cc
@@ -97,30 +121,28 @@ stored_beside setup bytes dev off written card apart is =
     decodes-same setup bytes (stored setup bytes (card_register dev off) written) card
     (λ at _. stored-elsewhere setup bytes (card_register dev off) written (card_register card.card.dev at) (inl (λ same. apart (sym same)))) is
 
--- the card at a place becomes another state of the same card, in which the byte is stored
-pub card_written :
-    (setup : Setup) (bytes : Bytes) (cards : List CardBytes) (dev off written i : ℕ) (old new : CardBytes) → Rises (cards_of cards) →
-    position (λ card. card.card.dev == dev) cards ≡ Some i → old ≡ get_or cards i old → new.card ≡ old.card →
-    (DecodesAs setup bytes old → DecodesAs setup (stored setup bytes (card_register old.card.dev off) written) new) →
-    AreDecoded setup bytes cards → AreDecoded setup (stored setup bytes (card_register dev off) written) (set cards i new)
-card_written setup bytes cards dev off written i old new rises at_i is_old same_card step are =
+card_beside : (setup : Setup) (bytes : Bytes) (dev off written : ℕ) (card : CardBytes) → card.card.dev ≢ dev →
+    IsCardOf setup bytes card → IsCardOf setup (stored setup bytes (card_register dev off) written) card
+card_beside setup bytes dev off written card apart is =
+    card_agrees setup bytes (stored setup bytes (card_register dev off) written) card
+    (λ at. stored-elsewhere setup bytes (card_register dev off) written (card_register card.card.dev at) (inl (λ same. apart (sym same)))) is
+
+-- the card at a place becomes another state of the same card, and each of the others stays as it is
+one_written : (Is Now : CardBytes → Type 0) (cards : List CardBytes) (dev i : ℕ) (old new : CardBytes) → Rises (cards_of cards) →
+    position (λ card. card.card.dev == dev) cards ≡ Some i → old ≡ get_or cards i old →
+    ((card : CardBytes) → card.card.dev ≢ dev → Is card → Now card) → (old.card.dev ≡ dev → Is old → Now new) → All Is cards → All Now (set cards i new)
+one_written Is Now cards dev i old new rises at_i is_old others step each k d within =
     let found : (i < length cards) × (((get_or cards i old).card.dev == dev) ≡ true) × ((j : ℕ) → j < i → ((get_or cards j old).card.dev == dev) ≡ false) =
     position-Some (λ card. card.card.dev == dev) cards i old at_i in
     let dev_is : old.card.dev ≡ dev = ap (λ (card : CardBytes). card.card.dev) is_old ∙ eqb-true _ _ found.1 in
-    let old_decodes : DecodesAs setup bytes old = subst (DecodesAs setup bytes) (sym is_old) (are.1 i old found.0) in
-    let new_decodes : DecodesAs setup (stored setup bytes (card_register dev off) written) new =
-    subst (λ (at : ℕ). DecodesAs setup (stored setup bytes (card_register at off) written) new) dev_is (step old_decodes) in (
-      are.0 ∙ sym (map-set_same (λ (it : CardBytes). it.card) cards i new old (same_card ∙ ap (λ (card : CardBytes). card.card) is_old)),
-      (λ k d within.
-          let in_list : k < length cards = omega (arith, length-set {A = CardBytes}) in
-          elim (cases_eq k i) [
-            | inl here ↦ subst (λ (j : ℕ). DecodesAs setup (stored setup bytes (card_register dev off) written) (get_or (set cards i new) j d)) (sym here)
-                (subst (DecodesAs setup (stored setup bytes (card_register dev off) written)) (sym (get_or-set_same cards i new d found.0)) new_decodes)
-            | inr apart ↦
-                subst (DecodesAs setup (stored setup bytes (card_register dev off) written)) (sym (get_or-set_other cards i k new d apart))
-                (stored_beside setup bytes dev off written (get_or cards k d) (others_differ cards dev i k d rises at_i in_list apart) (are.1 k d in_list))
-          ]),
-    )
+    let here : Now new = step dev_is (subst Is (sym is_old) (each i old found.0)) in
+    let in_list : k < length cards = omega (arith, length-set {A = CardBytes}) in
+    elim (cases_eq k i) [
+      | inl at ↦ subst (λ (j : ℕ). Now (get_or (set cards i new) j d)) (sym at) (subst Now (sym (get_or-set_same cards i new d found.0)) here)
+      | inr apart ↦
+          subst Now (sym (get_or-set_other cards i k new d apart))
+          (others (get_or cards k d) (others_differ cards dev i k d rises at_i in_list apart) (each k d in_list))
+    ]
 
 -- the cards are still these cards
 pub card_kept : (cards : List CardBytes) (i : ℕ) (old new : CardBytes) → old ≡ get_or cards i old → new.card ≡ old.card →
@@ -128,19 +150,91 @@ pub card_kept : (cards : List CardBytes) (i : ℕ) (old new : CardBytes) → old
 card_kept cards i old new is_old same_card =
     map-set_same (λ (it : CardBytes). it.card) cards i new old (same_card ∙ ap (λ (card : CardBytes). card.card) is_old)
 
+-- one of them takes the byte
+pub card_written :
+    (setup : Setup) (bytes : Bytes) (cards : List CardBytes) (dev off written i : ℕ) (old new : CardBytes) → Rises (cards_of cards) →
+    position (λ card. card.card.dev == dev) cards ≡ Some i → old ≡ get_or cards i old → new.card ≡ old.card →
+    (DecodesAs setup bytes old → DecodesAs setup (stored setup bytes (card_register old.card.dev off) written) new) →
+    AreDecoded setup bytes cards → AreDecoded setup (stored setup bytes (card_register dev off) written) (set cards i new)
+card_written setup bytes cards dev off written i old new rises at_i is_old same_card step are = (
+  are.0 ∙ sym (card_kept cards i old new is_old same_card),
+  one_written (DecodesAs setup bytes) (DecodesAs setup (stored setup bytes (card_register dev off) written)) cards dev i old new rises at_i is_old
+  (stored_beside setup bytes dev off written)
+  (λ at is. subst (λ (device : ℕ). DecodesAs setup (stored setup bytes (card_register device off) written) new) at (step is)) are.1,
+)
+
+pub registers_written :
+    (setup : Setup) (bytes : Bytes) (cards : List CardBytes) (dev off written i : ℕ) (old new : CardBytes) → Rises (cards_of cards) →
+    position (λ card. card.card.dev == dev) cards ≡ Some i → old ≡ get_or cards i old → new.card ≡ old.card →
+    (IsCardOf setup bytes old → IsCardOf setup (stored setup bytes (card_register old.card.dev off) written) new) →
+    AreCardsOf setup bytes cards → AreCardsOf setup (stored setup bytes (card_register dev off) written) (set cards i new)
+registers_written setup bytes cards dev off written i old new rises at_i is_old same_card step are = (
+  are.0 ∙ sym (card_kept cards i old new is_old same_card),
+  one_written (IsCardOf setup bytes) (IsCardOf setup (stored setup bytes (card_register dev off) written)) cards dev i old new rises at_i is_old
+  (card_beside setup bytes dev off written)
+  (λ at is. subst (λ (device : ℕ). IsCardOf setup (stored setup bytes (card_register device off) written) new) at (step is)) are.1,
+)
+
 -- where no card has the device number no card changes
+no_card_has : (setup : Setup) (bytes : Bytes) (cards : List CardBytes) (dev : ℕ) → position (λ card. card.card.dev == dev) cards ≡ None →
+    AreDecoded setup bytes cards → (k : ℕ) (d : CardBytes) → k < length cards → (get_or cards k d).card.dev ≢ dev
+no_card_has setup bytes cards dev none are k d within same =
+    true_is_not_false (is_some (card_at setup dev))
+    (ap (λ (at : ℕ). is_some (card_at setup at)) (sym same) ∙ ap (λ (card : Option FittedCard). is_some card) (are.1 k d within).fitted)
+    (sym (fitted_is setup cards dev are.0) ∙ ap (λ (place : Option ℕ). is_some place) none)
+
 pub no_card_written :
     (setup : Setup) (bytes : Bytes) (cards : List CardBytes) (dev off written : ℕ) → position (λ card. card.card.dev == dev) cards ≡ None →
     AreDecoded setup bytes cards → AreDecoded setup (stored setup bytes (card_register dev off) written) cards
 no_card_written setup bytes cards dev off written none are = (
   are.0,
-  (λ k d within.
-      let is : DecodesAs setup bytes (get_or cards k d) = are.1 k d within in
-      stored_beside setup bytes dev off written (get_or cards k d)
-      (λ same. true_is_not_false (is_some (card_at setup dev))
-      (ap (λ (at : ℕ). is_some (card_at setup at)) (sym same) ∙ ap (λ (card : Option FittedCard). is_some card) is.fitted)
-      (sym (fitted_is setup cards dev are.0) ∙ ap (λ (place : Option ℕ). is_some place) none)) is),
+  λ k d within. stored_beside setup bytes dev off written (get_or cards k d) (no_card_has setup bytes cards dev none are k d within) (are.1 k d within),
 )
+
+pub no_registers_written :
+    (setup : Setup) (bytes : Bytes) (cards : List CardBytes) (dev off written : ℕ) → position (λ card. card.card.dev == dev) cards ≡ None →
+    AreCardsOf setup bytes cards → AreCardsOf setup (stored setup bytes (card_register dev off) written) cards
+no_registers_written setup bytes cards dev off written none are = (
+  are.0,
+  λ k d within.
+      card_beside setup bytes dev off written (get_or cards k d)
+      (no_card_has setup bytes cards dev none (cards_decoded setup bytes cards are) k d within) (are.1 k d within),
+)
+
+-- a byte of a bridge, or of a function other than 0, is none of a card
+pub cards_beside : (setup : Setup) (bytes : Bytes) (at : Reg) (written : ℕ) (cards : List CardBytes) → AreCards cards → (at.dev < 2) ⊎ (at.fun ≢ 0) →
+    AreCardsOf setup bytes cards → AreCardsOf setup (stored setup bytes at written) cards
+cards_beside setup bytes at written cards each (inl low) =
+    cards_agree setup bytes (stored setup bytes at written) cards each
+    (λ dev off above. stored-elsewhere setup bytes at written (card_register dev off) (inl (omega arith)))
+cards_beside setup bytes at written cards each (inr fun) =
+    cards_agree setup bytes (stored setup bytes at written) cards each
+    (λ dev off above. stored-elsewhere setup bytes at written (card_register dev off) (inr (inl fun)))
+
+-- nor does a card keep a byte past offset FFh
+card_beyond : (setup : Setup) (bytes : Bytes) (at : Reg) (written : ℕ) (card : CardBytes) → IsCard card.card → written < 256 → 256 ≤ at.off →
+    IsCardOf setup bytes card → IsCardOf setup (stored setup bytes at written) card
+card_beyond setup bytes at written card fit below past is =
+    elim (cases_eq at.dev card.card.dev) [
+      | inr apart ↦
+          card_agrees setup bytes (stored setup bytes at written) card
+          (λ off. stored-elsewhere setup bytes at written (card_register card.card.dev off) (inl apart)) is
+      | inl dev ↦
+          elim (cases_eq at.fun 0) [
+            | inr apart ↦
+                card_agrees setup bytes (stored setup bytes at written) card
+                (λ off. stored-elsewhere setup bytes at written (card_register card.card.dev off) (inr (inl apart))) is
+            | inl fun ↦
+                subst (λ (reg : Reg). IsCardOf setup (stored setup bytes reg written) card) (in_function_0 at card.card.dev dev fun)
+                (card-apart setup bytes card at.off written fit below
+                (record { command = λ e. omega arith; bases = inr (omega arith); rom = inr (omega arith) }) (λ e. omega arith) is)
+          ]
+    ]
+
+pub cards_beyond : (setup : Setup) (bytes : Bytes) (at : Reg) (written : ℕ) (cards : List CardBytes) → AreCards cards → written < 256 → 256 ≤ at.off →
+    AreCardsOf setup bytes cards → AreCardsOf setup (stored setup bytes at written) cards
+cards_beyond setup bytes at written cards each below past are =
+    (are.0, λ k d within. card_beyond setup bytes at written (get_or cards k d) (each k d within) below past (are.1 k d within))
 
 -- ---- after a reset
 
@@ -154,17 +248,21 @@ find_at (card ∷ later) rises (suc k) d within =
     cond-false (card.dev == (get_or later k d).dev) (Some card) (find (λ other. other.dev == (get_or later k d).dev) later) (ne_eqb _ _ (omega arith))
     ∙ find_at later rises.1 k d (omega arith)
 
-pub reset_decoded : (setup : Setup) (cards : List CardBytes) → AreFitted cards → AreReset cards → setup.cards ≡ cards_of cards →
-    AreDecoded setup (reset_byte setup) cards
-reset_decoded setup cards fitted reset same = (
+pub reset_cards : (setup : Setup) (cards : List CardBytes) → AreFitted cards → AreReset cards → setup.cards ≡ cards_of cards →
+    AreCardsOf setup (reset_byte setup) cards
+reset_cards setup cards fitted reset same = (
   same,
   (λ k d within.
-      (reset k d within setup
+      reset k d within setup
       (ap (λ (list : List FittedCard). find (λ card. card.dev == (get_or cards k d).card.dev) list) same
       ∙ subst (λ (card : FittedCard). find (λ other. other.dev == card.dev) (cards_of cards) ≡ Some card)
       (get_or-map (λ (it : CardBytes). it.card) cards k d d.card within)
-      (find_at (cards_of cards) fitted.rises k d.card (omega (arith, length-map cards (λ (it : CardBytes). it.card)))))).decodes),
+      (find_at (cards_of cards) fitted.rises k d.card (omega (arith, length-map cards (λ (it : CardBytes). it.card)))))),
 )
+
+pub reset_decoded : (setup : Setup) (cards : List CardBytes) → AreFitted cards → AreReset cards → setup.cards ≡ cards_of cards →
+    AreDecoded setup (reset_byte setup) cards
+reset_decoded setup cards fitted reset same = cards_decoded setup (reset_byte setup) cards (reset_cards setup cards fitted reset same)
 
 -- one card more
 pub one_more_pushed : (items : List CardBytes) (i : ℕ) (item : CardBytes) (pushed : List FittedCard) (spec : FittedCard) → i < length items →

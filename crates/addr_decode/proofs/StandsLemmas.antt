@@ -22,10 +22,10 @@ use Rattle.pmc_regs.proofs.PmcLemmas.{there}
 use Rattle.pam_windows.specs.Pam.{IsPamOffset, IsPamOf}
 use Rattle.pam_windows.proofs.PamLemmas.{zeros_at_reset}
 use Rattle.smram_ctl.proofs.ControlLemmas.{reset_byte-smram}
-use Rattle.pci_bars.specs.Cards.{CardBytes, AreCards, AreDecoded, cards_of, AreFitted, AreReset}
+use Rattle.pci_bars.specs.Cards.{CardBytes, AreCards, AreCardsOf, AreDecoded, cards_of, AreFitted, AreReset}
 use Rattle.addr_decode.specs.MapRegs.{MapBytes, IsRowOffset, StandsFor, stored}
 use Rattle.addr_decode.proofs.StoreLemmas.{stored-elsewhere}
-use Rattle.addr_decode.proofs.CardLemmas.{IsMapOffset, SameCard, decodes-same, reset_decoded}
+use Rattle.addr_decode.proofs.CardLemmas.{IsMapOffset, SameCard, decodes-same, cards_agree, reset_decoded}
 
 xbcs_at_reset : (setup : Setup) → 0x03 ≡ reset_byte setup (isa 0x4E)
 unfolding reset_byte isa_bridge
@@ -343,3 +343,22 @@ all_stored setup bytes at width value regs fitted stands =
       cards = λ _ dev _ off _. same (card_register dev off);
     })
     stands
+
+-- and those of the cards
+pub no_cards_stored : (setup : Setup) (bytes : Bytes) (at : Reg) (value : ℕ) (cards : List CardBytes) → AreCardsOf setup bytes cards →
+    AreCardsOf setup (stored_so_far setup bytes at value 0) cards
+unfolding after_stores
+no_cards_stored setup bytes at value cards are = are
+
+pub more_cards_stored : (setup : Setup) (bytes : Bytes) (at : Reg) (value count : ℕ) (cards : List CardBytes) →
+    AreCardsOf setup (stored setup (stored_so_far setup bytes at value count) (reg_after at count) (byte value count)) cards →
+    AreCardsOf setup (stored_so_far setup bytes at value (count + 1)) cards
+unfolding after_stores
+more_cards_stored setup bytes at value count cards are = rw (add-one count) are
+
+pub all_cards_stored : (setup : Setup) (bytes : Bytes) (at : Reg) (width : Width) (value : ℕ) (cards : List CardBytes) → AreCards cards →
+    AreCardsOf setup (stored_so_far setup bytes at value (bytes_of width)) cards →
+    AreCardsOf setup (λ reg. changed_byte setup (Store at width value) reg (bytes reg)) cards
+all_cards_stored setup bytes at width value cards each are =
+    cards_agree setup (stored_so_far setup bytes at value (bytes_of width)) (λ reg. changed_byte setup (Store at width value) reg (bytes reg)) cards each
+    (λ dev off _. byte_by_byte setup at width value (card_register dev off) (bytes (card_register dev off))) are

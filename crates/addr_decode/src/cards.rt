@@ -3,7 +3,7 @@ ghost use Rattle.std.specs.Prelude.{◌≡◌, is_some};
 ghost use Rattle.board_spec.specs.Setup.{Setup, card_at};
 ghost use Rattle.board_spec.specs.Decode.{Bytes};
 ghost use Rattle.board_spec.specs.RegisterNames.{card_register};
-ghost use Rattle.pci_bars.specs.Cards.{AreDecoded, AreFitted, cards_of};
+ghost use Rattle.pci_bars.specs.Cards.{AreCardsOf, AreDecoded, AreFitted, cards_of};
 ghost use Rattle.addr_decode.specs.MapRegs.{stored};
 
 use arrayvec::ArrayVec;
@@ -22,6 +22,8 @@ pub fn write_card(cards: &mut ArrayVec<CardRegs, CARD_COUNT>, dev: u8, off: u8, 
     requires cards { AreFitted cards.old.items }
     ensures decoded { (setup : Setup) (bytes : Bytes) → AreDecoded setup bytes cards.old.items
         → AreDecoded setup (stored setup bytes (card_register dev off) byte) cards.new.items }
+    ensures written { (setup : Setup) (bytes : Bytes) → AreCardsOf setup bytes cards.old.items
+        → AreCardsOf setup (stored setup bytes (card_register dev off) byte) cards.new.items }
     ensures same_cards { cards_of cards.new.items ≡ cards_of cards.old.items }
 {
     if let Some(index) = card_index(cards, dev) {

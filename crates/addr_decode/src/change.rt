@@ -6,7 +6,7 @@ ghost use Rattle.board_spec.specs.Registers.{changed_byte};
 ghost use Rattle.board_spec.specs.Decode.{Bytes};
 ghost use Rattle.board_spec.specs.RegisterNames.{bridge, isa};
 ghost use Rattle.board_spec.specs.MapWrites.{reg_after, touches_map};
-ghost use Rattle.pci_bars.specs.Cards.{AreFitted, cards_of};
+ghost use Rattle.pci_bars.specs.Cards.{AreCardsOf, AreFitted, cards_of};
 ghost use Rattle.pmc_regs.specs.Pmc.{IsRowsOf};
 ghost use Rattle.addr_decode.specs.MapRegs.{IsRowOffset, StandsFor, map_bytes, stored, overlaps};
 
@@ -69,11 +69,14 @@ fn overlaps(off: u8, width: Width, first: u8, last: u8) -> bool
 }
 
 impl MapRegs {
-    /// Makes a change. Bytes of a store past offset FFh, and bits of its value past its width, do not count.
+    /// Makes a change. Bytes of a store past offset FFh, and bits of its value past its width, do not count. Of the cards
+    /// every register changes, of the bridges those alone that the address map depends on.
     pub fn apply(&mut self, change: &MapChange)
         requires cards { AreFitted self.old.cards.items }
         ensures stands { (setup : Setup) (bytes : Bytes) → StandsFor setup bytes (map_bytes self.old)
             → StandsFor setup (λ reg. changed_byte setup change.now reg (bytes reg)) (map_bytes self.new) }
+        ensures cards { (setup : Setup) (bytes : Bytes) → AreCardsOf setup bytes self.old.cards.items
+            → AreCardsOf setup (λ reg. changed_byte setup change.now reg (bytes reg)) self.new.cards.items }
         ensures same_cards { cards_of self.new.cards.items ≡ cards_of self.old.cards.items }
         ensures fitted { AreFitted self.new.cards.items }
     {
@@ -88,6 +91,8 @@ impl MapRegs {
         requires cards { AreFitted self.old.cards.items }
         ensures stands { (setup : Setup) (bytes : Bytes) → StandsFor setup bytes (map_bytes self.old)
             → StandsFor setup (λ r. changed_byte setup (Store reg width value) r (bytes r)) (map_bytes self.new) }
+        ensures cards { (setup : Setup) (bytes : Bytes) → AreCardsOf setup bytes self.old.cards.items
+            → AreCardsOf setup (λ r. changed_byte setup (Store reg width value) r (bytes r)) self.new.cards.items }
         ensures same_cards { cards_of self.new.cards.items ≡ cards_of self.old.cards.items }
     {
         let bytes = value.to_le_bytes();
@@ -101,6 +106,8 @@ impl MapRegs {
         requires cards { AreFitted self.old.cards.items }
         ensures stands { (setup : Setup) (bytes : Bytes) → StandsFor setup bytes (map_bytes self.old)
             → StandsFor setup (stored setup bytes (reg_after reg k) byte) (map_bytes self.new) }
+        ensures cards { (setup : Setup) (bytes : Bytes) → AreCardsOf setup bytes self.old.cards.items
+            → AreCardsOf setup (stored setup bytes (reg_after reg k) byte) self.new.cards.items }
         ensures same_cards { cards_of self.new.cards.items ≡ cards_of self.old.cards.items }
     {
         match reg.off.checked_add(k) {
@@ -114,6 +121,8 @@ impl MapRegs {
         requires cards { AreFitted self.old.cards.items }
         ensures stands { (setup : Setup) (bytes : Bytes) → StandsFor setup bytes (map_bytes self.old)
             → StandsFor setup (stored setup bytes reg byte) (map_bytes self.new) }
+        ensures cards { (setup : Setup) (bytes : Bytes) → AreCardsOf setup bytes self.old.cards.items
+            → AreCardsOf setup (stored setup bytes reg byte) self.new.cards.items }
         ensures same_cards { cards_of self.new.cards.items ≡ cards_of self.old.cards.items }
     {
         if reg.fun != 0 {

@@ -3,7 +3,7 @@ ghost use Rattle.std.specs.Prelude.{◌≡◌};
 ghost use Rattle.board_spec.specs.Setup.{Setup, IsCardList};
 ghost use Rattle.board_spec.specs.RegisterTable.{reset_byte};
 ghost use Rattle.board_spec.specs.Decode.{Bytes};
-ghost use Rattle.pci_bars.specs.Cards.{AreFitted, AreReset, cards_of};
+ghost use Rattle.pci_bars.specs.Cards.{AreCardsOf, AreFitted, AreReset, cards_of};
 ghost use Rattle.addr_decode.specs.MapRegs.{StandsFor, map_bytes};
 
 use arrayvec::ArrayVec;
@@ -30,6 +30,7 @@ impl MapRegs {
     pub fn reset_of(specs: &[CardSpec]) -> MapRegs
         requires cards { IsCardList specs.now }
         ensures stands { (setup : Setup) → setup.cards ≡ specs.now → StandsFor setup (reset_byte setup) (map_bytes result) }
+        ensures reset { (setup : Setup) → setup.cards ≡ specs.now → AreCardsOf setup (reset_byte setup) result.cards.items }
         ensures cards { cards_of result.cards.items ≡ specs.now }
         ensures fitted { AreFitted result.cards.items }
     {
@@ -63,6 +64,8 @@ impl MapRegs {
         requires cards { AreFitted self.old.cards.items }
         ensures stands { (setup : Setup) → setup.cards ≡ cards_of self.old.cards.items
             → StandsFor setup (reset_byte setup) (map_bytes self.new) }
+        ensures reset { (setup : Setup) → setup.cards ≡ cards_of self.old.cards.items
+            → AreCardsOf setup (reset_byte setup) self.new.cards.items }
         ensures same_cards { cards_of self.new.cards.items ≡ cards_of self.old.cards.items }
     {
         let mut cards = ArrayVec::new();
@@ -78,6 +81,7 @@ fn after_reset(cards: ArrayVec<CardRegs, CARD_COUNT>) -> MapRegs
     requires reset { AreReset cards.items }
     requires cards { AreFitted cards.items }
     ensures stands { (setup : Setup) → setup.cards ≡ cards_of cards.items → StandsFor setup (reset_byte setup) (map_bytes result) }
+    ensures reset { (setup : Setup) → setup.cards ≡ cards_of cards.items → AreCardsOf setup (reset_byte setup) result.cards.items }
     ensures cards { result.cards ≡ cards }
 {
     MapRegs {

@@ -6,13 +6,13 @@ use Rattle.std.proofs.lemmas.Bool.{cases_Bool, cond-true, cond-false, eq-eqb, ne
 use Rattle.std.proofs.lemmas.List.{get_or-map, length-map}
 use Rattle.std.proofs.lemmas.Bool.Decides.{nat_tests}
 use Rattle.board_base.specs.declared.target.Reg.{Reg}
-use Rattle.board_base.specs.declared.access.Width.TheVariants.{Four}
 use Rattle.board_spec.specs.Setup.{Setup, FittedCard, Rises, IsCard, IsCardList}
-use Rattle.board_spec.specs.Bits.{byte, wide}
-use Rattle.board_spec.specs.RegisterNames.{card_register, bridge, isa}
-use Rattle.pci_bars.specs.Cards.{CardBytes, DecodesAs, cards_of}
-use Rattle.addr_decode.specs.MapRegs.{MapBytes, AreFitted}
-use Rattle.map_builder.specs.Map.{HasBoard, HaveWidths}
+use Rattle.board_spec.specs.Bits.{byte, is_within}
+use Rattle.board_spec.specs.RegisterNames.{card_register, base_register, expansion_rom, bridge, isa}
+use Rattle.pci_bars.specs.Cards.{CardBytes, HoldsLong, HoldsRom, DecodesAs, AreFitted, cards_of}
+use Rattle.pci_bars.proofs.CardLemmas.{wide_of_bytes}
+use Rattle.addr_decode.specs.MapRegs.{MapBytes}
+use Rattle.map_builder.specs.Map.{HasBoard, HoldsDoublewords, HaveWidths}
 
 -- ---- a board with these registers
 
@@ -23,7 +23,10 @@ bridge_byte regs off =
     if off == 0x68 then regs.fdhc else regs.smram
 
 card_byte : ℕ → CardBytes → ℕ
-card_byte off card = if off == 0x04 then card.command else byte (slice_index card.bases ((off - 0x10) / 4)) ((off - 0x10) % 4)
+card_byte off card =
+    if off == 0x04 then card.command else
+    if is_within 0x10 0x27 off then byte (slice_index card.bases ((off - 0x10) / 4)) ((off - 0x10) % 4)
+    else byte card.rom (off - 0x30)
 
 card_with : ℕ → List CardBytes → Option CardBytes
 card_with dev cards = find (λ card. card.card.dev == dev) cards
@@ -86,34 +89,48 @@ command_byte : (card : CardBytes) → card_byte 0x04 card ≡ card.command
 unfolding card_byte
 command_byte card = refl
 
-base_byte : (card : CardBytes) (k j : ℕ) → j < 4 → card_byte (0x10 + 4 * k + j) card ≡ byte (slice_index card.bases k) j
+base_byte : (card : CardBytes) (k j : ℕ) → k < 6 → j < 4 → card_byte (0x10 + 4 * k + j) card ≡ byte (slice_index card.bases k) j
 unfolding card_byte
-base_byte card k j below =
+base_byte card k j few below =
     let quotient : (0x10 + 4 * k + j - 0x10) / 4 ≡ k = omega arith in
     let rest : (0x10 + 4 * k + j - 0x10) % 4 ≡ j = omega arith in
-    cond-false (0x10 + 4 * k + j == 0x04) _ _ (ne_eqb _ _ (omega arith)) ∙ rw (quotient, rest) refl
+    cond-false (0x10 + 4 * k + j == 0x04) _ _ (ne_eqb _ _ (omega arith))
+    ∙ cond-true (is_within 0x10 0x27 (0x10 + 4 * k + j)) _ _ (grind (arith, nat_tests))
+    ∙ rw (quotient, rest) refl
 
-wide_of_bytes :
-    (f : ℕ → ℕ) (from n : ℕ) → n < 2 ^ 32 → ((j : ℕ) → j < 4 → f (from + j) ≡ byte n j) → wide f from Four ≡ n
-wide_of_bytes f from n below each =
-    let b0 : f from ≡ byte n 0 = ap f (sym (add-zero from)) ∙ each 0 (lit< tt) in
-    let b1 : f (from + 1) ≡ byte n 1 = each 1 (lit< tt) in
-    let b2 : f (from + 2) ≡ byte n 2 = each 2 (lit< tt) in
-    let b3 : f (from + 3) ≡ byte n 3 = each 3 (lit< tt) in
-    omega arith
+rom_byte : (card : CardBytes) (j : ℕ) → j < 4 → card_byte (0x30 + j) card ≡ byte card.rom j
+unfolding card_byte
+rom_byte card j below =
+    let place : 0x30 + j - 0x30 ≡ j = omega arith in
+    cond-false (0x30 + j == 0x04) _ _ (ne_eqb _ _ (omega arith))
+    ∙ cond-false (is_within 0x10 0x27 (0x30 + j)) _ _ (grind (arith, nat_tests))
+    ∙ ap (λ k. byte card.rom k) place
 
-decodes : (regs : MapBytes) (card : CardBytes) → IsCard card.card → ((k : ℕ) → slice_index card.bases k < 2 ^ 32) →
+-- four registers that hold the bytes of a doubleword hold it
+long_held : (regs : MapBytes) (dev from value : ℕ) → value < 2 ^ 32 → ((j : ℕ) → j < 4 → board_byte regs (card_register dev (from + j)) ≡ byte value j) →
+    HoldsLong (board_byte regs) (card_register dev from) value
+long_held regs dev from value below each = record {
+  number = wide_of_bytes (λ off. board_byte regs (card_register dev off)) from value below each;
+  each = each;
+}
+
+rom_held : (regs : MapBytes) (dev value : ℕ) (rom : Option ℕ) → HoldsLong (board_byte regs) (expansion_rom dev) value → HoldsRom (board_byte regs) dev value rom
+rom_held regs dev value None held = tt
+rom_held regs dev value (Some bits) held = held
+
+decodes : (regs : MapBytes) (card : CardBytes) → IsCard card.card → HoldsDoublewords card →
     card_with card.card.dev regs.cards ≡ Some card → DecodesAs (board_setup regs) (board_byte regs) card
 unfolding board_setup
-decodes regs card fit doublewords at =
-    let each : (k j : ℕ) → j < 4 → board_byte regs (card_register card.card.dev (0x10 + 4 * k + j)) ≡ byte (slice_index card.bases k) j =
-    λ k j below. card_stands regs card (0x10 + 4 * k + j) fit.first at ∙ base_byte card k j below in
-    record {
-      fitted = find-map card.card.dev regs.cards ∙ ap (λ (it : Option CardBytes). option_map (λ (card : CardBytes). card.card) it) at;
-      command = card_stands regs card 0x04 fit.first at ∙ command_byte card;
-      bases = λ k below. wide_of_bytes (λ off. board_byte regs (card_register card.card.dev off)) (0x10 + 4 * k) (slice_index card.bases k) (doublewords k) (each k);
-      base_bytes = λ k j below within. each k j within;
-    }
+decodes regs card fit doublewords at = record {
+  fitted = find-map card.card.dev regs.cards ∙ ap (λ (it : Option CardBytes). option_map (λ (card : CardBytes). card.card) it) at;
+  command = card_stands regs card 0x04 fit.first at ∙ command_byte card;
+  bases = λ k few.
+      long_held regs card.card.dev (0x10 + 4 * k) (slice_index card.bases k) (doublewords.bases k)
+      (λ j below. card_stands regs card (0x10 + 4 * k + j) fit.first at ∙ base_byte card k j few below);
+  rom =
+      rom_held regs card.card.dev card.rom card.card.rom
+      (long_held regs card.card.dev 0x30 card.rom doublewords.rom (λ j below. card_stands regs card (0x30 + j) fit.first at ∙ rom_byte card j below));
+}
 
 -- ---- all of them
 
@@ -138,7 +155,7 @@ fitted_cards regs few fitted = record {
   count = omega (arith, length-map regs.cards (λ (it : CardBytes). it.card));
   each = λ k d within.
       let long : length (cards_of regs.cards) ≡ length regs.cards = length-map regs.cards (λ (it : CardBytes). it.card) in
-      let card : CardBytes = record { card = d; command = 0; line = 0; bases = [] } in
+      let card : CardBytes = record { card = d; command = 0; line = 0; bases = []; rom = 0 } in
       subst IsCard (sym (get_or-map (λ (it : CardBytes). it.card) regs.cards k card d (omega arith))) (fitted.each k card (omega arith));
   rises = fitted.rises;
 }
@@ -159,7 +176,7 @@ has_board regs fitted widths = record {
     cards = (
       cards_fitted regs,
       (λ k d within.
-          decodes regs (get_or regs.cards k d) (fitted.each k d within) (widths.bases k d within) (found regs.cards fitted.rises k d within)),
+          decodes regs (get_or regs.cards k d) (fitted.each k d within) (widths.cards k d within) (found regs.cards fitted.rises k d within)),
     );
   };
 }

@@ -10,10 +10,10 @@ use Rattle.board_spec.specs.declared.map_change.MapChange.{MapChange}
 use Rattle.board_spec.specs.declared.map_change.MapChange.TheVariants.{Store, Reset}
 use Rattle.board_spec.specs.Setup.{FittedCard, Setup, card_at}
 use Rattle.board_spec.specs.Bits.{is_within}
-use Rattle.board_spec.specs.Decode.{Bytes, Window, memory_windows}
+use Rattle.board_spec.specs.Decode.{Bytes, Window, rom_window, vga_window}
 use Rattle.board_spec.specs.MapWrites.{reg_after}
 use Rattle.map_builder.specs.declared.range.Changed.{Changed}
-use Rattle.map_builder.specs.Changed.{decoded, bridge_windows, isa_windows, card_windows, windows_of, windows_covered, after, changed_windows, bounds, joined}
+use Rattle.map_builder.specs.Changed.{decoded, base_windows, bridge_windows, isa_windows, card_windows, windows_of, windows_covered, after, changed_windows, bounds, joined}
 use Rattle.map_builder.proofs.WindowLemmas.{offsets, bounds-append}
 
 abbrev IsOrdered : Changed → Type 0
@@ -61,11 +61,15 @@ decoded_ordered (window ∷ later) = (omega arith, decoded_ordered later)
 card_ordered : (bytes : Bytes) (off : ℕ) (card : FittedCard) → Ordered (card_windows bytes off card)
 card_ordered bytes off card =
     elim (cases_Bool (off == 0x04)) [
-      | inl command ↦ rw command (decoded_ordered (memory_windows bytes card))
+      | inl command ↦ rw command (decoded_ordered (base_windows bytes card ++ rom_window bytes card ++ vga_window card))
       | inr not_command ↦ rw not_command
           (elim (cases_Bool (is_within 0x10 0x27 off)) [
-            | inl base ↦ rw base (decoded_ordered (filter (λ window. window.base == (off - 0x10) / 4) (memory_windows bytes card)))
-            | inr none ↦ rw none tt
+            | inl base ↦ rw base (decoded_ordered (filter (λ window. window.base == (off - 0x10) / 4) (base_windows bytes card)))
+            | inr not_base ↦ rw not_base
+                (elim (cases_Bool (is_within 0x30 0x33 off)) [
+                  | inl rom ↦ rw rom (decoded_ordered (rom_window bytes card))
+                  | inr none ↦ rw none tt
+                ])
           ])
     ]
 

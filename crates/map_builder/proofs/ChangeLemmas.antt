@@ -1,18 +1,20 @@
 -- After a change the ranges of a map are right again for each address outside the bounds of the changed windows.
-use Rattle.std.proofs.Common.{◌≡◌, ℕ, zero, suc, ◌+◌, ◌<◌, ◌≤◌, List, [], ◌∷◌, length, get_or, Option, Some, None, sym, ◌∙◌, subst, arith}
+use Rattle.std.proofs.Common.{◌≡◌, ℕ, zero, suc, ◌+◌, ◌<◌, ◌≤◌, false, List, [], ◌∷◌, length, get_or, Option, Some, None, refl, sym, ◌∙◌, subst, arith}
 use Rattle.std.specs.Prelude.{MatchOption}
 use Rattle.board_spec.specs.declared.map_change.MapChange.{MapChange}
 use Rattle.board_spec.specs.Setup.{Setup}
+use Rattle.board_spec.specs.MapWrites.{touches_map}
 use Rattle.board_spec.specs.Decode.{Bytes}
 use Rattle.board_spec.specs.FlatMap.{address_count, six_areas, MapRange, Tiles, IsFlatMapOf}
-use Rattle.addr_decode.specs.MapRegs.{MapBytes, AreFitted, StandsFor}
+use Rattle.pci_bars.specs.Cards.{AreFitted}
+use Rattle.addr_decode.specs.MapRegs.{MapBytes, StandsFor}
 use Rattle.map_builder.specs.declared.range.Changed.{Changed}
 use Rattle.map_builder.specs.Map.{HasBoard, IsMapOf}
 use Rattle.map_builder.specs.Build.{IsMapOutside}
 use Rattle.map_builder.specs.Changed.{after, changed_windows, bounds}
 use Rattle.map_builder.proofs.OutsideLemmas.{OutsideSome, outside_each}
 use Rattle.map_builder.proofs.KeptStores.{top_after, changes_keep}
-use Rattle.map_builder.proofs.SameBoards.{boards_same}
+use Rattle.map_builder.proofs.SameBoards.{boards_same, untouched_areas}
 
 -- the last address of a range is an address
 tiles_below : (from : ℕ) (ranges : List MapRange) → Tiles from ranges → from ≤ address_count
@@ -37,47 +39,76 @@ board_after old new change board stands = record {
 }
 
 module _ (old new : MapBytes) (change : MapChange) (ranges : List MapRange) (is_map : IsMapOf old ranges)
-    (stands : StandsFor is_map.board.setup (after is_map.board.setup change is_map.board.bytes) new) where
+    (stands : StandsFor is_map.board.setup (after is_map.board.setup change is_map.board.bytes) new)
+    (Out : ℕ → Type 0)
+    (keeps : (addr : ℕ) → addr < address_count → Out addr →
+      six_areas is_map.board.setup (after is_map.board.setup change is_map.board.bytes) addr ≡ six_areas is_map.board.setup is_map.board.bytes addr) where
   abbrev board : HasBoard old
   board = is_map.board
-
-  abbrev changed : Option Changed
-  changed = bounds (changed_windows board.setup board.bytes change)
 
   was_map : IsFlatMapOf board.setup board.bytes ranges
   was_map = is_map.map board.setup board.bytes board.stands
 
-  -- every board of the new registers has the old areas outside the bounds
-  areas_kept : (setup : Setup) (bytes : Bytes) → StandsFor setup bytes new → (addr : ℕ) → addr < address_count → OutsideSome addr changed →
+  -- every board of the new registers has the old areas outside
+  areas_kept : (setup : Setup) (bytes : Bytes) → StandsFor setup bytes new → (addr : ℕ) → addr < address_count → Out addr →
       six_areas setup bytes addr ≡ six_areas board.setup board.bytes addr
   areas_kept setup bytes now addr address out =
       sym (boards_same new board.setup setup (after board.setup change board.bytes) bytes board.cards stands now addr)
-      ∙ changes_keep board.setup board.bytes change addr board.cards board.top address (outside_each addr (changed_windows board.setup board.bytes change) out)
+      ∙ keeps addr address out
 
-  still_right : (setup : Setup) (bytes : Bytes) → StandsFor setup bytes new → (k : ℕ) (d : MapRange) → k < length ranges →
-      (addr : ℕ) → (get_or ranges k d).lo ≤ addr → addr ≤ (get_or ranges k d).hi → OutsideSome addr changed →
+  pub still_right : (setup : Setup) (bytes : Bytes) → StandsFor setup bytes new → (k : ℕ) (d : MapRange) → k < length ranges →
+      (addr : ℕ) → (get_or ranges k d).lo ≤ addr → addr ≤ (get_or ranges k d).hi → Out addr →
       six_areas setup bytes addr ≡ (get_or ranges k d).areas
   still_right setup bytes now k d within addr low high out =
       areas_kept setup bytes now addr (omega (arith, range_below 0 ranges is_map.tiles k d within)) out
       ∙ (was_map.right k d within).at_each addr low high
 
-  -- the ranges are a map but inside the bounds, and where there are none they are the map
-  pub still_map : (found : Option Changed) → changed ≡ found → AreFitted new.cards →
-      MatchOption found (IsMapOf new ranges) (λ interval. IsMapOutside new interval ranges)
-  still_map None is fitted = record {
+  -- where no address is inside, the ranges are the map
+  pub same_map : ((addr : ℕ) → Out addr) → AreFitted new.cards → IsMapOf new ranges
+  same_map all fitted = record {
     fitted = fitted;
     board = board_after old new change board stands;
     tiles = is_map.tiles;
     map = λ setup bytes now. record {
       tiles = is_map.tiles;
-      right = λ k d within. record { at_each = λ addr low high. still_right setup bytes now k d within addr low high (subst (OutsideSome addr) (sym is) tt) };
+      right = λ k d within. record { at_each = λ addr low high. still_right setup bytes now k d within addr low high (all addr) };
       least = was_map.least;
     };
   }
-  still_map (Some interval) is fitted = record {
-    tiles = is_map.tiles;
-    least = was_map.least;
-    right = λ setup bytes now k d within. record {
-      at_each = λ addr low high out. still_right setup bytes now k d within addr low high (subst (OutsideSome addr) (sym is) out);
-    };
-  }
+
+-- the ranges are a map but inside the bounds of the changed windows, and where there are none they are the map
+pub still_map : (old new : MapBytes) (change : MapChange) (ranges : List MapRange) (is_map : IsMapOf old ranges) →
+    StandsFor is_map.board.setup (after is_map.board.setup change is_map.board.bytes) new → (found : Option Changed) →
+    bounds (changed_windows is_map.board.setup is_map.board.bytes change) ≡ found → AreFitted new.cards →
+    MatchOption found (IsMapOf new ranges) (λ interval. IsMapOutside new interval ranges)
+still_map old new change ranges is_map stands found is fitted =
+    elim found as (λ it. found ≡ it → MatchOption it (IsMapOf new ranges) (λ interval. IsMapOutside new interval ranges)) [
+      | None ↦ λ none.
+          same_map old new change ranges is_map stands (OutsideSome' found) keeps (λ addr. subst (OutsideSome addr) (sym none) tt) fitted
+      | Some interval ↦ λ some. record {
+          tiles = is_map.tiles;
+          least = (is_map.map is_map.board.setup is_map.board.bytes is_map.board.stands).least;
+          right = λ setup bytes now k d within. record {
+            at_each = λ addr low high out.
+                still_right old new change ranges is_map stands (OutsideSome' found) keeps setup bytes now k d within addr low high
+                (subst (OutsideSome addr) (sym some) out);
+          };
+        }
+    ] refl
+  where
+    abbrev OutsideSome' : Option Changed → ℕ → Type 0
+    OutsideSome' windows addr = OutsideSome addr windows
+
+    keeps : (addr : ℕ) → addr < address_count → OutsideSome addr found →
+        six_areas is_map.board.setup (after is_map.board.setup change is_map.board.bytes) addr ≡ six_areas is_map.board.setup is_map.board.bytes addr
+    keeps addr address out =
+        changes_keep is_map.board.setup is_map.board.bytes change addr is_map.board.cards is_map.board.top address
+        (outside_each addr (changed_windows is_map.board.setup is_map.board.bytes change) (subst (OutsideSome addr) (sym is) out))
+
+-- a change that covers no byte on which the map depends leaves the map
+pub untouched_map : (old new : MapBytes) (change : MapChange) (ranges : List MapRange) (is_map : IsMapOf old ranges) →
+    StandsFor is_map.board.setup (after is_map.board.setup change is_map.board.bytes) new →
+    touches_map is_map.board.setup change ≡ false → AreFitted new.cards → IsMapOf new ranges
+untouched_map old new change ranges is_map stands not fitted =
+    same_map old new change ranges is_map stands (λ addr. Unit {0})
+    (λ addr address out. untouched_areas is_map.board.setup is_map.board.bytes change is_map.board.cards not addr) (λ addr. tt) fitted

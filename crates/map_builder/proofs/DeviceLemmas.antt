@@ -1,20 +1,20 @@
 -- The windows that the registers of a card govern are those that the code finds by the values of its bases.
-use Rattle.std.proofs.Common.{◌≡◌, ◌≢◌, ℕ, zero, suc, ◌+◌, ◌-◌, ◌/◌, ◌<◌, ◌≤◌, inl, inr, Bool, true, false, List, [], ◌∷◌, length, map, filter, Option, Some, None, refl, ◌∙◌, ap, arith}
+use Rattle.std.proofs.Common.{◌≡◌, ◌≢◌, ℕ, zero, suc, ◌+◌, ◌-◌, ◌/◌, ◌<◌, ◌≤◌, inl, inr, Bool, true, false, List, [], ◌∷◌, ◌++◌, length, map, filter, Option, Some, None, refl, ◌∙◌, ap, arith}
 use Rattle.std.specs.Prelude.{◌==◌, ◌&&◌, All, find, flat_map, slice_get, slice_index, if◌then◌else◌}
 use Rattle.std.specs.Option.{option_map_or}
 use Rattle.std.specs.List.{enumerate_from}
 use Rattle.std.proofs.lemmas.Bool.{cases_Bool, eq-eqb, ne_eqb}
 use Rattle.std.proofs.lemmas.Bool.Decides.{nat_tests}
-use Rattle.std.proofs.lemmas.List.{map-append, append-nil}
-use Rattle.std.proofs.lemmas.List.Elements.{All-head, All-tail, filter-append}
+use Rattle.std.proofs.lemmas.List.{map-append}
+use Rattle.std.proofs.lemmas.List.Elements.{All-head, All-tail}
 use Rattle.board_base.specs.declared.target.Reg.{Reg}
 use Rattle.board_spec.specs.Setup.{Base, MemoryBase, IoBase, FittedCard, Setup, IsCard, card_at}
 use Rattle.board_spec.specs.Bits.{is_within}
-use Rattle.board_spec.specs.Decode.{Bytes, Window, base_value, memory_window, vga_window}
-use Rattle.pci_bars.specs.Cards.{CardBytes, DecodesAs, AreCards, AreDecoded, cards_of}
+use Rattle.board_spec.specs.Decode.{Bytes, Window, base_value, memory_window, rom_value, rom_window, rom_window_of, vga_window}
+use Rattle.pci_bars.specs.Cards.{CardBytes, HoldsRom, DecodesAs, AreCards, AreDecoded, cards_of}
 use Rattle.map_builder.specs.declared.range.Changed.{Changed}
 use Rattle.map_builder.specs.Changed.{decoded, bridge_windows, isa_windows, card_windows, windows_of, bounds}
-use Rattle.map_builder.specs.Held.{held_by, held_from, vga_held, card_held, device_held}
+use Rattle.map_builder.specs.Held.{block, held_by, held_from, rom_held, vga_held, card_held, device_held}
 
 -- the windows of bases, the first of them base number `first`
 abbrev pub from_base : Bytes → (dev first : ℕ) → List Base → List Window
@@ -23,6 +23,15 @@ from_base bytes dev first bases = flat_map (λ numbered. memory_window bytes dev
 -- the base registers hold these values
 abbrev pub Hold : Bytes → (dev : ℕ) → (values : List ℕ) → Type 0
 Hold bytes dev values = (k : ℕ) → k < 6 → base_value bytes dev k ≡ slice_index values k
+
+-- the register of the expansion ROM holds this value
+abbrev pub HoldRom : Bytes → (dev register : ℕ) → Option ℕ → Type 0
+HoldRom bytes dev register rom = map decoded (rom_window_of bytes dev rom) ≡ rom_held rom register
+
+pub rom_is : (bytes : Bytes) (dev register : ℕ) (rom : Option ℕ) → HoldsRom bytes dev register rom → HoldRom bytes dev register rom
+rom_is bytes dev register None holds = refl
+rom_is bytes dev register (Some bits) holds =
+    let same : rom_value bytes dev ≡ register = holds.number in ap (λ inside. block inside bits ∷ []) same
 
 -- ---- the command governs them all
 
@@ -61,38 +70,33 @@ one_held bytes dev values k (suc j) first (MemoryBase bits ∷ later) hold below
 one_held bytes dev values k (suc j) first (IoBase bits ∷ later) hold below at =
     one_held bytes dev values k j (first + 1) later hold below (omega arith)
 
-no_vga : (card : FittedCard) (k : ℕ) → k < 6 → filter (numbered k) (vga_window card) ≡ []
-no_vga card k below =
-    elim (cases_Bool card.vga) [ inl on ↦ rw (on, ne_eqb 7 k (omega arith)) refl | inr off ↦ rw off refl ]
-
 -- ---- a card
 
 pub card_is : (bytes : Bytes) (card : CardBytes) (off : ℕ) → length card.card.bases ≤ 6 → Hold bytes card.card.dev card.bases →
-    card_windows bytes off card.card ≡ card_held off card
-card_is bytes card off few hold =
+    HoldRom bytes card.card.dev card.rom card.card.rom → card_windows bytes off card.card ≡ card_held off card
+card_is bytes card off few hold hold_rom =
     elim (cases_Bool (off == 0x04)) [
       | inl command ↦
           rw (
             command,
-            map-append decoded (from_base bytes card.card.dev 0 card.card.bases) (vga_window card.card),
+            map-append decoded (from_base bytes card.card.dev 0 card.card.bases ++ rom_window bytes card.card) (vga_window card.card),
+            map-append decoded (from_base bytes card.card.dev 0 card.card.bases) (rom_window bytes card.card),
             all_held bytes card.card.dev card.bases 0 card.card.bases hold (omega arith),
+            hold_rom,
             vga_is card.card,
           ) refl
       | inr other ↦
           elim (cases_Bool (is_within 0x10 0x27 off)) [
-            | inr beside ↦ rw (other, beside) refl
             | inl base ↦
                 let below : off ≤ 0x27 = grind (arith, nat_tests) in
                 let k : ℕ = (off - 0x10) / 4 in
                 let number : k < 6 = omega arith in
-                rw (
-                  other,
-                  base,
-                  filter-append (numbered k) (from_base bytes card.card.dev 0 card.card.bases) (vga_window card.card),
-                  no_vga card.card k number,
-                  append-nil (filter (numbered k) (from_base bytes card.card.dev 0 card.card.bases)),
-                )
-                (one_held bytes card.card.dev card.bases k k 0 card.card.bases hold number (omega arith))
+                rw (other, base) (one_held bytes card.card.dev card.bases k k 0 card.card.bases hold number (omega arith))
+            | inr not_base ↦
+                elim (cases_Bool (is_within 0x30 0x33 off)) [
+                  | inl rom ↦ rw (other, not_base, rom) hold_rom
+                  | inr beside ↦ rw (other, not_base, beside) refl
+                ]
           ]
     ]
 
@@ -102,8 +106,10 @@ cards_are setup bytes [] dev off fit are = refl
 cards_are setup bytes (card ∷ later) dev off fit are =
     elim (cases_Bool (card.card.dev == dev)) [
       | inl here ↦
+          let is : DecodesAs setup bytes card = All-head (DecodesAs setup bytes) card later are in
           rw here
-          (card_is bytes card off (All-head (λ card. IsCard card.card) card later fit).count (All-head (DecodesAs setup bytes) card later are).bases)
+          (card_is bytes card off (All-head (λ card. IsCard card.card) card later fit).count (λ k below. (is.bases k below).number)
+          (rom_is bytes card.card.dev card.rom card.card.rom is.rom))
       | inr not_here ↦
           rw not_here
           (cards_are setup bytes later dev off (All-tail (λ card. IsCard card.card) card later fit) (All-tail (DecodesAs setup bytes) card later are))
@@ -141,7 +147,8 @@ no_card_window : (bytes : Bytes) (off : ℕ) (card : FittedCard) → 256 ≤ off
 no_card_window bytes off card past =
     let command : (off == 0x04) ≡ false = ne_eqb off 0x04 (omega arith) in
     let bases : is_within 0x10 0x27 off ≡ false = grind (arith, nat_tests) in
-    rw (command, bases) refl
+    let rom : is_within 0x30 0x33 off ≡ false = grind (arith, nat_tests) in
+    rw (command, bases, rom) refl
 
 no_device_window : (bytes : Bytes) (off : ℕ) (card : Option FittedCard) → 256 ≤ off → option_map_or (card_windows bytes off) card [] ≡ []
 no_device_window bytes off None past = refl

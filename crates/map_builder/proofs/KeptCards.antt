@@ -1,23 +1,25 @@
 -- The card that answers at an address is the same before and after a change that moves no window round it.
-use Rattle.std.proofs.Common.{◌≡◌, ℕ, zero, suc, ◌+◌, ◌-◌, ◌*◌, ◌/◌, ◌<◌, ◌≤◌, ◌⊎◌, inl, inr, Bool, true, false, cond, List, [], ◌∷◌, length, get_or, Option, Some, None, refl, sym, ◌∙◌, ap, subst, arith}
-use Rattle.std.specs.Prelude.{◌==◌, ◌&&◌, All, find, flat_map, slice_get}
+use Rattle.std.proofs.Common.{◌≡◌, ℕ, zero, suc, ◌+◌, ◌-◌, ◌*◌, ◌/◌, ◌<◌, ◌≤◌, ◌⊎◌, inl, inr, Bool, true, false, cond, List, [], ◌∷◌, ◌++◌, length, map, get_or, Option, Some, None, refl, sym, ◌∙◌, ap, subst, arith}
+use Rattle.std.specs.Prelude.{◌==◌, ◌&&◌, All, find, flat_map, slice_get, if◌then◌else◌}
 use Rattle.std.specs.Option.{option_map_or}
 use Rattle.std.specs.List.{AllByRecursion}
-use Rattle.std.proofs.lemmas.Bool.{cases_Bool, cond-true, cond-false, eq-eqb, ne_eqb}
+use Rattle.std.proofs.lemmas.Bool.{cases_Bool, cases_lt, cond-true, cond-false, eq-eqb, ne_eqb}
 use Rattle.std.proofs.lemmas.Bool.Decides.{nat_tests}
 use Rattle.std.proofs.lemmas.Option.{slice_get_within}
 use Rattle.std.proofs.lemmas.List.Elements.{recursion_from_All}
+use Rattle.std.proofs.lemmas.List.{map-append}
 use Rattle.std.proofs.lemmas.List.Folds.{find-append}
 use Rattle.board_base.specs.declared.target.Reg.{Reg}
 use Rattle.board_spec.specs.Setup.{Base, MemoryBase, IoBase, FittedCard, Setup, IsCard, IsCardList, Rises, card_at}
 use Rattle.board_spec.specs.Bits.{is_bit, is_within}
-use Rattle.board_spec.specs.Decode.{Bytes, Window, base_value, is_covered, vga_window, memory_windows, is_enabled_for, memory_claim}
+use Rattle.board_spec.specs.Decode.{Bytes, Window, base_value, is_covered, rom_value, rom_window, rom_window_of, is_rom_on, vga_window, memory_windows, is_enabled_for, memory_claim}
 use Rattle.board_spec.specs.RegisterNames.{card_register}
 use Rattle.pci_bars.specs.Cards.{CardBytes}
-use Rattle.map_builder.specs.Changed.{card_windows, windows_of}
-use Rattle.map_builder.specs.Held.{held_by, card_held}
-use Rattle.map_builder.proofs.OutsideLemmas.{Outside, not_covered, none_covered, and_no}
-use Rattle.map_builder.proofs.DeviceLemmas.{from_base, Hold, card_is, windows_of_card}
+use Rattle.map_builder.specs.declared.range.Changed.{Changed}
+use Rattle.map_builder.specs.Changed.{decoded, base_windows, card_windows, windows_of}
+use Rattle.map_builder.specs.Held.{held_by, rom_held, card_held}
+use Rattle.map_builder.proofs.OutsideLemmas.{Outside, outside_left, outside_right, not_covered, none_covered, and_no}
+use Rattle.map_builder.proofs.DeviceLemmas.{from_base, Hold, HoldRom, card_is, windows_of_card}
 
 -- a register keeps its byte, or an address lies outside the windows that it governs, by what the registers held before and
 -- hold after
@@ -42,11 +44,15 @@ values_hold bytes dev (suc (suc (suc (suc (suc zero))))) below = refl
 values_hold bytes dev (suc (suc (suc (suc (suc (suc k)))))) below = absurd (omega arith)
 
 state : Bytes → FittedCard → CardBytes
-state bytes card = record { card = card; command = 0; line = 0; bases = values bytes card.dev }
+state bytes card = record { card = card; command = 0; line = 0; bases = values bytes card.dev; rom = rom_value bytes card.dev }
+
+rom_holds : (bytes : Bytes) (dev : ℕ) (rom : Option ℕ) → HoldRom bytes dev (rom_value bytes dev) rom
+rom_holds bytes dev None = refl
+rom_holds bytes dev (Some bits) = refl
 
 state_is : (bytes : Bytes) (card : FittedCard) (off : ℕ) → length card.bases ≤ 6 → card_windows bytes off card ≡ card_held off (state bytes card)
 unfolding state
-state_is bytes card off few = card_is bytes (state bytes card) off few (values_hold bytes card.dev)
+state_is bytes card off few = card_is bytes (state bytes card) off few (values_hold bytes card.dev) (rom_holds bytes card.dev card.rom)
 
 base_held : (bytes : Bytes) (card : FittedCard) (off k : ℕ) (base : Base) → 0x10 + 4 * k ≤ off → off ≤ 0x13 + 4 * k → k < 6 → slice_get card.bases k ≡ Some base →
     card_held off (state bytes card) ≡ held_by base (base_value bytes card.dev k)
@@ -56,6 +62,18 @@ base_held bytes card off k base from to below at =
     let bases : is_within 0x10 0x27 off ≡ true = grind (arith, nat_tests) in
     let number : (off - 0x10) / 4 ≡ k = omega arith in
     rw (other, bases, number, at, sym (values_hold bytes card.dev k below)) refl
+
+-- the four registers of the expansion ROM
+rom_governed : (bytes : Bytes) (card : FittedCard) (off : ℕ) → 0x30 ≤ off → off ≤ 0x33 → card_windows bytes off card ≡ map decoded (rom_window bytes card)
+rom_governed bytes card off from to =
+    let other : (off == 0x04) ≡ false = ne_eqb off 0x04 (omega arith) in
+    let no_base : is_within 0x10 0x27 off ≡ false = grind (arith, nat_tests) in
+    let rom : is_within 0x30 0x33 off ≡ true = grind (arith, nat_tests) in
+    rw (other, no_base, rom) refl
+
+-- the expansion ROM where it is selected
+abbrev rom_part : Bytes → FittedCard → List Window
+rom_part bytes card = if is_rom_on bytes card.dev then rom_window bytes card else []
 
 -- ---- cards of a list by their device numbers
 
@@ -172,6 +190,77 @@ module _ (setup : Setup) (bytes new : Bytes) (addr : ℕ) (kept : (reg : Reg) �
             (not_covered addr (window dev first (base_value new dev first) bits) out.1.0) rest
       ]
 
+  -- the registers of the expansion ROM are the same, or the address lies outside it
+  abbrev pub RomKept : FittedCard → Type 0
+  RomKept card =
+      ((j : ℕ) → j < 4 → new (card_register card.dev (0x30 + j)) ≡ bytes (card_register card.dev (0x30 + j)))
+      ⊎ (Outside addr (map decoded (rom_window bytes card)) × Outside addr (map decoded (rom_window new card)))
+
+  rom_kept_below : (card : FittedCard) → IsFitted setup card → (n : ℕ) → n ≤ 4 →
+      ((j : ℕ) → j < n → new (card_register card.dev (0x30 + j)) ≡ bytes (card_register card.dev (0x30 + j)))
+      ⊎ (Outside addr (map decoded (rom_window bytes card)) × Outside addr (map decoded (rom_window new card)))
+  rom_kept_below card is zero few = inl (λ j below. absurd (omega arith))
+  rom_kept_below card is (suc n) few =
+      elim (rom_kept_below card is n (omega arith)) [
+        | inr out ↦ inr out
+        | inl before ↦
+            elim (kept (card_register card.dev (0x30 + n))) [
+              | inr out ↦ inr (
+                subst (Outside addr) (windows_at bytes card (0x30 + n) is ∙ rom_governed bytes card (0x30 + n) (omega arith) (omega arith)) out.0,
+                subst (Outside addr) (windows_at new card (0x30 + n) is ∙ rom_governed new card (0x30 + n) (omega arith) (omega arith)) out.1,
+              )
+              | inl here ↦ inl (λ j below.
+                  elim (cases_lt j n) [
+                    | inl less ↦ before j less
+                    | inr not_less ↦
+                        let at : n ≡ j = omega arith in
+                        subst (λ (k : ℕ). new (card_register card.dev (0x30 + k)) ≡ bytes (card_register card.dev (0x30 + k))) at here
+                  ])
+            ]
+      ]
+
+  rom_kept : (card : FittedCard) → IsFitted setup card → RomKept card
+  rom_kept card is = rom_kept_below card is 4 (omega arith)
+
+  -- an address outside the expansion ROM is not answered by it
+  rom_outside : (registers : Bytes) (card : FittedCard) → Outside addr (map decoded (rom_window registers card)) →
+      find (claims registers) (rom_part registers card) ≡ None
+  rom_outside registers card out =
+      elim (cases_Bool (is_rom_on registers card.dev)) [
+        | inl selected ↦ rw selected (none_covered addr (rom_window registers card) (λ dev. is_enabled_for 1 registers dev) out)
+        | inr unselected ↦ rw unselected refl
+      ]
+
+  rom_alike : (dev : ℕ) (rom : Option ℕ) → is_enabled_for 1 new dev ≡ is_enabled_for 1 bytes dev →
+      find (claims new) (rom_window_of bytes dev rom) ≡ find (claims bytes) (rom_window_of bytes dev rom)
+  rom_alike dev None enabled = refl
+  rom_alike dev (Some bits) enabled =
+      step_same (is_enabled_for 1 bytes dev) (is_enabled_for 1 new dev)
+      (is_covered addr (window dev 6 (rom_value bytes dev) bits)) (is_covered addr (window dev 6 (rom_value bytes dev) bits))
+      (Some (window dev 6 (rom_value bytes dev) bits)) (Some (window dev 6 (rom_value bytes dev) bits)) None None enabled refl refl refl
+
+  rom_windows : (dev : ℕ) (rom : Option ℕ) →
+      ((j : ℕ) → j < 4 → new (card_register dev (0x30 + j)) ≡ bytes (card_register dev (0x30 + j))) → rom_window_of new dev rom ≡ rom_window_of bytes dev rom
+  rom_windows dev None same = refl
+  rom_windows dev (Some bits) same =
+      let value : rom_value new dev ≡ rom_value bytes dev = rw (same 0 (omega arith), same 1 (omega arith), same 2 (omega arith), same 3 (omega arith)) refl in
+      ap (λ inside. window dev 6 inside bits ∷ []) value
+
+  rom_same : (card : FittedCard) → IsFitted setup card → is_enabled_for 1 new card.dev ≡ is_enabled_for 1 bytes card.dev →
+      find (claims new) (rom_part new card) ≡ find (claims bytes) (rom_part bytes card)
+  rom_same card is enabled =
+      elim (rom_kept card is) [
+        | inr out ↦ rom_outside new card out.1 ∙ sym (rom_outside bytes card out.0)
+        | inl same ↦
+            let selected : is_rom_on new card.dev ≡ is_rom_on bytes card.dev = ap (λ register. is_bit register 0) (same 0 (omega arith)) in
+            let windows : rom_part new card ≡ rom_part bytes card = rw (selected, rom_windows card.dev card.rom same) refl in
+            ap (λ (found : List Window). find (claims new) found) windows
+            ∙ elim (cases_Bool (is_rom_on bytes card.dev)) [
+              | inl selected ↦ rw selected (rom_alike card.dev card.rom enabled)
+              | inr unselected ↦ rw unselected refl
+            ]
+      ]
+
   vga_same : (card : FittedCard) → is_enabled_for 1 new card.dev ≡ is_enabled_for 1 bytes card.dev →
       find (claims new) (vga_window card) ≡ find (claims bytes) (vga_window card)
   vga_same card enabled =
@@ -188,7 +277,21 @@ module _ (setup : Setup) (bytes new : Bytes) (addr : ℕ) (kept : (reg : Reg) �
   command_outside : (registers : Bytes) (card : FittedCard) → IsFitted setup card → Outside addr (windows_of setup registers (card_register card.dev 0x04)) →
       find (claims registers) (memory_windows registers card) ≡ None
   command_outside registers card is out =
-      none_covered addr (memory_windows registers card) (λ dev. is_enabled_for 1 registers dev) (subst (Outside addr) (windows_at registers card 0x04 is) out)
+      let counts : ℕ → Bool = λ dev. is_enabled_for 1 registers dev in
+      let bases : List Window = base_windows registers card in
+      let rom : List Window = rom_window registers card in
+      let vga : List Window = vga_window card in
+      let all : Outside addr (map decoded (bases ++ rom ++ vga)) = subst (Outside addr) (windows_at registers card 0x04 is) out in
+      let parts : Outside addr (map decoded (bases ++ rom) ++ map decoded vga) = subst (Outside addr) (map-append decoded (bases ++ rom) vga) all in
+      let first : Outside addr (map decoded bases ++ map decoded rom) =
+      subst (Outside addr) (map-append decoded bases rom) (outside_left addr (map decoded (bases ++ rom)) (map decoded vga) parts) in
+      rw (
+        find-append (claims registers) (bases ++ rom_part registers card) vga,
+        find-append (claims registers) bases (rom_part registers card),
+        none_covered addr bases counts (outside_left addr (map decoded bases) (map decoded rom) first),
+        rom_outside registers card (outside_right addr (map decoded bases) (map decoded rom) first),
+        none_covered addr vga counts (outside_right addr (map decoded (bases ++ rom)) (map decoded vga) parts),
+      ) refl
 
   card_same : (card : FittedCard) → IsFitted setup card →
       find (claims new) (memory_windows new card) ≡ find (claims bytes) (memory_windows bytes card)
@@ -204,9 +307,12 @@ module _ (setup : Setup) (bytes new : Bytes) (addr : ℕ) (kept : (reg : Reg) �
             subst (λ (k : ℕ). BaseKept card.dev k base) place
             (base_kept card j base is (omega (arith, slice_get_within card.bases j base at, is.few)) at)) in
             rw (
-              find-append (claims new) (from_base new card.dev 0 card.bases) (vga_window card),
-              find-append (claims bytes) (from_base bytes card.dev 0 card.bases) (vga_window card),
+              find-append (claims new) (from_base new card.dev 0 card.bases ++ rom_part new card) (vga_window card),
+              find-append (claims new) (from_base new card.dev 0 card.bases) (rom_part new card),
+              find-append (claims bytes) (from_base bytes card.dev 0 card.bases ++ rom_part bytes card) (vga_window card),
+              find-append (claims bytes) (from_base bytes card.dev 0 card.bases) (rom_part bytes card),
               bases,
+              rom_same card is enabled,
               vga_same card enabled,
             ) refl
       ]

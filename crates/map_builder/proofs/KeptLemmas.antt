@@ -8,7 +8,7 @@ use Rattle.board_base.specs.declared.access.Kind.TheVariants.{Fetch, Read, Write
 use Rattle.board_base.specs.declared.target.Reg.{Reg}
 use Rattle.board_spec.specs.Setup.{Setup, IsCardList}
 use Rattle.board_spec.specs.Bits.{is_bit, is_within}
-use Rattle.board_spec.specs.Decode.{Bytes, boundary, top_of, row_of, is_in, hole_of, is_high_window, nibble, is_open, is_shadow_range, is_shadowed, is_smram_range, is_rom_selected, area_of}
+use Rattle.board_spec.specs.Decode.{Bytes, boundary, top_of, row_of, is_in, hole_of, is_high_window, nibble, is_open, is_shadow_range, is_shadowed, is_smram_range, is_rom_selected, pam_register, area_of}
 use Rattle.board_spec.specs.RegisterNames.{bridge, isa}
 use Rattle.board_spec.specs.FlatMap.{six_areas}
 use Rattle.map_builder.specs.Changed.{from_to, bridge_windows, IsOutside}
@@ -60,6 +60,10 @@ rom_outside xbcs addr low high =
 
 pam_offset : ℕ → ℕ
 pam_offset addr = if nat_le 0xF_0000 addr then 0x59 else 0x5A + (addr - 0xC_0000) / 0x8000
+
+pam_is : (addr : ℕ) → bridge (pam_offset addr) ≡ pam_register addr
+unfolding pam_offset
+pam_is addr = elim (cases_Bool (nat_le 0xF_0000 addr)) [ inl high ↦ rw high refl | inr low ↦ rw low refl ]
 
 pam_window_low : (off addr : ℕ) → off ≡ 0x5A + (addr - 0xC_0000) / 0x8000 → 0xC_0000 ≤ addr → addr < 0xF_0000 → Outside addr (bridge_windows off) → ⊥
 pam_window_low off addr is above below out =
@@ -118,13 +122,14 @@ module _ (setup : Setup) (bytes new : Bytes) (addr : ℕ) (kept : (reg : Reg) �
       elim (kept (bridge 0x72)) [ inl same ↦ inl same | inr out ↦ inr (outside_range addr 0xA_0000 0xB_FFFF out.0.0) ]
 
   shadow_same : (kind : Kind) → is_shadowed new addr kind ≡ is_shadowed bytes addr kind
-  unfolding pam_offset
   shadow_same kind =
       elim (cases_Bool (is_shadow_range addr)) [
         | inr beside ↦ rw beside refl
         | inl within ↦
             elim (kept (bridge (pam_offset addr))) [
-              | inl same ↦ rw within (ap (λ pam. is_open (nibble pam (is_high_window addr)) kind) same)
+              | inl same ↦
+                  let here : new (pam_register addr) ≡ bytes (pam_register addr) = subst (λ (reg : Reg). new reg ≡ bytes reg) (pam_is addr) same in
+                  rw within (ap (λ pam. is_open (nibble pam (is_high_window addr)) kind) here)
               | inr out ↦ absurd (in_pam_window addr within out.0)
             ]
       ]

@@ -1,5 +1,5 @@
 -- Boards that have the same registers have the same areas at each address.
-use Rattle.std.proofs.Common.{◌≡◌, ℕ, ◌+◌, ◌-◌, ◌*◌, ◌/◌, ◌%◌, ◌<◌, ◌≤◌, inl, inr, Bool, true, false, List, [], ◌∷◌, refl, sym, ◌∙◌, subst, arith}
+use Rattle.std.proofs.Common.{◌≡◌, ℕ, ◌+◌, ◌-◌, ◌*◌, ◌/◌, ◌%◌, ◌<◌, ◌≤◌, inl, inr, Bool, true, false, List, [], ◌∷◌, Option, Some, None, refl, sym, ◌∙◌, subst, arith}
 use Rattle.std.specs.Prelude.{◌==◌, ◌&&◌, ◌||◌, is_some, find}
 use Rattle.std.specs.List.{AllByRecursion}
 use Rattle.std.proofs.lemmas.Bool.{cases_Bool, cases_lt, false≢true}
@@ -13,9 +13,13 @@ use Rattle.board_spec.specs.Bits.{is_within}
 use Rattle.board_spec.specs.Decode.{Bytes, memory_claim, area_of}
 use Rattle.board_spec.specs.RegisterNames.{bridge, isa, card_register}
 use Rattle.board_spec.specs.FlatMap.{six_areas}
+use Rattle.board_spec.specs.MapWrites.{has_rom, touches_map}
+use Rattle.board_spec.specs.declared.map_change.MapChange.{MapChange}
+use Rattle.board_spec.proofs.MapWriteLaws.{untouched}
+use Rattle.map_builder.specs.Changed.{after}
 use Rattle.board_spec.specs.Laws.{SameMapBytes}
 use Rattle.board_spec.proofs.MapByteLaws.{map_bytes_decide}
-use Rattle.pci_bars.specs.Cards.{CardBytes, DecodesAs, cards_of}
+use Rattle.pci_bars.specs.Cards.{CardBytes, HoldsRom, DecodesAs, cards_of}
 use Rattle.addr_decode.specs.MapRegs.{MapBytes, StandsFor}
 use Rattle.map_builder.proofs.KeptStores.{same_register}
 
@@ -64,7 +68,7 @@ module _ (regs : MapBytes) (setup setup' : Setup) (bytes bytes' : Bytes) (stands
             let j : ℕ = (off - 0x10) % 4 in
             let at : 0x10 + 4 * k + j ≡ off = omega arith in
             subst (λ (k : ℕ). bytes (card_register card.card.dev k) ≡ bytes' (card_register card.card.dev k)) at
-            (decodes.base_bytes k j (omega arith) (omega arith) ∙ sym (decodes'.base_bytes k j (omega arith) (omega arith)))
+            ((decodes.bases k (omega arith)).each j (omega arith) ∙ sym ((decodes'.bases k (omega arith)).each j (omega arith)))
       ]
 
   found_same : (cards : List CardBytes) (dev off : ℕ) → is_some (find (λ card. card.dev == dev) (cards_of cards)) ≡ true →
@@ -84,6 +88,40 @@ module _ (regs : MapBytes) (setup setup' : Setup) (bytes bytes' : Bytes) (stands
   card_same dev off fitted is =
       found_same regs.cards dev off
       (subst (λ (cards : List FittedCard). is_some (find (λ card. card.dev == dev) cards) ≡ true) stands.cards.0 fitted) is
+      (recursion_from_All (DecodesAs setup bytes) regs.cards stands.cards.1)
+      (recursion_from_All (DecodesAs setup' bytes') regs.cards stands'.cards.1)
+
+  -- ---- the register of an expansion ROM
+
+  held_same : (dev register : ℕ) (rom : Option ℕ) (off : ℕ) → is_some rom ≡ true → is_within 0x30 0x33 off ≡ true →
+      HoldsRom bytes dev register rom → HoldsRom bytes' dev register rom → bytes (card_register dev off) ≡ bytes' (card_register dev off)
+  held_same dev register None off has is holds holds' = absurd (false≢true has)
+  held_same dev register (Some bits) off has is holds holds' =
+      let from : 0x30 ≤ off = grind (arith, nat_tests) in
+      let to : off ≤ 0x33 = grind (arith, nat_tests) in
+      let at : 0x30 + (off - 0x30) ≡ off = omega arith in
+      subst (λ (k : ℕ). bytes (card_register dev k) ≡ bytes' (card_register dev k)) at
+      (holds.each (off - 0x30) (omega arith) ∙ sym (holds'.each (off - 0x30) (omega arith)))
+
+  found_rom_same : (cards : List CardBytes) (dev off : ℕ) → has_rom (find (λ card. card.dev == dev) (cards_of cards)) ≡ true →
+      is_within 0x30 0x33 off ≡ true → AllByRecursion (DecodesAs setup bytes) cards → AllByRecursion (DecodesAs setup' bytes') cards →
+      bytes (card_register dev off) ≡ bytes' (card_register dev off)
+  found_rom_same [] dev off found is each each' = absurd (false≢true found)
+  found_rom_same (card ∷ later) dev off found is each each' =
+      elim (cases_Bool (card.card.dev == dev)) [
+        | inl here ↦
+            let at : card.card.dev ≡ dev = grind (arith, nat_tests) in
+            let has : is_some card.card.rom ≡ true = rw here at found in
+            subst (λ (d : ℕ). bytes (card_register d off) ≡ bytes' (card_register d off)) at
+            (held_same card.card.dev card.rom card.card.rom off has is each.0.rom each'.0.rom)
+        | inr not_here ↦ found_rom_same later dev off (rw not_here at found) is each.1 each'.1
+      ]
+
+  rom_same : (dev off : ℕ) → has_rom (card_at setup dev) ≡ true → is_within 0x30 0x33 off ≡ true →
+      bytes (card_register dev off) ≡ bytes' (card_register dev off)
+  rom_same dev off has is =
+      found_rom_same regs.cards dev off
+      (subst (λ (cards : List FittedCard). has_rom (find (λ card. card.dev == dev) cards) ≡ true) stands.cards.0 has) is
       (recursion_from_All (DecodesAs setup bytes) regs.cards stands.cards.1)
       (recursion_from_All (DecodesAs setup' bytes') regs.cards stands'.cards.1)
 
@@ -108,13 +146,22 @@ module _ (regs : MapBytes) (setup setup' : Setup) (bytes bytes' : Bytes) (stands
                   let off : 0x4E ≡ reg.off = grind (arith, nat_tests) in
                   at_register reg (isa 0x4E) (same_register (isa 0x4E) reg dev fun off) (sym stands.xbcs ∙ stands'.xbcs)
               | inr not_south ↦
-                  let card : (is_some (card_at setup reg.dev) && reg.fun == 0 && (reg.off == 0x04 || is_within 0x10 0x27 reg.off)) ≡ true =
-                  rw (not_host, not_south) at is in
-                  let fitted : is_some (card_at setup reg.dev) ≡ true = grind (arith, nat_tests) in
-                  let fun : 0 ≡ reg.fun = grind (arith, nat_tests) in
-                  let off : (reg.off == 0x04 || is_within 0x10 0x27 reg.off) ≡ true = grind (arith, nat_tests) in
-                  at_register reg (card_register reg.dev reg.off) (same_register (card_register reg.dev reg.off) reg refl fun refl)
-                  (card_same reg.dev reg.off fitted off)
+                  elim (cases_Bool (is_some (card_at setup reg.dev) && reg.fun == 0 && (reg.off == 0x04 || is_within 0x10 0x27 reg.off))) [
+                    | inl card ↦
+                        let fitted : is_some (card_at setup reg.dev) ≡ true = grind (arith, nat_tests) in
+                        let fun : 0 ≡ reg.fun = grind (arith, nat_tests) in
+                        let off : (reg.off == 0x04 || is_within 0x10 0x27 reg.off) ≡ true = grind (arith, nat_tests) in
+                        at_register reg (card_register reg.dev reg.off) (same_register (card_register reg.dev reg.off) reg refl fun refl)
+                        (card_same reg.dev reg.off fitted off)
+                    | inr not_card ↦
+                        let rom : (has_rom (card_at setup reg.dev) && reg.fun == 0 && is_within 0x30 0x33 reg.off) ≡ true =
+                        rw (not_host, not_south, not_card) at is in
+                        let has : has_rom (card_at setup reg.dev) ≡ true = grind (arith, nat_tests) in
+                        let fun : 0 ≡ reg.fun = grind (arith, nat_tests) in
+                        let off : is_within 0x30 0x33 reg.off ≡ true = grind (arith, nat_tests) in
+                        at_register reg (card_register reg.dev reg.off) (same_register (card_register reg.dev reg.off) reg refl fun refl)
+                        (rom_same reg.dev reg.off has off)
+                  ]
             ]
       ]
 
@@ -130,9 +177,19 @@ area_same regs setup setup' bytes bytes' list stands stands' addr kind smm =
     (map_bytes_decide setup bytes bytes' list (map_bytes_same regs setup setup' bytes bytes' stands stands') addr kind smm).0
     ∙ area_by_cards setup setup' bytes' addr kind smm (stands.cards.0 ∙ sym stands'.cards.0)
 
+six_same : (setup setup' : Setup) (bytes bytes' : Bytes) (addr : ℕ) →
+    ((kind : Kind) (smm : Bool) → area_of setup bytes addr kind smm ≡ area_of setup' bytes' addr kind smm) → six_areas setup bytes addr ≡ six_areas setup' bytes' addr
+six_same setup setup' bytes bytes' addr same =
+    rw (same Fetch false, same Read false, same Write false, same Fetch true, same Read true, same Write true) refl
+
 pub boards_same : (regs : MapBytes) (setup setup' : Setup) (bytes bytes' : Bytes) → IsCardList setup.cards → StandsFor setup bytes regs → StandsFor setup' bytes' regs →
     (addr : ℕ) → six_areas setup bytes addr ≡ six_areas setup' bytes' addr
 boards_same regs setup setup' bytes bytes' list stands stands' addr =
-    let same : (kind : Kind) (smm : Bool) → area_of setup bytes addr kind smm ≡ area_of setup' bytes' addr kind smm =
-    area_same regs setup setup' bytes bytes' list stands stands' addr in
-    rw (same Fetch false, same Read false, same Write false, same Fetch true, same Read true, same Write true) refl
+    six_same setup setup' bytes bytes' addr (area_same regs setup setup' bytes bytes' list stands stands' addr)
+
+-- a change that covers no byte on which the map depends keeps every area
+pub untouched_areas : (setup : Setup) (bytes : Bytes) (change : MapChange) → IsCardList setup.cards → touches_map setup change ≡ false →
+    (addr : ℕ) → six_areas setup (after setup change bytes) addr ≡ six_areas setup bytes addr
+untouched_areas setup bytes change list not addr =
+    six_same setup setup (after setup change bytes) bytes addr
+    (λ kind smm. (map_bytes_decide setup (after setup change bytes) bytes list (λ reg is. untouched setup change reg (bytes reg) is not) addr kind smm).0)

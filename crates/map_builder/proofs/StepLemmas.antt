@@ -129,7 +129,7 @@ built_range regs ranges ranges' last last' next addr hi joined order address eac
 pub record IsWhole (regs : MapBytes) (ranges : List Range) : Type 0 where
   pub tiles : Tiles 0 (map range_of ranges)
   pub is_map : (setup : Setup) (bytes : Bytes) → StandsFor setup bytes regs → IsFlatMapOf setup bytes (map range_of ranges)
-  pub few : length ranges ≤ 126
+  pub few : length ranges ≤ 142
 
 pub is_whole : (regs : MapBytes) (board : HasBoard regs) (ranges : List Range) (last : Range) →
     IsBuilt regs (map range_of ranges) (range_of last) 0xFFFF_FFFF → IsWhole regs (ranges ++ last ∷ [])

@@ -35,7 +35,7 @@ pub record BuiltOf (setup : Setup) (bytes : Bytes) (ranges : List MapRange) (las
 pub record IsBuilt (regs : MapBytes) (ranges : List MapRange) (last : MapRange) (addr : ℕ) : Type 0 where
   pub built : Built ranges last addr
   pub of_board : (setup : Setup) (bytes : Bytes) → StandsFor setup bytes regs → BuiltOf setup bytes ranges last addr
-  pub few : (board : HasBoard regs) → length ranges + edges_after board.setup board.bytes addr ≤ 125
+  pub few : (board : HasBoard regs) → length ranges + edges_after board.setup board.bytes addr ≤ 141
 
 -- ---- ranges that were those of a map before a change
 

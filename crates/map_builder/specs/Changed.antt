@@ -1,13 +1,15 @@
 -- The windows of the address map that each register byte governs, and the bounds of those that a change may change.
 use Rattle.std.specs.Prelude.{ℕ, ◌+◌, ◌-◌, ◌*◌, ◌/◌, ◌^◌, ◌<◌, ◌⊎◌, ◌==◌, min, max, ◌&&◌, if◌then◌else◌, List, [], ◌∷◌, ◌++◌, take, map, filter, flat_map, Option, Some, None, unwrap_or}
 use Rattle.std.specs.Option.{option_map_or}
+use Rattle.std.specs.List.{enumerate_from}
 use Rattle.board_base.specs.declared.target.Reg.{Reg}
 use Rattle.board_base.specs.Access.{bytes_of}
 use Rattle.board_spec.specs.declared.map_change.MapChange.{MapChange}
 use Rattle.board_spec.specs.declared.map_change.MapChange.TheVariants.{Store, Reset}
 use Rattle.board_spec.specs.Setup.{FittedCard, Setup, card_at}
 use Rattle.board_spec.specs.Bits.{is_within}
-use Rattle.board_spec.specs.Decode.{Bytes, Window, memory_windows}
+use Rattle.board_spec.specs.Decode.{Bytes, Window, memory_window, rom_window, vga_window}
+use Rattle.board_spec.specs.RegisterNames.{card_command}
 use Rattle.board_spec.specs.Registers.{changed_byte}
 use Rattle.board_spec.specs.MapWrites.{reg_after}
 use Rattle.addr_decode.specs.Edges.{first_address}
@@ -33,15 +35,24 @@ bridge_windows off =
 abbrev pub isa_windows : (off : ℕ) → List Changed
 isa_windows off = if off == 0x4E then from_to 0xE_0000 0xE_FFFF ∷ from_to 0xFFF8_0000 0xFFFE_FFFF ∷ [] else []
 
--- what a memory base of a card decodes, or its VGA window
+-- what a window of a card decodes
 abbrev pub decoded : Window → Changed
 decoded window = from_to (first_address window) (first_address window + (2 ^ window.bits - 1))
 
--- a card. The command: every memory base, and the VGA window. A base register: the base, where it is for memory
+-- the memory bases of a card
+abbrev pub base_windows : Bytes → FittedCard → List Window
+base_windows bytes card =
+    flat_map (λ numbered. memory_window bytes card.dev numbered.0 numbered.1) (enumerate_from 0 card.bases)
+
+-- a card. The command: every memory base, the expansion ROM, selected or not, and the VGA window. A base register:
+-- the base, where it is for memory. The ROM's register: the ROM
 abbrev pub card_windows : Bytes → (off : ℕ) → FittedCard → List Changed
 card_windows bytes off card =
-    if off == 0x04 then map decoded (memory_windows bytes card) else
-    if is_within 0x10 0x27 off then map decoded (filter (λ window. window.base == (off - 0x10) / 4) (memory_windows bytes card)) else []
+    if off == (card_command card.dev).off
+    then map decoded (base_windows bytes card ++ rom_window bytes card ++ vga_window card) else
+    if is_within 0x10 0x27 off
+    then map decoded (filter (λ window. window.base == (off - 0x10) / 4) (base_windows bytes card)) else
+    if is_within 0x30 0x33 off then map decoded (rom_window bytes card) else []
 
 -- where the registers hold these bytes
 abbrev pub windows_of : Setup → Bytes → Reg → List Changed

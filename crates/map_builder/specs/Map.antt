@@ -3,8 +3,8 @@ use Rattle.std.specs.Prelude.{ℕ, ◌^◌, ◌<◌, ◌≤◌, List, length, Al
 use Rattle.board_spec.specs.Setup.{Setup, IsCardList}
 use Rattle.board_spec.specs.Decode.{Bytes, top_of}
 use Rattle.board_spec.specs.FlatMap.{MapRange, Tiles, IsFlatMapOf}
-use Rattle.pci_bars.specs.Cards.{CardBytes}
-use Rattle.addr_decode.specs.MapRegs.{MapBytes, AreFitted, StandsFor}
+use Rattle.pci_bars.specs.Cards.{CardBytes, AreFitted}
+use Rattle.addr_decode.specs.MapRegs.{MapBytes, StandsFor}
 use Rattle.map_builder.specs.declared.range.Range.{Range}
 
 -- the registers that the map depends on, its ranges, and how many changes it has had
@@ -31,12 +31,13 @@ pub record IsMapOf (regs : MapBytes) (ranges : List MapRange) : Type 0 where
   pub tiles : Tiles 0 ranges
   pub map : (setup : Setup) (bytes : Bytes) → StandsFor setup bytes regs → IsFlatMapOf setup bytes ranges
 
--- the base registers of cards hold doublewords
-abbrev pub AreDoublewords : List CardBytes → Type 0
-AreDoublewords cards = All (λ card. (k : ℕ) → slice_index card.bases k < 2 ^ 32) cards
+-- the base registers of a card and that of its expansion ROM hold doublewords
+pub record HoldsDoublewords (card : CardBytes) : Type 0 where
+  pub bases : (k : ℕ) → slice_index card.bases k < 2 ^ 32
+  pub rom : card.rom < 2 ^ 32
 
 -- the registers are as wide as their types say, and there are at most eight cards
 pub record HaveWidths (regs : MapBytes) : Type 0 where
   pub rows : (row : ℕ) → slice_index regs.drb row < 2 ^ 8
   pub count : length regs.cards ≤ 8
-  pub bases : AreDoublewords regs.cards
+  pub cards : All HoldsDoublewords regs.cards

@@ -5,7 +5,8 @@ ghost use Rattle.arrayvec.specs.ArrayVec.{array_vec_len};
 ghost use Rattle.board_spec.specs.Setup.{Setup};
 ghost use Rattle.board_spec.specs.Decode.{Bytes};
 ghost use Rattle.board_spec.specs.FlatMap.{Tiles, IsFlatMapOf};
-ghost use Rattle.addr_decode.specs.MapRegs.{MapBytes, AreFitted, StandsFor, map_bytes};
+ghost use Rattle.pci_bars.specs.Cards.{AreFitted};
+ghost use Rattle.addr_decode.specs.MapRegs.{MapBytes, StandsFor, map_bytes};
 ghost use Rattle.addr_decode.specs.Edges.{SameAreas};
 ghost use Rattle.map_builder.specs.Map.{range_of, HasBoard};
 ghost use Rattle.map_builder.specs.Build.{GoesOn, IsBuilt, IsMapOutside, IsMapFrom};
@@ -16,7 +17,7 @@ use crate::range::{Changed, Range};
 use addr_decode::{MapRegs, SixAreas, areas_at, next_edge};
 use arrayvec::ArrayVec;
 
-/// The most ranges that a map can keep. A board's map has at most 126.
+/// The most ranges that a map can keep. A board's map has at most 142.
 pub const CAPACITY: usize = 160;
 /// The ranges of a map in rising order of address.
 pub type Ranges = ArrayVec<Range, CAPACITY>;
@@ -31,7 +32,7 @@ pub fn ranges_of(regs: &MapRegs) -> Ranges
     ensures tiles { Tiles 0 (map range_of result.items) }
     ensures map { (setup : Setup) (bytes : Bytes) → StandsFor setup bytes (map_bytes regs.now)
         → IsFlatMapOf setup bytes (map range_of result.items) }
-    ensures few { length result.items ≤ 126 }
+    ensures few { length result.items ≤ 142 }
 {
     let mut ranges = ArrayVec::new();
     let first = first_range(regs);
@@ -51,7 +52,7 @@ pub fn rebuild(ranges: &mut Ranges, above: &mut Ranges, regs: &MapRegs, changed:
     ensures tiles { Tiles 0 (map range_of ranges.new.items) }
     ensures map { (setup : Setup) (bytes : Bytes) → StandsFor setup bytes (map_bytes regs.now)
         → IsFlatMapOf setup bytes (map range_of ranges.new.items) }
-    ensures few { length ranges.new.items ≤ 126 }
+    ensures few { length ranges.new.items ≤ 142 }
 {
     copy_above(ranges, changed, above);
     let first = cut_below(ranges, regs, changed);

@@ -1,20 +1,21 @@
 //! The windows of the address map that a change of the registers may change, and their bounds.
 ghost use Rattle.std.specs.Prelude.{◌≡◌, ◌≤◌, ◌<◌, ◌+◌, ◌-◌, ◌*◌, ◌++◌, All, length, map};
 ghost use Rattle.board_spec.specs.declared.map_change.MapChange.TheVariants.{Store};
-ghost use Rattle.board_spec.specs.Setup.{Setup, IsBase, IsCard};
+ghost use Rattle.board_spec.specs.Setup.{Setup, IsBase, IsCard, IsExpansionRom};
 ghost use Rattle.board_spec.specs.Decode.{Bytes};
 ghost use Rattle.board_spec.specs.MapWrites.{reg_after};
 ghost use Rattle.pci_bars.specs.Bases.{base_of};
-ghost use Rattle.pci_bars.specs.Cards.{AreCards};
-ghost use Rattle.addr_decode.specs.MapRegs.{AreFitted, StandsFor, map_bytes};
+ghost use Rattle.pci_bars.specs.Cards.{AreCards, AreFitted};
+ghost use Rattle.addr_decode.specs.MapRegs.{StandsFor, map_bytes};
 ghost use Rattle.map_builder.specs.Changed.{bridge_windows, isa_windows, windows_of, windows_covered, bounds, joined as joined_by, from_to};
-ghost use Rattle.map_builder.specs.Held.{block, held_by, held_from, held_at, vga_held, card_held, device_held};
+ghost use Rattle.map_builder.specs.Held.{block, held_by, held_from, held_at, rom_held, vga_held, card_held, device_held};
 
 use crate::range::Changed;
 use addr_decode::{MapChange, MapRegs};
 use board_base::{Reg, Width};
 use board_spec::offset::{
-    BASES, BASES_END, COMMAND, DRB0, DRB7, FDHC, HOST_BRIDGE, PAM0, PAM6, SMRAM, SOUTH_BRIDGE, XBCS,
+    BASE0, BASE5_END, COMMAND, DRB0, DRB7, EXPANSION_ROM, EXPANSION_ROM_END, FDHC, HOST_BRIDGE,
+    PAM0, PAM6, SMRAM, SOUTH_BRIDGE, XBCS,
 };
 use pci_bars::{BaseSpec, CardRegs};
 
@@ -182,18 +183,41 @@ fn card_bounds(card: &CardRegs, off: u8) -> Option<Changed>
 {
     match off {
         COMMAND => command_bounds(card),
-        BASES..=BASES_END => base_bounds(card, usize::from((off - BASES) / 4)),
+        BASE0..=BASE5_END => base_bounds(card, usize::from((off - BASE0) / 4)),
+        EXPANSION_ROM..=EXPANSION_ROM_END => rom_bounds(card),
         _ => None,
     }
 }
 
-/// The bounds of the memory bases of a card and of its VGA window.
+/// The bounds of the memory bases of a card, of its expansion ROM and of its VGA window.
 fn command_bounds(card: &CardRegs) -> Option<Changed>
     requires card { IsCard card.now.card }
-    ensures bounds { result ≡ bounds (held_from card.now.bases 0 card.now.card.bases ++ vga_held card.now.card.vga) }
+    ensures bounds { result ≡ bounds (held_from card.now.bases 0 card.now.card.bases
+        ++ rom_held card.now.card.rom card.now.rom ++ vga_held card.now.card.vga) }
 {
     let bases = bounds_of_bases(&card.spec.bases, &card.bases);
-    joined(bases, vga_bounds(card.spec.vga))
+    let with_rom = joined(bases, rom_bounds(card));
+    joined(with_rom, vga_bounds(card.spec.vga))
+}
+
+/// The bounds of the expansion ROM of a card. None where it has none.
+fn rom_bounds(card: &CardRegs) -> Option<Changed>
+    requires card { IsCard card.now.card }
+    ensures bounds { result ≡ bounds (rom_held card.now.card.rom card.now.rom) }
+{
+    bounds_of_rom(card.spec.rom, card.rom)
+}
+
+/// The addresses that an expansion ROM with this register covers.
+#[tactic(auto, unfolding(crate::specs::Changed::bounds))]
+fn bounds_of_rom(rom: Option<u8>, register: u32) -> Option<Changed>
+    requires rom { IsExpansionRom rom }
+    ensures bounds { result ≡ bounds (rom_held rom register) }
+{
+    match rom {
+        Some(bits) => Some(window_inside(register, bits)),
+        None => None,
+    }
 }
 
 /// The VGA window of a card that has one.

@@ -1,12 +1,14 @@
 //! The memory map as one list of ranges.
-ghost use Rattle.std.specs.Prelude.{◌≡◌, ◌≤◌, ◌<◌, ◌+◌, ℕ, length, map, IfSome, MatchOption};
+ghost use Rattle.std.specs.Prelude.{◌≡◌, ◌≤◌, ◌<◌, ◌+◌, ℕ, false, if◌then◌else◌, length, map, IfSome, MatchOption};
 ghost use Rattle.board_base.specs.declared.access.Kind.{Kind};
 ghost use Rattle.board_spec.specs.Setup.{Setup};
+ghost use Rattle.board_spec.specs.declared.map_change.MapChange.TheVariants.{Store};
+ghost use Rattle.board_spec.specs.MapWrites.{touches_map};
 ghost use Rattle.board_spec.specs.Registers.{changed_byte};
 ghost use Rattle.board_spec.specs.Decode.{Bytes};
 ghost use Rattle.board_spec.specs.FlatMap.{address_count, six_areas, Tiles, IsFlatMapOf, IsSpan};
-ghost use Rattle.pci_bars.specs.Cards.{cards_of};
-ghost use Rattle.addr_decode.specs.MapRegs.{AreFitted, StandsFor, map_bytes};
+ghost use Rattle.pci_bars.specs.Cards.{AreCardsOf, AreFitted, cards_of};
+ghost use Rattle.addr_decode.specs.MapRegs.{StandsFor, map_bytes};
 ghost use Rattle.map_builder.specs.Map.{range_of, HasBoard, IsMapOf};
 ghost use Rattle.map_builder.specs.Build.{IsMapOutside};
 ghost use Rattle.map_builder.specs.Changed.{after, changed_windows, bounds_or_zero, IsOutside};
@@ -16,9 +18,9 @@ use crate::changed::{bounds_covered, joined};
 use crate::find::span_of;
 use crate::range::{Changed, Range, Span};
 use crate::widths::hold_widths;
-use addr_decode::{MapChange, MapRegs};
+use addr_decode::{MapChange, MapRegs, touches};
 use arrayvec::ArrayVec;
-use board_base::Kind;
+use board_base::{Kind, Reg, Width};
 use std::marker::Model;
 
 /// The answer where no window changes.
@@ -54,7 +56,7 @@ impl FlatMap {
         ensures regs { result.regs ≡ map_bytes regs }
         ensures version { result.version ≡ 0 }
         ensures map { (setup : Setup) (bytes : Bytes) → StandsFor setup bytes result.regs → IsFlatMapOf setup bytes result.ranges }
-        ensures few { length result.ranges ≤ 126 }
+        ensures few { length result.ranges ≤ 142 }
     {
         hold_widths(&regs);
         let ranges = ranges_of(&regs);
@@ -120,6 +122,8 @@ impl FlatMap {
         requires version { self.old.version < 4_000_000 }
         ensures stands { (setup : Setup) (bytes : Bytes) → StandsFor setup bytes self.old.regs
             → StandsFor setup (λ reg. changed_byte setup change.now reg (bytes reg)) self.new.regs }
+        ensures cards { (setup : Setup) (bytes : Bytes) → AreCardsOf setup bytes self.old.regs.cards
+            → AreCardsOf setup (λ reg. changed_byte setup change.now reg (bytes reg)) self.new.regs.cards }
         ensures same_cards { cards_of self.new.regs.cards ≡ cards_of self.old.regs.cards }
         ensures version { self.new.version ≡ self.old.version + 1 }
         ensures map { (setup : Setup) (bytes : Bytes) → StandsFor setup bytes self.new.regs
@@ -136,6 +140,43 @@ impl FlatMap {
         rebuild_within(&mut self.ranges, &mut self.above, &self.regs, changed);
         self.version += 1;
         changed.unwrap_or(NOTHING)
+    }
+
+    /// Stores the bytes of a value in rising offset. Where they cover a byte that the map depends on, this is a change
+    /// as `apply` makes it. Else only registers of a card change, and neither the ranges nor the version.
+    pub fn store(&mut self, reg: Reg, width: Width, value: u32)
+        requires version { self.old.version < 4_000_000 }
+        ensures stands { (setup : Setup) (bytes : Bytes) → StandsFor setup bytes self.old.regs
+            → StandsFor setup (λ r. changed_byte setup (Store reg width value) r (bytes r)) self.new.regs }
+        ensures cards { (setup : Setup) (bytes : Bytes) → AreCardsOf setup bytes self.old.regs.cards
+            → AreCardsOf setup (λ r. changed_byte setup (Store reg width value) r (bytes r)) self.new.regs.cards }
+        ensures same_cards { cards_of self.new.regs.cards ≡ cards_of self.old.regs.cards }
+        ensures version { (setup : Setup) → setup.cards ≡ cards_of self.old.regs.cards
+            → self.new.version ≡ self.old.version + (if touches_map setup (Store reg width value) then 1 else 0) }
+        ensures map { (setup : Setup) (bytes : Bytes) → StandsFor setup bytes self.new.regs
+            → IsFlatMapOf setup bytes self.new.ranges }
+    {
+        let change = MapChange::Store { reg, width, value };
+        if touches(&self.regs, reg, width) {
+            self.apply(&change);
+        } else {
+            self.set_beside(&change);
+        }
+    }
+
+    /// Makes a change that covers no byte on which the map depends.
+    fn set_beside(&mut self, change: &MapChange)
+        requires beside { (setup : Setup) (bytes : Bytes) → StandsFor setup bytes self.old.regs → touches_map setup change.now ≡ false }
+        ensures stands { (setup : Setup) (bytes : Bytes) → StandsFor setup bytes self.old.regs
+            → StandsFor setup (λ r. changed_byte setup change.now r (bytes r)) self.new.regs }
+        ensures cards { (setup : Setup) (bytes : Bytes) → AreCardsOf setup bytes self.old.regs.cards
+            → AreCardsOf setup (λ r. changed_byte setup change.now r (bytes r)) self.new.regs.cards }
+        ensures same_cards { cards_of self.new.regs.cards ≡ cards_of self.old.regs.cards }
+        ensures version { self.new.version ≡ self.old.version }
+        ensures map { (setup : Setup) (bytes : Bytes) → StandsFor setup bytes self.new.regs
+            → IsFlatMapOf setup bytes self.new.ranges }
+    {
+        self.regs.apply(change);
     }
 }
 

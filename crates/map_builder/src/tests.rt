@@ -1,6 +1,6 @@
 ghost use Rattle.std.specs.Prelude.{◌≡◌};
 ghost use Rattle.board_spec.specs.Setup.{IsCard};
-ghost use Rattle.addr_decode.specs.MapRegs.{AreFitted};
+ghost use Rattle.pci_bars.specs.Cards.{AreFitted};
 
 use crate::{Changed, FlatMap, Span};
 use addr_decode::{MapChange, MapRegs};
@@ -19,6 +19,7 @@ fn board() -> MapRegs
         dev: 2,
         vga: true,
         bases,
+        rom: None,
     }])
 }
 

@@ -72,7 +72,7 @@ reset_long setup card from value fit fitted below in_table =
 reset_rom :
     (setup : Setup) (card : FittedCard) → IsCard card → card_at setup card.dev ≡ Some card →
     (rom : Option ℕ) → HoldsRom (reset_byte setup) card.dev 0 rom
-reset_rom setup card fit fitted None = refl
+reset_rom setup card fit fitted None = tt
 reset_rom setup card fit fitted (Some bits) =
     reset_long setup card 0x30 0 fit fitted (lit< tt) (λ j below. reset-rom card j fit.count below ∙ sym (byte_of_zero j))
 
@@ -91,6 +91,7 @@ card_at_reset setup card values fit fitted is_reset =
         rom = reset_rom setup card fit fitted card.rom;
       };
       line = reset_byte-card setup card 0x3C fit.first fitted ∙ reset-line card fit.count;
+      no_rom = λ none. refl;
       fixed = λ off _. refl;
     }
 
@@ -131,7 +132,7 @@ read-rom setup bytes card off fit is from to = of_rom card.card.rom refl is.deco
 
     of_rom : (rom : Option ℕ) → card.card.rom ≡ rom → HoldsRom bytes card.card.dev card.rom rom → byte card.rom (off - 0x30) ≡ bytes (card_register card.card.dev off)
     of_rom None none held =
-        ap (λ n. byte n (off - 0x30)) held
+        ap (λ n. byte n (off - 0x30)) (is.no_rom none)
         ∙ byte_of_zero (off - 0x30)
         ∙ sym (reset-rom card.card (off - 0x30) fit.count (omega arith))
         ∙ ap (λ at. listed (λ entry. entry.reset) (card_function card.card) at) place
@@ -314,6 +315,20 @@ pub record IsRomStore (card : CardBytes) (off lane written new : ℕ) : Type 0 w
   pub place : off ≡ 0x30 + lane
   pub write : IsByteWrite (rom_writable card.card.rom) card.rom lane written new
 
+-- nothing is written to the register of a ROM that a card does not have
+none_written : (lane written new : ℕ) → lane < 4 → IsByteWrite 0 0 lane written new → new ≡ 0
+none_written lane written new in_long write =
+    let here : byte new lane ≡ 0 = write.here ∙ rw (byte_of_zero lane) (merged_none 0 written (lit< tt)) in
+    let each : (j : ℕ) → j < 4 → byte new j ≡ 0 =
+    λ j below. elim (cases_eq j lane) [ inl same ↦ ap (byte new) same ∙ here | inr apart ↦ write.others j below apart ∙ byte_of_zero j ] in
+    let fits = write.fits in
+    let b0 = each 0 (lit< tt) in let b1 = each 1 (lit< tt) in let b2 = each 2 (lit< tt) in let b3 = each 3 (lit< tt) in
+    omega arith
+
+rom-none : (card : CardBytes) (off lane written new : ℕ) → IsRomStore card off lane written new → card.rom ≡ 0 → card.card.rom ≡ None → new ≡ 0
+rom-none card off lane written new store held none =
+    none_written lane written new store.in_long (subst (λ old. IsByteWrite 0 old lane written new) held (subst (λ rom. IsByteWrite (rom_writable rom) card.rom lane written new) none store.write))
+
 pub decodes-rom_stored :
     (setup : Setup) (bytes : Bytes) (card : CardBytes) (off lane written new : ℕ) → IsCard card.card → written < 256 →
     IsRomStore card off lane written new → DecodesAs setup bytes card →
@@ -326,18 +341,8 @@ decodes-rom_stored setup bytes card off lane written new fit below store is =
       rom = rom_held card.card.rom refl is.rom;
     }
   where
-    none_written : (lane written new : ℕ) → lane < 4 → IsByteWrite 0 0 lane written new → new ≡ 0
-    none_written lane written new in_long write =
-        let here : byte new lane ≡ 0 = write.here ∙ rw (byte_of_zero lane) (merged_none 0 written (lit< tt)) in
-        let each : (j : ℕ) → j < 4 → byte new j ≡ 0 =
-        λ j below. elim (cases_eq j lane) [ inl same ↦ ap (byte new) same ∙ here | inr apart ↦ write.others j below apart ∙ byte_of_zero j ] in
-        let fits = write.fits in
-        let b0 = each 0 (lit< tt) in let b1 = each 1 (lit< tt) in let b2 = each 2 (lit< tt) in let b3 = each 3 (lit< tt) in
-        omega arith
-
     rom_held : (rom : Option ℕ) → card.card.rom ≡ rom → HoldsRom bytes card.card.dev card.rom rom → HoldsRom (stored setup bytes card.card.dev off written) card.card.dev new rom
-    rom_held None none held =
-        none_written lane written new store.in_long (subst (λ old. IsByteWrite 0 old lane written new) held (subst (λ rom. IsByteWrite (rom_writable rom) card.rom lane written new) none store.write))
+    rom_held None none held = tt
     rom_held (Some bits) some held =
         subst (λ at. HoldsLong (stored setup bytes card.card.dev at written) (expansion_rom card.card.dev) new) (sym store.place)
         (long-stored setup bytes card.card 0x30 lane written (rom_writable card.card.rom) card.rom new fit is.fitted below store.in_long
@@ -380,11 +385,13 @@ line-stored setup bytes card written fit below is =
 -- a store elsewhere than at the interrupt line
 pub card-stored :
     (setup : Setup) (bytes : Bytes) (card new : CardBytes) (off written : ℕ) → IsCard card.card → written < 256 → IsCardOf setup bytes card →
-    off ≢ 0x3C → new.card ≡ card.card → new.line ≡ card.line → DecodesAs setup (stored setup bytes card.card.dev off written) new →
+    off ≢ 0x3C → new.card ≡ card.card → new.line ≡ card.line → (card.card.rom ≡ None → new.rom ≡ 0) →
+    DecodesAs setup (stored setup bytes card.card.dev off written) new →
     IsCardOf setup (stored setup bytes card.card.dev off written) new
-card-stored setup bytes card new off written fit below is apart same_card same_line decodes =
+card-stored setup bytes card new off written fit below is apart same_card same_line no_rom decodes =
     record {
       decodes = decodes;
+      no_rom = rw same_card no_rom;
       line = rw (same_card, same_line) (stored-other setup bytes card.card.dev off written 0x3C (λ e. apart (sym e)) ∙ is.line);
       fixed = rw same_card (fixed-stored setup bytes card off written fit below is);
     }
@@ -396,6 +403,7 @@ card-line_stored setup bytes card written fit below is =
     record {
       decodes = decodes-apart setup bytes card written 0x3C written (record { command = λ e. grind arith; bases = inr (lit≤ tt); rom = inr (lit≤ tt) }) is.decodes;
       line = line-stored setup bytes card written fit below is;
+      no_rom = is.no_rom;
       fixed = fixed-stored setup bytes card 0x3C written fit below is;
     }
 
@@ -403,13 +411,13 @@ pub card-apart :
     (setup : Setup) (bytes : Bytes) (card : CardBytes) (off written : ℕ) → IsCard card.card → written < 256 → IsApart off → off ≢ 0x3C →
     IsCardOf setup bytes card → IsCardOf setup (stored setup bytes card.card.dev off written) card
 card-apart setup bytes card off written fit below apart not_line is =
-    card-stored setup bytes card card off written fit below is not_line refl refl (decodes-apart setup bytes card card.line off written apart is.decodes)
+    card-stored setup bytes card card off written fit below is not_line refl refl is.no_rom (decodes-apart setup bytes card card.line off written apart is.decodes)
 
 pub card-command :
     (setup : Setup) (bytes : Bytes) (card : CardBytes) (written : ℕ) → IsCard card.card → written < 256 → IsCardOf setup bytes card →
     IsCardOf setup (stored setup bytes card.card.dev 0x04 written) (record card { command = merged 0x07 card.command written })
 card-command setup bytes card written fit below is =
-    card-stored setup bytes card (record card { command = merged 0x07 card.command written }) 0x04 written fit below is (λ e. grind arith) refl refl
+    card-stored setup bytes card (record card { command = merged 0x07 card.command written }) 0x04 written fit below is (λ e. grind arith) refl refl is.no_rom
     (decodes-command setup bytes card written fit below is.decodes)
 
 pub card-base_stored :
@@ -420,7 +428,7 @@ card-base_stored setup bytes card off index lane written new fit below six store
     let in_bases = store.in_bases in
     let in_long = store.in_long in
     let place = store.place in
-    card-stored setup bytes card (record card { bases = set card.bases index new }) off written fit below is (λ e. omega arith) refl refl
+    card-stored setup bytes card (record card { bases = set card.bases index new }) off written fit below is (λ e. omega arith) refl refl is.no_rom
     (decodes-base_stored setup bytes card off index lane written new fit below six store is.decodes)
 
 pub card-rom_stored :
@@ -431,4 +439,5 @@ card-rom_stored setup bytes card off lane written new fit below store is =
     let in_long = store.in_long in
     let place = store.place in
     card-stored setup bytes card (record card { rom = new }) off written fit below is (λ e. omega arith) refl refl
+    (λ none. rom-none card off lane written new store (is.no_rom none) none)
     (decodes-rom_stored setup bytes card off lane written new fit below store is.decodes)

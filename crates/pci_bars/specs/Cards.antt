@@ -23,9 +23,9 @@ pub record HoldsLong (bytes : Bytes) (first : Reg) (value : ℕ) : Type 0 where
   pub number : wide (λ off. bytes (record first { off = off })) first.off Four ≡ value
   pub each : (j : ℕ) → j < 4 → bytes (reg_after first j) ≡ byte value j
 
--- the register of an expansion ROM, and 0 for a card without one
+-- the register of an expansion ROM. Of a card without one the address map depends on none
 abbrev pub HoldsRom : Bytes → (dev rom : ℕ) → Option ℕ → Type 0
-HoldsRom bytes dev rom None = rom ≡ 0
+HoldsRom bytes dev rom None = Unit {0}
 HoldsRom bytes dev rom (Some bits) = HoldsLong bytes (expansion_rom dev) rom
 
 -- these are the registers of a card of the setup on which the address map depends: the command, the six bases
@@ -41,10 +41,12 @@ abbrev pub is_kept_offset : FittedCard → ℕ → Bool
 is_kept_offset card off =
     off == 0x04 || is_within 0x10 0x27 off || is_some card.rom && is_within 0x30 0x33 off || off == 0x3C
 
--- these are all the registers of a card of the setup. Those that it does not keep stand as after a reset
+-- these are all the registers of a card of the setup. Those that it does not keep stand as after a reset, and that of an
+-- expansion ROM which it does not have is 0
 pub record IsCardOf (setup : Setup) (bytes : Bytes) (card : CardBytes) : Type 0 where
   pub decodes : DecodesAs setup bytes card
   pub line : bytes (interrupt_line card.card.dev) ≡ card.line
+  pub no_rom : card.card.rom ≡ None → card.rom ≡ 0
   pub fixed : (off : ℕ) → is_kept_offset card.card off ≡ false →
       bytes (card_register card.card.dev off) ≡ reset_byte setup (card_register card.card.dev off)
 

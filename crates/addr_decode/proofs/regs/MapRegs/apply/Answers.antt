@@ -1,6 +1,7 @@
 use Rattle.std.proofs.Common.{sym, subst}
 use Rattle.board_spec.specs.declared.map_change.MapChange.{MapChange}
 use Rattle.board_spec.specs.Registers.{changed_byte}
+use Rattle.pci_bars.specs.Cards.{AreCardsOf}
 use Rattle.addr_decode.specs.MapRegs.{StandsFor, map_bytes}
 use Rattle.addr_decode.proofs.CardLemmas.{fitted_same}
 use Rattle.addr_decode.proofs.regs.MapRegs.apply.Goals as goal
@@ -20,3 +21,13 @@ returns-in-Reset-clause-stands c = λ setup bytes stands.
 
 pub returns-in-Reset-clause-fitted : goal.returns-in-Reset-clause-fitted
 returns-in-Reset-clause-fitted c = fitted_same c.args.self.now.cards.items c.reset.new.self.cards.items c.reset.ensures.same_cards c.requires.cards
+
+pub returns-in-Store-clause-cards : goal.returns-in-Store-clause-cards
+returns-in-Store-clause-cards c = λ setup bytes are.
+    subst (λ (change : MapChange). AreCardsOf setup (λ reg. changed_byte setup change reg (bytes reg)) c.store.new.self.cards.items) (sym c.in-Store.is)
+    (c.store.ensures.cards setup bytes are)
+
+pub returns-in-Reset-clause-cards : goal.returns-in-Reset-clause-cards
+returns-in-Reset-clause-cards c = λ setup bytes are.
+    subst (λ (change : MapChange). AreCardsOf setup (λ reg. changed_byte setup change reg (bytes reg)) c.reset.new.self.cards.items) (sym c.in-Reset.is)
+    (c.reset.ensures.reset setup are.0)

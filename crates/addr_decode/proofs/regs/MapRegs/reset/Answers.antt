@@ -35,3 +35,13 @@ loop-card-preserved c = record {
       (c.push_card.ensures.cards ∙ ap (λ (first : List FittedCard). first ++ c.copy.result ∷ []) c.loop-card.invariant.pushed);
   reset = c.push_card.ensures.reset c.loop-card.invariant.reset;
 }
+
+pub returns-clause-reset : goal.returns-clause-reset
+returns-clause-reset c = λ setup same.
+    let long : length (cards_of c.as_slice-card-items.result.now) ≤ c.loop-card.card-index =
+    omega (arith, length-map c.as_slice-card-items.result.now (λ (card : CardBytes). card.card)) in
+    c.after_reset.ensures.reset setup
+    (same
+    ∙ sym (c.loop-card.invariant.pushed
+    ∙ take_all c.loop-card.card-index (cards_of c.as_slice-card-items.result.now) long
+    ∙ ap (λ (cards : List CardBytes). cards_of cards) c.as_slice-card-items.ensures.value))

@@ -17,3 +17,6 @@ pub returns-clause-fitted : goal.returns-clause-fitted
 returns-clause-fitted c =
     rw c.after_reset.ensures.cards
     (fitted_list c.loop-spec.cards.items c.args.specs.now (c.loop-spec.invariant.pushed ∙ take_all c.loop-spec.spec-index c.args.specs.now (omega arith)) c.requires.cards)
+
+pub returns-clause-reset : goal.returns-clause-reset
+returns-clause-reset c = λ setup same. c.after_reset.ensures.reset setup (same ∙ sym (c.loop-spec.invariant.pushed ∙ take_all c.loop-spec.spec-index c.args.specs.now (omega arith)))
