@@ -737,3 +737,7 @@ left_alone seen setup history entry devices are leaves routes =
           are.pair
           ∙ sym (left_pair setup history entry leaves ∙ rw (lines, bits) (seen setup history));
     }
+
+pub disk_fitted : (bytes : Option (List ℕ)) (history : List Entry) → is_some (option_map (λ bytes. disk_with bytes history) bytes) ≡ is_some bytes
+disk_fitted None history = refl
+disk_fitted (Some bytes) history = refl

@@ -1,6 +1,6 @@
 //! The devices, and what a hard reset does to them.
 
-ghost use Rattle.std.specs.Prelude.{◌≡◌, ◌↔◌, ◌∷◌, List, [], Err, IfOk, option_map, true};
+ghost use Rattle.std.specs.Prelude.{◌≡◌, ◌↔◌, ◌∷◌, List, [], Err, IfOk, is_some, option_map, true};
 ghost use Rattle.board_spec.specs.declared.event.Entry.{Entry};
 ghost use Rattle.board_spec.specs.Setup.{Setup, IsDisk};
 ghost use Rattle.board_spec.specs.Registers.{is_hard_reset};
@@ -84,6 +84,13 @@ impl Devices {
             wires: [false; DEVICE_COUNT],
             irqs: [false; LINE_COUNT],
         }
+    }
+
+    /// Whether a disk is fitted.
+    pub fn has_disk(&self) -> bool
+        ensures fitted { (setup : Setup) (history : List Entry) → AreDevicesOf setup history self.now → result ≡ is_some setup.disk }
+    {
+        self.disk.is_some()
     }
 
     /// A hard reset: each device takes its reset state, and then the pair with the levels of that moment. The levels
