@@ -159,8 +159,8 @@ pub card_written :
 card_written setup bytes cards dev off written i old new rises at_i is_old same_card step are = (
   are.0 ∙ sym (card_kept cards i old new is_old same_card),
   one_written (DecodesAs setup bytes) (DecodesAs setup (stored setup bytes (card_register dev off) written)) cards dev i old new rises at_i is_old
-  (stored_beside setup bytes dev off written)
-  (λ at is. subst (λ (device : ℕ). DecodesAs setup (stored setup bytes (card_register device off) written) new) at (step is)) are.1,
+      (stored_beside setup bytes dev off written)
+      (λ at is. subst (λ (device : ℕ). DecodesAs setup (stored setup bytes (card_register device off) written) new) at (step is)) are.1,
 )
 
 pub registers_written :
@@ -171,8 +171,8 @@ pub registers_written :
 registers_written setup bytes cards dev off written i old new rises at_i is_old same_card step are = (
   are.0 ∙ sym (card_kept cards i old new is_old same_card),
   one_written (IsCardOf setup bytes) (IsCardOf setup (stored setup bytes (card_register dev off) written)) cards dev i old new rises at_i is_old
-  (card_beside setup bytes dev off written)
-  (λ at is. subst (λ (device : ℕ). IsCardOf setup (stored setup bytes (card_register device off) written) new) at (step is)) are.1,
+      (card_beside setup bytes dev off written)
+      (λ at is. subst (λ (device : ℕ). IsCardOf setup (stored setup bytes (card_register device off) written) new) at (step is)) are.1,
 )
 
 -- where no card has the device number no card changes

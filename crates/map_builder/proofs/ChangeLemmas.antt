@@ -1,12 +1,15 @@
 -- After a change the ranges of a map are right again for each address outside the bounds of the changed windows.
-use Rattle.std.proofs.Common.{◌≡◌, ℕ, zero, suc, ◌+◌, ◌<◌, ◌≤◌, false, List, [], ◌∷◌, length, get_or, Option, Some, None, refl, sym, ◌∙◌, subst, arith}
+use Rattle.std.proofs.Common.{◌≡◌, ℕ, zero, suc, ◌+◌, ◌<◌, ◌≤◌, Bool, false, List, [], ◌∷◌, length, get_or, Option, Some, None, refl, sym, ◌∙◌, subst, arith}
 use Rattle.std.specs.Prelude.{MatchOption}
+use Rattle.board_base.specs.declared.access.Width.{Width}
+use Rattle.board_base.specs.declared.target.Reg.{Reg}
 use Rattle.board_spec.specs.declared.map_change.MapChange.{MapChange}
+use Rattle.board_spec.specs.declared.map_change.MapChange.TheVariants.{Store}
 use Rattle.board_spec.specs.Setup.{Setup}
 use Rattle.board_spec.specs.MapWrites.{touches_map}
 use Rattle.board_spec.specs.Decode.{Bytes}
 use Rattle.board_spec.specs.FlatMap.{address_count, six_areas, MapRange, Tiles, IsFlatMapOf}
-use Rattle.pci_bars.specs.Cards.{AreFitted}
+use Rattle.pci_bars.specs.Cards.{AreFitted, cards_of}
 use Rattle.addr_decode.specs.MapRegs.{MapBytes, StandsFor}
 use Rattle.map_builder.specs.declared.range.Changed.{Changed}
 use Rattle.map_builder.specs.Map.{HasBoard, IsMapOf}
@@ -42,7 +45,7 @@ module _ (old new : MapBytes) (change : MapChange) (ranges : List MapRange) (is_
     (stands : StandsFor is_map.board.setup (after is_map.board.setup change is_map.board.bytes) new)
     (Out : ℕ → Type 0)
     (keeps : (addr : ℕ) → addr < address_count → Out addr →
-      six_areas is_map.board.setup (after is_map.board.setup change is_map.board.bytes) addr ≡ six_areas is_map.board.setup is_map.board.bytes addr) where
+    six_areas is_map.board.setup (after is_map.board.setup change is_map.board.bytes) addr ≡ six_areas is_map.board.setup is_map.board.bytes addr) where
   abbrev board : HasBoard old
   board = is_map.board
 
@@ -84,21 +87,18 @@ pub still_map : (old new : MapBytes) (change : MapChange) (ranges : List MapRang
 still_map old new change ranges is_map stands found is fitted =
     elim found as (λ it. found ≡ it → MatchOption it (IsMapOf new ranges) (λ interval. IsMapOutside new interval ranges)) [
       | None ↦ λ none.
-          same_map old new change ranges is_map stands (OutsideSome' found) keeps (λ addr. subst (OutsideSome addr) (sym none) tt) fitted
+          same_map old new change ranges is_map stands (λ addr. OutsideSome addr found) keeps (λ addr. subst (OutsideSome addr) (sym none) tt) fitted
       | Some interval ↦ λ some. record {
-          tiles = is_map.tiles;
-          least = (is_map.map is_map.board.setup is_map.board.bytes is_map.board.stands).least;
-          right = λ setup bytes now k d within. record {
-            at_each = λ addr low high out.
-                still_right old new change ranges is_map stands (OutsideSome' found) keeps setup bytes now k d within addr low high
-                (subst (OutsideSome addr) (sym some) out);
-          };
-        }
+        tiles = is_map.tiles;
+        least = (is_map.map is_map.board.setup is_map.board.bytes is_map.board.stands).least;
+        right = λ setup bytes now k d within. record {
+          at_each = λ addr low high out.
+              still_right old new change ranges is_map stands (λ addr. OutsideSome addr found) keeps setup bytes now k d within addr low high
+              (subst (OutsideSome addr) (sym some) out);
+        };
+      }
     ] refl
   where
-    abbrev OutsideSome' : Option Changed → ℕ → Type 0
-    OutsideSome' windows addr = OutsideSome addr windows
-
     keeps : (addr : ℕ) → addr < address_count → OutsideSome addr found →
         six_areas is_map.board.setup (after is_map.board.setup change is_map.board.bytes) addr ≡ six_areas is_map.board.setup is_map.board.bytes addr
     keeps addr address out =
@@ -112,3 +112,14 @@ pub untouched_map : (old new : MapBytes) (change : MapChange) (ranges : List Map
 untouched_map old new change ranges is_map stands not fitted =
     same_map old new change ranges is_map stands (λ addr. Unit {0})
     (λ addr address out. untouched_areas is_map.board.setup is_map.board.bytes change is_map.board.cards not addr) (λ addr. tt) fitted
+
+-- of a board its cards alone say whether a store touches the map
+touched_by_cards : (setup setup' : Setup) (reg : Reg) (width : Width) (value : ℕ) → setup.cards ≡ setup'.cards →
+    touches_map setup (Store reg width 0) ≡ touches_map setup' (Store reg width value)
+touched_by_cards setup setup' reg width value same = rw same refl
+
+pub touched_alike : (regs : MapBytes) (board : HasBoard regs) (setup : Setup) (reg : Reg) (width : Width) (value : ℕ) (touched : Bool) →
+    setup.cards ≡ cards_of regs.cards → touched ≡ touches_map board.setup (Store reg width 0) →
+    touched ≡ touches_map setup (Store reg width value)
+touched_alike regs board setup reg width value touched same is =
+    is ∙ touched_by_cards board.setup setup reg width value (board.stands.cards.0 ∙ sym same)

@@ -2,6 +2,7 @@ use Rattle.std.proofs.Common.{◌≡◌, ◌≤◌, ◌∙◌, ap, subst, sym, O
 use Rattle.std.specs.Prelude.{IfSome, map, unwrap_or}
 use Rattle.board_spec.specs.Setup.{Setup}
 use Rattle.board_spec.specs.Decode.{Bytes}
+use Rattle.pci_bars.specs.Cards.{AreCardsOf}
 use Rattle.addr_decode.specs.MapRegs.{StandsFor, map_bytes}
 use Rattle.map_builder.specs.declared.range.Changed.{Changed}
 use Rattle.map_builder.specs.Map.{Mapped, range_of}
@@ -44,6 +45,10 @@ rebuild_within-requires-clause-outside c =
 
 pub returns-clause-stands : goal.returns-clause-stands
 returns-clause-stands c = λ setup bytes stands. c.apply.ensures.stands setup bytes (stood _ c.args.self.now setup bytes c.self.view_is stands)
+
+pub returns-clause-cards : goal.returns-clause-cards
+returns-clause-cards c = λ setup bytes are.
+    c.apply.ensures.cards setup bytes (subst (λ (flat : Mapped). AreCardsOf setup bytes flat.regs.cards) (sym c.self.view_is) are)
 
 -- of each board that has the registers
 changed_is : (c : goal.After-unwrap_or) (setup : Setup) (bytes : Bytes) → StandsFor setup bytes c.args.self.now.regs →
