@@ -1,16 +1,22 @@
 -- A wide access is cut part by part.
 use Rattle.std.proofs.Common.{◌≡◌, ℕ, zero, suc, ◌+◌, ◌-◌, ◌*◌, ◌/◌, ◌%◌, ◌^◌, ◌<◌, ◌≤◌, Bool, true, false, ◌&&◌, inl, inr, List, [], ◌∷◌, ◌++◌, bit_and, refl, sym, ◌∙◌, ap, subst, arith}
-use Rattle.std.specs.Prelude.{◌==◌, nat_le}
+use Rattle.std.specs.Prelude.{◌==◌, nat_le, map}
 use Rattle.std.proofs.lemmas.Nat.{and_mask, pow-add}
 use Rattle.std.proofs.lemmas.Bool.{cases_Bool, cond-true, cond-false, eq-eqb, ne_eqb}
-use Rattle.std.proofs.lemmas.List.{append-nil, append_assoc}
+use Rattle.std.proofs.lemmas.List.{append-nil, append_assoc, map-append}
 use Rattle.std.proofs.lemmas.Bool.Decides.{nat_tests}
 use Rattle.board_base.specs.declared.access.Width.{Width}
 use Rattle.board_base.specs.declared.access.Width.TheVariants.{One, Two, Four}
 use Rattle.board_base.specs.declared.access.Access.{Access}
 use Rattle.board_base.specs.declared.access.WideAccess.{WideAccess}
 use Rattle.board_base.specs.Access.{bytes_of, largest_of}
+use Rattle.board_spec.specs.declared.event.Entry.{Entry}
+use Rattle.board_spec.specs.declared.event.Part.{Part}
+use Rattle.board_spec.specs.Setup.{Setup}
+use Rattle.board_spec.specs.Answer.{part_answer}
 use Rattle.board_spec.specs.WideParts.{longest_at, part_at, parts_from, parts_of}
+use Rattle.board_stores.specs.declared.cut.Cycle.{Cycle}
+use Rattle.board_stores.specs.Cycles.{accesses, answers}
 
 -- ---- one part
 
@@ -23,10 +29,12 @@ pub byte_power : (n : ℕ) → 2 ^ (8 * n) ≡ 256 ^ n
 byte_power zero = refl
 byte_power (suc n) =
     let longer : 8 * suc n ≡ 8 + 8 * n = omega arith in
+    let one_more : 1 + n ≡ suc n = omega arith in
     ap (λ (k : ℕ). 2 ^ k) longer
     ∙ pow-add 2 8 (8 * n)
     ∙ ap (λ (m : ℕ). 256 * m) (byte_power n)
     ∙ sym (pow-add 256 1 n)
+    ∙ ap (λ (k : ℕ). 256 ^ k) one_more
 
 -- a part's bytes of a value, shifted down and masked
 pub part_cut :
@@ -121,3 +129,16 @@ first_part access =
     let at : access.addr + 0 ≡ access.addr = omega arith in
     let left : access.bytes - 0 ≡ access.bytes = omega arith in
     rw (at, left) refl
+
+-- ---- their answers
+
+pub all_decoded :
+    (setup : Setup) (history : List Entry) (cycles : List Cycle) (cycle : Cycle) →
+    answers cycles ≡ map (part_answer setup history) (accesses cycles) → cycle.answer ≡ part_answer setup history cycle.access →
+    answers (cycles ++ cycle ∷ []) ≡ map (part_answer setup history) (accesses (cycles ++ cycle ∷ []))
+all_decoded setup history cycles cycle before last =
+    map-append (λ (c : Cycle). c.answer) cycles (cycle ∷ [])
+    ∙ ap (λ (parts : List Part). parts ++ cycle.answer ∷ []) before
+    ∙ ap (λ (part : Part). map (part_answer setup history) (accesses cycles) ++ part ∷ []) last
+    ∙ sym (map-append (part_answer setup history) (accesses cycles) (cycle.access ∷ []))
+    ∙ sym (ap (map (part_answer setup history)) (map-append (λ (c : Cycle). c.access) cycles (cycle ∷ [])))

@@ -1,5 +1,6 @@
 -- Bytes that are put into the stores one after the other.
-use Rattle.std.proofs.Common.{◌≡◌, ℕ, List, [], ◌∷◌, length, Option, Some, None, refl, sym, ◌∙◌, ap}
+use Rattle.std.proofs.Common.{◌≡◌, ℕ, suc, ◌+◌, ◌<◌, List, [], ◌∷◌, length, get_or, drop, Option, Some, None, refl, sym, ◌∙◌, ap, arith}
+use Rattle.std.proofs.Math.Seq.{drop-cons}
 use Rattle.std.specs.Prelude.{unwrap_or}
 use Rattle.std.specs.Option.{option_or}
 use Rattle.board_base.specs.declared.access.Width.{Width}
@@ -62,6 +63,14 @@ pub put_next :
 unfolding parts_put
 put_next cycle later old mid new first rest =
     put_then (memory_put cycle.access cycle.answer.target) (cycles_put later) old mid new first rest
+
+pub put_at :
+    (cycles : List Cycle) (i : ℕ) (d : Cycle) (old mid new : Stores) → i < length cycles →
+    ArePut (memory_put (get_or cycles i d).access (get_or cycles i d).answer.target) old mid →
+    ArePut (cycles_put (drop (i + 1) cycles)) mid new → ArePut (cycles_put (drop i cycles)) old new
+put_at cycles i d old mid new within first rest =
+    let one : i + 1 ≡ suc i = omega arith in
+    rw (drop-cons cycles i d within) (put_next (get_or cycles i d) (drop (suc i) cycles) old mid new first (rw one at rest))
 
 -- ---- the cycles that are left can still be done
 
