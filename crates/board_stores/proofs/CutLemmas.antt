@@ -67,6 +67,7 @@ part_within addr left some =
   where
     four_left : (addr left : ℕ) → (addr % 4 == 0 && nat_le 4 left) ≡ true → 4 ≤ left
     four_left addr left is = grind (arith, nat_tests)
+
     two_left : (addr left : ℕ) → (addr % 2 == 0 && nat_le 2 left) ≡ true → 2 ≤ left
     two_left addr left is = grind (arith, nat_tests)
 
@@ -125,7 +126,7 @@ all_parts access parts count done four on =
     ∙ on
 
 pub first_part : (access : WideAccess) → GoesOn access [] 0 0
-first_part access = 
+first_part access =
     let at : access.addr + 0 ≡ access.addr = omega arith in
     let left : access.bytes - 0 ≡ access.bytes = omega arith in
     rw (at, left) refl

@@ -1,0 +1,160 @@
+-- The values of cycles, one after the other, make the value of the whole.
+use Rattle.std.proofs.Common.{◌≡◌, ℕ, suc, ◌+◌, ◌*◌, ◌%◌, ◌^◌, ◌<◌, ◌≤◌, List, [], ◌∷◌, length, get_or, drop, bit_or, refl, sym, ◌∙◌, ap, subst, arith}
+use Rattle.std.specs.Prelude.{map}
+use Rattle.std.proofs.Math.Seq.{drop-cons}
+use Rattle.std.proofs.Math.Nat.{mod-eq_of_lt, mul_comm, mul_assoc, add_assoc, mul-one, mul-add, mul-le-mul_left, pow-le-pow_right}
+use Rattle.std.proofs.lemmas.Nat.{pow-add}
+use Rattle.std.specs.Int.Bits.{or_shifted_r}
+use Rattle.board_base.specs.declared.access.Width.{Width}
+use Rattle.board_base.specs.declared.access.Width.TheVariants.{One, Two, Four}
+use Rattle.board_base.specs.Access.{bytes_of}
+use Rattle.board_spec.specs.declared.event.Entry.{Entry}
+use Rattle.board_spec.specs.declared.event.Part.{Part}
+use Rattle.board_spec.specs.Setup.{Setup}
+use Rattle.board_spec.specs.WideParts.{joined}
+use Rattle.board_spec.specs.PartLaws.{Covers}
+use Rattle.board_spec.specs.Answer.{value_at, memory_target, part_answer}
+use Rattle.board_stores.specs.declared.cut.Cycle.{Cycle}
+use Rattle.board_stores.specs.Cycles.{accesses, answers}
+use Rattle.board_stores.proofs.CutLemmas.{byte_power}
+
+-- ---- how many bytes
+
+abbrev pub bytes_in : List Cycle → ℕ
+bytes_in [] = 0
+bytes_in (cycle ∷ later) = bytes_of cycle.access.width + bytes_in later
+
+pub covered : (from end : ℕ) (cycles : List Cycle) → Covers from end (accesses cycles) → from + bytes_in cycles ≡ end
+covered from end [] is = let e : from ≡ end = is in omega arith
+covered from end (cycle ∷ later) is =
+    let e = covered (from + bytes_of cycle.access.width) end later is.1 in omega arith
+
+pub some_bytes : (width : Width) → 1 ≤ bytes_of width
+some_bytes One = omega arith
+some_bytes Two = omega arith
+some_bytes Four = omega arith
+
+pub bytes_left : (cycles : List Cycle) (i : ℕ) (d : Cycle) → i < length cycles →
+    bytes_in (drop i cycles) ≡ bytes_of (get_or cycles i d).access.width + bytes_in (drop (i + 1) cycles)
+bytes_left cycles i d within =
+    let one : i + 1 ≡ suc i = omega arith in
+    rw one (ap bytes_in (drop-cons cycles i d within))
+
+-- of eight bytes
+pub few_bytes : (from end : ℕ) (cycles : List Cycle) → Covers from end (accesses cycles) → end ≤ from + 8 → bytes_in cycles ≤ 8
+few_bytes from end cycles covers short = let e = covered from end cycles covers in omega arith
+
+-- a shift that is passed before a cycle
+pub shift_below :
+    (cycles : List Cycle) (i shift : ℕ) → i < length cycles → bytes_in cycles ≤ 8 →
+    shift + 8 * bytes_in (drop i cycles) ≡ 8 * bytes_in cycles → shift < 64
+shift_below [] i shift within few is = absurd (omega arith)
+shift_below (first ∷ later) i shift within few is =
+    let cycles : List Cycle = first ∷ later in
+    omega (arith, is, few, bytes_left cycles i first within, some_bytes (get_or cycles i first).access.width)
+
+-- and after it
+pub next_shift :
+    (cycles : List Cycle) (i shift bytes : ℕ) (d : Cycle) → i < length cycles → bytes_in cycles ≤ 8 →
+    bytes ≡ bytes_of (get_or cycles i d).access.width → shift + 8 * bytes_in (drop i cycles) ≡ 8 * bytes_in cycles →
+    (shift + 8 * bytes ≤ 64) × (shift + 8 * bytes + 8 * bytes_in (drop (i + 1) cycles) ≡ 8 * bytes_in cycles)
+next_shift cycles i shift bytes d within few bytes_is is =
+    let left = bytes_left cycles i d within in
+    (omega (arith, is, few, left, bytes_is), omega (arith, is, left, bytes_is))
+
+-- ---- the values
+
+abbrev pub value_of : Setup → List Entry → Cycle → ℕ
+value_of setup history cycle = value_at setup history cycle.answer.target cycle.access.addr cycle.access.width
+
+abbrev pub joined_cycles : (Cycle → ℕ) → List Cycle → ℕ
+joined_cycles value [] = 0
+joined_cycles value (cycle ∷ later) = value cycle + 256 ^ bytes_of cycle.access.width * joined_cycles value later
+
+-- cycles that are answered as the parts of an access have its value
+pub joined_parts :
+    (setup : Setup) (history : List Entry) (cycles : List Cycle) → answers cycles ≡ map (part_answer setup history) (accesses cycles) →
+    joined_cycles (value_of setup history) cycles
+    ≡ joined (λ part. value_at setup history (memory_target setup history part) part.addr part.width) (accesses cycles)
+unfolding part_answer
+joined_parts setup history [] is = refl
+joined_parts setup history (cycle ∷ later) is =
+    let here : cycle.answer ≡ part_answer setup history cycle.access = cc in
+    let rest : answers later ≡ map (part_answer setup history) (accesses later) = cc in
+    let target : cycle.answer.target ≡ memory_target setup history cycle.access = ap (λ (part : Part). part.target) here in
+    rw (target, joined_parts setup history later rest) refl
+
+-- ---- one cycle more
+
+-- the value of the cycles so far, and of those that are left
+pub record IsSoFar (value : Cycle → ℕ) (cycles : List Cycle) (i so_far shift : ℕ) : Type 0 where
+  pub below : so_far < 2 ^ shift
+  pub sum : so_far + 2 ^ shift * joined_cycles value (drop i cycles) ≡ joined_cycles value cycles
+
+-- a product of powers
+longer : (shift bytes : ℕ) → 2 ^ (shift + 8 * bytes) ≡ 2 ^ shift * 256 ^ bytes
+longer shift bytes = pow-add 2 shift (8 * bytes) ∙ ap (λ (p : ℕ). 2 ^ shift * p) (byte_power bytes)
+
+sum_turned : (a b c : ℕ) → c ≡ b → c + a ≡ a + b
+sum_turned a b c is = omega arith
+
+-- the bytes of a value above those before it
+value_above : (P B so_far read : ℕ) → so_far < P → read < B → so_far + P * read < P * B
+value_above P B so_far read below fits =
+    let whole : P * (read + 1) ≤ P * B = mul-le-mul_left P (omega arith) in
+    let spread : P * (read + 1) ≡ P * read + P = mul-add P read 1 ∙ ap (λ (n : ℕ). P * read + n) (mul-one P) in
+    omega (arith, whole, spread)
+
+value_or :
+    (so_far shift read bytes : ℕ) → so_far < 2 ^ shift → read < 256 ^ bytes → shift + 8 * bytes ≤ 64 →
+    (bit_or so_far (read * 2 ^ shift % 2 ^ 64) ≡ so_far + 2 ^ shift * read) × (so_far + 2 ^ shift * read < 2 ^ (shift + 8 * bytes))
+value_or so_far shift read bytes below fits short =
+    let whole : so_far + 2 ^ shift * read < 2 ^ (shift + 8 * bytes) =
+    rw (longer shift bytes) (value_above (2 ^ shift) (256 ^ bytes) so_far read below fits) in
+    let most : 2 ^ (shift + 8 * bytes) ≤ 2 ^ 64 = pow-le-pow_right (omega arith) short in
+    let turned : read * 2 ^ shift ≡ 2 ^ shift * read = mul_comm read (2 ^ shift) in
+    let room : read * 2 ^ shift < 2 ^ 64 = omega (arith, whole, most, turned) in (
+      ap (λ (n : ℕ). bit_or so_far n) (mod-eq_of_lt room) ∙ or_shifted_r read shift so_far below ∙ sum_turned so_far (2 ^ shift * read) (read * 2 ^ shift) turned,
+      whole,
+    )
+
+pub next_value :
+    (value : Cycle → ℕ) (cycles : List Cycle) (i so_far shift read : ℕ) (d : Cycle) → i < length cycles →
+    read ≡ value (get_or cycles i d) → read < 256 ^ bytes_of (get_or cycles i d).access.width →
+    shift + 8 * bytes_of (get_or cycles i d).access.width ≤ 64 → IsSoFar value cycles i so_far shift →
+    IsSoFar value cycles (i + 1) (bit_or so_far (read * 2 ^ shift % 2 ^ 64)) (shift + 8 * bytes_of (get_or cycles i d).access.width)
+next_value value cycles i so_far shift read d within is fits short before =
+    let bytes = bytes_of (get_or cycles i d).access.width in
+    let J = joined_cycles value (drop (i + 1) cycles) in
+    let joined_at : joined_cycles value (drop i cycles) ≡ read + 256 ^ bytes * J =
+    ap (joined_cycles value) (drop-cons cycles i d within)
+    ∙ ap (λ (n : ℕ). value (get_or cycles i d) + 256 ^ bytes * joined_cycles value (drop n cycles)) (one_more i)
+    ∙ ap (λ (n : ℕ). n + 256 ^ bytes * J) (sym is) in
+    let next = value_or so_far shift read bytes before.below fits short in
+    record {
+      below = rw next.0 next.1;
+      sum =
+          ap (λ (n : ℕ). n + 2 ^ (shift + 8 * bytes) * J) next.0
+          ∙ ap (λ (n : ℕ). so_far + 2 ^ shift * read + n * J) (longer shift bytes)
+          ∙ gathered so_far (2 ^ shift) read (256 ^ bytes) J
+          ∙ ap (λ (n : ℕ). so_far + 2 ^ shift * n) (sym joined_at)
+          ∙ before.sum;
+    }
+  where
+    one_more : (i : ℕ) → suc i ≡ i + 1
+    one_more i = omega arith
+
+    gathered : (so_far P read B J : ℕ) → so_far + P * read + P * B * J ≡ so_far + P * (read + B * J)
+    gathered so_far P read B J =
+        ap (λ (n : ℕ). so_far + P * read + n) (mul_assoc P B J)
+        ∙ add_assoc so_far (P * read) (P * (B * J))
+        ∙ ap (λ (n : ℕ). so_far + n) (sym (mul-add P read (B * J)))
+
+-- where no cycle is left
+pub whole_value :
+    (value : Cycle → ℕ) (cycles : List Cycle) (i so_far shift : ℕ) → drop i cycles ≡ [] → IsSoFar value cycles i so_far shift →
+    so_far ≡ joined_cycles value cycles
+whole_value value cycles i so_far shift end is =
+    let none : joined_cycles value (drop i cycles) ≡ 0 = ap (joined_cycles value) end in
+    let sum : so_far + 2 ^ shift * 0 ≡ joined_cycles value cycles = rw none at is.sum in
+    omega (arith, sum)

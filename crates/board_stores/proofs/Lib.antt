@@ -1,4 +1,5 @@
 pub mod MemoryLemmas
 pub mod CutLemmas
 pub mod PutLemmas
+pub mod ValueLemmas
 pub mod JoinLemmas

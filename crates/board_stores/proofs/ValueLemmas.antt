@@ -1,0 +1,127 @@
+-- What is read of memory fits the width of the access: each byte that is stored is below 256.
+use Rattle.std.proofs.Common.{◌≡◌, ℕ, ◌+◌, ◌*◌, ◌/◌, ◌%◌, ◌^◌, ◌<◌, Bool, true, false, List, [], ◌∷◌, length, get_or, Option, Some, None, inl, inr, refl, sym, ◌∙◌, ap, arith}
+use Rattle.std.specs.Prelude.{◌==◌, nat_lt, if◌then◌else◌, unwrap_or, option_and_then, slice_index}
+use Rattle.std.specs.Option.{option_or}
+use Rattle.std.proofs.lemmas.Bool.{cases_Bool}
+use Rattle.board_base.specs.declared.access.Width.{Width}
+use Rattle.board_base.specs.declared.access.Width.TheVariants.{One, Two, Four}
+use Rattle.board_base.specs.declared.access.Access.{Access}
+use Rattle.board_base.specs.declared.target.Target.{Target}
+use Rattle.board_base.specs.declared.target.Target.TheVariants.{Dram, Shadow, Smram, Rom, Card, Device, Config, Abort}
+use Rattle.board_base.specs.Access.{bytes_of}
+use Rattle.board_spec.specs.declared.event.Event.{Event}
+use Rattle.board_spec.specs.declared.event.Event.TheVariants.{Memory, Wide, Port, Look, Ack, Pulses, Time, Wire, Line, BadSector}
+use Rattle.board_spec.specs.declared.event.Reply.{Reply}
+use Rattle.board_spec.specs.declared.event.Reply.TheVariants.{Bus, Parts, Saw}
+use Rattle.board_spec.specs.declared.event.Part.{Part}
+use Rattle.board_spec.specs.declared.event.Entry.{Entry}
+use Rattle.board_spec.specs.Setup.{Setup, installed}
+use Rattle.board_spec.specs.Bits.{byte, wide}
+use Rattle.board_spec.specs.WideParts.{parts_of, parts_list}
+use Rattle.board_spec.specs.Stored.{Cell, DramCell, CardCell, first_cell, distance, is_write, byte_put, memory_put, port_put, parts_put, entry_put, stored_of, dram_byte, card_byte}
+use Rattle.board_spec.specs.Answer.{value_at}
+use Rattle.board_stores.specs.Targets.{IsHeld}
+
+-- ---- what is put
+
+abbrev IsByte : Option ℕ → Type 0
+IsByte None = Unit {0}
+IsByte (Some put) = put < 256
+
+only_if : (test : Bool) (put : Option ℕ) → IsByte put → IsByte (if test then put else None)
+only_if true put is = is
+only_if false put is = tt
+
+byte_at : (width : Width) (value : ℕ) (at : Option ℕ) →
+    IsByte (option_and_then (λ k. if nat_lt k (bytes_of width) then Some (byte value k) else None) at)
+byte_at width value None = tt
+byte_at width value (Some k) = only_if (nat_lt k (bytes_of width)) (Some (byte value k)) (omega arith)
+
+put_is_byte : (target : Target) (addr : ℕ) (width : Width) (value : ℕ) (cell : Cell) → IsByte (byte_put target addr width value cell)
+put_is_byte target addr width value cell = byte_at width value (option_and_then (λ first. distance first cell) (first_cell target addr))
+
+memory_is_byte : (access : Access) (target : Target) (cell : Cell) → IsByte (memory_put access target cell)
+memory_is_byte access target cell =
+    only_if (is_write access.kind) _ (put_is_byte target access.addr access.width access.value cell)
+
+either_is_byte : (later first : Option ℕ) → IsByte later → IsByte first → IsByte (option_or later first)
+either_is_byte None first is is' = is'
+either_is_byte (Some put) first is is' = is
+
+parts_are_bytes : (parts : List Access) (replies : List Part) (cell : Cell) → IsByte (parts_put parts replies cell)
+unfolding parts_put
+parts_are_bytes [] replies cell = tt
+parts_are_bytes (part ∷ parts) [] cell = tt
+parts_are_bytes (part ∷ parts) (reply ∷ replies) cell =
+    either_is_byte (parts_put parts replies cell) (memory_put part reply.target cell) (parts_are_bytes parts replies cell)
+    (memory_is_byte part reply.target cell)
+
+entry_is_byte : (event : Event) (reply : Reply) (cell : Cell) → IsByte (entry_put event reply cell)
+entry_is_byte (Memory access) (Bus value target denial) cell = memory_is_byte access target cell
+entry_is_byte (Memory access) (Parts value parts) cell = tt
+entry_is_byte (Memory access) (Saw look) cell = tt
+entry_is_byte (Port access) (Bus value target denial) cell =
+    only_if access.write _ (put_is_byte target access.port access.width access.value cell)
+entry_is_byte (Port access) (Parts value parts) cell = tt
+entry_is_byte (Port access) (Saw look) cell = tt
+entry_is_byte (Wide access) (Bus value target denial) cell = tt
+entry_is_byte (Wide access) (Parts value parts) cell = parts_are_bytes (parts_of access) (parts_list parts) cell
+entry_is_byte (Wide access) (Saw look) cell = tt
+entry_is_byte (Look kind addr smm) reply cell = tt
+entry_is_byte Ack reply cell = tt
+entry_is_byte (Pulses count) reply cell = tt
+entry_is_byte (Time moment) reply cell = tt
+entry_is_byte (Wire dev on) reply cell = tt
+entry_is_byte (Line irq on) reply cell = tt
+entry_is_byte (BadSector sector) reply cell = tt
+
+-- ---- what is stored
+
+put_over : (put : Option ℕ) (old : ℕ) → IsByte put → old < 256 → unwrap_or put old < 256
+put_over None old is below = below
+put_over (Some new) old is below = is
+
+stored_below : (history : List Entry) (cell : Cell) → stored_of history cell < 256
+unfolding stored_of
+stored_below [] cell = omega arith
+stored_below (entry ∷ before) cell =
+    put_over (entry_put entry.event entry.reply cell) (stored_of before cell) (entry_is_byte entry.event entry.reply cell)
+    (stored_below before cell)
+
+dram_below : (setup : Setup) (history : List Entry) (addr : ℕ) → dram_byte setup history addr < 256
+dram_below setup history addr =
+    elim (cases_Bool (nat_lt addr (installed setup))) [
+      | inl there ↦ rw there (stored_below history (DramCell addr))
+      | inr past ↦ rw past (omega arith)
+    ]
+
+card_below : (history : List Entry) (dev base off : ℕ) → card_byte history dev base off < 256
+card_below history dev base off =
+    elim (cases_Bool (base == 6)) [
+      | inl rom ↦ rw rom (omega arith)
+      | inr kept ↦ rw kept (stored_below history (CardCell dev base off))
+    ]
+
+-- ---- what is read
+
+wide_below : (byte_of : ℕ → ℕ) (from : ℕ) (width : Width) → ((at : ℕ) → byte_of at < 256) → wide byte_of from width < 256 ^ bytes_of width
+wide_below byte_of from One below = below from
+wide_below byte_of from Two below = omega (arith, below from, below (from + 1))
+wide_below byte_of from Four below =
+    omega (arith, below from, below (from + 1), below (from + 2), below (from + 3))
+
+pub value_below :
+    (setup : Setup) (history : List Entry) (rom : List ℕ) (contents : List (List ℕ)) (target : Target) (place : ℕ) (width : Width) →
+    setup.rom ≡ rom → ((at : ℕ) → slice_index rom at < 256) → IsHeld rom contents target width →
+    value_at setup history target place width < 256 ^ bytes_of width
+value_below setup history rom contents (Dram row) place width image bytes is = wide_below (dram_byte setup history) place width (dram_below setup history)
+value_below setup history rom contents (Shadow row) place width image bytes is = wide_below (dram_byte setup history) place width (dram_below setup history)
+value_below setup history rom contents Smram place width image bytes is = wide_below (dram_byte setup history) place width (dram_below setup history)
+value_below setup history rom contents (Rom off) place width image bytes is = wide_below (slice_index setup.rom) off width (λ at. rw image (bytes at))
+value_below setup history rom contents (Card dev base off) place width image bytes is =
+    wide_below (λ at. card_byte history dev base at) off width (card_below history dev base)
+value_below setup history rom contents Abort place One image bytes is = omega arith
+value_below setup history rom contents Abort place Two image bytes is = omega arith
+value_below setup history rom contents Abort place Four image bytes is = omega arith
+value_below setup history rom contents (Device dev) place width image bytes is = absurd is
+value_below setup history rom contents (Config reg) place width image bytes is = absurd is
