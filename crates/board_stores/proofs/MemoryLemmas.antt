@@ -1,5 +1,5 @@
 -- What an access to memory reaches.
-use Rattle.std.proofs.Common.{◌≡◌, List, Option, sym, ◌∙◌, ap, refl}
+use Rattle.std.proofs.Common.{◌≡◌, List, Option, refl}
 use Rattle.board_base.specs.declared.access.Access.{Access}
 use Rattle.board_base.specs.declared.target.Area.{Area}
 use Rattle.board_base.specs.declared.target.Target.{Target}

@@ -1,5 +1,5 @@
 -- What is read of memory fits the width of the access: each byte that is stored is below 256.
-use Rattle.std.proofs.Common.{◌≡◌, ℕ, ◌+◌, ◌*◌, ◌/◌, ◌%◌, ◌^◌, ◌<◌, Bool, true, false, List, [], ◌∷◌, length, get_or, Option, Some, None, inl, inr, refl, sym, ◌∙◌, ap, arith}
+use Rattle.std.proofs.Common.{◌≡◌, ℕ, ◌+◌, ◌^◌, ◌<◌, Bool, true, false, List, [], ◌∷◌, Option, Some, None, inl, inr, arith}
 use Rattle.std.specs.Prelude.{◌==◌, nat_lt, if◌then◌else◌, unwrap_or, option_and_then, slice_index}
 use Rattle.std.specs.Option.{option_or}
 use Rattle.std.proofs.lemmas.Bool.{cases_Bool}
@@ -18,7 +18,7 @@ use Rattle.board_spec.specs.declared.event.Entry.{Entry}
 use Rattle.board_spec.specs.Setup.{Setup, installed}
 use Rattle.board_spec.specs.Bits.{byte, wide}
 use Rattle.board_spec.specs.WideParts.{parts_of, parts_list}
-use Rattle.board_spec.specs.Stored.{Cell, DramCell, CardCell, first_cell, distance, is_write, byte_put, memory_put, port_put, parts_put, entry_put, stored_of, dram_byte, card_byte}
+use Rattle.board_spec.specs.Stored.{Cell, DramCell, CardCell, first_cell, distance, is_write, byte_put, memory_put, parts_put, entry_put, stored_of, dram_byte, card_byte}
 use Rattle.board_spec.specs.Answer.{value_at}
 use Rattle.board_stores.specs.Targets.{IsHeld}
 

@@ -1,4 +1,4 @@
-use Rattle.std.proofs.Common.{◌≡◌, ◌+◌, ◌-◌, ◌<◌, ◌≤◌, ◌++◌, ℕ, List, [], ◌∷◌, length, map, arith, subst, sym, ap, ◌∙◌, refl}
+use Rattle.std.proofs.Common.{◌≡◌, ◌+◌, ◌-◌, ◌<◌, ◌≤◌, ◌++◌, ℕ, [], ◌∷◌, map, arith, ap, ◌∙◌}
 use Rattle.std.proofs.lemmas.List.{map-append, length-append}
 use Rattle.arrayvec.specs.ArrayVec.{ArrayVec}
 use Rattle.board_base.specs.declared.access.Width.{Width}
@@ -7,8 +7,8 @@ use Rattle.board_base.specs.Access.{bytes_of}
 use Rattle.board_spec.specs.WideParts.{longest_at}
 use Rattle.board_spec.specs.Answer.{part_answer}
 use Rattle.board_stores.specs.declared.cut.Cycle.{Cycle}
-use Rattle.board_stores.specs.Cycles.{accesses, answers}
-use Rattle.board_stores.proofs.CutLemmas.{GoesOn, part_within, next_part, no_part, all_parts, all_decoded}
+use Rattle.board_stores.specs.Cycles.{accesses}
+use Rattle.board_stores.proofs.CutLemmas.{part_within, next_part, no_part, all_parts, all_decoded}
 use Rattle.board_stores.proofs.cut.cycles_of.Goals.{then-done-access, else-done-access}
 use Rattle.board_stores.proofs.cut.cycles_of.Goals as goal
 

@@ -1,4 +1,4 @@
-use Rattle.std.proofs.Common.{◌≡◌, ◌+◌, ◌-◌, sym, ◌∙◌, ap}
+use Rattle.std.proofs.Common.{◌+◌, ◌-◌}
 use Rattle.board_spec.specs.WideParts.{longest_at}
 use Rattle.board_stores.proofs.CutLemmas.{part_cut}
 use Rattle.board_stores.proofs.cut.part_at.Goals as goal

@@ -1,9 +1,7 @@
-use Rattle.std.proofs.Common.{◌≡◌, ◌≤◌, ◌<◌, ◌+◌, ◌*◌, ℕ, [], length, drop, get_or, sym, ◌∙◌, ap, arith}
-use Rattle.std.specs.Prelude.{slice_index}
+use Rattle.std.proofs.Common.{◌≡◌, [], drop, ◌∙◌, arith}
 use Rattle.std.proofs.lemmas.List.{drop_all}
-use Rattle.board_base.specs.Access.{bytes_of}
 use Rattle.board_stores.proofs.ValueLemmas.{value_below}
-use Rattle.board_stores.proofs.JoinLemmas.{bytes_in, few_bytes, shift_below, next_shift, value_of, joined_parts, next_value, whole_value}
+use Rattle.board_stores.proofs.JoinLemmas.{few_bytes, shift_below, next_shift, value_of, joined_parts, next_value, whole_value}
 use Rattle.board_stores.proofs.join.read_cycles.Goals as goal
 
 pub overflow_shl-value : goal.overflow_shl-value

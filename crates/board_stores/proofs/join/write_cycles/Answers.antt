@@ -1,6 +1,6 @@
 use Rattle.std.proofs.Common.{◌≡◌, [], drop, arith}
 use Rattle.std.proofs.lemmas.List.{drop_all}
-use Rattle.board_stores.proofs.PutLemmas.{cycles_put, none_put, put_at, ready_after}
+use Rattle.board_stores.proofs.PutLemmas.{none_put, put_at, ready_after}
 use Rattle.board_stores.proofs.join.write_cycles.Goals as goal
 
 pub loop-cycle-preserved : goal.loop-cycle-preserved

@@ -1,4 +1,3 @@
-use Rattle.std.proofs.Common.{◌≡◌}
 use Rattle.board_stores.proofs.memory.read.Goals as goal
 
 pub returns-in_default : goal.returns-in_default
