@@ -1,12 +1,1 @@
-mod BridgeLemmas
-mod CardLemmas
-mod SpaceLemmas
-mod MapLemmas
-mod RegisterLemmas
-mod AddressLemmas
-mod ReachLemmas
-mod PortLemmas
-mod StoresLemmas
-mod MemoryLemmas
-mod LookLemmas
-mod KeptLemmas
+
