@@ -1,0 +1,4 @@
+pub mod MemoryLemmas
+pub mod CutLemmas
+pub mod PutLemmas
+pub mod JoinLemmas

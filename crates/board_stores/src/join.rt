@@ -1,5 +1,5 @@
 //! The cycles of a wide access are read or written one by one.
-ghost use Rattle.std.specs.Prelude.{◌≡◌, ◌+◌, ℕ, true, List, map, All};
+ghost use Rattle.std.specs.Prelude.{◌≡◌, ◌≤◌, ◌+◌, ℕ, true, List, map, All};
 ghost use Rattle.board_spec.specs.declared.event.Entry.{Entry};
 ghost use Rattle.board_spec.specs.Setup.{Setup};
 ghost use Rattle.board_spec.specs.Stored.{is_write, parts_put};
@@ -16,7 +16,7 @@ use crate::stores::Stores;
 /// The value of cycles that read, the first in the low bits: those of an access of at most 8 bytes.
 pub fn read_cycles(stores: &Stores, rom: &[u8], cycles: &[Cycle]) -> u64
     requires ready { AreReady rom.now stores.now.contents cycles.now }
-    requires covers { (from : ℕ) × Covers from (from + 8) (accesses cycles.now) }
+    requires covers { (from end : ℕ) × Covers from end (accesses cycles.now) × (end ≤ from + 8) }
     ensures value { (setup : Setup) (history : List Entry) → HasStores setup history stores.now → setup.rom ≡ rom.now
         → answers cycles.now ≡ map (part_answer setup history) (accesses cycles.now)
         → result ≡ joined (λ part. value_at setup history (memory_target setup history part) part.addr part.width) (accesses cycles.now) }
@@ -24,7 +24,7 @@ pub fn read_cycles(stores: &Stores, rom: &[u8], cycles: &[Cycle]) -> u64
     let mut value = 0;
     let mut shift = 0;
     for cycle in cycles {
-        value += u64::from(read(stores, rom, &cycle.access, &cycle.answer)) << shift;
+        value |= u64::from(read(stores, rom, &cycle.access, &cycle.answer)) << shift;
         shift += 8 * cycle.access.width.bytes();
     }
     value

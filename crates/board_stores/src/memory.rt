@@ -1,6 +1,5 @@
 //! Accesses to memory.
 ghost use Rattle.std.specs.Prelude.{◌≡◌, ◌≤◌, ℕ, true, List, length};
-ghost use Rattle.board_base.specs.Access.{largest_of};
 ghost use Rattle.board_spec.specs.declared.event.Entry.{Entry};
 ghost use Rattle.board_spec.specs.Setup.{Setup, IsRomSize};
 ghost use Rattle.board_spec.specs.Stored.{is_write, memory_put};
@@ -54,7 +53,6 @@ pub fn read(stores: &Stores, rom: &[u8], access: &Access, answer: &Part) -> u32
     requires ready { IsReady rom.now stores.now.contents access.now answer.now }
     ensures value { (setup : Setup) (history : List Entry) → HasStores setup history stores.now → setup.rom ≡ rom.now
         → result ≡ value_at setup history answer.now.target access.now.addr access.now.width }
-    ensures fits { result ≤ largest_of access.now.width }
 {
     match answer.target {
         Target::Rom(off) => read_at(rom, off as usize, access.width),

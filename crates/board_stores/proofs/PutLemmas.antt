@@ -1,0 +1,97 @@
+-- Bytes that are put into the stores one after the other.
+use Rattle.std.proofs.Common.{◌≡◌, ℕ, suc, ◌+◌, ◌<◌, List, [], ◌∷◌, length, get_or, drop, Option, Some, None, refl, sym, ◌∙◌, ap, arith}
+use Rattle.std.proofs.Math.Seq.{drop-cons}
+use Rattle.std.specs.Prelude.{unwrap_or}
+use Rattle.std.specs.Option.{option_or}
+use Rattle.board_base.specs.declared.access.Width.{Width}
+use Rattle.board_base.specs.declared.target.Target.{Target}
+use Rattle.board_base.specs.declared.target.Target.TheVariants.{Dram, Shadow, Smram, Rom, Card, Device, Config, Abort}
+use Rattle.board_spec.specs.Stored.{Cell, DramCell, CardCell, memory_put, parts_put}
+use Rattle.pci_bars.specs.Contents.{held, held_byte}
+use Rattle.dram_store.proofs.DramLemmas.{HasPut, put_then as dram_then}
+use Rattle.board_stores.specs.declared.stores.Stores.{Stores}
+use Rattle.board_stores.specs.declared.cut.Cycle.{Cycle}
+use Rattle.board_stores.specs.Targets.{IsHeld}
+use Rattle.board_stores.specs.Puts.{ArePut}
+use Rattle.board_stores.specs.Ready.{IsReady}
+use Rattle.board_stores.specs.Cycles.{accesses, answers}
+
+pub put_nothing : (stores : Stores) → ArePut (λ cell. None) stores stores
+put_nothing stores = record {
+  size = refl;
+  dram = λ at within. refl;
+  sizes = λ dev base. refl;
+  contents = λ dev base off number. refl;
+}
+
+later_first : (later first : Option ℕ) (old : ℕ) → unwrap_or later (unwrap_or first old) ≡ unwrap_or (option_or later first) old
+later_first None first old = refl
+later_first (Some byte) first old = refl
+
+in_dram : (put : Cell → Option ℕ) (old new : Stores) → ArePut put old new → HasPut (λ at. put (DramCell at)) old.dram new.dram
+in_dram put old new has = record { size = has.size; each = has.dram }
+
+-- bytes put after others stand over them
+pub put_then :
+    (first later : Cell → Option ℕ) (old mid new : Stores) → ArePut first old mid → ArePut later mid new →
+    ArePut (λ cell. option_or (later cell) (first cell)) old new
+put_then first later old mid new before after =
+    let dram = dram_then (λ at. first (DramCell at)) (λ at. later (DramCell at)) old.dram mid.dram new.dram
+    (in_dram first old mid before) (in_dram later mid new after) in
+    record {
+      size = dram.size;
+      dram = dram.each;
+      sizes = λ dev base. after.sizes dev base ∙ before.sizes dev base;
+      contents = λ dev base off number.
+          after.contents dev base off number
+          ∙ ap (λ (byte : ℕ). unwrap_or (later (CardCell dev base off)) byte) (before.contents dev base off number)
+          ∙ later_first (later (CardCell dev base off)) (first (CardCell dev base off)) (held_byte old.contents dev base off);
+    }
+
+-- what cycles leave
+abbrev pub cycles_put : List Cycle → Cell → Option ℕ
+cycles_put cycles = parts_put (accesses cycles) (answers cycles)
+
+pub none_put : (stores : Stores) → ArePut (cycles_put []) stores stores
+unfolding parts_put
+none_put stores = put_nothing stores
+
+-- a cycle and those after it
+pub put_next :
+    (cycle : Cycle) (later : List Cycle) (old mid new : Stores) → ArePut (memory_put cycle.access cycle.answer.target) old mid →
+    ArePut (cycles_put later) mid new → ArePut (cycles_put (cycle ∷ later)) old new
+unfolding parts_put
+put_next cycle later old mid new first rest =
+    put_then (memory_put cycle.access cycle.answer.target) (cycles_put later) old mid new first rest
+
+pub put_at :
+    (cycles : List Cycle) (i : ℕ) (d : Cycle) (old mid new : Stores) → i < length cycles →
+    ArePut (memory_put (get_or cycles i d).access (get_or cycles i d).answer.target) old mid →
+    ArePut (cycles_put (drop (i + 1) cycles)) mid new → ArePut (cycles_put (drop i cycles)) old new
+put_at cycles i d old mid new within first rest =
+    let one : i + 1 ≡ suc i = omega arith in
+    rw (drop-cons cycles i d within) (put_next (get_or cycles i d) (drop (suc i) cycles) old mid new first (rw one at rest))
+
+-- ---- the cycles that are left can still be done
+
+held_after :
+    (rom : List ℕ) (old new : List (List ℕ)) (target : Target) (width : Width) →
+    ((dev base : ℕ) → length (held new dev base) ≡ length (held old dev base)) → IsHeld rom old target width → IsHeld rom new target width
+held_after rom old new (Dram row) width same is = tt
+held_after rom old new (Shadow row) width same is = tt
+held_after rom old new Smram width same is = tt
+held_after rom old new (Rom off) width same is = is
+held_after rom old new (Card dev base off) width same is =
+    record { number = is.number; fits = λ kept. rw (same dev base) (is.fits kept) }
+held_after rom old new (Device dev) width same is = is
+held_after rom old new (Config reg) width same is = is
+held_after rom old new Abort width same is = tt
+
+pub ready_after :
+    (rom : List ℕ) (old new : List (List ℕ)) (cycle : Cycle) →
+    ((dev base : ℕ) → length (held new dev base) ≡ length (held old dev base)) → IsReady rom old cycle.access cycle.answer →
+    IsReady rom new cycle.access cycle.answer
+ready_after rom old new cycle same ready = record {
+  bus = ready.bus;
+  held = held_after rom old new cycle.answer.target cycle.access.width same ready.held;
+}

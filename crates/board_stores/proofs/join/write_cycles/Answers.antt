@@ -1,0 +1,24 @@
+use Rattle.std.proofs.Common.{◌≡◌, [], drop, arith}
+use Rattle.std.proofs.lemmas.List.{drop_all}
+use Rattle.board_stores.proofs.PutLemmas.{cycles_put, none_put, put_at, ready_after}
+use Rattle.board_stores.proofs.join.write_cycles.Goals as goal
+
+pub loop-cycle-preserved : goal.loop-cycle-preserved
+loop-cycle-preserved c =
+    let cycles = c.args.cycles.now in
+    let now = c.loop-cycle.stores in
+    let new = c.write.new.stores in
+    let ready = c.loop-cycle.invariant.ready in
+    record {
+      ready = (ready.0, λ k d within. ready_after ready.0 now.contents new.contents _ c.write.ensures.put.sizes (ready.1 k d within));
+      put = λ last rest.
+          c.loop-cycle.invariant.put last (put_at cycles c.loop-cycle.cycle-index _ now new last c.loop-cycle-test.true c.write.ensures.put rest);
+    }
+
+pub returns : goal.returns
+returns c =
+    let cycles = c.args.cycles.now in
+    let end : drop c.loop-cycle.cycle-index cycles ≡ [] = drop_all c.loop-cycle.cycle-index cycles (omega arith) in
+    record {
+      put = c.loop-cycle.invariant.put c.loop-cycle.stores (rw end (none_put c.loop-cycle.stores));
+    }
