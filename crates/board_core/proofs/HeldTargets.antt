@@ -1,12 +1,10 @@
 -- What an access reaches has the bytes that it asks for.
 use Rattle.std.proofs.Common.{◌≡◌, ◌≢◌, ℕ, ◌+◌, ◌%◌, ◌^◌, ◌≤◌, ◌<◌, Bool, true, false, ◌&&◌, not, List, [], ◌∷◌, length, Option, Some, None, inl, inr, refl, sym, ◌∙◌, ap, subst, arith}
 use Rattle.std.specs.Prelude.{is_some, unwrap_or, option_map, map, All}
-use Rattle.std.proofs.lemmas.List.Elements.{All-head, All-tail, All-cons, All-empty}
 use Rattle.board_base.specs.declared.access.Kind.{Kind}
 use Rattle.board_base.specs.declared.access.Width.{Width}
 use Rattle.board_base.specs.declared.access.Width.TheVariants.{One, Two, Four}
 use Rattle.board_base.specs.declared.access.Access.{Access}
-use Rattle.board_base.specs.declared.access.WideAccess.{WideAccess}
 use Rattle.board_base.specs.declared.target.Dev.{Dev}
 use Rattle.board_base.specs.declared.target.Reg.{Reg}
 use Rattle.board_base.specs.declared.target.Area.{Area}
@@ -19,7 +17,6 @@ use Rattle.board_spec.specs.declared.event.Entry.{Entry}
 use Rattle.board_spec.specs.Setup.{Setup, IsRomSize}
 use Rattle.board_spec.specs.InRange.{IsBusAccess}
 use Rattle.board_spec.specs.Stored.{is_write}
-use Rattle.board_spec.specs.PartLaws.{IsPart}
 use Rattle.board_spec.specs.RegisterNames.{fdhc, smram, xbcs}
 use Rattle.board_spec.specs.Ranges.{lies_in, upper_memory}
 use Rattle.board_spec.specs.Registers.{byte_of, config_address}
@@ -31,8 +28,6 @@ use Rattle.pci_bars.proofs.WindowLemmas.{IsSized, memory_claim_sized, io_claim_s
 use Rattle.addr_decode.proofs.CardLemmas.{fitted_list}
 use Rattle.board_stores.specs.Targets.{IsStored, IsHeld}
 use Rattle.board_stores.specs.Ready.{IsReady}
-use Rattle.board_stores.specs.declared.cut.Cycle.{Cycle}
-use Rattle.board_stores.specs.Cycles.{accesses, answers, AreReady}
 use Rattle.board_core.specs.declared.chipset.Chipset.{Chipset}
 use Rattle.board_core.specs.Kept.{IsChipsetOf}
 use Rattle.board_core.proofs.Reach.{IsReached}
@@ -126,19 +121,6 @@ ready setup history chipset rom access answer kept image bus is = record {
       (held_in setup history chipset access.addr access.width (area_of setup (byte_of setup history) access.addr access.kind access.smm) kept bus.aligned
       (λ dev base card. claimed setup (byte_of setup history) access.addr access.kind access.smm dev base card));
 }
-
--- the cycles of a wide access
-pub all_ready :
-    (setup : Setup) (history : List Entry) (chipset : Chipset) (rom : List ℕ) (access : WideAccess) (cycles : List Cycle) →
-    IsChipsetOf setup history chipset → setup.rom ≡ rom → All (IsPart access) (accesses cycles) →
-    answers cycles ≡ map (part_answer setup history) (accesses cycles) → AreReady rom chipset.stores.contents cycles
-all_ready setup history chipset rom access [] kept image each is = All-empty
-all_ready setup history chipset rom access (cycle ∷ later) kept image each is =
-    let first = All-head (IsPart access) cycle.access (accesses later) each in
-    let here : cycle.answer ≡ part_answer setup history cycle.access = cc in
-    let rest : answers later ≡ map (part_answer setup history) (accesses later) = cc in
-    All-cons _ _ _ (ready setup history chipset rom cycle.access cycle.answer kept image first.legal here)
-    (all_ready setup history chipset rom access later kept image (All-tail (IsPart access) cycle.access (accesses later) each) rest)
 
 -- ---- ports
 

@@ -5,6 +5,4 @@ pub mod RegisterSteps
 pub mod StoreSteps
 pub mod HeldTargets
 pub mod ChipsetSteps
-pub mod PortSteps
-pub mod MemorySteps
-pub mod Boards
+pub mod WideSteps

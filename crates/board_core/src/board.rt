@@ -18,7 +18,7 @@ ghost use Rattle.board_core.specs.Steps.{AreInRange};
 use crate::chipset::Chipset;
 use crate::registers::Registers;
 use crate::setup::{BoardOpen, Setup};
-use crate::{looks, memory, outside, ports};
+use crate::{looks, memory, outside, ports, wide};
 use access_history::History;
 use addr_decode::MapChange;
 use board_base::NoMemory;
@@ -80,7 +80,7 @@ fn perform(chipset: &mut Chipset, rom: &[u8], event: &Event) -> Reply
 {
     match event {
         Event::Memory(access) => memory::access(chipset, rom, access),
-        Event::Wide(access) => memory::wide_access(chipset, rom, access),
+        Event::Wide(access) => wide::access(chipset, rom, access),
         Event::Port(access) => ports::access(chipset, access),
         Event::Look { kind, addr, smm } => looks::look(chipset, *kind, *addr, *smm),
         _ => outside::tell(chipset, event),

@@ -11,6 +11,7 @@ mod ports;
 mod registers;
 mod reset_control;
 mod setup;
+mod wide;
 
 pub use board::Board;
 pub use setup::{BoardOpen, Setup};
