@@ -1,12 +1,8 @@
-mod BridgeLemmas
-mod CardLemmas
-mod SpaceLemmas
-mod MapLemmas
-mod RegisterLemmas
-mod AddressLemmas
-mod ReachLemmas
-mod PortLemmas
-mod StoresLemmas
-mod MemoryLemmas
-mod LookLemmas
-mod KeptLemmas
+pub mod Reach
+pub mod Effects
+pub mod MapVersions
+pub mod RegisterSteps
+pub mod StoreSteps
+pub mod HeldTargets
+pub mod ChipsetSteps
+pub mod WideSteps

@@ -10,7 +10,7 @@ use Rattle.board_spec.proofs.DeviceAlone.{levels-same}
 use Rattle.board_spec.specs.DeviceLaws.{PairHasSeen}
 use Rattle.board_devices.specs.Laws.{LeavesDevices}
 use Rattle.ata_pio.specs.declared.ata.AtaOpen.{AtaOpen}
-use Rattle.std.specs.Prelude.{◌↔◌, Result, Err, ◌==◌, unwrap_or, map, option_map, slice_index_or, slice_set, if◌then◌else◌}
+use Rattle.std.specs.Prelude.{◌↔◌, is_some, Result, Err, ◌==◌, unwrap_or, map, option_map, slice_index_or, slice_set, if◌then◌else◌}
 use Rattle.std.specs.Option.{option_map_or}
 use Rattle.board_base.specs.declared.access.PortAccess.{PortAccess}
 use Rattle.board_base.specs.declared.moment.Moment.{Moment}
@@ -738,6 +738,6 @@ left_alone seen setup history entry devices are leaves routes =
           ∙ sym (left_pair setup history entry leaves ∙ rw (lines, bits) (seen setup history));
     }
 
-pub disk_fitted : (bytes : Option (List ℕ)) (history : List Entry) → is_some (option_map (λ bytes. disk_with bytes history) bytes) ≡ is_some bytes
-disk_fitted None history = refl
-disk_fitted (Some bytes) history = refl
+pub some_disk : (bytes : Option (List ℕ)) (history : List Entry) → is_some (option_map (λ bytes. disk_with bytes history) bytes) ≡ is_some bytes
+some_disk None history = refl
+some_disk (Some bytes) history = refl

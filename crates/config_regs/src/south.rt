@@ -1,5 +1,5 @@
 //! The registers of the 82371SB on which the memory map does not depend.
-ghost use Rattle.std.specs.Prelude.{◌≡◌, ◌+◌, ◌≤◌};
+ghost use Rattle.std.specs.Prelude.{◌≡◌, ◌≢◌, ◌+◌, ◌≤◌};
 ghost use Rattle.board_base.specs.Access.{bytes_of};
 ghost use Rattle.board_base.specs.declared.access.Width.TheVariants.{One};
 ghost use Rattle.board_spec.specs.declared.map_change.MapChange.TheVariants.{Store};
@@ -46,6 +46,7 @@ impl South {
         requires within { reg.off + bytes_of width ≤ 0x100 }
         ensures stored { (setup : Setup) (bytes : Bytes) → IsSouthOf bytes self.old
             → IsSouthOf (λ r. changed_byte setup (Store reg width value) r (bytes r)) self.new }
+        ensures beside { reg.dev ≢ 1 → self.new ≡ self.old }
     {
         if reg.dev == SOUTH_BRIDGE {
             self.store_bytes(reg.fun, reg.off, width, value);

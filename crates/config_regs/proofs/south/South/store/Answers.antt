@@ -1,4 +1,4 @@
-use Rattle.std.proofs.Common.{subst, arith}
+use Rattle.std.proofs.Common.{refl, subst, arith}
 use Rattle.board_base.specs.declared.target.Reg.{Reg}
 use Rattle.board_spec.specs.declared.map_change.MapChange.TheVariants.{Store}
 use Rattle.board_spec.specs.Registers.{changed_byte}
@@ -12,9 +12,11 @@ returns-then-reg-eq-SOUTH_BRIDGE c = record {
   stored = λ setup bytes is.
       subst (λ (at : Reg). IsSouthOf (λ r. changed_byte setup (Store at c.args.width c.args.value) r (bytes r)) c.store_bytes.new.self)
       (of_device c.args.reg 1 (omega arith)) (c.store_bytes.ensures.stored setup bytes is);
+  beside = λ apart. absurd (omega arith);
 }
 
 pub returns-else-reg-eq-SOUTH_BRIDGE : goal.returns-else-reg-eq-SOUTH_BRIDGE
 returns-else-reg-eq-SOUTH_BRIDGE c = record {
   stored = λ setup bytes is. other_device setup bytes c.args.reg c.args.width c.args.value c.args.self.now (omega arith) is;
+  beside = λ apart. refl;
 }
