@@ -6,3 +6,6 @@ pub mod StoreSteps
 pub mod HeldTargets
 pub mod ChipsetSteps
 pub mod WideSteps
+pub mod PortSteps
+pub mod OutsideSteps
+pub mod MemorySteps

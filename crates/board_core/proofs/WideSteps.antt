@@ -9,6 +9,7 @@ use Rattle.board_spec.specs.Setup.{Setup}
 use Rattle.board_spec.specs.PartLaws.{IsPart}
 use Rattle.board_spec.specs.Answer.{part_answer}
 use Rattle.board_stores.specs.declared.cut.Cycle.{Cycle}
+use Rattle.board_stores.specs.Ready.{IsReady}
 use Rattle.board_stores.specs.Cycles.{accesses, answers, AreReady}
 use Rattle.board_core.specs.declared.chipset.Chipset.{Chipset}
 use Rattle.board_core.specs.Kept.{IsChipsetOf}
@@ -24,6 +25,6 @@ all_ready setup history chipset rom access (cycle ∷ later) kept image each is 
     let first = All-head (IsPart access) cycle.access (accesses later) each in
     let here : cycle.answer ≡ part_answer setup history cycle.access = cc in
     let rest : answers later ≡ map (part_answer setup history) (accesses later) = cc in
-    All-cons _ _ _ (ready setup history chipset rom cycle.access cycle.answer kept image first.legal here)
+    All-cons (λ (it : Cycle). IsReady rom chipset.stores.contents it.access it.answer) cycle later (ready setup history chipset rom cycle.access cycle.answer kept image first.legal here)
     (all_ready setup history chipset rom access later kept image (All-tail (IsPart access) cycle.access (accesses later) each) rest)
 

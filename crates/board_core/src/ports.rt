@@ -9,7 +9,7 @@ ghost use Rattle.board_spec.specs.Setup.{Setup};
 ghost use Rattle.board_spec.specs.InRange.{IsBusAccess};
 ghost use Rattle.board_spec.specs.Answer.{port_answer, port_value, value_at};
 ghost use Rattle.board_core.specs.Kept.{IsChipset, IsChipsetOf};
-ghost use Rattle.board_core.specs.Ports.{IsEntryOf, Reaching};
+ghost use Rattle.board_core.specs.Ports.{IsEntryOf, Reaching, reached};
 
 use crate::chipset::Chipset;
 use board_base::{Dev, PortAccess, Reg, Target};
@@ -53,8 +53,8 @@ pub fn access(chipset: &mut Chipset, access: &PortAccess) -> Reply
 fn read(chipset: &mut Chipset, target: Target, access: &PortAccess) -> u32
     requires reaching { Reaching chipset.old access.now target }
     requires reads { access.now.write ≡ false }
-    ensures value { (setup : Setup) (history : List Entry) (entry : Entry) → IsChipsetOf setup history chipset.old
-        → IsEntryOf setup history access.now target entry
+    ensures value { (setup : Setup) (history : List Entry) → IsChipsetOf setup history chipset.old
+        → target ≡ (reached setup history access.now).target
         → result ≡ value_at setup history target access.now.port access.now.width }
     ensures board { (setup : Setup) (history : List Entry) (entry : Entry) → IsChipsetOf setup history chipset.old
         → IsEntryOf setup history access.now target entry → IsChipsetOf setup (entry ∷ history) chipset.new }
