@@ -9,3 +9,5 @@ pub mod WideSteps
 pub mod PortSteps
 pub mod OutsideSteps
 pub mod MemorySteps
+pub mod Boards
+pub mod ChangeSteps

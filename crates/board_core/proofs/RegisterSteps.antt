@@ -139,7 +139,7 @@ control_alone (Port access) byte put =
     no_address access (let here : (access.port == config_address_port) ≡ false = rw (at_control access byte put) refl in here)
 control_alone _ byte put = refl
 
-control_stores_none : (setup : Setup) (address : ℕ) (event : Event) (byte : ℕ) → control_written event ≡ Some byte → config_store setup address event ≡ None
+pub control_stores_none : (setup : Setup) (address : ℕ) (event : Event) (byte : ℕ) → control_written event ≡ Some byte → config_store setup address event ≡ None
 control_stores_none setup address (Port access) byte put =
     let here : is_config_port access.port ≡ false = rw (at_control access byte put) refl in
     elim (cases_Bool access.write) [ inl writes ↦ rw (writes, here) refl | inr reads ↦ rw reads refl ]
