@@ -1,19 +1,23 @@
 -- A board that is fresh, and after a step.
-use Rattle.std.proofs.Common.{◌≡◌, ℕ, zero, suc, ◌+◌, ◌-◌, ◌^◌, ◌<◌, ◌≤◌, List, [], ◌∷◌, length, inl, inr, false, true, refl, sym, ◌∙◌, ap, subst, arith, get_or-set_same, get_or-set_other}
-use Rattle.std.specs.Prelude.{◌==◌, if◌then◌else◌, slice_index, slice_set, replicate}
+use Rattle.std.proofs.Common.{◌≡◌, ℕ, zero, suc, ◌+◌, ◌-◌, ◌/◌, Option, Some, None, ◌^◌, ◌<◌, ◌≤◌, List, [], ◌∷◌, length, inl, inr, false, true, refl, sym, ◌∙◌, ap, subst, arith, get_or-set_same, get_or-set_other}
+use Rattle.std.specs.Prelude.{◌↔◌, Result, Ok, Err, ◌==◌, if◌then◌else◌, slice_index, slice_set, replicate}
 use Rattle.std.proofs.lemmas.Bool.{cases_Bool, cases_eq}
 use Rattle.std.proofs.lemmas.Bool.Decides.{nat_tests}
 use Rattle.board_spec.specs.declared.event.Event.{Event}
 use Rattle.board_spec.specs.declared.event.Reply.{Reply}
 use Rattle.board_spec.specs.declared.event.Entry.{Entry}
-use Rattle.board_spec.specs.Setup.{Setup, IsSetup}
+use Rattle.board_spec.specs.Setup.{Setup, IsSetup, IsDisk}
+use Rattle.board_spec.specs.InRange.{IsInRange}
 use Rattle.board_spec.specs.Legal.{entries_by, IsLegal}
 use Rattle.board_spec.specs.Answer.{IsAnswer}
 use Rattle.board_stores.specs.Puts.{HasStores}
+use Rattle.ata_pio.specs.declared.ata.AtaOpen.{AtaOpen}
+use Rattle.device_spec.specs.Ata.State.{is_disk_length}
 use Rattle.board_devices.specs.Devices.{AreDevicesOf}
+use Rattle.board_devices.proofs.DeviceLemmas.{refused_length}
 use Rattle.access_history.specs.Past.{Past, most}
 use Rattle.board_core.specs.declared.chipset.Chipset.{Chipset}
-use Rattle.board_core.specs.Kept.{HasRegisters, IsChipset, IsChipsetOf, IsKept, next_entry}
+use Rattle.board_core.specs.Kept.{HasRegisters, CanDo, IsChipset, IsChipsetOf, IsKept, next_entry}
 
 -- ---- a new board
 
@@ -83,7 +87,7 @@ count_fits setup history spare chipset counts actor at same below kept =
 
 -- ---- a step
 
-pub chipset_kept : (setup : Setup) (history : List Entry) (spare : ℕ) (chipset : Chipset) (counts rom : List ℕ) → setup.rom ≡ rom →
+chipset_kept : (setup : Setup) (history : List Entry) (spare : ℕ) (chipset : Chipset) (counts rom : List ℕ) → setup.rom ≡ rom →
     IsKept setup history spare chipset counts → IsChipset chipset rom
 chipset_kept setup history spare chipset counts rom image kept = record {
   setup = setup;
@@ -92,6 +96,12 @@ chipset_kept setup history spare chipset counts rom image kept = record {
   of = kept.board;
   image = image;
 }
+
+pub can_do : (setup : Setup) (history : List Entry) (spare : ℕ) (chipset : Chipset) (counts rom : List ℕ) (event : Event) → setup.rom ≡ rom →
+    IsKept setup history spare chipset counts → IsInRange setup event → CanDo chipset rom event
+unfolding chipset_kept
+can_do setup history spare chipset counts rom event image kept in_range =
+    record { kept = chipset_kept setup history spare chipset counts rom image kept; in_range = in_range }
 
 stepped :
     (setup : Setup) (history : List Entry) (counts : List ℕ) (actor : ℕ) (event : Event) (reply : Reply)
@@ -133,3 +143,23 @@ stepped_by setup history counts actor at at' event reply past spare old new here
     ap (λ (a : ℕ). slice_set counts a (slice_index counts at + 1)) here' ∙ ap (λ (a : ℕ). slice_set counts actor (slice_index counts a + 1)) here in
     rw (entries, room, places)
     (stepped setup history counts actor event reply spare old new all below some kept answer board)
+
+-- ---- a disk that was opened
+
+disk_fits : (bytes : Option (List ℕ)) → ¬ ¬ IsDisk bytes → IsDisk bytes
+disk_fits None opened = tt
+disk_fits (Some bytes) opened =
+    elim (cases_Bool (is_disk_length (length bytes))) [
+      | inl whole ↦ (
+        length bytes / 512,
+        grind (arith, nat_tests),
+        grind (arith, nat_tests),
+        grind (arith, nat_tests),
+      )
+      | inr broken ↦ absurd (opened (refused_length (length bytes) broken))
+    ]
+
+pub disk_opened : {T : Type 0} (bytes shown : Option (List ℕ)) (result : Result T AtaOpen) (devices : T) → (result ≡ Err AtaOpen.BadLength) ↔ ¬ IsDisk shown →
+    result ≡ Ok devices → shown ≡ bytes → IsDisk bytes
+disk_opened bytes shown result devices bad opened same =
+    subst IsDisk same (disk_fits shown (λ none. let no : result ≡ Err AtaOpen.BadLength = bad.1 none in cc))

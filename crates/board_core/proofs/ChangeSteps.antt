@@ -29,7 +29,7 @@ reset_or_none : (setup : Setup) (history : List Entry) (event : Event) (hard : B
 reset_or_none setup history event true is = sym (change_by setup history event Reset is)
 reset_or_none setup history event false is = sym (no_change setup history event is)
 
-pub by_control : (setup : Setup) (history : List Entry) (access : PortAccess) → access.write ≡ true → Reached setup history access (Device ResetPort) →
+by_control : (setup : Setup) (history : List Entry) (access : PortAccess) → access.write ≡ true → Reached setup history access (Device ResetPort) →
     (if is_hard_value (reset_control history) access.value then Some Reset else None) ≡ map_change_of setup history (Port access)
 by_control setup history access writes at =
     let put : control_written (Port access) ≡ Some access.value = writes_control access writes at.0 at.1 in
@@ -42,13 +42,21 @@ pub by_store : (setup : Setup) (history : List Entry) (access : PortAccess) (reg
 by_store setup history access reg writes at =
     sym (change_by setup history (Port access) (Store reg access.width access.value) (writes_register setup history access reg writes at.0 at.1))
 
-pub by_device : (setup : Setup) (history : List Entry) (access : PortAccess) (dev : Dev) → access.write ≡ true → (dev ≡ ResetPort → ⊥) →
+by_device : (setup : Setup) (history : List Entry) (access : PortAccess) (dev : Dev) → access.write ≡ true → (dev ≡ ResetPort → ⊥) →
     Reached setup history access (Device dev) → None ≡ map_change_of setup history (Port access)
 by_device setup history access AddressPort writes other at =
     sym (no_change setup history (Port access) (writes_address setup history access writes at.0 at.1).change)
 by_device setup history access ResetPort writes other at = absurd (other refl)
 by_device setup history access Keyboard writes other at = sym (no_change setup history (Port access) (writes_beside setup history access at).change)
 by_device setup history access _ writes other at = sym (no_change setup history (Port access) (writes_beside setup history access at.0).change)
+
+pub by_any_device : (setup : Setup) (history : List Entry) (access : PortAccess) (dev : Dev) (change : Option MapChange) → access.write ≡ true →
+    (dev ≡ ResetPort → change ≡ (if is_hard_value (reset_control history) access.value then Some Reset else None)) →
+    ((dev ≡ ResetPort → ⊥) → change ≡ None) → Reached setup history access (Device dev) → change ≡ map_change_of setup history (Port access)
+by_any_device setup history access ResetPort change writes control other at = control refl ∙ by_control setup history access writes at
+by_any_device setup history access dev change writes control other at =
+    let apart : dev ≡ ResetPort → ⊥ = λ same. absurd (cc) in
+    other apart ∙ by_device setup history access dev writes apart at
 
 pub by_other : (setup : Setup) (history : List Entry) (access : PortAccess) (target : Target) → IsNoDevice target → IsNoRegister target →
     Reached setup history access target → None ≡ map_change_of setup history (Port access)

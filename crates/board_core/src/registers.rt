@@ -2,6 +2,7 @@
 
 ghost use Rattle.std.specs.Prelude.{◌≡◌, ◌≢◌, ◌+◌, ◌≤◌, ◌<◌, true, false, List, [], ◌∷◌, Some, None, is_some, if◌then◌else◌};
 ghost use Rattle.board_base.specs.Access.{bytes_of};
+ghost use Rattle.board_base.specs.declared.target.Dev.TheVariants.{Reset as ResetPort};
 ghost use Rattle.board_spec.specs.declared.event.Entry.{Entry};
 ghost use Rattle.board_spec.specs.declared.event.Event.TheVariants.{Port};
 ghost use Rattle.board_spec.specs.declared.map_change.MapChange.TheVariants.{Store, Reset};
@@ -136,14 +137,25 @@ impl Registers {
             return None;
         }
         match self.decode_port(access.port, access.width, disk).0 {
-            Target::Device(Dev::Reset) => self.reset_by(access.value),
-            Target::Config(reg) => self.store_by(reg, access.width, access.value),
+            Target::Device(dev) => self.device_change(dev, access.value),
+            Target::Config(reg) => self.store_change(reg, access.width, access.value),
+            _ => None,
+        }
+    }
+
+    /// The change that a write to a device is: a hard reset, or none.
+    fn device_change(&self, dev: Dev, value: u32) -> Option<MapChange>
+        ensures control { dev ≡ ResetPort → result ≡ (if is_hard_value self.now.control value then Some Reset else None) }
+        ensures other { (dev ≡ ResetPort → ⊥) → result ≡ None }
+    {
+        match dev {
+            Dev::Reset => self.control_change(value),
             _ => None,
         }
     }
 
     /// The change that a write to reset control is.
-    fn reset_by(&self, value: u32) -> Option<MapChange>
+    fn control_change(&self, value: u32) -> Option<MapChange>
         ensures change { result ≡ (if is_hard_value self.now.control value then Some Reset else None) }
     {
         if self.control.resets(value) {
@@ -153,7 +165,7 @@ impl Registers {
     }
 
     /// The change that a store from a register on is, where the map depends on one of its bytes.
-    fn store_by(&self, reg: Reg, width: Width, value: u32) -> Option<MapChange>
+    fn store_change(&self, reg: Reg, width: Width, value: u32) -> Option<MapChange>
         ensures change { (setup : Setup) (history : List Entry) → HasRegisters setup history self.now
             → result ≡ (if touches_map setup (Store reg width value) then Some (Store reg width value) else None) }
     {

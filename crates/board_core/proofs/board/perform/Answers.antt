@@ -1,5 +1,4 @@
 use Rattle.std.proofs.Common.{◌≡◌, ◌∙◌}
-use Rattle.board_core.proofs.OutsideSteps.{default_for_devices}
 use Rattle.board_core.proofs.board.perform.Goals as goal
 
 pub returns-in-Memory-clause-board : goal.returns-in-Memory-clause-board
@@ -17,3 +16,9 @@ returns-in-Port-clause-board c = λ setup history entry kept image event replied
 pub returns-in-Look-clause-board : goal.returns-in-Look-clause-board
 returns-in-Look-clause-board c = λ setup history entry kept image event replied.
     c.look.ensures.board setup history entry kept (event ∙ c.in-Look.is)
+
+pub returns-in_default : goal.returns-in_default
+returns-in_default c = record {
+  answer = λ setup history kept image. c.tell.ensures.answer setup history kept;
+  board = λ setup history entry kept image event replied. c.tell.ensures.board setup history entry kept event;
+}

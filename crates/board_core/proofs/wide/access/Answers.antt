@@ -5,8 +5,8 @@ use Rattle.board_spec.specs.declared.event.Part.{Part}
 use Rattle.board_spec.specs.Registers.{byte_of}
 use Rattle.board_spec.specs.Stored.{is_write, parts_put}
 use Rattle.board_spec.specs.PartLaws.{IsPart}
-use Rattle.board_spec.specs.WideParts.{parts_of, parts_list}
-use Rattle.board_spec.specs.Answer.{part_answer}
+use Rattle.board_spec.specs.WideParts.{parts_of, parts_list, joined}
+use Rattle.board_spec.specs.Answer.{part_answer, value_at, memory_target}
 use Rattle.addr_decode.specs.MapRegs.{MapBytes, StandsFor}
 use Rattle.board_stores.specs.declared.cut.Cycle.{Cycle}
 use Rattle.board_stores.specs.Cycles.{accesses, answers, AreReady}
@@ -66,7 +66,18 @@ read_cycles-requires-clause-ready c =
     (subst (λ (regs : MapBytes). StandsFor kept.setup (byte_of kept.setup kept.history) regs) (sym c.regs.ensures.regs) kept.of.registers.kept.map) kept.image))
 
 pub returns-clause-answer : goal.returns-clause-answer
-returns-clause-answer c = ?
+returns-clause-answer c = λ setup history kept image.
+    let access = c.args.access.now in
+    let decoded = c.cycles_of-cycles.ensures.decoded setup history
+    (subst (λ (regs : MapBytes). StandsFor setup (byte_of setup history) regs) (sym c.regs.ensures.regs) kept.registers.kept.map) image in
+    let cycles : c.deref-2.result.now ≡ c.cycles_of-cycles.result.items = c.deref-2.ensures.0 in
+    let parts : accesses c.deref-2.result.now ≡ parts_of access = ap (λ (list : List Cycle). accesses list) cycles ∙ c.cycles_of-cycles.ensures.parts in
+    read_answer setup history access c.parts_of-parts.result c.read_cycles.result
+    (writes_when access.kind c.is_write.result c.is_write.ensures.write ∙ c.if-is_write.false)
+    (c.parts_of-parts.ensures.answers ∙ ap (λ (list : List Cycle). answers list) c.deref.ensures.0 ∙ decoded)
+    (c.read_cycles.ensures.value setup history kept.stores image
+    (ap (λ (list : List Cycle). answers list) cycles ∙ decoded ∙ ap (map (part_answer setup history)) (sym parts))
+    ∙ ap (λ (list : List Access). joined (λ part. value_at setup history (memory_target setup history part) part.addr part.width) list) parts)
 
 pub returns-clause-board : goal.returns-clause-board
 returns-clause-board c = λ setup history entry kept image event replied.

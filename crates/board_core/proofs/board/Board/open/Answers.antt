@@ -1,6 +1,6 @@
 use Rattle.std.proofs.Common.{◌≡◌, ◌∙◌, ap, sym}
 use Rattle.board_spec.specs.Setup.{Setup}
-use Rattle.board_core.proofs.Boards.{fresh}
+use Rattle.board_core.proofs.Boards.{fresh, disk_opened}
 use Rattle.board_core.proofs.board.Board.open.Goals as goal
 
 pub invariant_of-result : goal.invariant_of-result
@@ -15,7 +15,7 @@ invariant_of-result c =
       cards = c.requires.cards;
       windows = c.requires.windows;
       rom = rw (← c.rom.ensures.bytes) (c.is_rom_size.ensures.size.0 c.if-not-is_rom_size.false);
-      disk = ?;
+      disk = disk_opened setup.disk _ c.open.result c.in_ok-devices.devices c.open.ensures.bad c.in_ok-devices.was c.disk.ensures.bytes;
     })
     c.new.ensures.empty
     (c.new-registers.ensures.reset setup (ap (λ (s : Setup). s.cards) (sym is) ∙ sym c.deref-2.ensures.value))

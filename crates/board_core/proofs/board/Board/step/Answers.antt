@@ -3,17 +3,16 @@ use Rattle.std.specs.Prelude.{slice_index}
 use Rattle.board_spec.specs.Setup.{Setup}
 use Rattle.board_spec.specs.InRange.{IsInRange}
 use Rattle.board_core.specs.Kept.{Standing, next_entry}
-use Rattle.board_core.proofs.Boards.{chipset_kept, count_fits, stepped_by}
+use Rattle.board_core.proofs.Boards.{can_do, count_fits, stepped_by}
 use Rattle.board_core.proofs.board.Board.step.Goals as goal
 
 pub perform-reply-requires : goal.perform-reply-requires
 perform-reply-requires c =
     let old = c.self.inside in
     record {
-      can = record {
-        kept = chipset_kept old.setup old.history.entries old.history.spare old.chipset old.counts _ (sym c.rom.ensures.bytes) c.self.invariant;
-        in_range = subst (λ (board : Standing). IsInRange board.setup c.args.event.now) (sym c.self.view_is) c.requires.in_range;
-      };
+      can =
+          can_do old.setup old.history.entries old.history.spare old.chipset old.counts _ c.args.event.now (sym c.rom.ensures.bytes) c.self.invariant
+          (subst (λ (board : Standing). IsInRange board.setup c.args.event.now) (sym c.self.view_is) c.requires.in_range);
     }
 
 pub overflow_add-seq : goal.overflow_add-seq

@@ -3,7 +3,7 @@ use Rattle.board_spec.specs.declared.map_change.MapChange.TheVariants.{Store}
 use Rattle.board_spec.specs.Registers.{byte_of}
 use Rattle.board_spec.specs.MapWrites.{touches_map}
 use Rattle.addr_decode.specs.MapRegs.{MapBytes, StandsFor}
-use Rattle.board_core.proofs.registers.Registers.store_by.Goals as goal
+use Rattle.board_core.proofs.registers.Registers.store_change.Goals as goal
 
 pub returns-then-touches : goal.returns-then-touches
 returns-then-touches c = record {
