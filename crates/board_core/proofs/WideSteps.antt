@@ -32,7 +32,6 @@ all_ready setup history chipset rom access (cycle ∷ later) kept image each is 
     All-cons (λ (it : Cycle). IsReady rom chipset.stores.contents it.access it.answer) cycle later (ready setup history chipset rom cycle.access cycle.answer kept image first.legal here)
     (all_ready setup history chipset rom access later kept image (All-tail (IsPart access) cycle.access (accesses later) each) rest)
 
-
 pub cycles_ready :
     (setup : Setup) (history : List Entry) (chipset : Chipset) (rom : List ℕ) (access : WideAccess) (cycles : List Cycle) →
     IsChipsetOf setup history chipset → setup.rom ≡ rom → AreParts access (parts_of access) → accesses cycles ≡ parts_of access →

@@ -15,4 +15,3 @@ mod wide;
 
 pub use board::Board;
 pub use setup::{BoardOpen, Setup};
-

@@ -8,8 +8,7 @@ use Rattle.board_core.proofs.memory.access.Goals as goal
 
 pub write-requires-clause-ready : goal.write-requires-clause-ready
 write-requires-clause-ready c =
-    let kept = c.requires.kept in
-    (
+    let kept = c.requires.kept in (
       c.args.rom.now,
       ready kept.setup kept.history c.args.chipset.now c.args.rom.now c.args.access.now c.decoded-answer.result kept.of kept.image c.requires.bus
           (c.decoded-answer.ensures.decoded kept.setup kept.history

@@ -11,8 +11,8 @@ read-requires-in_default c =
     let reaching = c.requires.reaching in
     record {
       port = (chip_at reaching.kept.setup reaching.kept.history c.args.access.now c.args.dev
-      c.in_default.not-Confadd c.in_default.not-Reset c.in_default.not-Keyboard
-      (target_reached reaching.kept.setup reaching.kept.history c.args.access.now (Device c.args.dev) reaching.target_is)).port;
+          c.in_default.not-Confadd c.in_default.not-Reset c.in_default.not-Keyboard
+          (target_reached reaching.kept.setup reaching.kept.history c.args.access.now (Device c.args.dev) reaching.target_is)).port;
     }
 
 pub returns-in-Confadd-clause-board : goal.returns-in-Confadd-clause-board

@@ -15,8 +15,8 @@ write-requires c =
     let access = c.args.access.now in
     record {
       port = (chip_at reaching.kept.setup reaching.kept.history access c.args.dev
-      c.in_default.not-Confadd c.in_default.not-Reset c.in_default.not-Keyboard
-      (target_reached reaching.kept.setup reaching.kept.history access (Device c.args.dev) reaching.target_is)).port;
+          c.in_default.not-Confadd c.in_default.not-Reset c.in_default.not-Keyboard
+          (target_reached reaching.kept.setup reaching.kept.history access (Device c.args.dev) reaching.target_is)).port;
       fits = written_fits access.write access.width access.value c.requires.writes reaching.bus.fits;
     }
 

@@ -18,8 +18,7 @@ use Rattle.board_core.proofs.wide.access.Goals as goal
 pub write_cycles-requires-clause-ready : goal.write_cycles-requires-clause-ready
 write_cycles-requires-clause-ready c =
     let kept = c.requires.kept in
-    let access = c.args.access.now in
-    (
+    let access = c.args.access.now in (
       c.args.rom.now,
       subst (λ (cycles : List Cycle). AreReady c.args.rom.now c.args.chipset.now.stores.contents cycles) (sym c.deref-then-is_write.ensures.0)
           (cycles_ready kept.setup kept.history c.args.chipset.now c.args.rom.now access c.cycles_of-cycles.result.items kept.of kept.image
