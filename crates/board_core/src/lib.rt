@@ -15,3 +15,6 @@ mod wide;
 
 pub use board::Board;
 pub use setup::{BoardOpen, Setup};
+
+#[cfg(test)]
+mod tests;
