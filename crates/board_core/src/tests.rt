@@ -1,12 +1,11 @@
-//! Scripts with the replies that they must get, each a table over a board of 8 MiB with a ROM of 64 KiB.
+//! What drivers and firmware ask of a board, each a table of statements with the replies that they must get.
 
-ghost use Rattle.std.specs.Prelude.{◌≡◌, ◌≤◌, false, [], IfOk};
-ghost use Rattle.board_spec.specs.Setup.{IsCardList, Setup as Fitting, memory_of_cards};
+ghost use Rattle.std.specs.Prelude.{◌≡◌, ◌≤◌, true, false, [], IfOk, is_some};
+ghost use Rattle.board_spec.specs.Setup.{IsCardList, Setup as Fitting, card_at, memory_of_cards};
 ghost use Rattle.board_spec.specs.InRange.{IsInRange};
 ghost use Rattle.board_spec.specs.Stored.{is_write};
 
 use crate::{Board, BoardOpen, Setup};
-use Width::{Four, One, Two};
 use arrayvec::ArrayVec;
 use board_base::{
     Access, Area, Denial, Dev, Kind, Moment, PortAccess, Reg, Target, WideAccess, Width,
@@ -17,272 +16,333 @@ use std::alloc::{AllocError, Global};
 use std::process::Abort;
 use std::test::Fail;
 
-/// A statement of a script.
+/// What a processor asks: the writes and reads of ports, those of memory, and wide ones with their number of bytes.
 #[derive(Clone, Copy)]
 enum Statement {
-    Read(Width, u32),
-    Write(Width, u32, u32),
-    WideRead(u8, u32),
-    WideWrite(u8, u32, u64),
     Out(Width, u16, u32),
     In(Width, u16),
+    Write(Width, u32, u32),
+    Read(Width, u32),
+    WriteWide(u8, u32, u64),
+    ReadWide(u8, u32),
+    ReadWideInSmm(u8, u32),
     LookAt(u32),
-    Acknowledge,
-    Pulse(u32),
-    Irq3(bool),
-    Irq5(bool),
-    Irq10(bool),
+    Ack,
+    Pulses(u32),
+    /// 23:59:58 on 29 February 2024.
     LeapDay,
-    Bad(u32),
+    Line(u8, bool),
+    Wire(bool),
+    BadSector(u32),
 }
 
-/// What answers: a device, memory, the ROM or a card at an offset, a register, or nobody, by such a register or none.
+/// What answers: row 0 of memory, SMRAM, the ROM or the expansion ROM of card 2 at an offset, a device, or a register
+/// by its device, function and offset. A write to the ROM is denied by no register. Or nobody answers, by such a
+/// register, or by no register.
 #[derive(Clone, Copy)]
 enum Place {
-    Device(Dev),
     Dram,
+    Smram,
     Rom(u32),
     ReadOnly(u32),
-    Card(u8, u8, u32),
+    Expansion(u32),
+    Device(Dev),
     Config(u8, u8, u8),
     Denied(u8, u8, u8),
     Nobody,
-    Seen(u32, u32, u32, Area),
-    /// Parts in DRAM, of which the last one or none is denied by SMRAM.
-    Parts(u8, Option<u64>),
-    LastDenied(Option<u64>),
 }
 
-/// A statement, the value that it must read, and what must answer.
-type Line = (Statement, Option<u32>, Place);
+/// What must come: a place without a value or with it, the places of a wide access with its value, or the version, the
+/// first and the last address and the area of a look.
+#[derive(Clone, Copy)]
+enum Expected {
+    Done(Place),
+    Gives(u32, Place),
+    Two(Option<u64>, Place, Place),
+    Three(u64, Place, Place, Place),
+    Four(u64, Place, Place, Place, Place),
+    Sees(u32, u32, u32, Area),
+}
 
-use Place::{Card, Config, Denied, Device, Dram, LastDenied, Nobody, ReadOnly, Rom, Seen};
+/// A statement, how many times it comes, and the reply to each.
+type Line = (u32, Statement, Expected);
+
+use Expected::{Done, Four as FourParts, Gives, Sees, Three as ThreeParts, Two as TwoParts};
+use Place::{Config, Denied, Device, Dram, Expansion, Nobody, ReadOnly, Rom, Smram};
 use Statement::{
-    Acknowledge, Bad, In, Irq3, Irq5, Irq10, LeapDay, LookAt, Out, Pulse, Read, WideRead,
-    WideWrite, Write,
+    Ack, BadSector, In, LeapDay, Line as Request, LookAt, Out, Pulses, Read, ReadWide,
+    ReadWideInSmm, Wire, Write, WriteWide,
 };
+use Width::{Four, One, Two};
 
-/// The 8259A pair is initialized: the master's vectors from 20h on, the slave's from 28h on.
-const PAIR: [Line; 8] = [
-    (Out(One, 0x20, 0x11), None, Device(Dev::Pic0)),
-    (Out(One, 0x21, 0x20), None, Device(Dev::Pic0)),
-    (Out(One, 0x21, 0x04), None, Device(Dev::Pic0)),
-    (Out(One, 0x21, 0x01), None, Device(Dev::Pic0)),
-    (Out(One, 0xA0, 0x11), None, Device(Dev::Pic1)),
-    (Out(One, 0xA1, 0x28), None, Device(Dev::Pic1)),
-    (Out(One, 0xA1, 0x02), None, Device(Dev::Pic1)),
-    (Out(One, 0xA1, 0x01), None, Device(Dev::Pic1)),
-];
+const CONFADD: Expected = Done(Device(Dev::Confadd));
 
-/// Counter 0 in mode 3 counts 5 down, by its status and its count.
+const PIC0: Expected = Done(Device(Dev::Pic0));
+
+const PIC1: Expected = Done(Device(Dev::Pic1));
+
+const PIT: Expected = Done(Device(Dev::Pit));
+
+const CLOCK: Expected = Done(Device(Dev::Clock));
+
+const WIRES: Expected = Done(Device(Dev::Wires));
+
+const DISK: Expected = Done(Device(Dev::Ata));
+
+/// Counter 0 counts in mode 3 from 5: its status and its count, latched by the read-back command.
 const SQUARE_WAVE: [Line; 17] = [
-    (Out(One, 0x43, 0x16), None, Device(Dev::Pit)),
-    (Out(One, 0x40, 0x05), None, Device(Dev::Pit)),
-    (Out(One, 0x43, 0xC2), None, Device(Dev::Pit)),
-    (In(One, 0x40), Some(0xD6), Device(Dev::Pit)),
-    (In(One, 0x40), Some(0x00), Device(Dev::Pit)),
-    (Pulse(3), None, Device(Dev::Pit)),
-    (Out(One, 0x43, 0xC2), None, Device(Dev::Pit)),
-    (In(One, 0x40), Some(0x96), Device(Dev::Pit)),
-    (In(One, 0x40), Some(0x00), Device(Dev::Pit)),
-    (Pulse(1), None, Device(Dev::Pit)),
-    (Out(One, 0x43, 0xC2), None, Device(Dev::Pit)),
-    (In(One, 0x40), Some(0x16), Device(Dev::Pit)),
-    (In(One, 0x40), Some(0x04), Device(Dev::Pit)),
-    (Pulse(8), None, Device(Dev::Pit)),
-    (Out(One, 0x43, 0xC2), None, Device(Dev::Pit)),
-    (In(One, 0x40), Some(0x96), Device(Dev::Pit)),
-    (In(One, 0x40), Some(0x02), Device(Dev::Pit)),
+    (1, Out(One, 0x43, 0x16), PIT),
+    (1, Out(One, 0x40, 0x05), PIT),
+    (1, Out(One, 0x43, 0xC2), PIT),
+    (1, In(One, 0x40), Gives(0xD6, Device(Dev::Pit))),
+    (1, In(One, 0x40), Gives(0x00, Device(Dev::Pit))),
+    (1, Pulses(3), PIT),
+    (1, Out(One, 0x43, 0xC2), PIT),
+    (1, In(One, 0x40), Gives(0x96, Device(Dev::Pit))),
+    (1, In(One, 0x40), Gives(0x00, Device(Dev::Pit))),
+    (1, Pulses(1), PIT),
+    (1, Out(One, 0x43, 0xC2), PIT),
+    (1, In(One, 0x40), Gives(0x16, Device(Dev::Pit))),
+    (1, In(One, 0x40), Gives(0x04, Device(Dev::Pit))),
+    (1, Pulses(8), PIT),
+    (1, Out(One, 0x43, 0xC2), PIT),
+    (1, In(One, 0x40), Gives(0x96, Device(Dev::Pit))),
+    (1, In(One, 0x40), Gives(0x02, Device(Dev::Pit))),
 ];
 
-/// Requests that go away before they are acknowledged are spurious.
-const SPURIOUS: [Line; 12] = [
-    (Irq10(true), None, Device(Dev::Wires)),
-    (Irq10(false), None, Device(Dev::Wires)),
-    (Acknowledge, Some(0x2F), Device(Dev::Spurious(1))),
-    (Out(One, 0x20, 0x0B), None, Device(Dev::Pic0)),
-    (In(One, 0x20), Some(0x04), Device(Dev::Pic0)),
-    (Out(One, 0xA0, 0x0B), None, Device(Dev::Pic1)),
-    (In(One, 0xA0), Some(0x00), Device(Dev::Pic1)),
-    (Irq5(true), None, Device(Dev::Wires)),
-    (Acknowledge, Some(0x27), Device(Dev::Spurious(0))),
-    (Out(One, 0x20, 0x20), None, Device(Dev::Pic0)),
-    (Acknowledge, Some(0x25), Device(Dev::Vector(0))),
-    (In(One, 0x20), Some(0x20), Device(Dev::Pic0)),
+/// Before their initialization the 8259As answer an acknowledge by vector 7. Then they get the vectors from 20h and 28h
+/// on, with the slave at level 2.
+const PAIR_SET_UP: [Line; 9] = [
+    (1, Ack, Gives(0x07, Device(Dev::Spurious(0)))),
+    (1, Out(One, 0x20, 0x11), PIC0),
+    (1, Out(One, 0x21, 0x20), PIC0),
+    (1, Out(One, 0x21, 0x04), PIC0),
+    (1, Out(One, 0x21, 0x01), PIC0),
+    (1, Out(One, 0xA0, 0x11), PIC1),
+    (1, Out(One, 0xA1, 0x28), PIC1),
+    (1, Out(One, 0xA1, 0x02), PIC1),
+    (1, Out(One, 0xA1, 0x01), PIC1),
 ];
 
-/// An end of interrupt takes the first level in service.
-const END_OF_INTERRUPT: [Line; 7] = [
-    (Irq5(true), None, Device(Dev::Wires)),
-    (Acknowledge, Some(0x25), Device(Dev::Vector(0))),
-    (Irq3(true), None, Device(Dev::Wires)),
-    (Acknowledge, Some(0x23), Device(Dev::Vector(0))),
-    (Out(One, 0x20, 0x20), None, Device(Dev::Pic0)),
-    (Out(One, 0x20, 0x0B), None, Device(Dev::Pic0)),
-    (In(One, 0x20), Some(0x20), Device(Dev::Pic0)),
+/// A request of the slave that went away leaves level 2 of the master in service, which keeps level 5 back.
+const SPURIOUS: [Line; 11] = [
+    (1, Request(10, true), WIRES),
+    (1, Request(10, false), WIRES),
+    (1, Ack, Gives(0x2F, Device(Dev::Spurious(1)))),
+    (1, Out(One, 0x20, 0x0B), PIC0),
+    (1, In(One, 0x20), Gives(0x04, Device(Dev::Pic0))),
+    (1, Out(One, 0xA0, 0x0B), PIC1),
+    (1, In(One, 0xA0), Gives(0x00, Device(Dev::Pic1))),
+    (1, Request(5, true), WIRES),
+    (1, Ack, Gives(0x27, Device(Dev::Spurious(0)))),
+    (1, Out(One, 0x20, 0x20), PIC0),
+    (1, Ack, Gives(0x25, Device(Dev::Vector(0)))),
 ];
 
-/// Port 61h shows OUT of counter 2, and bit 4 flips after each read.
-const PORT_61H: [Line; 4] = [
-    (In(One, 0x61), Some(0x20), Device(Dev::System)),
-    (In(One, 0x61), Some(0x30), Device(Dev::System)),
-    (Out(One, 0x61, 0x03), None, Device(Dev::System)),
-    (In(One, 0x61), Some(0x23), Device(Dev::System)),
+/// An end of interrupt that names no level ends the highest in service.
+const NESTED: [Line; 7] = [
+    (1, Request(5, true), WIRES),
+    (1, Ack, Gives(0x25, Device(Dev::Vector(0)))),
+    (1, Request(3, true), WIRES),
+    (1, Ack, Gives(0x23, Device(Dev::Vector(0)))),
+    (1, Out(One, 0x20, 0x20), PIC0),
+    (1, Out(One, 0x20, 0x0B), PIC0),
+    (1, In(One, 0x20), Gives(0x20, Device(Dev::Pic0))),
 ];
 
-/// The clock is told 23:59:58 on a leap day, in BCD and 12 hours, and then in 24 hours.
-const CLOCK: [Line; 17] = [
-    (LeapDay, None, Device(Dev::Clock)),
-    (Out(One, 0x70, 0x04), None, Device(Dev::Clock)),
-    (In(One, 0x71), Some(0x23), Device(Dev::Clock)),
-    (Out(One, 0x70, 0x06), None, Device(Dev::Clock)),
-    (In(One, 0x71), Some(0x05), Device(Dev::Clock)),
-    (Out(One, 0x70, 0x07), None, Device(Dev::Clock)),
-    (In(One, 0x71), Some(0x29), Device(Dev::Clock)),
-    (Out(One, 0x70, 0x09), None, Device(Dev::Clock)),
-    (In(One, 0x71), Some(0x24), Device(Dev::Clock)),
-    (Out(One, 0x70, 0x0C), None, Device(Dev::Clock)),
-    (In(One, 0x71), Some(0x10), Device(Dev::Clock)),
-    (In(One, 0x71), Some(0x00), Device(Dev::Clock)),
-    (Out(One, 0x70, 0x0B), None, Device(Dev::Clock)),
-    (Out(One, 0x71, 0x00), None, Device(Dev::Clock)),
-    (LeapDay, None, Device(Dev::Clock)),
-    (Out(One, 0x70, 0x04), None, Device(Dev::Clock)),
-    (In(One, 0x71), Some(0x91), Device(Dev::Clock)),
+/// The INTA# of card 4 is PIRQD#, routed to line 11, which keeps its level over the end of its interrupt.
+const ROUTED: [Line; 8] = [
+    (1, Out(Four, 0xCF8, 0x8000_0860), CONFADD),
+    (1, Out(One, 0xCFF, 0x0B), Done(Config(1, 0, 0x63))),
+    (1, Out(One, 0x4D1, 0x08), Done(Device(Dev::Elcr))),
+    (1, Wire(true), WIRES),
+    (1, Ack, Gives(0x2B, Device(Dev::Vector(1)))),
+    (1, Out(One, 0xA0, 0x20), PIC1),
+    (1, Out(One, 0x20, 0x20), PIC0),
+    (1, Ack, Gives(0x2B, Device(Dev::Vector(1)))),
 ];
 
-/// XBCS lets writes through to the ROM, which takes none; a soft reset leaves it.
-const ROM: [Line; 7] = [
-    (Out(Four, 0xCF8, 0x8000_084C), None, Device(Dev::Confadd)),
-    (Out(One, 0xCFE, 0x47), None, Config(1, 0, 0x4E)),
-    (Write(One, 0xF_0000, 0x01), None, ReadOnly(0x00)),
-    (Read(One, 0xE_0005), Some(0x05), Rom(0x05)),
-    (Out(One, 0xCF9, 0x04), None, Device(Dev::Reset)),
-    (In(One, 0xCFE), Some(0x47), Config(1, 0, 0x4E)),
-    (In(One, 0xCF9), Some(0x04), Device(Dev::Reset)),
+/// OUT of counter 2 is 1 after a reset, and the refresh bit changes with each read.
+const SYSTEM_PORT: [Line; 4] = [
+    (1, In(One, 0x61), Gives(0x20, Device(Dev::System))),
+    (1, In(One, 0x61), Gives(0x30, Device(Dev::System))),
+    (1, Out(One, 0x61, 0x03), Done(Device(Dev::System))),
+    (1, In(One, 0x61), Gives(0x23, Device(Dev::System))),
 ];
 
-/// INTA# of device 4 is routed to line 11, which is level triggered.
-const ROUTE: [Line; 3] = [
-    (Out(Four, 0xCF8, 0x8000_0860), None, Device(Dev::Confadd)),
-    (Out(One, 0xCFF, 0x0B), None, Config(1, 0, 0x63)),
-    (Out(One, 0x4D1, 0x08), None, Device(Dev::Elcr)),
+/// The clock two seconds before the end of a leap day, in BCD. The update sets a flag of register C, which a read
+/// clears. In hours of 12 bit 7 tells the afternoon.
+const LEAP_DAY: [Line; 18] = [
+    (1, LeapDay, CLOCK),
+    (1, Out(One, 0x70, 0x04), CLOCK),
+    (1, In(One, 0x71), Gives(0x23, Device(Dev::Clock))),
+    (1, Out(One, 0x70, 0x06), CLOCK),
+    (1, In(One, 0x71), Gives(0x05, Device(Dev::Clock))),
+    (1, Out(One, 0x70, 0x07), CLOCK),
+    (1, In(One, 0x71), Gives(0x29, Device(Dev::Clock))),
+    (1, Out(One, 0x70, 0x09), CLOCK),
+    (1, In(One, 0x71), Gives(0x24, Device(Dev::Clock))),
+    (1, Out(One, 0x70, 0x0C), CLOCK),
+    (1, In(One, 0x71), Gives(0x10, Device(Dev::Clock))),
+    (1, Out(One, 0x70, 0x0C), CLOCK),
+    (1, In(One, 0x71), Gives(0x00, Device(Dev::Clock))),
+    (1, Out(One, 0x70, 0x0B), CLOCK),
+    (1, Out(One, 0x71, 0x00), CLOCK),
+    (1, LeapDay, CLOCK),
+    (1, Out(One, 0x70, 0x04), CLOCK),
+    (1, In(One, 0x71), Gives(0x91, Device(Dev::Clock))),
 ];
 
-/// A level stays pending after its end of interrupt.
-const LEVEL: [Line; 4] = [
-    (Acknowledge, Some(0x2B), Device(Dev::Vector(1))),
-    (Out(One, 0xA0, 0x20), None, Device(Dev::Pic1)),
-    (Out(One, 0x20, 0x20), None, Device(Dev::Pic0)),
-    (Acknowledge, Some(0x2B), Device(Dev::Vector(1))),
+/// The IDE function decodes the primary channel.
+const IDE_ENABLED: [Line; 4] = [
+    (1, Out(Four, 0xCF8, 0x8000_0904), CONFADD),
+    (1, Out(One, 0xCFC, 0x01), Done(Config(1, 1, 0x04))),
+    (1, Out(Four, 0xCF8, 0x8000_0940), CONFADD),
+    (1, Out(Two, 0xCFC, 0x8000), Done(Config(1, 1, 0x40))),
 ];
 
-/// The IDE function decodes the disk's ports, and drive 0 is chosen by block address.
-const DISK_ON: [Line; 5] = [
-    (Out(Four, 0xCF8, 0x8000_0904), None, Device(Dev::Confadd)),
-    (Out(One, 0xCFC, 0x01), None, Config(1, 1, 0x04)),
-    (Out(Four, 0xCF8, 0x8000_0940), None, Device(Dev::Confadd)),
-    (Out(Two, 0xCFC, 0x8000), None, Config(1, 1, 0x40)),
-    (Out(One, 0x1F6, 0xE0), None, Device(Dev::Ata)),
+/// A read of 256 sectors, of which only one is left: sector 3, and then an error at sector 4.
+const PAST_THE_LAST_SECTOR: [Line; 12] = [
+    (1, Out(One, 0x1F6, 0xE0), DISK),
+    (1, Out(One, 0x1F2, 0x00), DISK),
+    (1, Out(One, 0x1F3, 0x03), DISK),
+    (1, Out(One, 0x1F4, 0x00), DISK),
+    (1, Out(One, 0x1F5, 0x00), DISK),
+    (1, Out(One, 0x1F7, 0x20), DISK),
+    (1, In(One, 0x1F7), Gives(0x58, Device(Dev::Ata))),
+    (128, In(Four, 0x1F0), Gives(0x0404_0404, Device(Dev::Ata))),
+    (1, In(One, 0x1F7), Gives(0x51, Device(Dev::Ata))),
+    (1, In(One, 0x1F1), Gives(0x10, Device(Dev::Ata))),
+    (1, In(One, 0x1F2), Gives(0xFF, Device(Dev::Ata))),
+    (1, In(One, 0x1F3), Gives(0x04, Device(Dev::Ata))),
 ];
 
-/// 256 sectors are read from the last of a disk of four.
-const PAST_THE_END: [Line; 6] = [
-    (Out(One, 0x1F2, 0x00), None, Device(Dev::Ata)),
-    (Out(One, 0x1F3, 0x03), None, Device(Dev::Ata)),
-    (Out(One, 0x1F4, 0x00), None, Device(Dev::Ata)),
-    (Out(One, 0x1F5, 0x00), None, Device(Dev::Ata)),
-    (Out(One, 0x1F7, 0x20), None, Device(Dev::Ata)),
-    (In(One, 0x1F7), Some(0x58), Device(Dev::Ata)),
+/// A bad sector cannot be read, until it is written.
+const BAD_SECTOR: [Line; 18] = [
+    (1, BadSector(1), DISK),
+    (1, Out(One, 0x1F6, 0xE0), DISK),
+    (1, Out(One, 0x1F2, 0x01), DISK),
+    (1, Out(One, 0x1F3, 0x01), DISK),
+    (1, Out(One, 0x1F4, 0x00), DISK),
+    (1, Out(One, 0x1F5, 0x00), DISK),
+    (1, Out(One, 0x1F7, 0x20), DISK),
+    (1, In(One, 0x1F7), Gives(0x51, Device(Dev::Ata))),
+    (1, In(One, 0x1F1), Gives(0x40, Device(Dev::Ata))),
+    (1, In(One, 0x1F2), Gives(0x01, Device(Dev::Ata))),
+    (1, Out(One, 0x1F7, 0x30), DISK),
+    (1, In(One, 0x1F7), Gives(0x58, Device(Dev::Ata))),
+    (128, Out(Four, 0x1F0, 0x0707_0707), DISK),
+    (1, In(One, 0x1F7), Gives(0x50, Device(Dev::Ata))),
+    (1, Out(One, 0x1F2, 0x01), DISK),
+    (1, Out(One, 0x1F3, 0x01), DISK),
+    (1, Out(One, 0x1F7, 0x20), DISK),
+    (1, In(Four, 0x1F0), Gives(0x0707_0707, Device(Dev::Ata))),
 ];
 
-/// The status after the last sector was read.
-const ENDED: [Line; 4] = [
-    (In(One, 0x1F7), Some(0x51), Device(Dev::Ata)),
-    (In(One, 0x1F1), Some(0x10), Device(Dev::Ata)),
-    (In(One, 0x1F2), Some(0xFF), Device(Dev::Ata)),
-    (In(One, 0x1F3), Some(0x04), Device(Dev::Ata)),
+/// Where XBCS lets writes through to the ROM, the chip itself takes none. A soft reset leaves XBCS.
+const WRITES_TO_THE_ROM: [Line; 7] = [
+    (1, Out(Four, 0xCF8, 0x8000_084C), CONFADD),
+    (1, Out(One, 0xCFE, 0x47), Done(Config(1, 0, 0x4E))),
+    (1, Write(One, 0xF_0000, 0x01), Done(ReadOnly(0x00))),
+    (1, Read(One, 0xE_0005), Gives(0x05, Rom(0x05))),
+    (1, Out(One, 0xCF9, 0x04), Done(Device(Dev::Reset))),
+    (1, In(One, 0xCFE), Gives(0x47, Config(1, 0, 0x4E))),
+    (1, In(One, 0xCF9), Gives(0x04, Device(Dev::Reset))),
 ];
 
-/// A bad sector fails to be read, and is written.
-const BAD_SECTOR: [Line; 11] = [
-    (Bad(1), None, Device(Dev::Ata)),
-    (Out(One, 0x1F2, 0x01), None, Device(Dev::Ata)),
-    (Out(One, 0x1F3, 0x01), None, Device(Dev::Ata)),
-    (Out(One, 0x1F4, 0x00), None, Device(Dev::Ata)),
-    (Out(One, 0x1F5, 0x00), None, Device(Dev::Ata)),
-    (Out(One, 0x1F7, 0x20), None, Device(Dev::Ata)),
-    (In(One, 0x1F7), Some(0x51), Device(Dev::Ata)),
-    (In(One, 0x1F1), Some(0x40), Device(Dev::Ata)),
-    (In(One, 0x1F2), Some(0x01), Device(Dev::Ata)),
-    (Out(One, 0x1F7, 0x30), None, Device(Dev::Ata)),
-    (In(One, 0x1F7), Some(0x58), Device(Dev::Ata)),
-];
-
-/// The sector that was written is read again.
-const READ_AGAIN: [Line; 5] = [
-    (In(One, 0x1F7), Some(0x50), Device(Dev::Ata)),
-    (Out(One, 0x1F2, 0x01), None, Device(Dev::Ata)),
-    (Out(One, 0x1F3, 0x01), None, Device(Dev::Ata)),
-    (Out(One, 0x1F7, 0x20), None, Device(Dev::Ata)),
-    (In(Four, 0x1F0), Some(0x0707_0707), Device(Dev::Ata)),
-];
-
-/// Wide accesses, of which one lies across the end of the DRAM below SMRAM.
+/// Wide accesses go in the longest aligned parts, each with an answer of its own.
 const WIDE: [Line; 5] = [
-    (WideWrite(2, 0x9_FFFF, 0xBBAA), None, LastDenied(None)),
-    (WideRead(2, 0x9_FFFF), None, LastDenied(Some(0xFFAA))),
     (
-        WideWrite(8, 0x1000, 0x0807_0605_0403_0201),
-        None,
-        Place::Parts(2, None),
+        1,
+        WriteWide(2, 0x9_FFFF, 0xBBAA),
+        TwoParts(None, Dram, Denied(0, 0, 0x72)),
     ),
     (
-        WideRead(8, 0x1003),
-        None,
-        Place::Parts(4, Some(0x0807_0605_04)),
+        1,
+        ReadWide(2, 0x9_FFFF),
+        TwoParts(Some(0xFFAA), Dram, Denied(0, 0, 0x72)),
     ),
     (
-        WideRead(4, 0x1001),
-        None,
-        Place::Parts(3, Some(0x0504_0302)),
+        1,
+        WriteWide(8, 0x1000, 0x0807_0605_0403_0201),
+        TwoParts(None, Dram, Dram),
+    ),
+    (
+        1,
+        ReadWide(8, 0x1003),
+        FourParts(0x0000_0008_0706_0504, Dram, Dram, Dram, Dram),
+    ),
+    (
+        1,
+        ReadWide(4, 0x1001),
+        ThreeParts(0x0504_0302, Dram, Dram, Dram),
     ),
 ];
 
-/// The expansion ROM of a card: its register, who denies it, its bytes, and the map.
-const EXPANSION_ROM: [Line; 18] = [
-    (Out(Four, 0xCF8, 0x8000_1030), None, Device(Dev::Confadd)),
-    (Out(Four, 0xCFC, 0xFFFF_FFFF), None, Config(2, 0, 0x30)),
-    (In(Four, 0xCFC), Some(0xFFFF_0001), Config(2, 0, 0x30)),
-    (Out(Four, 0xCFC, 0xD000_0000), None, Config(2, 0, 0x30)),
-    (Read(One, 0xD000_0004), Some(0xFF), Nobody),
-    (Out(Four, 0xCFC, 0xD000_0001), None, Config(2, 0, 0x30)),
-    (Read(One, 0xD000_0004), Some(0xFF), Denied(2, 0, 0x04)),
-    (Out(Four, 0xCF8, 0x8000_1004), None, Device(Dev::Confadd)),
-    (Out(One, 0xCFC, 0x02), None, Config(2, 0, 0x04)),
-    (Read(One, 0xD000_0004), Some(0x06), Card(2, 6, 4)),
-    (Write(One, 0xD000_0004, 0x55), None, Card(2, 6, 4)),
-    (Read(One, 0xD000_0004), Some(0x06), Card(2, 6, 4)),
+/// A word across the foot of SMRAM, which is open in SMM alone.
+const WIDE_INTO_SMRAM: [Line; 5] = [
+    (1, Out(Four, 0xCF8, 0x8000_0070), CONFADD),
+    (1, Out(One, 0xCFE, 0x58), Done(Config(0, 0, 0x72))),
+    (1, In(One, 0xCFE), Gives(0x1A, Config(0, 0, 0x72))),
     (
-        LookAt(0xD000_0004),
-        None,
-        Seen(4, 0xD000_0000, 0xD000_FFFF, Area::Card(2, 6)),
+        1,
+        ReadWideInSmm(2, 0x9_FFFF),
+        TwoParts(Some(0x0000), Dram, Smram),
     ),
-    (Out(Four, 0xCF8, 0x8000_1030), None, Device(Dev::Confadd)),
-    (Out(One, 0xCFC, 0x00), None, Config(2, 0, 0x30)),
-    (Read(One, 0xD000_0004), Some(0xFF), Denied(2, 0, 0x30)),
     (
-        LookAt(0xD000_0004),
-        None,
-        Seen(5, 0x80_0000, 0xFFFE_FFFF, Area::Abort),
+        1,
+        ReadWide(2, 0x9_FFFF),
+        TwoParts(Some(0xFF00), Dram, Denied(0, 0, 0x72)),
     ),
-    (Read(One, 0x0), Some(0x00), Dram),
 ];
+
+/// The expansion ROM of card 2 answers where its own enable and the card's memory space are on.
+const EXPANSION_ROM: [Line; 16] = [
+    (1, Out(Four, 0xCF8, 0x8000_1030), CONFADD),
+    (1, Out(Four, 0xCFC, 0xFFFF_FFFF), Done(Config(2, 0, 0x30))),
+    (1, In(Four, 0xCFC), Gives(0xFFFF_0001, Config(2, 0, 0x30))),
+    (1, Out(Four, 0xCFC, 0xD000_0000), Done(Config(2, 0, 0x30))),
+    (1, Read(One, 0xD000_0004), Gives(0xFF, Nobody)),
+    (1, Out(Four, 0xCFC, 0xD000_0001), Done(Config(2, 0, 0x30))),
+    (1, Read(One, 0xD000_0004), Gives(0xFF, Denied(2, 0, 0x04))),
+    (1, Out(Four, 0xCF8, 0x8000_1004), CONFADD),
+    (1, Out(One, 0xCFC, 0x02), Done(Config(2, 0, 0x04))),
+    (1, Read(One, 0xD000_0004), Gives(0x06, Expansion(0x04))),
+    (1, Write(One, 0xD000_0004, 0x55), Done(Expansion(0x04))),
+    (
+        1,
+        LookAt(0xD000_0004),
+        Sees(4, 0xD000_0000, 0xD000_FFFF, Area::Card(2, 6)),
+    ),
+    (1, Out(Four, 0xCF8, 0x8000_1030), CONFADD),
+    (1, Out(One, 0xCFC, 0x00), Done(Config(2, 0, 0x30))),
+    (1, Read(One, 0xD000_0004), Gives(0xFF, Denied(2, 0, 0x30))),
+    (
+        1,
+        LookAt(0xD000_0004),
+        Sees(5, 0x0080_0000, 0xFFFE_FFFF, Area::Abort),
+    ),
+];
+
+/// An access at a port.
+fn port(rt: &impl Abort, write: bool, width: Width, port: u16, value: u32) -> Event
+    requires value { write ≡ false → value ≡ 0 }
+    ensures in_range { (setup : Fitting) → is_some (card_at setup 4) ≡ true → IsInRange setup result }
+{
+    assert!(rt; width.is_aligned(u32::from(port)));
+    assert!(rt; width.fits(value));
+    Event::Port(PortAccess {
+        write,
+        port,
+        width,
+        value,
+    })
+}
 
 /// An access to memory.
 fn memory(rt: &impl Abort, kind: Kind, width: Width, addr: u32, value: u32) -> Event
     requires value { is_write kind ≡ false → value ≡ 0 }
-    ensures in_range { (setup : Fitting) → IsInRange setup result }
+    ensures in_range { (setup : Fitting) → is_some (card_at setup 4) ≡ true → IsInRange setup result }
 {
     assert!(rt; width.is_aligned(addr));
     assert!(rt; width.fits(value));
@@ -296,136 +356,91 @@ fn memory(rt: &impl Abort, kind: Kind, width: Width, addr: u32, value: u32) -> E
 }
 
 /// A wide access to memory.
-fn wide(rt: &impl Abort, kind: Kind, addr: u32, bytes: u8, value: u64) -> Event
+fn wide(rt: &impl Abort, kind: Kind, bytes: u8, addr: u32, smm: bool, value: u64) -> Event
     requires value { is_write kind ≡ false → value ≡ 0 }
-    ensures in_range { (setup : Fitting) → IsInRange setup result }
+    ensures in_range { (setup : Fitting) → is_some (card_at setup 4) ≡ true → IsInRange setup result }
 {
-    assert!(rt; addr < 0xFFFF_FFF0);
-    assert!(rt; bytes == 8 || (bytes == 2 || bytes == 4) && addr % u32::from(bytes) != 0);
-    assert!(rt; bytes == 8 || value < 0x1_0000);
+    let largest = match bytes {
+        2 => 0xFFFF,
+        4 => 0xFFFF_FFFF,
+        _ => 0xFFFF_FFFF_FFFF_FFFF,
+    };
+    assert!(rt; bytes == 2 || bytes == 4 || bytes == 8);
+    assert!(rt; bytes == 8 || addr % u32::from(bytes) != 0);
+    assert!(rt; addr <= 0xFFFF_FFF8);
+    assert!(rt; value <= largest);
     Event::Wide(WideAccess {
         kind,
         addr,
         bytes,
-        smm: false,
+        smm,
         value,
     })
 }
 
-/// An access at a port.
-fn port(rt: &impl Abort, write: bool, width: Width, port: u16, value: u32) -> Event
-    requires value { write ≡ false → value ≡ 0 }
-    ensures in_range { (setup : Fitting) → IsInRange setup result }
-{
-    assert!(rt; width.is_aligned(u32::from(port)));
-    assert!(rt; width.fits(value));
-    Event::Port(PortAccess {
-        write,
-        port,
-        width,
-        value,
-    })
-}
-
-/// So many pulses.
-fn pulses(rt: &impl Abort, count: u32) -> Event
-    ensures in_range { (setup : Fitting) → IsInRange setup result }
-{
-    assert!(rt; 1 <= count && count <= 1_000_000);
-    Event::Pulses(count)
-}
-
-/// 2024-02-29, 23:59:58.
-fn leap_day(rt: &impl Abort) -> Event
-    ensures in_range { (setup : Fitting) → IsInRange setup result }
-{
-    match Moment::new(2024, 2, 29, 23, 59, 58) {
-        Some(moment) => Event::Time(moment),
-        None => panic!(rt; "no such day"),
-    }
-}
-
-/// What a statement asks of the board.
-fn event(rt: &impl Abort, statement: Statement) -> Event
-    ensures in_range { (setup : Fitting) → IsInRange setup result }
+/// What comes from outside the bus, and looks.
+fn outside(rt: &impl Abort, statement: Statement) -> Event
+    ensures in_range { (setup : Fitting) → is_some (card_at setup 4) ≡ true → IsInRange setup result }
 {
     match statement {
-        Read(width, addr) => memory(rt, Kind::Read, width, addr, 0),
-        Write(width, addr, value) => memory(rt, Kind::Write, width, addr, value),
-        WideRead(bytes, addr) => wide(rt, Kind::Read, addr, bytes, 0),
-        WideWrite(bytes, addr, value) => wide(rt, Kind::Write, addr, bytes, value),
-        Out(width, at, value) => port(rt, true, width, at, value),
-        In(width, at) => port(rt, false, width, at, 0),
         LookAt(addr) => Event::Look {
             kind: Kind::Read,
             addr,
             smm: false,
         },
-        Acknowledge => Event::Ack,
-        Pulse(count) => pulses(rt, count),
-        Irq3(on) => Event::Line { irq: 3, on },
-        Irq5(on) => Event::Line { irq: 5, on },
-        Irq10(on) => Event::Line { irq: 10, on },
-        LeapDay => leap_day(rt),
-        Bad(sector) => Event::BadSector(sector),
+        Pulses(count) => {
+            assert!(rt; 1 <= count && count <= 1_000_000);
+            Event::Pulses(count)
+        }
+        LeapDay => match Moment::new(2024, 2, 29, 23, 59, 58) {
+            Some(moment) => Event::Time(moment),
+            None => Event::Ack,
+        },
+        Request(irq, on) => {
+            assert!(rt; irq == 1 || 3 <= irq && irq <= 7 || 9 <= irq && irq <= 12 || irq == 15);
+            Event::Line { irq, on }
+        }
+        Wire(on) => Event::Wire { dev: 4, on },
+        BadSector(sector) => Event::BadSector(sector),
+        _ => Event::Ack,
     }
 }
 
-/// A register that denies.
-fn denied_by(dev: u8, fun: u8, off: u8) -> Option<Denial> {
-    Some(Denial::Register(Reg { dev, fun, off }))
-}
-
-/// One part in DRAM.
-const IN_DRAM: Part = Part {
-    target: Target::Dram(0),
-    denial: None,
-};
-
-/// The reply to a wide access whose two to four parts lie in DRAM.
-fn in_dram(count: u8, value: Option<u64>) -> Reply {
-    let parts = match count {
-        2 => Parts::Two(IN_DRAM, IN_DRAM),
-        3 => Parts::Three(IN_DRAM, IN_DRAM, IN_DRAM),
-        _ => Parts::Four(IN_DRAM, IN_DRAM, IN_DRAM, IN_DRAM),
-    };
-    Reply::Parts { value, parts }
-}
-
-/// The reply to a wide access whose second part is denied by SMRAM.
-fn last_denied(value: Option<u64>) -> Reply {
-    let denied = Part {
-        target: Target::Abort,
-        denial: denied_by(0, 0, 0x72),
-    };
-    Reply::Parts {
-        value,
-        parts: Parts::Two(IN_DRAM, denied),
+/// What a statement asks of the board.
+fn event(rt: &impl Abort, statement: Statement) -> Event
+    ensures in_range { (setup : Fitting) → is_some (card_at setup 4) ≡ true → IsInRange setup result }
+{
+    match statement {
+        Out(width, number, value) => port(rt, true, width, number, value),
+        In(width, number) => port(rt, false, width, number, 0),
+        Write(width, addr, value) => memory(rt, Kind::Write, width, addr, value),
+        Read(width, addr) => memory(rt, Kind::Read, width, addr, 0),
+        WriteWide(bytes, addr, value) => wide(rt, Kind::Write, bytes, addr, false, value),
+        ReadWide(bytes, addr) => wide(rt, Kind::Read, bytes, addr, false, 0),
+        ReadWideInSmm(bytes, addr) => wide(rt, Kind::Read, bytes, addr, true, 0),
+        _ => outside(rt, statement),
     }
 }
 
-/// The reply that is expected.
-fn expected(value: Option<u32>, place: Place) -> Reply {
+/// A place, and what denies it.
+fn part(place: Place) -> Part {
     let (target, denial) = match place {
-        Device(dev) => (Target::Device(dev), None),
         Dram => (Target::Dram(0), None),
+        Smram => (Target::Smram, None),
         Rom(off) => (Target::Rom(off), None),
         ReadOnly(off) => (Target::Rom(off), Some(Denial::NoRegister)),
-        Card(dev, base, off) => (Target::Card(dev, base, off), None),
+        Expansion(off) => (Target::Card(2, 6, off), None),
+        Device(dev) => (Target::Device(dev), None),
         Config(dev, fun, off) => (Target::Config(Reg { dev, fun, off }), None),
-        Denied(dev, fun, off) => (Target::Abort, denied_by(dev, fun, off)),
+        Denied(dev, fun, off) => (Target::Abort, Some(Denial::Register(Reg { dev, fun, off }))),
         Nobody => (Target::Abort, Some(Denial::NoRegister)),
-        Place::Parts(count, value) => return in_dram(count, value),
-        LastDenied(value) => return last_denied(value),
-        Seen(version, lo, hi, area) => {
-            return Reply::Saw(Look {
-                version,
-                lo,
-                hi,
-                area,
-            });
-        }
     };
+    Part { target, denial }
+}
+
+/// The reply of one cycle on the bus.
+fn bus(value: Option<u32>, place: Place) -> Reply {
+    let Part { target, denial } = part(place);
     Reply::Bus {
         value,
         target,
@@ -433,7 +448,33 @@ fn expected(value: Option<u32>, place: Place) -> Reply {
     }
 }
 
-/// A card with an expansion ROM of 2 to the power of `rom` bytes or without one, and no base.
+/// The reply that is expected.
+fn reply(expected: Expected) -> Reply {
+    match expected {
+        Done(place) => bus(None, place),
+        Gives(value, place) => bus(Some(value), place),
+        TwoParts(value, a, b) => Reply::Parts {
+            value,
+            parts: Parts::Two(part(a), part(b)),
+        },
+        ThreeParts(value, a, b, c) => Reply::Parts {
+            value: Some(value),
+            parts: Parts::Three(part(a), part(b), part(c)),
+        },
+        FourParts(value, a, b, c, d) => Reply::Parts {
+            value: Some(value),
+            parts: Parts::Four(part(a), part(b), part(c), part(d)),
+        },
+        Sees(version, lo, hi, area) => Reply::Saw(Look {
+            version,
+            lo,
+            hi,
+            area,
+        }),
+    }
+}
+
+/// A card without bases.
 fn card(dev: u8, rom: Option<u8>) -> CardSpec
     ensures card { result ≡ record { dev = dev; vga = false; bases = []; rom = rom } }
 {
@@ -445,151 +486,104 @@ fn card(dev: u8, rom: Option<u8>) -> CardSpec
     }
 }
 
-/// Bytes of a ROM, each its offset modulo 256.
-fn rom(alloc: Global, size: u32) -> Result<Vec<u8>, AllocError> {
+/// So many bytes, each its offset modulo 256 or, on a disk, the number of its sector and 1.
+fn bytes(alloc: Global, size: u32, disk: bool) -> Result<Vec<u8>, AllocError> {
     let mut bytes = Vec::new(alloc);
     for off in 0..size {
-        bytes.push((off % 256) as u8)?;
+        let byte = if disk { off / 512 + 1 } else { off };
+        bytes.push((byte % 256) as u8)?;
     }
     Ok(bytes)
 }
 
-/// A disk of so many bytes, of which those of sector s are s + 1.
-fn disk(alloc: Global, size: u32) -> Result<Vec<u8>, AllocError> {
-    let mut bytes = Vec::new(alloc);
-    for at in 0..size {
-        bytes.push((at / 512 % 256) as u8 + 1)?;
-    }
-    Ok(bytes)
-}
-
-/// A board of 8 MiB with these cards, a ROM of so many bytes, and this disk.
-fn setup(
-    alloc: Global,
-    cards: Vec<CardSpec>,
-    rom_size: u32,
-    disk: Option<Vec<u8>>,
-) -> Result<Setup, AllocError>
+/// A board of 8 MiB with a card of 64 KiB of expansion ROM, a card 4, and a ROM and a disk of so many bytes.
+fn setup(alloc: Global, rom: u32, disk: u32) -> Result<Setup, AllocError>
     ensures mib { IfOk result (λ setup. setup.mib ≡ 8) }
-    ensures cards { IfOk result (λ setup. setup.cards ≡ cards.items) }
+    ensures cards { IfOk result (λ setup. IsCardList setup.cards) }
+    ensures windows { IfOk result (λ setup. memory_of_cards setup.cards ≤ 0x400_0000) }
+    ensures wired { IfOk result (λ setup. is_some (card_at setup 4) ≡ true) }
 {
     Ok(Setup {
         mib: 8,
-        cards,
-        rom: rom(alloc, rom_size)?,
-        disk,
+        cards: vec![in alloc; card(2, Some(16)), card(4, None)]?,
+        rom: bytes(alloc, rom, false)?,
+        disk: Some(bytes(alloc, disk, true)?),
     })
 }
 
-/// A board of 8 MiB with these cards and this disk, with room for 400 entries.
-fn opened(alloc: Global, cards: Vec<CardSpec>, disk: Option<Vec<u8>>) -> Result<Board, Fail>
-    requires cards { IsCardList cards.items }
-    requires windows { memory_of_cards cards.items ≤ 0x400_0000 }
-    ensures cards { IfOk result (λ board. board.setup.cards ≡ cards.items) }
-{
-    let mut board = Board::open(alloc, setup(alloc, cards, 0x1_0000, disk)?)?;
-    board.reserve(400)?;
-    Ok(board)
+/// Steps a new board through two tables, of which the first sets it up.
+fn row(rt: &impl Abort, alloc: Global, set_up: &[Line], lines: &[Line]) -> Result<(), Fail> {
+    let mut board = Board::open(alloc, setup(alloc, 0x1_0000, 4 * 512)?)?;
+    replies(rt, &mut board, set_up)?;
+    replies(rt, &mut board, lines)
 }
 
-/// Steps a board through a table and compares each reply.
+/// Steps a board through a table, and compares each reply.
 fn replies(rt: &impl Abort, board: &mut Board, lines: &[Line]) -> Result<(), Fail>
-    ensures setup { board.new.setup ≡ board.old.setup }
+    requires wired { is_some (card_at board.old.setup 4) ≡ true }
+    ensures wired { is_some (card_at board.new.setup 4) ≡ true }
 {
     for line in lines {
-        let (statement, value, place) = *line;
-        let event = event(rt, statement);
-        assert!(rt; board.history().spare() >= 1);
-        let reply = board.step(255, &event);
-        assert_eq!(rt; reply, expected(value, place));
+        let (times, statement, expected) = *line;
+        repeat(rt, board, times, &event(rt, statement), &reply(expected))?;
+    }
+    Ok(())
+}
+
+/// Does an event so many times, and compares each reply.
+fn repeat(
+    rt: &impl Abort,
+    board: &mut Board,
+    times: u32,
+    event: &Event,
+    expected: &Reply,
+) -> Result<(), Fail>
+    requires in_range { IsInRange board.old.setup event.now }
+    ensures setup { board.new.setup ≡ board.old.setup }
+{
+    for _ in 0..times {
+        assert!(rt; board.history().len() < 1000);
+        board.reserve(1)?;
+        assert_eq!(rt; board.step(0, event), *expected);
     }
     Ok(())
 }
 
 #[test]
-fn interrupts_timer_clock_and_rom(rt: HostRuntime) -> Result<(), Fail> {
+fn devices(rt: HostRuntime) -> Result<(), Fail> {
     let alloc = rt.alloc();
-    let mut board = opened(alloc, Vec::new(alloc), None)?;
-    replies(&rt, &mut board, &SQUARE_WAVE)?;
-    replies(&rt, &mut board, &PORT_61H)?;
-    replies(&rt, &mut board, &CLOCK)?;
-    replies(&rt, &mut board, &ROM)?;
-    let mut board = opened(alloc, Vec::new(alloc), None)?;
-    replies(&rt, &mut board, &PAIR)?;
-    replies(&rt, &mut board, &SPURIOUS)?;
-    let mut board = opened(alloc, Vec::new(alloc), None)?;
-    replies(&rt, &mut board, &PAIR)?;
-    replies(&rt, &mut board, &END_OF_INTERRUPT)?;
-    Ok(())
+    row(&rt, alloc, &[], &SQUARE_WAVE)?;
+    row(&rt, alloc, &PAIR_SET_UP, &SPURIOUS)?;
+    row(&rt, alloc, &PAIR_SET_UP, &NESTED)?;
+    row(&rt, alloc, &PAIR_SET_UP, &ROUTED)?;
+    row(&rt, alloc, &SYSTEM_PORT, &LEAP_DAY)?;
+    row(&rt, alloc, &IDE_ENABLED, &PAST_THE_LAST_SECTOR)?;
+    row(&rt, alloc, &IDE_ENABLED, &BAD_SECTOR)
 }
 
 #[test]
-fn a_wire_is_routed(rt: HostRuntime) -> Result<(), Fail> {
+fn memory_and_registers(rt: HostRuntime) -> Result<(), Fail> {
     let alloc = rt.alloc();
-    let mut board = opened(alloc, vec![in alloc; card(4, None)]?, None)?;
-    replies(
-        &rt,
-        &mut board,
-        &[(Acknowledge, Some(0x07), Device(Dev::Spurious(0)))],
-    )?;
-    replies(&rt, &mut board, &PAIR)?;
-    replies(&rt, &mut board, &ROUTE)?;
-    assert!(rt; board.history().spare() >= 1);
-    let reply = board.step(0, &Event::Wire { dev: 4, on: true });
-    assert_eq!(rt; reply, expected(None, Device(Dev::Wires)));
-    replies(&rt, &mut board, &LEVEL)?;
-    Ok(())
+    row(&rt, alloc, &[], &WRITES_TO_THE_ROM)?;
+    row(&rt, alloc, &[], &WIDE)?;
+    row(&rt, alloc, &[], &WIDE_INTO_SMRAM)?;
+    row(&rt, alloc, &[], &EXPANSION_ROM)
 }
 
 #[test]
-fn a_disk_of_four_sectors(rt: HostRuntime) -> Result<(), Fail> {
+fn setups_that_are_refused(rt: HostRuntime) -> Result<(), Fail> {
     let alloc = rt.alloc();
-    let mut board = opened(alloc, Vec::new(alloc), Some(disk(alloc, 2048)?))?;
-    replies(&rt, &mut board, &DISK_ON)?;
-    replies(&rt, &mut board, &PAST_THE_END)?;
-    for _ in 0..128 {
-        replies(
-            &rt,
-            &mut board,
-            &[(In(Four, 0x1F0), Some(0x0404_0404), Device(Dev::Ata))],
-        )?;
-    }
-    replies(&rt, &mut board, &ENDED)?;
-    replies(&rt, &mut board, &BAD_SECTOR)?;
-    for _ in 0..128 {
-        replies(
-            &rt,
-            &mut board,
-            &[(Out(Four, 0x1F0, 0x0707_0707), None, Device(Dev::Ata))],
-        )?;
-    }
-    replies(&rt, &mut board, &READ_AGAIN)?;
-    Ok(())
-}
-
-#[test]
-fn wide_accesses_and_an_expansion_rom(rt: HostRuntime) -> Result<(), Fail> {
-    let alloc = rt.alloc();
-    let mut board = opened(alloc, Vec::new(alloc), None)?;
-    replies(&rt, &mut board, &WIDE)?;
-    let mut board = opened(alloc, vec![in alloc; card(2, Some(16))]?, None)?;
-    replies(&rt, &mut board, &EXPANSION_ROM)?;
-    assert_eq!(rt; board.map().version(), 5);
-    Ok(())
-}
-
-#[test]
-fn bad_images(rt: HostRuntime) -> Result<(), Fail> {
-    let alloc = rt.alloc();
-    for (rom_size, disk_size, fault) in [
-        (0xFFFF, 512, BoardOpen::BadRom),
-        (0, 1, BoardOpen::BadRom),
-        (0x1_0000, 513, BoardOpen::BadDisk),
-        (0x1_0000, 0, BoardOpen::BadDisk),
-    ] {
-        let disk = Some(disk(alloc, disk_size)?);
-        let setup = setup(alloc, Vec::new(alloc), rom_size, disk)?;
-        assert!(rt; matches!(Board::open(alloc, setup), Err(given) if given == fault));
-    }
+    assert!(rt;
+        matches!(
+            Board::open(alloc, setup(alloc, 0, 1)?),
+            Err(BoardOpen::BadRom)
+        )
+    );
+    assert!(rt;
+        matches!(
+            Board::open(alloc, setup(alloc, 0x1_0000, 513)?),
+            Err(BoardOpen::BadDisk)
+        )
+    );
     Ok(())
 }
