@@ -1,12 +1,13 @@
-mod BridgeLemmas
-mod CardLemmas
-mod SpaceLemmas
-mod MapLemmas
-mod RegisterLemmas
-mod AddressLemmas
-mod ReachLemmas
-mod PortLemmas
-mod StoresLemmas
-mod MemoryLemmas
-mod LookLemmas
-mod KeptLemmas
+pub mod Reach
+pub mod Effects
+pub mod MapVersions
+pub mod RegisterSteps
+pub mod StoreSteps
+pub mod HeldTargets
+pub mod ChipsetSteps
+pub mod WideSteps
+pub mod PortSteps
+pub mod OutsideSteps
+pub mod MemorySteps
+pub mod Boards
+pub mod ChangeSteps

@@ -1,6 +1,4 @@
-pub mod Space
-pub mod Stores
-pub mod Decoded
-pub mod Forms
-pub mod Ports
+pub mod Faults
 pub mod Kept
+pub mod Ports
+pub mod Steps

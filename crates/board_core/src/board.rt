@@ -1,32 +1,36 @@
 //! The board: each event is one step, which adds one entry to a history that is legal at every moment.
 
-ghost use Rattle.std.specs.Prelude.{◌≡◌, ◌-◌, ◌+◌, ◌<◌, ◌≤◌, ◌↔◌, List, [], ◌∷◌, length, max, None, Err, IsTrue, IfOk, OnOk, OnErr};
+ghost use Rattle.std.specs.Prelude.{◌≡◌, ◌-◌, ◌+◌, ◌++◌, ◌<◌, ◌≤◌, ◌↔◌, ℕ, List, [], ◌∷◌, length, max, slice_index, Err, IsTrue, IfOk, OnOk, OnErr};
 ghost use Rattle.board_spec.specs.declared.event.Entry.{Entry};
-ghost use Rattle.board_spec.specs.Setup.{IsCardList, IsRomSize, memory_of_cards};
+ghost use Rattle.board_spec.specs.Setup.{IsCardList, IsDisk, IsRomSize, memory_of_cards};
 ghost use Rattle.board_spec.specs.InRange.{IsInRange};
 ghost use Rattle.board_spec.specs.Answer.{IsAnswer};
 ghost use Rattle.board_spec.specs.Legal.{IsLegal};
+ghost use Rattle.board_spec.specs.Orders.{statements_of, IsReplayOf};
 ghost use Rattle.board_spec.specs.Registers.{byte_of};
-ghost use Rattle.board_spec.specs.MapWrites.{version_of};
+ghost use Rattle.board_spec.specs.MapWrites.{map_change_of, version_of};
 ghost use Rattle.board_spec.specs.FlatMap.{IsFlatMapOf};
+ghost use Rattle.addr_decode.specs.MapRegs.{StandsFor};
 ghost use Rattle.access_history.specs.Past.{most};
-ghost use Rattle.board_core.specs.Forms.{IsTaken};
-ghost use Rattle.board_core.specs.Kept.{IsChipset, IsChipsetOf, next_entry};
+ghost use Rattle.board_core.specs.Kept.{CanDo, IsChipsetOf, next_entry};
+ghost use Rattle.board_core.specs.Steps.{AreInRange};
 
 use crate::chipset::Chipset;
 use crate::registers::Registers;
 use crate::setup::{BoardOpen, Setup};
-use crate::stores::Stores;
-use crate::{look, memory, ports};
+use crate::{looks, memory, outside, ports, wide};
 use access_history::History;
+use addr_decode::MapChange;
 use board_base::NoMemory;
-use board_spec::{Entry, Event, Reply};
+use board_devices::Devices;
+use board_spec::{Entry, Event, Reply, Statement};
+use board_stores::Stores;
 use map_builder::FlatMap;
 use std::alloc::Global;
 use std::marker::Model;
 
-/// The most processors that a board has.
-const PROCESSORS: usize = 8;
+/// How many numbers processors can have.
+const ACTORS: usize = 256;
 
 /// The sizes in bytes that a BIOS ROM can have.
 const ROM_SIZES: [usize; 4] = [0x1_0000, 0x2_0000, 0x4_0000, 0x8_0000];
@@ -37,7 +41,8 @@ pub struct Board {
     setup: Setup,
     chipset: Chipset,
     history: History,
-    counts: [u32; PROCESSORS],
+    /// How many entries each processor has.
+    counts: [u32; ACTORS],
 }
 
 impl Model for Board {
@@ -58,47 +63,58 @@ fn is_rom_size(size: usize) -> bool
     ROM_SIZES.contains(&size)
 }
 
+/// No entries yet.
+fn no_entries() -> [u32; ACTORS]
+    ensures none { (actor : ℕ) → slice_index result actor ≡ 0 }
+{
+    [0; ACTORS]
+}
+
 /// Does an event, and tells the reply.
 fn perform(chipset: &mut Chipset, rom: &[u8], event: &Event) -> Reply
-    requires taken { IsTaken event.now }
-    requires in_range { (setup : Setup) → IsInRange setup event.now }
-    requires kept { IsChipset chipset.old rom.now }
+    requires can { CanDo chipset.old rom.now event.now }
     ensures answer { (setup : Setup) (history : List Entry) → IsChipsetOf setup history chipset.old → setup.rom ≡ rom.now
         → IsAnswer setup history event.now result }
     ensures board { (setup : Setup) (history : List Entry) (entry : Entry) → IsChipsetOf setup history chipset.old → setup.rom ≡ rom.now
         → entry.event ≡ event.now → entry.reply ≡ result → IsChipsetOf setup (entry ∷ history) chipset.new }
 {
     match event {
-        Event::Memory(access) => memory::perform(chipset, rom, access),
-        Event::Port(access) => ports::perform(chipset, access),
-        Event::Look { kind, addr, smm } => look::perform(chipset, *kind, *addr, *smm),
-        _ => unreachable!(),
+        Event::Memory(access) => memory::access(chipset, rom, access),
+        Event::Wide(access) => wide::access(chipset, rom, access),
+        Event::Port(access) => ports::access(chipset, access),
+        Event::Look { kind, addr, smm } => looks::look(chipset, *kind, *addr, *smm),
+        _ => outside::tell(chipset, event),
     }
 }
 
 impl Board {
     /// The board of a setup, as after power-on. The memory is 1 to 64 MiB; the cards are at most eight in rising order
-    /// of device, with at most 64 MiB of memory together; a disk cannot be fitted yet. BadRom exactly where the ROM is
-    /// not of 64, 128, 256 or 512 KiB.
+    /// of device, with at most 64 MiB of memory together. BadRom exactly where the ROM is not of 64, 128, 256 or 512 KiB,
+    /// and BadDisk exactly where it is and the disk is not of 1 to 65,536 whole sectors.
     pub fn open(alloc: Global, setup: Setup) -> Result<Board, BoardOpen>
         requires low { 1 ≤ setup.mib }
         requires high { setup.mib ≤ 64 }
         requires cards { IsCardList setup.cards }
         requires windows { memory_of_cards setup.cards ≤ 0x400_0000 }
-        requires disk { setup.disk ≡ None }
         ensures fresh { IfOk result (λ board. board ≡ record { setup = setup; entries = []; spare = 0 }) }
         ensures bad_rom { (result ≡ Err BoardOpen.BadRom) ↔ ¬ IsRomSize (length setup.rom) }
+        ensures bad_disk { (result ≡ Err BoardOpen.BadDisk) ↔ IsRomSize (length setup.rom) × ¬ IsDisk setup.disk }
     {
         if !is_rom_size(setup.rom().len()) {
             return Err(BoardOpen::BadRom);
         }
+        let devices = Devices::open(alloc, setup.disk())?;
         let stores = Stores::open(alloc, setup.mib, &setup.cards)?;
         let registers = Registers::new(&setup.cards);
         Ok(Board {
             setup,
-            chipset: Chipset { registers, stores },
+            chipset: Chipset {
+                registers,
+                stores,
+                devices,
+            },
             history: History::new(alloc),
-            counts: [0; PROCESSORS],
+            counts: no_entries(),
         })
     }
 
@@ -111,12 +127,9 @@ impl Board {
         self.history.reserve(n)
     }
 
-    /// Does an event of a processor, 0 to 7, and tells the reply. It takes no memory. For now it takes accesses to
-    /// memory, those to ports that are not a device's which is still to come, and looks at the memory map.
+    /// Does an event of a processor, and tells the reply. It takes no memory.
     pub fn step(&mut self, actor: u8, event: &Event) -> Reply
-        requires actor { actor < 8 }
         requires in_range { IsInRange self.old.setup event.now }
-        requires taken { IsTaken event.now }
         requires spare { 1 ≤ self.old.spare }
         ensures answer { IsAnswer self.old.setup self.old.entries event.now result }
         ensures entry { self.new ≡ record self.old {
@@ -136,6 +149,19 @@ impl Board {
         reply
     }
 
+    /// Does statements in their order.
+    pub fn steps(&mut self, statements: &[Statement])
+        requires in_range { AreInRange self.old.setup statements.now }
+        requires spare { length statements.now ≤ self.old.spare }
+        ensures setup { self.new.setup ≡ self.old.setup }
+        ensures same { statements_of self.new.entries ≡ statements_of self.old.entries ++ statements.now }
+        ensures replay { self.old.entries ≡ [] → IsReplayOf self.old.setup statements.now self.new.entries }
+    {
+        for statement in statements {
+            self.step(statement.actor, &statement.event);
+        }
+    }
+
     /// What was asked and replied so far: each reply is the answer of the definitions, and each
     /// processor's entries are numbered from 1.
     pub fn history(&self) -> &History
@@ -145,9 +171,24 @@ impl Board {
         &self.history
     }
 
+    /// The change of the memory map that an event would make now: a store to a register that the map depends on, or a
+    /// hard reset. None where it would make none.
+    pub fn map_change(&self, event: &Event) -> Option<MapChange>
+        ensures change { result ≡ map_change_of self.now.setup self.now.entries event.now }
+    {
+        match event {
+            Event::Port(access) => {
+                let disk = self.chipset.devices.has_disk();
+                self.chipset.registers.map_change(access, disk)
+            }
+            _ => None,
+        }
+    }
+
     /// The memory map of the registers as they stand. Its version is the number of map writes so far: the stores to a
     /// register that the map depends on, and the hard resets.
     pub fn map(&self) -> &FlatMap
+        ensures stands { StandsFor self.now.setup (byte_of self.now.setup self.now.entries) result.now.regs }
         ensures map { IsFlatMapOf self.now.setup (byte_of self.now.setup self.now.entries) result.now.ranges }
         ensures version { result.now.version ≡ version_of self.now.setup self.now.entries }
     {

@@ -1,11 +1,13 @@
-//! The chipset with its cards: the registers, and the bytes behind the addresses.
+//! The chipset with its cards: the registers, the bytes behind the addresses, and the devices.
 
 use crate::registers::Registers;
-use crate::stores::Stores;
+use board_devices::Devices;
+use board_stores::Stores;
 
-/// The registers of the board, and the bytes behind its addresses.
+/// The registers of the board, the bytes behind its addresses, and its devices.
 #[derive(Drop)]
 pub struct Chipset {
     pub registers: Registers,
     pub stores: Stores,
+    pub devices: Devices,
 }

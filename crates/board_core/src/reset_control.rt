@@ -48,16 +48,17 @@ impl ResetControl {
         ensures hard { result ≡ is_hard_value self.old byte }
         ensures byte { self.new ≡ control_after self.old (Some byte) }
     {
-        let hard = is_hard(self.byte, byte);
+        let hard = self.resets(byte.into());
         self.byte = if hard { 0 } else { byte & KEPT };
         hard
     }
-}
 
-/// Whether a write resets hard, by what the register held and what is written.
-fn is_hard(old: u8, written: u8) -> bool
-    ensures hard { result ≡ is_hard_value old written }
-{
-    let (old, written) = (u32::from(old), u32::from(written));
-    is_set(written, RESET_CPU) && is_set(written, SYSTEM_RESET) && !is_set(old, RESET_CPU)
+    /// Whether a write of this value would reset hard.
+    pub fn resets(&self, value: u32) -> bool
+        ensures hard { result ≡ is_hard_value self.now value }
+    {
+        is_set(value, RESET_CPU)
+            && is_set(value, SYSTEM_RESET)
+            && !is_set(self.byte.into(), RESET_CPU)
+    }
 }

@@ -1,10 +1,12 @@
 //! What a board is opened with.
 
-ghost use Rattle.std.specs.Prelude.{◌≡◌};
+ghost use Rattle.std.specs.Prelude.{◌≡◌, option_map};
 
+use ata_pio::AtaOpen;
 use board_base::NoMemory;
 use pci_bars::CardSpec;
 use std::marker::Model;
+use thiserror::Error;
 
 /// The installed memory in MiB, 1 to 64, the cards in rising order of device, the bytes of the BIOS ROM, and those of
 /// the disk where one is fitted.
@@ -37,14 +39,29 @@ impl Setup {
     {
         &self.rom
     }
+
+    /// The bytes of the disk, where one is fitted.
+    pub(crate) fn disk(&self) -> Option<&[u8]>
+        ensures bytes { option_map (λ disk. disk.now) result ≡ self.now.disk }
+    {
+        match &self.disk {
+            Some(disk) => Some(disk),
+            None => None,
+        }
+    }
 }
 
 /// Why a board was not opened.
-#[derive(Clone, Copy, PartialEq, Eq, Debug)]
+#[derive(Clone, Copy, PartialEq, Eq, Debug, Error)]
 pub enum BoardOpen {
     /// The ROM is not of 64, 128, 256 or 512 KiB.
+    #[error("the ROM is not of 64, 128, 256 or 512 KiB")]
     BadRom,
+    /// The disk is not of 1 to 65,536 whole sectors of 512 bytes.
+    #[error("the disk is not 1 to 65,536 whole sectors of 512 bytes")]
+    BadDisk,
     /// There was no memory.
+    #[error("out of memory")]
     NoMemory,
 }
 
@@ -55,5 +72,19 @@ impl From<NoMemory> for BoardOpen {
 
     fn from(_: NoMemory) -> BoardOpen {
         BoardOpen::NoMemory
+    }
+}
+
+impl From<AtaOpen> for BoardOpen {
+    ghost use Rattle.board_core.specs.declared.setup.BoardOpen.{BoardOpen};
+    ghost use Rattle.board_core.specs.Faults.{fault_of};
+
+    ghost from_gives = { λ fault given. given ≡ fault_of fault };
+
+    fn from(fault: AtaOpen) -> BoardOpen {
+        match fault {
+            AtaOpen::BadLength => BoardOpen::BadDisk,
+            AtaOpen::NoMemory => BoardOpen::NoMemory,
+        }
     }
 }

@@ -9,8 +9,8 @@ use Rattle.board_base.specs.declared.fault.PutFault.TheVariants.{Failed, NoMemor
 use Rattle.board_base.specs.Outside.{Rose, OfFile}
 use Rattle.board_spec.specs.Setup.{IsRomSize}
 use Rattle.script_text.specs.ScriptText.{Said, IsScript}
-use Rattle.board_core.specs.declared.setup.BoardOpen.{BoardOpen}
-use Rattle.board_core.specs.declared.setup.BoardOpen.TheVariants.{BadRom, NoMemory as NoMemoryForBoard}
+use Rattle.board_run.specs.declared.replay.ReplayFault.{ReplayFault}
+use Rattle.board_run.specs.declared.replay.ReplayFault.TheVariants.{BadRom, NoMemory as NoMemoryForReplay}
 use Rattle.board_run.specs.declared.status.Which.{Which}
 use Rattle.board_run.specs.declared.status.Which.TheVariants.{Script, Rom}
 use Rattle.board_run.specs.declared.status.Status.{Status}
@@ -18,7 +18,7 @@ use Rattle.board_run.specs.declared.status.Status.TheVariants.{Done, Usage, Read
 use Rattle.board_run.specs.Words.{Command, Replay, Map, script_of}
 use Rattle.board_run.specs.Output.{AppendsFront}
 use Rattle.board_run.specs.Replays.{IsCommandText, IsTextOf}
-use Rattle.board_run.specs.Statuses.{status_of_board_open, status_of_put_fault}
+use Rattle.board_run.specs.Statuses.{status_of_replay_fault, status_of_put_fault}
 use Rattle.board_run.specs.Outcomes.{script_limit, rom_limit, ShelfCall, SinkCall, OfCommand, OfScript, IsTooLong, IsRefusedAt, HasRom, IsLongRom, IsBadRom, FailsAtScript, FailsAtRom, IsNotFetched, PutsText, PutsTextFront, Stopped, IsCaused}
 
 -- ---- the causes, one for each status
@@ -196,21 +196,21 @@ rom_size size other =
 
 module _ (command : Command) (bytes rom : List ℕ) (said : Said) (shelf : ShelfCall) (sink : SinkCall) where
   board_cause :
-      (fault : BoardOpen) → WereRead shelf command bytes rom said → (fault ≡ BadRom → ¬ IsRomSize (length rom)) → Nothing sink →
-      Cause (Some command) shelf sink (status_of_board_open fault)
+      (fault : ReplayFault) → WereRead shelf command bytes rom said → (fault ≡ BadRom → ¬ IsRomSize (length rom)) → Nothing sink →
+      Cause (Some command) shelf sink (status_of_replay_fault fault)
   board_cause BadRom read size nothing = (
     has_rom shelf.files command bytes said IsBadRom read.script
         (λ files is. subst (IsBadRom said.rom) (of_file shelf.files files said.rom (λ file. rom ≡ file) is read.image)
         (read.image_fits, size refl)),
     nothing,
   )
-  board_cause NoMemoryForBoard read size nothing = inl nothing
+  board_cause NoMemoryForReplay read size nothing = inl nothing
 
   pub no_board :
-      (fault : BoardOpen) → WereRead shelf command bytes rom said → (fault ≡ BadRom → ¬ IsRomSize (length rom)) → Nothing sink →
-      IsCaused (status_of_board_open fault) (Some command) shelf sink
+      (fault : ReplayFault) → WereRead shelf command bytes rom said → (fault ≡ BadRom → ¬ IsRomSize (length rom)) → Nothing sink →
+      IsCaused (status_of_replay_fault fault) (Some command) shelf sink
   no_board fault read size nothing =
-      caused (Some command) shelf sink (status_of_board_open fault) (λ _. read.quiet) (board_cause fault read size nothing)
+      caused (Some command) shelf sink (status_of_replay_fault fault) (λ _. read.quiet) (board_cause fault read size nothing)
 
 -- ---- the text was put, or a front of it
 

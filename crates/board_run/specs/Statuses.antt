@@ -4,8 +4,8 @@ use Rattle.board_base.specs.declared.fault.PutFault.{PutFault}
 use Rattle.board_base.specs.declared.fault.PutFault.TheVariants.{Failed as SinkFailed, NoMemory as NoMemoryForPut}
 use Rattle.script_text.specs.declared.fault.ScriptFault.{ScriptFault}
 use Rattle.script_text.specs.declared.fault.ScriptFault.TheVariants.{Bad as BadLine, NoMemory as NoMemoryForScript}
-use Rattle.board_core.specs.declared.setup.BoardOpen.{BoardOpen}
-use Rattle.board_core.specs.declared.setup.BoardOpen.TheVariants.{BadRom, NoMemory as NoMemoryForBoard}
+use Rattle.board_run.specs.declared.replay.ReplayFault.{ReplayFault}
+use Rattle.board_run.specs.declared.replay.ReplayFault.TheVariants.{BadRom, NoMemory as NoMemoryForReplay}
 use Rattle.board_run.specs.declared.status.Which.TheVariants.{Rom}
 use Rattle.board_run.specs.declared.status.Status.{Status}
 use Rattle.board_run.specs.declared.status.Status.TheVariants.{Done, Usage, WriteFault, BadScript, BadImage, NoMemory}
@@ -14,9 +14,9 @@ abbrev pub status_of_script_fault : ScriptFault → Status
 status_of_script_fault (BadLine line why) = BadScript line why
 status_of_script_fault NoMemoryForScript = NoMemory
 
-abbrev pub status_of_board_open : BoardOpen → Status
-status_of_board_open BadRom = BadImage Rom
-status_of_board_open NoMemoryForBoard = NoMemory
+abbrev pub status_of_replay_fault : ReplayFault → Status
+status_of_replay_fault BadRom = BadImage Rom
+status_of_replay_fault NoMemoryForReplay = NoMemory
 
 abbrev pub status_of_put_fault : PutFault → Status
 status_of_put_fault SinkFailed = WriteFault

@@ -11,11 +11,10 @@ ghost use Rattle.board_run.specs.Outcomes.{OfCommand, IsNotFetched, PutsText, Is
 
 use crate::files::{FileFault, read_file};
 use crate::output::put_all;
-use crate::replay::command_text;
+use crate::replay::{ReplayFault, command_text};
 use crate::status::{Status, Which};
 use crate::words::{Command, command_of};
 use board_base::{Gate, PutFault, Shelf, Sink};
-use board_core::BoardOpen;
 use script_text::{ScriptFault, read_script};
 use std::alloc::Global;
 use std::sync::Wait;
@@ -40,16 +39,16 @@ impl From<ScriptFault> for Status {
     }
 }
 
-impl From<BoardOpen> for Status {
+impl From<ReplayFault> for Status {
     ghost use Rattle.std.specs.Prelude.{◌≡◌};
-    ghost use Rattle.board_run.specs.Statuses.{status_of_board_open};
+    ghost use Rattle.board_run.specs.Statuses.{status_of_replay_fault};
 
-    ghost from_gives = { λ fault status. status ≡ status_of_board_open fault };
+    ghost from_gives = { λ fault status. status ≡ status_of_replay_fault fault };
 
-    fn from(fault: BoardOpen) -> Status {
+    fn from(fault: ReplayFault) -> Status {
         match fault {
-            BoardOpen::BadRom => Status::BadImage(Which::Rom),
-            BoardOpen::NoMemory => Status::NoMemory,
+            ReplayFault::BadRom => Status::BadImage(Which::Rom),
+            ReplayFault::NoMemory => Status::NoMemory,
         }
     }
 }

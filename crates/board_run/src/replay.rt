@@ -7,6 +7,7 @@ ghost use Rattle.board_spec.specs.LogText.{log_text};
 ghost use Rattle.script_text.specs.Reading.{said_of};
 ghost use Rattle.script_text.specs.ScriptText.{most_statements};
 ghost use Rattle.script_text.specs.Taken.{IsTaken, IsTakenScript};
+ghost use Rattle.board_run.specs.declared.replay.ReplayFault.{ReplayFault};
 ghost use Rattle.board_run.specs.Commands.{said_by};
 ghost use Rattle.board_run.specs.Replays.{setup_of, IsMapBehind, IsTold, IsTextOf};
 
@@ -22,6 +23,26 @@ use std::alloc::Global;
 
 /// The version of the logs.
 const LOG_VERSION: u8 = 1;
+
+/// Why a script was not replayed.
+#[derive(Clone, Copy, PartialEq, Eq, Debug)]
+pub enum ReplayFault {
+    /// The ROM is not of 64, 128, 256 or 512 KiB.
+    BadRom,
+    /// There was no memory.
+    NoMemory,
+}
+
+impl From<NoMemory> for ReplayFault {
+    ghost use Rattle.std.specs.Prelude.{◌≡◌};
+    ghost use Rattle.board_run.specs.declared.replay.ReplayFault.{ReplayFault};
+
+    ghost from_gives = { λ _ fault. fault ≡ ReplayFault.NoMemory };
+
+    fn from(_: NoMemory) -> ReplayFault {
+        ReplayFault::NoMemory
+    }
+}
 
 /// Does statements on a fresh board, one after another.
 fn replay_statements(board: &mut Board, statements: &[Statement]) -> Result<(), NoMemory>
@@ -40,12 +61,12 @@ fn replay_statements(board: &mut Board, statements: &[Statement]) -> Result<(), 
 
 /// The board of a script with this ROM, behind the script's statements. BadRom exactly where the ROM is not of 64, 128,
 /// 256 or 512 KiB.
-fn replayed(alloc: Global, script: Script, rom: Vec<u8>) -> Result<Board, BoardOpen>
+fn replayed(alloc: Global, script: Script, rom: Vec<u8>) -> Result<Board, ReplayFault>
     requires taken { IsTakenScript (said_of script) }
     ensures replay { IfOk result (λ board.
         IsReplayOf (setup_of (said_of script) rom.items) (said_of script).statements board.entries) }
     ensures setup { IfOk result (λ board. board.setup ≡ setup_of (said_of script) rom.items) }
-    ensures bad_rom { (result ≡ Err BoardOpen.BadRom) ↔ ¬ IsRomSize (length rom.items) }
+    ensures bad_rom { (result ≡ Err ReplayFault.BadRom) ↔ ¬ IsRomSize (length rom.items) }
 {
     let setup = Setup {
         mib: u32::from(script.mib),
@@ -53,7 +74,11 @@ fn replayed(alloc: Global, script: Script, rom: Vec<u8>) -> Result<Board, BoardO
         rom,
         disk: None,
     };
-    let mut board = Board::open(alloc, setup)?;
+    let mut board = match Board::open(alloc, setup) {
+        Ok(board) => board,
+        Err(BoardOpen::BadRom) => return Err(ReplayFault::BadRom),
+        Err(_) => return Err(ReplayFault::NoMemory),
+    };
     replay_statements(&mut board, &script.statements)?;
     Ok(board)
 }
@@ -93,10 +118,10 @@ pub fn command_text(
     command: Command,
     script: Script,
     rom: Vec<u8>,
-) -> Result<String, BoardOpen>
+) -> Result<String, ReplayFault>
     requires taken { IsTakenScript (said_of script) }
     ensures text { IfOk result (λ text. IsTextOf (said_by command.entry) (said_of script) rom.items (string_bytes text)) }
-    ensures bad_rom { (result ≡ Err BoardOpen.BadRom) ↔ ¬ IsRomSize (length rom.items) }
+    ensures bad_rom { (result ≡ Err ReplayFault.BadRom) ↔ ¬ IsRomSize (length rom.items) }
 {
     let board = replayed(alloc, script, rom)?;
     let text = told(alloc, command, &board)?;

@@ -1,25 +1,41 @@
-use Rattle.std.proofs.Common.{◌∙◌, ℕ, ap, sym, refl}
-use Rattle.board_spec.specs.Stored.{byte_put}
-use Rattle.board_core.proofs.StoresLemmas.{stores_unwritten}
-use Rattle.board_core.proofs.PortLemmas.{quiet_write, writes_none}
+use Rattle.std.proofs.Common.{◌≡◌, subst}
+use Rattle.board_base.specs.declared.target.Target.{Target}
+use Rattle.board_core.specs.Ports.{IsEntryOf}
+use Rattle.board_core.proofs.Effects.{target_reached, written_fits}
+use Rattle.board_core.proofs.HeldTargets.{stored_target}
+use Rattle.board_core.proofs.PortSteps.{write_stored}
 use Rattle.board_core.proofs.ports.write.Goals as goal
 
-pub returns-in-Device-clause-stored : goal.returns-in-Device-clause-stored
-returns-in-Device-clause-stored c = λ setup history entry kept put.
-    stores_unwritten setup history entry c.args.chipset.now.stores kept (λ cell. put cell ∙ rw c.in-Device.is refl)
-
-pub returns-in-Config-clause-stored : goal.returns-in-Config-clause-stored
-returns-in-Config-clause-stored c = λ setup history entry kept put.
-    stores_unwritten setup history entry c.args.chipset.now.stores kept (λ cell. put cell ∙ rw c.in-Config.is refl)
-
-pub returns-in_default : goal.returns-in_default
-returns-in_default c =
+pub write-requires : goal.write-requires
+write-requires c =
+    let reaching = c.requires.reaching in
     let access = c.args.access.now in
     record {
-      registers = λ setup history entry kept writes.
-          quiet_write setup history entry c.args.chipset.now.registers
-          (writes_none setup history entry.event c.args.target access.width access.value c.in_default.not-Device c.in_default.not-Config writes) kept;
-      stored = λ setup history entry kept put.
-          c.write.ensures.stored setup history entry kept
-          (λ cell. put cell ∙ ap (λ (place : ℕ). byte_put c.args.target place access.width access.value cell) (sym c.from.ensures));
+      stored =
+          stored_target reaching.kept.setup reaching.kept.history c.args.chipset.now access.port access.width c.args.target reaching.kept.of
+          reaching.bus.aligned (target_reached reaching.kept.setup reaching.kept.history access c.args.target reaching.target_is)
+          c.in_default.not-Device c.in_default.not-Config;
+      aligned = rw c.from.ensures reaching.bus.aligned;
+      value = written_fits access.write access.width access.value c.requires.writes reaching.bus.fits;
     }
+
+pub returns-in-Device : goal.returns-in-Device
+returns-in-Device c = record {
+  board = λ setup history entry kept is.
+      c.write_device.ensures.board setup history entry kept
+      (subst (λ (target : Target). IsEntryOf setup history c.args.access.now target entry) c.in-Device.is is);
+}
+
+pub returns-in-Config : goal.returns-in-Config
+returns-in-Config c = record {
+  board = λ setup history entry kept is.
+      c.write_register.ensures.board setup history entry kept
+      (subst (λ (target : Target). IsEntryOf setup history c.args.access.now target entry) c.in-Config.is is);
+}
+
+pub returns-in_default : goal.returns-in_default
+returns-in_default c = record {
+  board = λ setup history entry kept is.
+      write_stored setup history c.args.access.now c.args.target entry c.args.chipset.now c.write.new.self c.from.result c.law_left_alone.ensures.left
+      c.requires.writes c.in_default.not-Device c.in_default.not-Config c.from.ensures c.write.ensures.put kept is;
+}

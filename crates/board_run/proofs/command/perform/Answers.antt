@@ -1,6 +1,6 @@
 use Rattle.std.proofs.Common.{◌≡◌, rules}
 use Rattle.std.proofs.KnownBytes.{Keeps-refl}
-use Rattle.board_run.specs.Statuses.{status_of, status_of_board_open, status_of_put_fault}
+use Rattle.board_run.specs.Statuses.{status_of, status_of_replay_fault, status_of_put_fault}
 use Rattle.board_run.proofs.CauseLemmas.{was_read, were_read, rom_not_fetched, no_board, not_put, all_put}
 use Rattle.board_run.proofs.command.perform.Goals as goal
 
@@ -15,7 +15,7 @@ returns-in_err-rom-clause-caused g c =
 
 pub returns-in_err-text-clause-caused : goal.returns-in_err-text-clause-caused
 returns-in_err-text-clause-caused g c =
-    let is : status_of c.from_residual-in_err-text.result ≡ status_of_board_open c.in_err-text.field-0.0 = search rules in
+    let is : status_of c.from_residual-in_err-text.result ≡ status_of_replay_fault c.in_err-text.field-0.0 = search rules in
     rw is
     (no_board _ _ _ _ _ _ c.in_err-text.field-0.0
     (were_read c.script.ensures.name c.in_ok-bytes.ensures.whole c.deref.ensures.value c.in_ok-script.ensures.said

@@ -1,5 +1,8 @@
-use Rattle.addr_decode.proofs.CardLemmas.{fitted_same}
 use Rattle.board_core.proofs.registers.Registers.reset.Goals as goal
 
-pub returns-clause-fitted : goal.returns-clause-fitted
-returns-clause-fitted c = fitted_same c.args.self.now.map.regs.cards c.apply.new.self.regs.cards c.apply.ensures.same_cards c.requires.map
+pub returns-clause-kept : goal.returns-clause-kept
+returns-clause-kept c = λ setup bytes kept. record {
+  map = c.apply.ensures.stands setup bytes kept.map;
+  cards = c.apply.ensures.cards setup bytes kept.cards;
+  south = c.reset-2.ensures.reset setup;
+}

@@ -1,0 +1,53 @@
+//! Wide accesses to memory.
+
+ghost use Rattle.std.specs.Prelude.{◌≡◌, ◌≤◌, List, ◌∷◌, length};
+ghost use Rattle.board_spec.specs.declared.event.Entry.{Entry};
+ghost use Rattle.board_spec.specs.declared.event.Event.TheVariants.{Wide};
+ghost use Rattle.board_spec.specs.Setup.{Setup};
+ghost use Rattle.board_spec.specs.InRange.{IsWideAccess};
+ghost use Rattle.board_spec.specs.WideParts.{parts_list};
+ghost use Rattle.board_spec.specs.Answer.{IsAnswer};
+ghost use Rattle.board_stores.specs.Cycles.{answers};
+ghost use Rattle.board_core.specs.Kept.{IsChipset, IsChipsetOf};
+
+use crate::chipset::Chipset;
+use board_base::WideAccess;
+use board_devices::law_left_alone;
+use board_spec::laws::law_parts;
+use board_spec::{Parts, Reply};
+use board_stores::{Cycle, cycles_of, read_cycles, write_cycles};
+
+/// Does a wide access, and tells the reply: its cycles are decoded, and then done one by one.
+pub fn access(chipset: &mut Chipset, rom: &[u8], access: &WideAccess) -> Reply
+    requires wide { IsWideAccess access.now }
+    requires kept { IsChipset chipset.old rom.now }
+    ensures answer { (setup : Setup) (history : List Entry) → IsChipsetOf setup history chipset.old → setup.rom ≡ rom.now
+        → IsAnswer setup history (Wide access.now) result }
+    ensures board { (setup : Setup) (history : List Entry) (entry : Entry) → IsChipsetOf setup history chipset.old → setup.rom ≡ rom.now
+        → entry.event ≡ Wide access.now → entry.reply ≡ result → IsChipsetOf setup (entry ∷ history) chipset.new }
+{
+    law_left_alone();
+    law_parts();
+    let cycles = cycles_of(chipset.registers.map.regs(), rom, access);
+    let parts = parts_of(&cycles);
+    if access.kind.is_write() {
+        write_cycles(&mut chipset.stores, &cycles);
+        return Reply::Parts { value: None, parts };
+    }
+    let value = Some(read_cycles(&chipset.stores, rom, &cycles));
+    Reply::Parts { value, parts }
+}
+
+/// The answers of two to four cycles.
+fn parts_of(cycles: &[Cycle]) -> Parts
+    requires least { 2 ≤ length cycles.now }
+    requires most { length cycles.now ≤ 4 }
+    ensures answers { parts_list result ≡ answers cycles.now }
+{
+    match cycles {
+        [a, b] => Parts::Two(a.answer, b.answer),
+        [a, b, c] => Parts::Three(a.answer, b.answer, c.answer),
+        [a, b, c, d] => Parts::Four(a.answer, b.answer, c.answer, d.answer),
+        _ => unreachable!(),
+    }
+}
