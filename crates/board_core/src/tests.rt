@@ -36,7 +36,7 @@ enum Statement {
     BadSector(u32),
 }
 
-/// What answers: the first row of DRAM, SMRAM, the ROM or the expansion ROM of card 2 at an offset, a device, or a register
+/// What answers: DRAM of one row, SMRAM, the ROM or the expansion ROM of card 2 at an offset, a device, or a register
 /// by its device, function and offset. A write to the ROM is denied by no register. Or nobody answers, by such a
 /// register, or by no register.
 #[derive(Clone, Copy)]
