@@ -14,3 +14,5 @@ pub mod NumberBack
 pub mod EventBack
 pub mod MomentBack
 pub mod CardBack
+pub mod FieldTexts
+pub mod EventForms
