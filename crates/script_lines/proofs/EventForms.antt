@@ -203,7 +203,7 @@ look_back version actor kind addr smm small = record {
 -- ---- numbers
 
 -- a decimal stands for itself alone
-number_is : (n : ℕ) (field : List ℕ) → IsDecimal n → Spells field (decimal n) → field ≡ decimal n
+pub number_is : (n : ℕ) (field : List ℕ) → IsDecimal n → Spells field (decimal n) → field ≡ decimal n
 number_is n field small spells = plain_is field (decimal n) (plain-digits (decimal n) (digits_of_decimal n small)) spells
 
 number_spelled : (n : ℕ) (words : List (List ℕ)) → IsDecimal n → Reads words (decimal n ∷ []) → number_in words ≡ Some n

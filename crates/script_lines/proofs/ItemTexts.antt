@@ -86,6 +86,13 @@ two_read (first ∷ second ∷ []) p e =
     ((λ i. first_is.0 i ∷ second_is.0 i ∷ []), (first_is.1, second_is.1))
 two_read (_ ∷ _ ∷ _ ∷ _) p e = absurd cc
 
+-- a number and a level
+pub level_joined : (n verb number level : List ℕ) → line (n ∷ verb ∷ number ∷ level ∷ [])
+    ≡ n ++ space ∷ verb ++ space ∷ number ++ space ∷ level
+level_joined n verb number level =
+    sym (append_assoc (n ++ space ∷ verb) (space ∷ number) (space ∷ level)
+    ∙ append_assoc n (space ∷ verb) (space ∷ (number ++ (space ∷ level))))
+
 -- a level that is neither 0 nor 1
 high_read : (version n number level : ℕ) (actor verb : List ℕ) → decimal_of actor ≡ Some n
     → (verb ≡ codes "wire") ⊎ (verb ≡ codes "irq") → IsDecimal number → IsDecimal level → 2 ≤ level
@@ -96,8 +103,7 @@ high_read version n number level actor verb e known small few high =
     record {
       form = record { who = d.1; what = known; which = small; few = few; high = high };
       says = ap (λ (a : List ℕ). a ++ (space ∷ (verb ++ (space ∷ (decimal number ++ (space ∷ decimal level)))))) d.0
-          ∙ sym (append_assoc (decimal n ++ space ∷ verb) (space ∷ decimal number) (space ∷ decimal level)
-          ∙ append_assoc (decimal n) (space ∷ verb) (space ∷ (decimal number ++ (space ∷ decimal level))));
+          ∙ level_joined (decimal n) verb (decimal number) (decimal level);
     }
 
 pub zero_text : decimal 0 ≡ codes "0"

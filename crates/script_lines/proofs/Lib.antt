@@ -16,3 +16,5 @@ pub mod MomentBack
 pub mod CardBack
 pub mod FieldTexts
 pub mod EventForms
+pub mod SetupBack
+pub mod ItemBack
