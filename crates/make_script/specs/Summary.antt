@@ -76,7 +76,7 @@ abbrev pub count_of : (Entry → Bool) → List Entry → ℕ
 count_of test history = length (filter test history)
 
 -- the lines of the entries, by what answered them and what denied them
-abbrev pub entry_lines : (history : List Entry) → List (List ℕ)
+unfoldable pub entry_lines : (history : List Entry) → List (List ℕ)
 entry_lines history =
     (codes "entries " ++ decimal (length history))
     ∷ (codes "dram " ++ decimal (count_of (answers is_dram) history))
@@ -92,7 +92,7 @@ entry_lines history =
     ∷ []
 
 -- the lines of the map
-abbrev pub map_lines : (writes ranges : ℕ) → List (List ℕ)
+unfoldable pub map_lines : (writes ranges : ℕ) → List (List ℕ)
 map_lines writes ranges = (codes "mapwrites " ++ decimal writes) ∷ (codes "ranges " ++ decimal ranges) ∷ []
 
 -- the summary of a history whose flat map has so many ranges
