@@ -1,9 +1,15 @@
 -- The counts of one entry more.
-use Rattle.std.proofs.Common.{ℕ, ◌≡◌, ◌+◌, ◌≤◌, ◌<◌, ◌^◌, ◌-◌, Bool, true, false, cond, List, [], ◌∷◌, length, filter, get_or, take, reverse, refl, sym, ap, ◌∙◌, inl, inr, arith}
+use Rattle.std.proofs.Common.{ℕ, ◌≡◌, ◌+◌, ◌≤◌, ◌<◌, ◌^◌, ◌-◌, Bool, cond, List, [], ◌∷◌, length, refl, ap, ◌∙◌, inl, inr, arith}
 use mir.Val.{bool_byte}
 use Rattle.std.proofs.lemmas.Bool.{cases_Bool}
+use Rattle.std.proofs.lemmas.List.Elements.{All-head, All-tail}
+use Rattle.board_base.specs.declared.target.Target.TheVariants.{Dram, Shadow, Smram, Rom, Card, Device, Config, Abort}
+use Rattle.board_spec.specs.declared.event.Event.{Event}
+use Rattle.board_spec.specs.declared.event.Reply.{Reply}
+use Rattle.board_spec.specs.declared.event.Reply.TheVariants.{Bus, Parts as InParts, Saw}
 use Rattle.board_spec.specs.declared.event.Entry.{Entry}
-use Rattle.make_script.specs.Summary.{count_of}
+use Rattle.make_script.specs.Summary.{is_dram, is_shadow, is_smram, is_rom, is_card, is_config, is_device, is_abort, answers, is_look, count_of}
+use Rattle.make_script.specs.Laws.{IsOneCycle, KindsAddUp}
 use Rattle.make_script.specs.declared.counts.Counts.{Counts}
 use Rattle.make_script.specs.Counts.{AreCounts, HasRoom}
 
@@ -49,3 +55,52 @@ counts-room history counts are few = record {
   looks = has-room _ history counts.looks (2 ^ 64 - 1) are.looks few;
 }
 
+-- ---- an entry counts once
+
+abbrev one : (Entry → Bool) → Entry → ℕ
+one test entry = cond {A = ℕ} (test entry) 1 0
+
+count-one : (test : Entry → Bool) (entry : Entry) (before : List Entry)
+    → count_of test (entry ∷ before) ≡ one test entry + count_of test before
+count-one test entry before =
+    elim (cases_Bool (test entry)) [
+      | inl passes ↦ rw passes (omega arith)
+      | inr fails ↦ rw fails (omega arith)
+    ]
+
+abbrev kinds : Entry → ℕ
+kinds entry =
+    one (answers is_dram) entry + one (answers is_shadow) entry + one (answers is_smram) entry + one (answers is_rom) entry
+    + one (answers is_card) entry + one (answers is_config) entry + one (answers is_device) entry
+    + one (answers is_abort) entry + one is_look entry
+
+one-kind : (actor seq : ℕ) (event : Event) (reply : Reply) → IsOneCycle reply
+    → kinds (record { actor = actor; seq = seq; event = event; reply = reply }) ≡ 1
+one-kind actor seq event (Bus value (Dram row) denial) cycle = refl
+one-kind actor seq event (Bus value (Shadow row) denial) cycle = refl
+one-kind actor seq event (Bus value Smram denial) cycle = refl
+one-kind actor seq event (Bus value (Rom off) denial) cycle = refl
+one-kind actor seq event (Bus value (Card dev base off) denial) cycle = refl
+one-kind actor seq event (Bus value (Config reg) denial) cycle = refl
+one-kind actor seq event (Bus value (Device dev) denial) cycle = refl
+one-kind actor seq event (Bus value Abort denial) cycle = refl
+one-kind actor seq event (Saw look) cycle = refl
+one-kind actor seq event (InParts value parts) cycle = absurd cycle
+
+pub kinds-add-up : KindsAddUp
+kinds-add-up [] all = refl
+kinds-add-up (entry ∷ before) all =
+    omega (
+      arith,
+      one-kind entry.actor entry.seq entry.event entry.reply (All-head (λ e. IsOneCycle e.reply) entry before all),
+      kinds-add-up before (All-tail (λ e. IsOneCycle e.reply) entry before all),
+      count-one (answers is_dram) entry before,
+      count-one (answers is_shadow) entry before,
+      count-one (answers is_smram) entry before,
+      count-one (answers is_rom) entry before,
+      count-one (answers is_card) entry before,
+      count-one (answers is_config) entry before,
+      count-one (answers is_device) entry before,
+      count-one (answers is_abort) entry before,
+      count-one is_look entry before,
+    )

@@ -1,26 +1,28 @@
 -- The text that is made is that of the made script.
-use Rattle.std.proofs.Common.{ℕ, zero, suc, ◌≡◌, ◌+◌, ◌*◌, ◌<◌, ◌≤◌, true, false, not, ◌&&◌, List, [], ◌∷◌, ◌++◌, length, map, All, Option, Some, None, refl, sym, ap, ◌∙◌, inl, inr, append_assoc, append-nil, arith}
+use Rattle.std.proofs.Common.{ℕ, zero, suc, ◌≡◌, ◌+◌, ◌*◌, ◌%◌, ◌/◌, ◌<◌, ◌≤◌, true, false, List, [], ◌∷◌, ◌++◌, length, map, Some, None, refl, sym, ap, ◌∙◌, inl, inr, append_assoc, append-nil, arith}
 use Rattle.std.specs.Prelude.{codes}
 use Rattle.std.specs.List.{find, list_any, list_all}
 use Rattle.std.specs.Fmt.{digits}
 use Rattle.std.proofs.lemmas.Bool.{and_from}
-use Rattle.std.proofs.lemmas.List.{map-append, length-append, length-map}
+use Rattle.std.proofs.lemmas.List.{map-append, length-append}
 use Rattle.std.proofs.lemmas.List.Folds.{list_all-append}
 use Rattle.std.proofs.lemmas.List.Elements.{All-nil, All-cons}
 use Rattle.std.proofs.lemmas.List.Sorted.{IsPermutation-reverse}
-use Rattle.board_spec.specs.Setup.{Base, MemoryBase, IoBase, FittedCard}
+use Rattle.std.proofs.lemmas.List.FromFn.{length-map-range_with_len}
+use Rattle.board_spec.specs.Setup.{IsCardList, IsRomSize, IsDisk, MemoryBase, IoBase, FittedCard}
 use Rattle.board_spec.specs.Text.{line_feed}
 use Rattle.board_spec.specs.LogText.{event_text}
 use Rattle.board_spec.specs.declared.event.Statement.{Statement}
 use Rattle.script_spec.specs.Lines.{lines_of, text_of_lines}
 use Rattle.script_spec.specs.Grammar.{Item, SetCpus, SetMemory, SetRom, SetDisk, FitCard, BeginPhase, Ask, IsBaseForm, IsForm, Says, item_text}
-use Rattle.script_spec.specs.Reasons.{is_phase, is_cpus, is_memory, is_rom, is_disk, is_cpus_above, cards_of, has_setup, lacks_setup, least_reason}
-use Rattle.script_spec.specs.ScriptText.{most_bytes, is_skipped, IsGoodLine, AreRead, first_line, IsSaidBy, IsScriptText}
+use Rattle.script_spec.specs.Reasons.{is_cpus, is_memory, is_rom, is_disk, is_cpus_above, cards_of, lacks_setup, least_reason}
+use Rattle.script_spec.specs.ScriptText.{most_bytes, is_skipped, IsGoodLine, AreRead, IsSaidBy}
 use Rattle.script_spec.proofs.Digits.{lacks}
 use Rattle.script_spec.proofs.RangeLaws.{scripts_are_in_range}
 use Rattle.make_script.specs.MakeText.{setup_lines, opening_lines, round_lines, lines_of_rounds, make_lines, make_text}
 use Rattle.make_script.specs.MadeScript.{asks, opening_events, round_statements, statements_of_rounds, made_statements, made_cards, made_script}
-use Rattle.make_script.specs.Laws.{most_rounds, MakeTextIsScript, MadeIsInRange, StatementCount}
+use Rattle.make_script.specs.Images.{rom_image, disk_image}
+use Rattle.make_script.specs.Laws.{MakeTextIsScript, MadeIsInRange, StatementCount, MadeSetupFits}
 use Rattle.make_script.proofs.AskedLemmas.{lines-back, said, said-lines, AreBehind, asked, asks-read, asked-keeps, asked-run}
 use Rattle.make_script.proofs.FineLemmas.{made-fine}
 
@@ -215,3 +217,28 @@ make-text-is-script n few =
 
 pub made-is-in-range : MadeIsInRange
 made-is-in-range n few = scripts_are_in_range (make_text n) (made_script n) (make-text-is-script n few)
+
+-- ---- the board that it is for
+
+rom-fits : IsRomSize (length rom_image)
+unfolding rom_image
+rom-fits = inl (length-map-range_with_len (λ offset. offset % 256) 0 0x1_0000)
+
+disk-fits : IsDisk (Some disk_image)
+unfolding disk_image
+disk-fits =
+    (64, omega arith, omega arith, length-map-range_with_len (λ offset. offset / 512) 0 (64 * 512))
+
+made-cards : IsCardList made_cards
+unfolding made_script
+made-cards = (made-is-in-range 0 (omega arith)).cards
+
+pub made-setup-fits : MadeSetupFits
+made-setup-fits = record {
+  some_memory = omega arith;
+  most_memory = omega arith;
+  cards = made-cards;
+  windows = omega arith;
+  rom = rom-fits;
+  disk = disk-fits;
+}

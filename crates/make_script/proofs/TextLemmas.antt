@@ -1,5 +1,5 @@
 -- The lines of one round more.
-use Rattle.std.proofs.Common.{ℕ, zero, suc, ◌≡◌, ◌+◌, List, [], ◌∷◌, ◌++◌, append-nil, Result, Ok, Err, OnErr, refl, sym, ap, ◌∙◌, append_assoc, arith}
+use Rattle.std.proofs.Common.{ℕ, suc, ◌≡◌, ◌+◌, List, [], ◌∷◌, ◌++◌, append-nil, Result, Ok, Err, OnErr, sym, ap, ◌∙◌, append_assoc, arith}
 use Rattle.std.proofs.lemmas.Grind.{flat_map-append}
 use Rattle.board_spec.specs.Text.{line_feed}
 use Rattle.board_script.specs.Adds.{IsFront}

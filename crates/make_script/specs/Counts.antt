@@ -1,5 +1,5 @@
 -- What the parts of a reply count as, and how many entries of each kind a history has.
-use Rattle.std.specs.Prelude.{ℕ, ◌≡◌, ◌<◌, ◌^◌, ◌-◌, Bool, List, is_some}
+use Rattle.std.specs.Prelude.{◌≡◌, ◌<◌, ◌^◌, ◌-◌, Bool, List, is_some}
 use Rattle.std.specs.List.{list_any}
 use Rattle.board_base.specs.declared.target.Target.{Target}
 use Rattle.board_spec.specs.declared.event.Part.{Part}

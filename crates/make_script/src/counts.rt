@@ -83,7 +83,9 @@ impl Marks {
     {
         match parts {
             Parts::Two(a, b) => Marks::of_part(a).or(Marks::of_part(b)),
-            Parts::Three(a, b, c) => Marks::of_part(a).or(Marks::of_part(b)).or(Marks::of_part(c)),
+            Parts::Three(a, b, c) => Marks::of_part(a)
+                .or(Marks::of_part(b))
+                .or(Marks::of_part(c)),
             Parts::Four(a, b, c, d) => {
                 let low = Marks::of_part(a).or(Marks::of_part(b));
                 let high = Marks::of_part(c).or(Marks::of_part(d));

@@ -7,7 +7,9 @@ use board_base::NoMemory;
 use std::alloc::Global;
 
 const ROM_SIZE: usize = 0x1_0000;
+
 const SECTOR_SIZE: usize = 512;
+
 const SECTORS: usize = 64;
 
 /// The 65,536 bytes of the ROM: the byte at an offset is the offset modulo 256.

@@ -7,7 +7,7 @@ ghost use Rattle.board_script.specs.Adds.{Adds, KeepsFront};
 ghost use Rattle.make_script.specs.MakeText.{setup_lines, opening_lines, dram_addr, card_addr, round_lines, make_text};
 
 use board_base::NoMemory;
-use board_script::{push_hex_long, push_words, Line};
+use board_script::{Line, push_hex_long, push_words};
 use std::alloc::Global;
 
 const SETUP: &str = "\
@@ -117,7 +117,7 @@ fn push_write(text: &mut String, words: &str, addr: u32, value: u32) -> Result<(
 
 /// Appends the eleven statements of a round. Rounds count from 0.
 #[tactic(auto, unfolding(crate::specs::MakeText::round_lines))]
-fn push_round(text: &mut String, round: u32) -> Result<(), NoMemory>
+pub(crate) fn push_round(text: &mut String, round: u32) -> Result<(), NoMemory>
     ensures appended { OnOk result (Adds text.old text.new (text_of_lines (round_lines round))) }
     ensures front { OnErr result (KeepsFront text.old text.new) }
 {

@@ -84,7 +84,12 @@ fn push_map(text: &mut String, writes: u32, ranges: u32) -> Result<(), NoMemory>
 
 /// Appends the summary of a history whose oldest entry comes first, with the number of its map writes and that of
 /// the ranges of its map.
-pub fn push_summary(text: &mut String, entries: &[Entry], map_writes: u32, ranges: u32) -> Result<(), NoMemory>
+pub fn push_summary(
+    text: &mut String,
+    entries: &[Entry],
+    map_writes: u32,
+    ranges: u32,
+) -> Result<(), NoMemory>
     ensures appended { (setup : Setup) → map_writes ≡ version_of setup (reverse entries.now)
         → OnOk result (Adds text.old text.new (summary_of setup (reverse entries.now) ranges)) }
     ensures front { OnErr result (KeepsFront text.old text.new) }

@@ -1,6 +1,6 @@
-use Rattle.std.proofs.Common.{◌≡◌, ℕ, [], ◌++◌, ap, ◌∙◌, arith}
+use Rattle.std.proofs.Common.{[], ◌++◌, ap, ◌∙◌}
 use Rattle.script_spec.specs.Lines.{text_of_lines}
-use Rattle.make_script.specs.MakeText.{setup_lines, opening_lines, make_lines, make_text}
+use Rattle.make_script.specs.MakeText.{setup_lines, opening_lines}
 use Rattle.make_script.proofs.TextLemmas.{text-begun, text-more}
 use Rattle.make_script.proofs.script.make_text.Goals as goal
 
