@@ -21,7 +21,8 @@ use Rattle.script_spec.proofs.PlainLines.{event_plain}
 
 -- ---- lines
 
-line-cut : (line rest : List ℕ) → lacks line_feed line ≡ true → lines_of (line ++ line_feed ∷ rest) ≡ line ∷ lines_of rest
+line-cut : (line rest : List ℕ) → lacks line_feed line ≡ true
+    → lines_of (line ++ line_feed ∷ rest) ≡ line ∷ lines_of rest
 unfolding lines_of
 line-cut [] rest lack = refl
 line-cut (c ∷ line) rest lack =

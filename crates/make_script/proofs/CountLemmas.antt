@@ -70,7 +70,8 @@ count-one test entry before =
 
 abbrev kinds : Entry → ℕ
 kinds entry =
-    one (answers is_dram) entry + one (answers is_shadow) entry + one (answers is_smram) entry + one (answers is_rom) entry
+    one (answers is_dram) entry + one (answers is_shadow) entry + one (answers is_smram) entry
+    + one (answers is_rom) entry
     + one (answers is_card) entry + one (answers is_config) entry + one (answers is_device) entry
     + one (answers is_abort) entry + one is_look entry
 

@@ -75,7 +75,8 @@ event-fits (Memory access) fits =
       aligned = λ second. omega (arith, second);
     }
 event-fits (Port access) fits =
-    let both = and_parts (ltb access.port (2 ^ 16)) (fits_bytes access.write (bytes_of access.width) access.value) fits in
+    let both = and_parts (ltb access.port (2 ^ 16)) (fits_bytes access.write (bytes_of access.width) access.value)
+    fits in
     record {
       port = ltb-true access.port (2 ^ 16) both.0;
       value = bytes-fit access.write (bytes_of access.width) access.value both.1;
@@ -128,7 +129,8 @@ fine-with : (statement : Statement) → is_line statement ≡ true → is_event_
 fine-with statement line placed form card few =
     let a = and_parts (ltb statement.actor 2 && ltb (length (said statement)) 121 && not (is_skipped (said statement)))
     (is_event_in_range statement.event) line in
-    let b = and_parts (ltb statement.actor 2 && ltb (length (said statement)) 121) (not (is_skipped (said statement))) a.0
+    let b = and_parts (ltb statement.actor 2 && ltb (length (said statement)) 121)
+    (not (is_skipped (said statement))) a.0
     in
     let c = and_parts (ltb statement.actor 2) (ltb (length (said statement)) 121) b.0 in
     let short : length (said statement) < 121 = ltb-true (length (said statement)) 121 c.1 in

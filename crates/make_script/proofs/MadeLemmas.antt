@@ -64,7 +64,8 @@ made-back n =
     ∙ lines-back lines
     (list_all-append (λ line. lacks line_feed line) setup_lines (map said (made_statements n))
     ∙ and_from (list_all (λ line. lacks line_feed line) setup_lines)
-    (list_all (λ line. lacks line_feed line) (map said (made_statements n))) setup-lines (said-lines (made_statements n)))
+    (list_all (λ line. lacks line_feed line) (map said (made_statements n))) setup-lines
+    (said-lines (made_statements n)))
 
 -- ---- the setup
 

@@ -6,7 +6,8 @@ use Rattle.board_script.specs.Adds.{IsFront}
 use Rattle.script_spec.specs.Lines.{text_of_lines}
 use Rattle.make_script.specs.MakeText.{setup_lines, opening_lines, round_lines, lines_of_rounds, make_lines}
 
-pub text-append : (front more : List (List ℕ)) → text_of_lines (front ++ more) ≡ text_of_lines front ++ text_of_lines more
+pub text-append : (front more : List (List ℕ))
+    → text_of_lines (front ++ more) ≡ text_of_lines front ++ text_of_lines more
 text-append front more = flat_map-append (λ line. line ++ line_feed ∷ []) front more
 
 lines-more : (i : ℕ) → make_lines (suc i) ≡ make_lines i ++ round_lines i
@@ -19,7 +20,8 @@ pub text-more : (i : ℕ) (old text new : List ℕ) → text ≡ old ++ text_of_
 text-more i old text new so_far round =
     let one : i + 1 ≡ suc i = omega arith in
     let more : text_of_lines (make_lines (i + 1)) ≡ text_of_lines (make_lines i) ++ text_of_lines (round_lines i) =
-    ap (λ (n : ℕ). text_of_lines (make_lines n)) one ∙ ap text_of_lines (lines-more i) ∙ text-append (make_lines i) (round_lines i)
+    ap (λ (n : ℕ). text_of_lines (make_lines n)) one ∙ ap text_of_lines (lines-more i)
+    ∙ text-append (make_lines i) (round_lines i)
     in
     round
     ∙ ap (λ (t : List ℕ). t ++ text_of_lines (round_lines i)) so_far
@@ -27,7 +29,8 @@ text-more i old text new so_far round =
     ∙ ap (λ (t : List ℕ). old ++ t) (sym more)
 
 -- before the first round it is the setup and the opening
-pub text-begun : (text : List ℕ) → text ≡ text_of_lines (setup_lines ++ opening_lines) → text ≡ text_of_lines (make_lines 0)
+pub text-begun : (text : List ℕ) → text ≡ text_of_lines (setup_lines ++ opening_lines)
+    → text ≡ text_of_lines (make_lines 0)
 unfolding lines_of_rounds
 text-begun text begun =
     begun ∙ ap (λ (ls : List (List ℕ)). text_of_lines ls) (sym (append-nil (setup_lines ++ opening_lines)))

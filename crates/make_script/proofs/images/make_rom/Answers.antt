@@ -13,7 +13,8 @@ loop-offset-preserved c =
 pub returns : goal.returns
 unfolding rom_image
 returns c =
-    let all : c.loop-offset.offset ≡ 0x1_0000 = omega (arith, c.loop-offset-test.false, c.loop-offset.auto.offset-end) in
+    let all : c.loop-offset.offset ≡ 0x1_0000 =
+    omega (arith, c.loop-offset-test.false, c.loop-offset.auto.offset-end) in
     record {
       bytes = c.loop-offset.invariant ∙ ap (λ (n : ℕ). map (λ offset. offset % 256) (range_with_len 0 n)) all;
     }

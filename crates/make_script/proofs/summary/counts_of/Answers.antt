@@ -9,11 +9,12 @@ use Rattle.make_script.proofs.summary.counts_of.Goals as goal
 
 pub with-counts-requires : goal.with-counts-requires
 with-counts-requires c =
+    let so_far : List Entry = take c.loop-entry.entry-index c.args.entries.now in
     let fits : length c.args.entries.now < 2 ^ 64 = search rules in
-    let count : length (reverse (take c.loop-entry.entry-index c.args.entries.now)) ≡ c.loop-entry.entry-index =
-    grind (arith, common_steps, c.loop-entry-test.true, length-reverse (take c.loop-entry.entry-index c.args.entries.now))
+    let count : length (reverse so_far) ≡ c.loop-entry.entry-index =
+    grind (arith, common_steps, c.loop-entry-test.true, length-reverse so_far)
     in
-    let room : length (reverse (take c.loop-entry.entry-index c.args.entries.now)) < 2 ^ 64 - 1 = omega (arith, fits, count, c.loop-entry-test.true) in
+    let room : length (reverse so_far) < 2 ^ 64 - 1 = omega (arith, fits, count, c.loop-entry-test.true) in
     record { room = counts-room _ c.loop-entry.counts c.loop-entry.invariant room }
 
 pub loop-entry-preserved : goal.loop-entry-preserved
