@@ -1,0 +1,3 @@
+pub mod PhaseRun
+pub mod Placing
+pub mod Trace
