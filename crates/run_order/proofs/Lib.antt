@@ -1,1 +1,9 @@
 pub mod Blindness
+pub mod Fitting
+pub mod Following
+pub mod Histories
+pub mod Phases
+pub mod Places
+pub mod Runs
+pub mod Traces
+pub mod Wholes

@@ -14,4 +14,6 @@ pub fn law_blind_answers()
 /// With the looks of a phase placed, the history of a run stays legal and that of the bus, and has one phase more.
 pub fn law_phase_runs()
     ensures runs { PhaseRuns }
-{}
+{
+    law_blind_answers();
+}
