@@ -1,3 +1,4 @@
 pub mod PhaseRun
 pub mod Placing
+pub mod Room
 pub mod Trace
