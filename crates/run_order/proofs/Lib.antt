@@ -1,7 +1,9 @@
 pub mod Blindness
+pub mod Counts
 pub mod Fitting
 pub mod Following
 pub mod Histories
+pub mod Looked
 pub mod Phases
 pub mod Places
 pub mod Runs

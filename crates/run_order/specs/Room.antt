@@ -20,6 +20,6 @@ pub record IsCounted (entries : List Entry) (spare capacity : ℕ) (counts : Lis
   pub counted : (actor : ℕ) → actor < 8 → slice_index counts actor ≡ length (entries_by actor entries)
 
 -- how many statements the processors did
-unfoldable pub how_many : List (List Done) → ℕ
+abbrev pub how_many : List (List Done) → ℕ
 how_many [] = 0
 how_many (done ∷ rests) = length done + how_many rests
