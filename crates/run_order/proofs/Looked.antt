@@ -14,10 +14,10 @@ pub record AreLooked (version k : ℕ) (old rests : List (List Done)) (before no
   pub left : take k rests ≡ all_left version (take k old)
   pub ahead : drop k rests ≡ drop k old
   pub same : length rests ≡ length old
-  pub room : spare + how_many old ≡ room + how_many rests
+  pub fits : spare + how_many old ≡ room + how_many rests
 
 pub looked_first : (version : ℕ) (old : List (List Done)) (before : List Entry) (room : ℕ) → AreLooked version 0 old old before before room room
-looked_first version old before room = record { placed = refl; left = refl; ahead = refl; same = refl; room = refl }
+looked_first version old before room = record { placed = refl; left = refl; ahead = refl; same = refl; fits = refl }
 
 -- the heads of what is ahead
 head_same : (k : ℕ) (xs ys : List (List Done)) → k < length xs → length xs ≡ length ys → drop k xs ≡ drop k ys →
@@ -37,20 +37,21 @@ looked_next version k old rests before now room spare so less left now' spare' l
     ap (λ (r : List (List Done)). with_all_looks version k r now) (drop_more rests k [] less) in
     let more : take (k + 1) old ≡ take k old ++ get_or old k [] ∷ [] = take_more old k [] (omega (arith, less, so.same)) in
     let count = count_set rests k left less in
+    let next : k + 1 ≡ suc k = omega arith in
     record {
       placed = ap (λ (r : List (List Done)). with_all_looks version (k + 1) r now') past ∙ (ap (with_all_looks version (k + 1) (drop (k + 1) rests)) now_is ∙ (sym looks ∙ so.placed));
-      left = take-suc-set rests k left less ∙ (ap (λ (r : List (List Done)). r ++ left ∷ []) so.left ∙ (ap (λ (l : List Done). all_left version (take k old) ++ l ∷ []) (left_is ∙ ap (left_after version) head.0)
-          ∙ (sym (map-append (left_after version) (take k old) (get_or old k [] ∷ [])) ∙ ap (all_left version) (sym more))));
+      left = ap (λ (n : ℕ). take n (set rests k left)) next ∙ (take-suc-set rests k left less ∙ (ap (λ (r : List (List Done)). r ++ left ∷ []) so.left ∙ (ap (λ (l : List Done). all_left version (take k old) ++ l ∷ []) (left_is ∙ ap (left_after version) head.0)
+          ∙ (sym (map-append (left_after version) (take k old) (get_or old k [] ∷ [])) ∙ ap (all_left version) (sym more)))));
       ahead = past ∙ head.1;
       same = length-set rests k left ∙ so.same;
-      room = omega (arith, count, spare_is, so.room);
+      fits = omega (arith, count, spare_is, so.fits);
     }
 
 -- all of them
 pub record AllLooked (version : ℕ) (old rests : List (List Done)) (before now : List Entry) (room spare : ℕ) : Type 0 where
   pub placed : now ≡ with_all_looks version 0 old before
   pub left : rests ≡ all_left version old
-  pub room : spare + how_many old ≡ room + how_many rests
+  pub fits : spare + how_many old ≡ room + how_many rests
 
 pub looked_last : (version k : ℕ) (old rests : List (List Done)) (before now : List Entry) (room spare : ℕ) → AreLooked version k old rests before now room spare →
     length rests ≤ k → AllLooked version old rests before now room spare
@@ -58,10 +59,10 @@ unfolding with_all_looks
 looked_last version k old rests before now room spare so past = record {
   placed = sym (ap (λ (r : List (List Done)). with_all_looks version k r now) (drop_all k rests past)) ∙ so.placed;
   left = sym (take_all k rests past) ∙ (so.left ∙ ap (all_left version) (take_all k old (omega (arith, past, so.same))));
-  room = so.room;
+  fits = so.fits;
 }
 
 -- there is room for the next
 pub looked_fits : (version k : ℕ) (old rests : List (List Done)) (before now : List Entry) (room spare : ℕ) → AreLooked version k old rests before now room spare →
     k < length rests → how_many old ≤ room → length (get_or rests k []) ≤ spare
-looked_fits version k old rests before now room spare so less fits = let one = one_of rests k less in omega (arith, one, so.room, fits)
+looked_fits version k old rests before now room spare so less fits = let one = one_of rests k less in omega (arith, one, so.fits, fits)
