@@ -7,5 +7,6 @@ pub mod Looked
 pub mod Phases
 pub mod Places
 pub mod Runs
+pub mod Steps
 pub mod Traces
 pub mod Wholes
