@@ -41,7 +41,8 @@ use Rattle.board_spec.specs.Interrupts.{routes_of, pirqs, levels_with, levels_of
 use Rattle.board_spec.specs.DeviceLaws.{IsOfMemory, SameDevices, MemoryLeavesDevices}
 use Rattle.board_spec.specs.Answer.{IsAnswer, memory_answer, part_answer, wide_value, IsWideAnswer, port_answer, port_value, value_at, IsLookAnswer}
 use Rattle.board_spec.proofs.DeviceAlone.{map-same, SameDrivers, levels-same, disk_of-same}
-use Rattle.run_order.specs.PhaseRun.{is_look, bare, AnswersAreBlind}
+use Rattle.run_order.specs.Placing.{is_look}
+use Rattle.run_order.specs.PhaseRun.{bare, AnswersAreBlind}
 
 -- ---- an event that is a look
 
@@ -131,7 +132,7 @@ byte_bare setup reg =
 change_kept : Setup → Option MapChange → Option MapChange
 change_kept setup change = option_and_then (λ change. if touches_map setup change then Some change else None) change
 
-writes_bare : (setup : Setup) (h : List Entry) → map_writes_of setup h ≡ map_writes_of setup (bare h)
+pub writes_bare : (setup : Setup) (h : List Entry) → map_writes_of setup h ≡ map_writes_of setup (bare h)
 unfolding map_writes_of map_change_of change_kept
 writes_bare setup =
     along (map_writes_of setup)

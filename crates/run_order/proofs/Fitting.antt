@@ -16,6 +16,7 @@ use Rattle.board_spec.specs.Legal.{entries_by}
 use Rattle.run_order.specs.declared.done.Done.{Done}
 use Rattle.run_order.specs.declared.done.Done.TheVariants.{Went, Looked}
 use Rattle.run_order.specs.PhaseRun.{onto}
+use Rattle.run_order.specs.Placing.{is_look}
 use Rattle.run_order.specs.Trace.{Begins}
 use Rattle.run_order.proofs.Following.{IsRight, IsCall, Follows}
 use Rattle.run_order.proofs.Histories.{begins_self, begins_before, onto_begins, own_entry, other_entry, own_test, own_later, same_place, version_step}
@@ -33,7 +34,7 @@ Due setup before K (Looked kind addr smm look ∷ items) =
 abbrev pub Headed : Event → ℕ → (List Done → Type 0) → List Done → Type 0
 Headed event version P [] = ⊥
 Headed event version P (Looked kind addr smm look ∷ items) = ⊥
-Headed event version P (Went said after ∷ items) = (said ≡ event) × (after ≡ version) × P items
+Headed event version P (Went said after ∷ items) = (said ≡ event) × (after ≡ version) × (is_look event ≡ false) × P items
 
 abbrev pub Fits : Setup → ℕ → List Entry → List Entry → List Done → Type 0
 Fits setup actor before [] items = Due setup before (λ rest. rest ≡ []) items
@@ -108,6 +109,7 @@ module _ (setup : Setup) (whole : List Entry) (actor : ℕ) where
       let next : entry ∷ before ≡ f.1 ∷ f.0 = cc (one.0, one.1) in (
         sym call.said ∙ ap (λ (e : Entry). e.event) one.0,
         call.noted ∙ ap (version_of setup) (sym next),
+        ap is_look (ap (λ (e : Entry). e.event) (sym one.0) ∙ call.said) ∙ call.no_look,
         p items (f.1 ∷ f.0) (version_of setup (f.1 ∷ f.0)) f.3 (ap (entries_by actor) next) (omega (arith, ap (version_of setup) next)),
       )
 

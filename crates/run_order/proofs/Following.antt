@@ -1,5 +1,5 @@
 -- A processor's statements of a phase in the bus's whole history: where its calls stand, and between which versions its looks.
-use Rattle.std.specs.Prelude.{ℕ, ◌≡◌, ◌≤◌, ◌<◌, ◌+◌, List, [], ◌∷◌, length, map, All}
+use Rattle.std.specs.Prelude.{ℕ, ◌≡◌, ◌≤◌, ◌<◌, ◌+◌, false, List, [], ◌∷◌, length, map, All}
 use Rattle.board_spec.specs.declared.event.Event.{Event}
 use Rattle.board_spec.specs.declared.event.Event.TheVariants.{Look as LookAt}
 use Rattle.board_spec.specs.declared.event.Look.{Look}
@@ -13,7 +13,7 @@ use Rattle.board_spec.specs.Legal.{entries_by, IsLegal}
 use Rattle.board_spec.specs.Orders.{events_by}
 use Rattle.run_order.specs.declared.done.Done.{Done}
 use Rattle.run_order.specs.declared.done.Done.TheVariants.{Went, Looked}
-use Rattle.run_order.specs.Placing.{event_of, done_by}
+use Rattle.run_order.specs.Placing.{is_look, event_of, done_by}
 use Rattle.run_order.specs.Trace.{Begins}
 use Rattle.run_order.specs.PhaseRun.{onto}
 
@@ -26,6 +26,7 @@ IsRight setup whole event look =
 pub record IsCall (setup : Setup) (whole : List Entry) (actor : ℕ) (from : List Entry) (low : ℕ) (event : Event) (version : ℕ) (before : List Entry) (entry : Entry) : Type 0 where
   pub own : entry.actor ≡ actor
   pub said : entry.event ≡ event
+  pub no_look : is_look event ≡ false
   pub noted : version ≡ version_of setup (entry ∷ before)
   pub next : entries_by actor before ≡ entries_by actor from
   pub known : low ≤ version_of setup before

@@ -22,42 +22,9 @@ use Rattle.run_order.specs.PhaseRun.{onto, bare, IsPlaced, AnswersAreBlind}
 use Rattle.run_order.proofs.Following.{Follows, IsHandOver}
 use Rattle.run_order.proofs.Histories.{begins_self, begins_before, begins_trans}
 use Rattle.run_order.proofs.Fitting.{Fits, late_by, fits}
-use Rattle.run_order.proofs.Places.{Each, Good, placed_good}
+use Rattle.run_order.proofs.Legality.{Each, Good, placed_good}
+use Rattle.run_order.proofs.Directness.{has_added}
 use Rattle.run_order.proofs.Wholes.{own, back, own_new, own_old, placed_own}
-
--- ---- the places only add
-
-one_more : (entry : Entry) (h : List Entry) → Begins h (entry ∷ h)
-one_more entry h = (entry ∷ [], refl)
-
-with_looks_adds : (v actor : ℕ) (items : List Done) (final : List Entry) → Begins final (with_looks v actor items final)
-unfolding with_looks
-with_looks_adds v actor [] final = begins_self final
-with_looks_adds v actor (Went event after ∷ items) final = begins_self final
-with_looks_adds v actor (Looked kind addr smm look ∷ items) final =
-    let entry : Entry = next_entry final actor (LookAt kind addr smm) (Saw look) in
-    elim (cases_Bool (nat_le look.version v)) [
-      | inl is ↦ rw is (begins_trans final (entry ∷ final) (with_looks v actor items (entry ∷ final)) (one_more entry final) (with_looks_adds v actor items (entry ∷ final)))
-      | inr not ↦ rw not (begins_self final)
-    ]
-
-with_all_adds : (v : ℕ) (rests : List (List Done)) (first : ℕ) (final : List Entry) → Begins final (with_all_looks v first rests final)
-unfolding with_all_looks
-with_all_adds v [] first final = begins_self final
-with_all_adds v (items ∷ rests) first final =
-    begins_trans final (with_looks v first items final) (with_all_looks v (first + 1) rests (with_looks v first items final)) (with_looks_adds v first items final) (with_all_adds v rests (first + 1) (with_looks v first items final))
-
-placed_adds : (v : ℕ) (later : List Entry) (rests : List (List Done)) (final : List Entry) → Begins final (placed v later rests final)
-unfolding placed
-placed_adds v [] rests final = with_all_adds v rests 0 final
-placed_adds v (entry ∷ later) rests final =
-    let looked : List Entry = with_all_looks v 0 rests final in
-    let left : List (List Done) = all_left v rests in
-    let new : Entry = next_entry looked entry.actor entry.event entry.reply in
-    let after : ℕ = noted v (done_by 0 entry.actor left) in
-    let all : List Entry = placed after later (passed 0 entry.actor left) (new ∷ looked) in
-    begins_trans final looked all (with_all_adds v rests 0 final)
-    (begins_trans looked (new ∷ looked) all (one_more new looked) (placed_adds after later (passed 0 entry.actor left) (new ∷ looked)))
 
 -- ---- statements and events
 
@@ -195,9 +162,9 @@ phase_placed blind setup opened later phase rests final over legal same =
     fits setup whole c later opened opened (version_of setup opened) (done_by 0 c rests) refl refl f
     (late_by setup whole c opened (version_of setup opened) (version_of setup opened) (done_by 0 c rests) f (omega arith))) in
     let good = placed_good setup blind later opened rests final over.legal (record { legal = legal; bare = same }) over.callers fit in
-    let adds = placed_adds (version_of setup opened) later rests final in
-    let part : List Statement = statements_of adds.0 in
-    let said : statements_of all ≡ statements_of final ++ part = ap statements_of adds.1 ∙ statements_more adds.0 final in
+    let adds = has_added blind setup final later opened rests over.legal (record { legal = legal; bare = same }) over.callers fit in
+    let part : List Statement = statements_of adds.added in
+    let said : statements_of all ≡ statements_of final ++ part = ap statements_of adds.adds ∙ statements_more adds.added final in
     let events : (c : ℕ) → events_by c part ≡ events_by c phase = λ c.
     let one : events_by c (statements_of final) ++ events_by c part ≡ events_by c (statements_of all) = sym (ap (events_by c) said ∙ events_append c (statements_of final) part) in
     let two : events_by c (statements_of all) ≡ reverse (back (map event_of (done_by 0 c rests)) (own c final)) = events_own c all ∙ ap reverse (placed_own setup later opened rests final c fit over.callers) in
@@ -209,4 +176,7 @@ phase_placed blind setup opened later phase rests final over legal same =
       legal = good.legal;
       bus = good.bare;
       phases = λ phases has. subst (HasPhases (phases ++ phase ∷ [])) (sym said) (has_more phases phase (statements_of final) part has is_whole);
+      added = adds.added;
+      adds = adds.adds;
+      places = adds.places;
     }

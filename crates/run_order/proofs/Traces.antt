@@ -100,6 +100,7 @@ module _ (setup : Setup) (cards : IsCardList setup.cards) (whole : List Entry) (
       let call : IsCall setup whole actor was (length older) event version one.list one.entry = record {
         own = one.own;
         said = one.said;
+        no_look = d.4;
         noted = d.3 ∙ ap length one.known_is ∙ ap (version_of setup) one.now_is;
         next = one.mine;
         known = extends_length older (map_writes_of setup one.list) one.meets;
@@ -107,7 +108,7 @@ module _ (setup : Setup) (cards : IsCardList setup.cards) (whole : List Entry) (
       } in
       let rest : Follows setup whole actor (one.entry ∷ one.list) (version_of setup (one.entry ∷ one.list)) items =
       subst (λ (z : List Entry × ℕ). Follows setup whole actor z.0 z.1 items) (λ i. (one.now_is i, (ap length one.known_is ∙ ap (λ (h : List Entry). version_of setup h) one.now_is) i)) f in
-      follows_on before was older (Went event version ∷ items) d.4 (begins_trans was one.list whole one.begins inside)
+      follows_on before was older (Went event version ∷ items) d.5 (begins_trans was one.list whole one.begins inside)
       (extends_trans older (map_writes_of setup one.list) (map_writes_of setup whole) one.meets (writes_extend setup one.list whole inside))
       (one.list, one.entry, call, rest)
 

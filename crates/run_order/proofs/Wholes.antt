@@ -23,7 +23,7 @@ use Rattle.run_order.specs.Placing.{event_of, next_entry, with_looks, left_after
 use Rattle.run_order.specs.PhaseRun.{onto}
 use Rattle.run_order.proofs.Histories.{own_entry, other_entry}
 use Rattle.run_order.proofs.Fitting.{Due, Headed, Fits}
-use Rattle.run_order.proofs.Places.{Each, Beside, pass, same_test, each_at, passed_length, own_head, noted_is, few_left, few_passed}
+use Rattle.run_order.proofs.Legality.{Each, Beside, pass, same_test, each_at, passed_length, own_head, noted_is, few_left, few_passed}
 
 -- a processor's events in a history, the newest first
 abbrev pub own : ℕ → List Entry → List Event

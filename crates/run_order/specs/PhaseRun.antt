@@ -12,7 +12,8 @@ use Rattle.board_spec.specs.Answer.{IsAnswer}
 use Rattle.board_spec.specs.Legal.{IsLegal}
 use Rattle.board_spec.specs.Orders.{statements_of, events_by, HasPhases}
 use Rattle.run_order.specs.declared.done.Done.{Done}
-use Rattle.run_order.specs.Placing.{event_of, done_by, placed}
+use Rattle.run_order.specs.Placing.{is_look, event_of, done_by, placed}
+use Rattle.run_order.specs.Places.{AreInPlace}
 use Rattle.run_order.specs.Trace.{IsDone, IsClosed}
 
 -- entries after a history, the oldest of them first
@@ -42,10 +43,6 @@ pub record IsPhaseRun (setup : Setup) (opened later : List Entry) (phase : List 
 
 -- ---- histories without their looks
 
-abbrev pub is_look : Event → Bool
-is_look (LookAt kind addr smm) = true
-is_look _ = false
-
 -- a history without its looks and its numbers
 unfoldable pub bare : List Entry → List Entry
 bare [] = []
@@ -59,14 +56,18 @@ AnswersAreBlind =
 
 -- ---- the history of the run
 
--- `history` is the history of the run before a phase, and `all` the one with the phase
+-- `history` is the history of the run before a phase, and `all` the one with what the phase added
 pub record IsPlaced (setup : Setup) (opened later : List Entry) (phase : List Statement) (history all : List Entry) : Type 0 where
   pub legal : IsLegal setup all
   pub bus : bare all ≡ bare (onto later opened)
   pub phases : (phases : List (List Statement)) → HasPhases phases (statements_of history) →
       HasPhases (phases ++ phase ∷ []) (statements_of all)
+  pub added : List Entry
+  pub adds : all ≡ added ++ history
+  pub places : AreInPlace setup history added
 
--- with its looks placed, the history of a run stays legal and that of the bus, and has one phase more
+-- with its looks placed, the history of a run stays legal and that of the bus, and has one phase more, in which each look is
+-- in its place
 abbrev pub PhaseRuns : Type 0
 PhaseRuns =
     (setup : Setup) (opened later : List Entry) (phase : List Statement) (works : List (List Done)) (history : List Entry) →

@@ -1,6 +1,6 @@
 -- Where the looks of a phase stand in the history of a run. Histories have the newest entry first; what the processors did,
 -- and what the bus's history gained in the phase, has the oldest first.
-use Rattle.std.specs.Prelude.{ℕ, ◌+◌, ◌==◌, nat_le, if◌then◌else◌, List, [], ◌∷◌, length, map}
+use Rattle.std.specs.Prelude.{ℕ, ◌+◌, ◌==◌, nat_le, Bool, true, false, if◌then◌else◌, List, [], ◌∷◌, length, map}
 use Rattle.board_spec.specs.declared.event.Event.{Event}
 use Rattle.board_spec.specs.declared.event.Event.TheVariants.{Look as LookAt}
 use Rattle.board_spec.specs.declared.event.Reply.{Reply}
@@ -9,6 +9,10 @@ use Rattle.board_spec.specs.declared.event.Entry.{Entry}
 use Rattle.board_spec.specs.Legal.{entries_by}
 use Rattle.run_order.specs.declared.done.Done.{Done}
 use Rattle.run_order.specs.declared.done.Done.TheVariants.{Went, Looked}
+
+abbrev pub is_look : Event → Bool
+is_look (LookAt kind addr smm) = true
+is_look _ = false
 
 -- the statement that was done
 abbrev pub event_of : Done → Event

@@ -1,5 +1,5 @@
 -- What a processor did in a phase, by the clauses of its calls. Histories and lists of map writes have the newest first.
-use Rattle.std.specs.Prelude.{ℕ, ◌≡◌, Bool, List, [], ◌∷◌, ◌++◌, length}
+use Rattle.std.specs.Prelude.{ℕ, ◌≡◌, Bool, false, List, [], ◌∷◌, ◌++◌, length}
 use Rattle.board_base.specs.declared.access.Kind.{Kind}
 use Rattle.board_spec.specs.declared.event.Look.{Look}
 use Rattle.board_spec.specs.declared.event.Event.{Event}
@@ -11,6 +11,7 @@ use Rattle.board_spec.specs.FlatMap.{IsSpan}
 use Rattle.board_spec.specs.Legal.{entries_by}
 use Rattle.run_order.specs.declared.done.Done.{Done}
 use Rattle.run_order.specs.declared.done.Done.TheVariants.{Went, Looked}
+use Rattle.run_order.specs.Placing.{is_look}
 
 -- a history begins with another
 abbrev pub Begins : (shorter longer : List Entry) → Type 0
@@ -44,14 +45,15 @@ pub record IsGone (setup : Setup) (actor : ℕ) (seen : List Entry) (older : Lis
   pub now_is : now ≡ entry ∷ list
   pub known_is : known ≡ map_writes_of setup now
 
--- what a processor did, the newest first, led from the history `opened` to having seen `seen` and knowing `known`
+-- what a processor did, the newest first, led from the history `opened` to having seen `seen` and knowing `known`. What goes
+-- through the turn is no look, and its version is that of the map as the processor knows it then
 abbrev pub IsDone : Setup → ℕ → List Entry → List Done → List Entry → List MapChange → Type 0
 IsDone setup actor opened [] seen known = (seen ≡ opened) × (known ≡ map_writes_of setup opened)
 IsDone setup actor opened (Looked kind addr smm look ∷ before) seen known =
     (older : List MapChange) × IsSeen setup older known kind addr smm look × IsDone setup actor opened before seen older
 IsDone setup actor opened (Went event version ∷ before) seen known =
     (was : List Entry) × (older : List MapChange) × IsGone setup actor was older event seen known
-    × (version ≡ length known) × IsDone setup actor opened before was older
+    × (version ≡ length known) × (is_look event ≡ false) × IsDone setup actor opened before was older
 
 -- the history `whole` is what the board was closed with, by a processor that had seen `seen` and knew `known`
 pub record IsClosed (setup : Setup) (actor : ℕ) (seen : List Entry) (known : List MapChange) (whole : List Entry) : Type 0 where

@@ -18,8 +18,8 @@ use Rattle.board_spec.specs.Answer.{IsAnswer}
 use Rattle.board_spec.specs.Legal.{entries_by, IsNext, IsLegal}
 use Rattle.run_order.specs.declared.done.Done.{Done}
 use Rattle.run_order.specs.declared.done.Done.TheVariants.{Went, Looked}
-use Rattle.run_order.specs.Placing.{next_entry, with_looks, left_after, with_all_looks, all_left, without_first, passed, done_by, noted, placed}
-use Rattle.run_order.specs.PhaseRun.{onto, is_look, bare, AnswersAreBlind}
+use Rattle.run_order.specs.Placing.{is_look, next_entry, with_looks, left_after, with_all_looks, all_left, without_first, passed, done_by, noted, placed}
+use Rattle.run_order.specs.PhaseRun.{onto, bare, AnswersAreBlind}
 use Rattle.run_order.proofs.Fitting.{Due, Headed, Fits}
 
 -- K holds of each processor's statements, the lists being those of the processors from `first` on
@@ -47,7 +47,7 @@ module _ (setup : Setup) where
   headed_rest : (event : Event) (version : ℕ) (P : List Done → Type 0) (items : List Done) → Headed event version P items → P (without_first items)
   headed_rest event version P [] h = absurd h
   headed_rest event version P (Looked kind addr smm look ∷ items) h = absurd h
-  headed_rest event version P (Went said after ∷ items) h = h.2
+  headed_rest event version P (Went said after ∷ items) h = h.3
 
   pass_none : (entry : Entry) (before later : List Entry) (rests : List (List Done)) (first : ℕ) → entry.actor < first → Each (Beside setup entry before later) first rests
       → Each (λ a. Fits setup a (entry ∷ before) later) first rests
@@ -134,7 +134,7 @@ module _ (setup : Setup) (blind : AnswersAreBlind) where
     bare = good.bare;
   }
 
-  entered : (before final : List Entry) (entry : Entry) → Good setup before final → IsNext setup before entry → Good setup (entry ∷ before) (next_entry final entry.actor entry.event entry.reply ∷ final)
+  pub entered : (before final : List Entry) (entry : Entry) → Good setup before final → IsNext setup before entry → Good setup (entry ∷ before) (next_entry final entry.actor entry.event entry.reply ∷ final)
   entered before final entry good next = record {
     legal = (record { number = refl; answer = blind setup final before good.bare entry.event entry.reply next.answer }, good.legal);
     bare = bare_bus entry before final good.bare;
@@ -156,7 +156,7 @@ module _ (setup : Setup) (blind : AnswersAreBlind) where
       go more true is d = rw is (more (next_entry final actor (LookAt kind addr smm) (Saw look) ∷ final) (looked before final actor kind addr smm look good d.0) d.1)
       go more false not d = rw not (good, d)
 
-  all_looks_good : (before : List Entry) (K : ℕ → List Done → Type 0) (rests : List (List Done)) (first : ℕ) (final : List Entry) → Good setup before final
+  pub all_looks_good : (before : List Entry) (K : ℕ → List Done → Type 0) (rests : List (List Done)) (first : ℕ) (final : List Entry) → Good setup before final
       → Each (λ a items. Due setup before (K a) items) first rests
       → Good setup before (with_all_looks (version_of setup before) first rests final) × Each K first (all_left (version_of setup before) rests)
   unfolding with_all_looks
@@ -166,7 +166,7 @@ module _ (setup : Setup) (blind : AnswersAreBlind) where
       let more = all_looks_good before K rests (first + 1) (with_looks (version_of setup before) first items final) one.0 due.1 in
       (more.0, (one.1, more.1))
 
-  legal_front : (later before : List Entry) → IsLegal setup (onto later before) → IsLegal setup before
+  pub legal_front : (later before : List Entry) → IsLegal setup (onto later before) → IsLegal setup before
   legal_front [] before legal = legal
   legal_front (entry ∷ later) before legal = (legal_front later (entry ∷ before) legal).1
 
