@@ -5,7 +5,7 @@ use Rattle.std.proofs.Math.Seq.{take-suc-set}
 use Rattle.board_spec.specs.declared.event.Entry.{Entry}
 use Rattle.run_order.specs.declared.done.Done.{Done}
 use Rattle.run_order.specs.Placing.{with_looks, left_after, with_all_looks, all_left}
-use Rattle.run_order.specs.Room.{how_many}
+use Rattle.run_order.specs.Room.{looks_in, all_looks_in}
 use Rattle.run_order.proofs.Counts.{one_of, count_set}
 
 -- the looks of the first `k` processors have entered: `old` and `before` were there first, and `rests` and `now` are there now
@@ -14,7 +14,7 @@ pub record AreLooked (version k : ℕ) (old rests : List (List Done)) (before no
   pub left : take k rests ≡ all_left version (take k old)
   pub ahead : drop k rests ≡ drop k old
   pub same : length rests ≡ length old
-  pub fits : spare + how_many old ≡ room + how_many rests
+  pub fits : spare + all_looks_in old ≡ room + all_looks_in rests
 
 pub looked_first : (version : ℕ) (old : List (List Done)) (before : List Entry) (room : ℕ) → AreLooked version 0 old old before before room room
 looked_first version old before room = record { placed = refl; left = refl; ahead = refl; same = refl; fits = refl }
@@ -28,7 +28,7 @@ head_same k xs ys less same ahead =
 
 pub looked_next : (version k : ℕ) (old rests : List (List Done)) (before now : List Entry) (room spare : ℕ) → AreLooked version k old rests before now room spare →
     k < length rests → (left : List Done) (now' : List Entry) (spare' : ℕ) → left ≡ left_after version (get_or rests k []) → now' ≡ with_looks version k (get_or rests k []) now →
-    spare' + length (get_or rests k []) ≡ spare + length left → AreLooked version (k + 1) old (set rests k left) before now' room spare'
+    spare' + looks_in (get_or rests k []) ≡ spare + looks_in left → AreLooked version (k + 1) old (set rests k left) before now' room spare'
 unfolding with_all_looks
 looked_next version k old rests before now room spare so less left now' spare' left_is now_is spare_is =
     let head = head_same k rests old less so.same so.ahead in
@@ -51,7 +51,7 @@ looked_next version k old rests before now room spare so less left now' spare' l
 pub record AllLooked (version : ℕ) (old rests : List (List Done)) (before now : List Entry) (room spare : ℕ) : Type 0 where
   pub placed : now ≡ with_all_looks version 0 old before
   pub left : rests ≡ all_left version old
-  pub fits : spare + how_many old ≡ room + how_many rests
+  pub fits : spare + all_looks_in old ≡ room + all_looks_in rests
 
 pub looked_last : (version k : ℕ) (old rests : List (List Done)) (before now : List Entry) (room spare : ℕ) → AreLooked version k old rests before now room spare →
     length rests ≤ k → AllLooked version old rests before now room spare
@@ -64,5 +64,5 @@ looked_last version k old rests before now room spare so past = record {
 
 -- there is room for the next
 pub looked_fits : (version k : ℕ) (old rests : List (List Done)) (before now : List Entry) (room spare : ℕ) → AreLooked version k old rests before now room spare →
-    k < length rests → how_many old ≤ room → length (get_or rests k []) ≤ spare
+    k < length rests → all_looks_in old ≤ room → looks_in (get_or rests k []) ≤ spare
 looked_fits version k old rests before now room spare so less fits = let one = one_of rests k less in omega (arith, one, so.fits, fits)

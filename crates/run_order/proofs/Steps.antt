@@ -5,8 +5,9 @@ use Rattle.std.proofs.lemmas.List.{drop_more, drop_all, length-map, length-set}
 use Rattle.std.proofs.lemmas.List.Elements.{All-get_or}
 use Rattle.board_spec.specs.declared.event.Entry.{Entry}
 use Rattle.run_order.specs.declared.done.Done.{Done}
+use Rattle.run_order.specs.declared.done.Done.TheVariants.{Went, Looked}
 use Rattle.run_order.specs.Placing.{next_entry, left_after, with_all_looks, all_left, done_by, without_first, passed, noted, placed}
-use Rattle.run_order.specs.Room.{Entries, how_many}
+use Rattle.run_order.specs.Room.{Entries, looks_in, all_looks_in}
 use Rattle.run_order.proofs.Counts.{count_set}
 
 done_at : (rests : List (List Done)) (first k : ℕ) → done_by first (first + k) rests ≡ get_or rests k []
@@ -27,24 +28,25 @@ passed_at (done ∷ rests) first (suc k) =
     let next : first + suc k ≡ (first + 1) + k = omega arith in
     rw not (ap (λ (r : List (List Done)). done ∷ r) (ap (λ (n : ℕ). passed (first + 1) n rests) next ∙ passed_at rests (first + 1) k))
 
-first_is_one : (done : List Done) → length (without_first done) ≤ length done
+first_is_one : (done : List Done) → looks_in (without_first done) ≤ looks_in done
 first_is_one [] = omega arith
-first_is_one (first ∷ done) = omega arith
+first_is_one (Went event version ∷ done) = omega arith
+first_is_one (Looked kind addr smm look ∷ done) = omega arith
 
 -- the first `i` entries of the bus have entered
 pub record ArePlaced (later : List Entry) (i start version : ℕ) (old rests : List (List Done)) (before now : List Entry) (spare : ℕ) : Type 0 where
   pub placed_on : placed version (drop i later) rests now ≡ placed start later old before
   pub same : length rests ≡ length old
-  pub fits : length later + how_many rests ≤ spare + i
+  pub fits : length later + all_looks_in rests ≤ spare + i
 
-pub placed_first : (later : List Entry) (version : ℕ) (old : List (List Done)) (before : List Entry) (spare : ℕ) → length later + how_many old ≤ spare →
+pub placed_first : (later : List Entry) (version : ℕ) (old : List (List Done)) (before : List Entry) (spare : ℕ) → length later + all_looks_in old ≤ spare →
     ArePlaced later 0 version version old old before before spare
 placed_first later version old before spare fits = record { placed_on = refl; same = refl; fits = omega (arith, fits) }
 
 -- the entry after the looks that are due before it
 pub placed_next : (later : List Entry) (i start version : ℕ) (old rests : List (List Done)) (before now : List Entry) (spare : ℕ) → ArePlaced later i start version old rests before now spare →
     i < length later → (entry d : Entry) → get_or later i d ≡ entry → entry.actor < length rests →
-    (left : List (List Done)) (looked : List Entry) (spare' : ℕ) → left ≡ all_left version rests → looked ≡ with_all_looks version 0 rests now → spare' + how_many rests ≡ spare + how_many left →
+    (left : List (List Done)) (looked : List Entry) (spare' : ℕ) → left ≡ all_left version rests → looked ≡ with_all_looks version 0 rests now → spare' + all_looks_in rests ≡ spare + all_looks_in left →
     ArePlaced later (i + 1) start (noted version (get_or left entry.actor [])) old (set left entry.actor (without_first (get_or left entry.actor []))) before
     (next_entry looked entry.actor entry.event entry.reply ∷ looked) (spare' - 1)
 unfolding placed
@@ -87,7 +89,7 @@ placed_last later i start version old rests before now spare so past =
 pub placed_step : (later : List Entry) (i start version : ℕ) (old rests : List (List Done)) (before now : List Entry) (spare : ℕ) → ArePlaced later i start version old rests before now spare →
     i < length later → All (λ e. e.actor < length old) later → (d : Entry) (next : Entries) (left : List (List Done)) (looked : List Entry) (spare' : ℕ) →
     next ≡ record { entries = next_entry looked (get_or later i d).actor (get_or later i d).event (get_or later i d).reply ∷ looked; spare = spare' - 1 } →
-    left ≡ all_left version rests → looked ≡ with_all_looks version 0 rests now → spare' + how_many rests ≡ spare + how_many left →
+    left ≡ all_left version rests → looked ≡ with_all_looks version 0 rests now → spare' + all_looks_in rests ≡ spare + all_looks_in left →
     (place version' : ℕ) (rest : List Done) → place ≡ (get_or later i d).actor → version' ≡ noted version (get_or left place []) → rest ≡ without_first (get_or left place []) →
     ArePlaced later (i + 1) start version' old (set left place rest) before next.entries next.spare
 placed_step later i start version old rests before now spare so less callers d next left looked spare' next_is left_is looked_is spare_is place version' rest place_is version_is rest_is =

@@ -3,6 +3,7 @@ use Rattle.std.specs.Prelude.{ℕ, ◌≡◌, ◌+◌, ◌^◌, ◌<◌, ◌≤�
 use Rattle.board_spec.specs.declared.event.Entry.{Entry}
 use Rattle.board_spec.specs.Legal.{entries_by}
 use Rattle.run_order.specs.declared.done.Done.{Done}
+use Rattle.run_order.specs.declared.done.Done.TheVariants.{Went, Looked}
 
 -- the entries, the newest first, and the room for more
 pub record Entries : Type 0 where
@@ -19,7 +20,12 @@ pub record IsCounted (entries : List Entry) (spare capacity : ℕ) (counts : Lis
   pub few : length entries + spare < most
   pub counted : (actor : ℕ) → actor < 8 → slice_index counts actor ≡ length (entries_by actor entries)
 
--- how many statements the processors did
-abbrev pub how_many : List (List Done) → ℕ
-how_many [] = 0
-how_many (done ∷ rests) = length done + how_many rests
+-- how many looks are in what a processor did, and in what all did
+abbrev pub looks_in : List Done → ℕ
+looks_in [] = 0
+looks_in (Went event version ∷ done) = looks_in done
+looks_in (Looked kind addr smm look ∷ done) = looks_in done + 1
+
+abbrev pub all_looks_in : List (List Done) → ℕ
+all_looks_in [] = 0
+all_looks_in (done ∷ rests) = looks_in done + all_looks_in rests

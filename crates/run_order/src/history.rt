@@ -1,11 +1,18 @@
 //! The history of a run, with the looks of all processors.
 
 ghost use Rattle.std.specs.Prelude.{◌≡◌, ◌-◌, ◌+◌, ◌<◌, ◌≤◌, ℕ, List, [], ◌∷◌, length, map, reverse, All, OnOk, OnErr};
+ghost use Rattle.board_spec.specs.declared.event.Entry.{Entry};
+ghost use Rattle.board_spec.specs.declared.event.Statement.{Statement};
+ghost use Rattle.board_spec.specs.Setup.{Setup};
+ghost use Rattle.board_spec.specs.MapWrites.{version_of};
+ghost use Rattle.board_spec.specs.Legal.{IsLegal};
+ghost use Rattle.run_order.specs.PhaseRun.{bare, IsPhaseRun, IsPlaced};
 ghost use Rattle.run_order.specs.Placing.{next_entry, with_looks, left_after, with_all_looks, all_left, placed};
-ghost use Rattle.run_order.specs.Room.{Entries, most, how_many};
+ghost use Rattle.run_order.specs.Room.{Entries, most, looks_in, all_looks_in};
 
 use crate::done::Done;
-use crate::next::{due_look, noted, without_first};
+use crate::laws::law_phase_runs;
+use crate::next::{due_look, looks_in, noted, without_first};
 use arrayvec::ArrayVec;
 use board_base::NoMemory;
 use board_spec::{Entry, Event, Reply};
@@ -42,15 +49,15 @@ impl Model for RunHistory {
         IsCounted (reverse history.entries.items) history.spare (vec_capacity history.entries) history.counts };
 }
 
-/// How many entries a phase adds at most.
-fn most_entries(later: &[Entry], works: &Works) -> usize
-    ensures enough { result < most → length later.now + how_many (map (λ done. done.now) works.now.items) ≤ result }
+/// How many entries a phase adds: those of the bus, and the looks.
+fn entries_in(later: &[Entry], works: &Works) -> usize
+    ensures enough { result < most → length later.now + all_looks_in (map (λ done. done.now) works.now.items) ≤ result }
 {
-    let mut most = later.len();
+    let mut count = later.len();
     for done in works.iter() {
-        most = most.saturating_add(done.len());
+        count = count.saturating_add(looks_in(done));
     }
-    most
+    count
 }
 
 impl RunHistory {
@@ -73,7 +80,8 @@ impl RunHistory {
     }
 
     /// Adds the entries that the bus's history gained in a phase, the oldest first, and the looks of all processors at their
-    /// places. `version` is that of the map before the phase.
+    /// places. `version` is that of the map before the phase. Where there is no memory, or there would be 2^32 entries,
+    /// nothing changes.
     pub fn place(
         &mut self,
         version: u32,
@@ -83,9 +91,14 @@ impl RunHistory {
         requires callers { All (λ entry. entry.actor < length works.items) later.now }
         ensures placed { OnOk result (self.new.entries
             ≡ placed version later.now (map (λ done. done.now) works.entry.items) self.old.entries) }
+        ensures runs { OnOk result ((setup : Setup) (opened : List Entry) (phase : List Statement)
+            → IsPhaseRun setup opened later.now phase (map (λ done. done.now) works.entry.items) → version ≡ version_of setup opened
+            → IsLegal setup self.old.entries → bare self.old.entries ≡ bare opened
+            → IsPlaced setup opened later.now phase self.old.entries self.new.entries) }
         ensures unplaced { OnErr result (self.new ≡ self.old) }
     {
-        self.reserve(most_entries(later, &works))?;
+        self.reserve(entries_in(later, &works))?;
+        law_phase_runs();
         self.place_all(version, later, works.as_mut_slice());
         Ok(())
     }
@@ -129,10 +142,10 @@ impl RunHistory {
     /// left comes back.
     fn looks<'a>(&mut self, version: u32, actor: u8, done: &'a [Done]) -> &'a [Done]
         requires actor { actor < 8 }
-        requires room { length done.now ≤ self.old.spare }
+        requires room { looks_in done.now ≤ self.old.spare }
         ensures placed { self.new.entries ≡ with_looks version actor done.now self.old.entries }
         ensures left { result.now ≡ left_after version done.now }
-        ensures room { self.new.spare + length done.now ≡ self.old.spare + length result.now }
+        ensures room { self.new.spare + looks_in done.now ≡ self.old.spare + looks_in result.now }
     {
         let mut rest = done;
         while let Some(next) = due_look(version, rest) {
@@ -145,11 +158,11 @@ impl RunHistory {
     /// The same for each processor.
     fn all_looks(&mut self, version: u32, rests: &mut [&[Done]])
         requires few { length rests.old ≤ 8 }
-        requires room { how_many (map (λ done. done.now) rests.old) ≤ self.old.spare }
+        requires room { all_looks_in (map (λ done. done.now) rests.old) ≤ self.old.spare }
         ensures placed { self.new.entries ≡ with_all_looks version 0 (map (λ done. done.now) rests.old) self.old.entries }
         ensures left { map (λ done. done.now) rests.new ≡ all_left version (map (λ done. done.now) rests.old) }
-        ensures room { self.new.spare + how_many (map (λ done. done.now) rests.old)
-            ≡ self.old.spare + how_many (map (λ done. done.now) rests.new) }
+        ensures room { self.new.spare + all_looks_in (map (λ done. done.now) rests.old)
+            ≡ self.old.spare + all_looks_in (map (λ done. done.now) rests.new) }
     {
         for actor in 0..rests.len() {
             rests[actor] = self.looks(version, actor as u8, rests[actor]);
@@ -160,7 +173,7 @@ impl RunHistory {
     fn place_all(&mut self, version: u32, later: &[Entry], rests: &mut [&[Done]])
         requires few { length rests.old ≤ 8 }
         requires callers { All (λ entry. entry.actor < length rests.old) later.now }
-        requires room { length later.now + how_many (map (λ done. done.now) rests.old) ≤ self.old.spare }
+        requires room { length later.now + all_looks_in (map (λ done. done.now) rests.old) ≤ self.old.spare }
         ensures placed { self.new.entries ≡ placed version later.now (map (λ done. done.now) rests.old) self.old.entries }
     {
         let mut version = version;

@@ -1,9 +1,10 @@
 //! What comes next in what a processor did.
 
-ghost use Rattle.std.specs.Prelude.{◌≡◌, ◌∷◌, ◌+◌, ◌<◌, ◌≤◌, ℕ, List, length, IfSome, MatchOption};
+ghost use Rattle.std.specs.Prelude.{◌≡◌, [], ◌∷◌, ◌+◌, ◌<◌, ◌≤◌, ℕ, List, length, IfSome, MatchOption};
 ghost use Rattle.board_spec.specs.declared.event.Entry.{Entry};
 ghost use Rattle.board_spec.specs.declared.event.Reply.TheVariants.{Saw};
 ghost use Rattle.run_order.specs.Placing.{next_entry, with_looks, left_after, without_first, noted};
+ghost use Rattle.run_order.specs.Room.{looks_in};
 
 use crate::done::Done;
 use board_spec::{Event, Look};
@@ -26,6 +27,7 @@ pub(crate) fn due_look(version: u32, done: &[Done]) -> Option<NextLook<'_>>
     ensures left { MatchOption result (left_after version done.now ≡ done.now)
         (λ next. left_after version done.now ≡ left_after version next.after.now) }
     ensures shorter { IfSome result (λ next. length next.after.now + 1 ≡ length done.now) }
+    ensures fewer { IfSome result (λ next. looks_in next.after.now + 1 ≡ looks_in done.now) }
 {
     match done {
         [
@@ -77,5 +79,27 @@ pub(crate) fn without_first(done: &[Done]) -> &[Done]
     match done {
         [_, after @ ..] => after,
         [] => done,
+    }
+}
+
+/// How many looks there are.
+pub(crate) fn looks_in(done: &[Done]) -> usize
+    ensures count { result ≡ looks_in done.now }
+{
+    let mut count = 0;
+    for one in done {
+        count += one_if_look(one);
+    }
+    count
+}
+
+/// 1 for a look, and 0 for what went through the turn.
+fn one_if_look(done: &Done) -> usize
+    ensures count { result ≡ looks_in (done.now ∷ []) }
+    ensures small { result ≤ 1 }
+{
+    match done {
+        Done::Looked { .. } => 1,
+        Done::Went { .. } => 0,
     }
 }

@@ -1,7 +1,7 @@
 use Rattle.std.proofs.Common.{◌≡◌, ◌+◌, ◌<◌, ◌≤◌, [], length, map, arith}
-use Rattle.run_order.specs.Room.{most, how_many}
+use Rattle.run_order.specs.Room.{most, all_looks_in}
 use Rattle.run_order.proofs.Counts.{count_next}
-use Rattle.run_order.proofs.history.most_entries.Goals as goal
+use Rattle.run_order.proofs.history.entries_in.Goals as goal
 
 pub loop-done-init : goal.loop-done-init
 loop-done-init c = λ few. omega arith
@@ -9,6 +9,6 @@ loop-done-init c = λ few. omega arith
 pub loop-done-preserved : goal.loop-done-preserved
 loop-done-preserved c = λ few.
     let next = count_next (λ done. done.now) c.deref-done-items.result.now c.loop-done.done-index (record { ref_ptr = (0, 0); now = [] }) c.loop-done-test.true in
-    let sum = c.saturating_add-most.ensures in
+    let sum = c.saturating_add-count.ensures in
     let inv = c.loop-done.invariant (omega (arith, sum, few)) in
     omega (arith, next, sum, inv, few)
