@@ -1,6 +1,6 @@
 //! The history of a run, with the looks of all processors.
 
-ghost use Rattle.std.specs.Prelude.{◌≡◌, ◌-◌, ◌+◌, ◌<◌, ◌≤◌, ℕ, List, [], ◌∷◌, length, map, reverse, All, OnOk, OnErr};
+ghost use Rattle.std.specs.Prelude.{◌≡◌, ◌-◌, ◌+◌, ◌<◌, ◌≤◌, ℕ, List, [], ◌∷◌, length, map, reverse, All, max, IsOk, OnOk, OnErr};
 ghost use Rattle.board_spec.specs.declared.event.Entry.{Entry};
 ghost use Rattle.board_spec.specs.declared.event.Statement.{Statement};
 ghost use Rattle.board_spec.specs.Setup.{Setup};
@@ -51,7 +51,8 @@ impl Model for RunHistory {
 
 /// How many entries a phase adds: those of the bus, and the looks.
 fn entries_in(later: &[Entry], works: &Works) -> usize
-    ensures enough { result < most → length later.now + all_looks_in (map (λ done. done.now) works.now.items) ≤ result }
+    ensures count { result < most → result ≡ length later.now + all_looks_in (map (λ done. done.now) works.now.items) }
+    ensures small { result ≤ length later.now + all_looks_in (map (λ done. done.now) works.now.items) }
 {
     let mut count = later.len();
     for done in works.iter() {
@@ -96,6 +97,7 @@ impl RunHistory {
             → IsLegal setup self.old.entries → bare self.old.entries ≡ bare opened
             → IsPlaced setup opened later.now phase self.old.entries self.new.entries) }
         ensures unplaced { OnErr result (self.new ≡ self.old) }
+        ensures room { length later.now + all_looks_in (map (λ done. done.now) works.entry.items) ≤ self.old.spare → IsOk result }
     {
         self.reserve(entries_in(later, &works))?;
         law_phase_runs();
@@ -104,10 +106,11 @@ impl RunHistory {
     }
 
     /// Makes room for at least `n` more entries, where the history with them stays below 2^32.
-    fn reserve(&mut self, n: usize) -> Result<(), NoMemory>
-        ensures room { OnOk result ((n ≤ self.new.spare) × (n < most)) }
-        ensures same { OnOk result (self.new.entries ≡ self.old.entries) }
-        ensures unplaced { OnErr result (self.new ≡ self.old) }
+    pub fn reserve(&mut self, n: usize) -> Result<(), NoMemory>
+        ensures ok { OnOk result (self.new ≡ record self.old { spare = max self.old.spare n }) }
+        ensures few { OnOk result (n < most) }
+        ensures err { OnErr result (self.new ≡ self.old) }
+        ensures room { n ≤ self.old.spare → IsOk result }
     {
         if n > MOST_ENTRIES - self.entries.len() {
             return Err(NoMemory);
