@@ -11,3 +11,6 @@ pub mod laws;
 
 pub use done::Done;
 pub use history::{MOST_PROCESSORS, RunHistory, Works};
+
+#[cfg(test)]
+mod tests;
