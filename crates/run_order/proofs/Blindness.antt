@@ -106,8 +106,8 @@ address_bare =
     along config_address
     (λ entry before is. rw ((looks_are_silent entry.event is).control, (looks_are_silent entry.event is).address) refl)
     (λ entry before same.
-        ap (λ (c : ℕ). address_after c (config_address before) entry.event) (control_bare before)
-        ∙ ap (λ (a : ℕ). address_after (reset_control (bare before)) a entry.event) same)
+    ap (λ (c : ℕ). address_after c (config_address before) entry.event) (control_bare before)
+    ∙ ap (λ (a : ℕ). address_after (reset_control (bare before)) a entry.event) same)
 
 register_change_bare : (setup : Setup) (h : List Entry) (event : Event) → register_change setup h event ≡ register_change setup (bare h) event
 register_change_bare setup h event = let a = control_bare h in let b = address_bare h in rw (a, b) refl
@@ -138,8 +138,8 @@ writes_bare setup =
     along (map_writes_of setup)
     (λ entry before is. ap (λ (c : Option MapChange). option_to_list (change_kept setup c) ++ map_writes_of setup before) (look_changes_nothing setup before entry.event is))
     (λ entry before same.
-        ap (λ (c : Option MapChange). option_to_list (change_kept setup c) ++ map_writes_of setup before) (register_change_bare setup before entry.event)
-        ∙ ap (λ (ws : List MapChange). option_to_list (change_kept setup (register_change setup (bare before) entry.event)) ++ ws) same)
+    ap (λ (c : Option MapChange). option_to_list (change_kept setup c) ++ map_writes_of setup before) (register_change_bare setup before entry.event)
+    ∙ ap (λ (ws : List MapChange). option_to_list (change_kept setup (register_change setup (bare before) entry.event)) ++ ws) same)
 
 stored_bare : (cell : Cell) (h : List Entry) → stored_of h cell ≡ stored_of (bare h) cell
 unfolding stored_of

@@ -50,7 +50,7 @@ no_more_by : (entries : List Entry) (actor : ℕ) → length (entries_by actor e
 no_more_by [] actor = omega arith
 no_more_by (entry ∷ before) actor =
     let below : length (entries_by actor before) ≤ length before = no_more_by before actor in
-    elim (cases_Bool (entry.actor == actor)) [ | inl same ↦ rw same (omega arith) | inr other ↦ rw other (omega arith) ]
+    elim (cases_Bool (entry.actor == actor)) [ inl same ↦ rw same (omega arith) | inr other ↦ rw other (omega arith) ]
 
 -- a processor's next number is small
 pub count_fits : (entries : List Entry) (spare capacity : ℕ) (counts : List ℕ) (actor place : ℕ) → place ≡ actor → actor < 8 → 1 ≤ spare →

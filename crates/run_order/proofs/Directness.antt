@@ -18,9 +18,9 @@ use Rattle.run_order.specs.declared.done.Done.{Done}
 use Rattle.run_order.specs.declared.done.Done.TheVariants.{Went, Looked}
 use Rattle.run_order.specs.Placing.{is_look, next_entry, with_looks, left_after, with_all_looks, all_left, done_by, without_first, passed, noted, placed}
 use Rattle.run_order.specs.Places.{without_lower, IsMapWrite, IsPlaceOf, IsInPlace, AreInPlace}
-use Rattle.run_order.specs.PhaseRun.{onto, bare, AnswersAreBlind}
+use Rattle.run_order.specs.PhaseRun.{bare, AnswersAreBlind}
+use Rattle.run_order.proofs.Histories.{onto, version_step}
 use Rattle.run_order.proofs.Blindness.{writes_bare}
-use Rattle.run_order.proofs.Histories.{version_step}
 use Rattle.run_order.proofs.Fitting.{Headed, Fits, Late}
 use Rattle.run_order.proofs.Legality.{Each, Beside, Good, pass, own_head, noted_is, few_left, few_passed, all_looks_good, entered, legal_front}
 
@@ -50,7 +50,7 @@ lower_out actor (entry ∷ looks) since lower ends =
 own_stays : (entry : Entry) (before : List Entry) → without_lower entry.actor (entry ∷ before) ≡ entry ∷ before
 own_stays entry before =
     let not : nat_lt entry.actor entry.actor ≡ false = grind (arith, nat_tests) in
-    elim (cases_Bool (is_look entry.event)) [ | inl is ↦ rw is (rw not refl) | inr other ↦ rw other refl ]
+    elim (cases_Bool (is_look entry.event)) [ inl is ↦ rw is (rw not refl) | inr other ↦ rw other refl ]
 
 lower_on : (first : ℕ) (looks : List Entry) → AreLower first looks → AreLower (first + 1) looks
 lower_on first [] lower = tt

@@ -15,11 +15,10 @@ use Rattle.board_spec.specs.Answer.{IsAnswer}
 use Rattle.board_spec.specs.Legal.{entries_by}
 use Rattle.run_order.specs.declared.done.Done.{Done}
 use Rattle.run_order.specs.declared.done.Done.TheVariants.{Went, Looked}
-use Rattle.run_order.specs.PhaseRun.{onto}
+use Rattle.run_order.proofs.Histories.{onto, begins_self, begins_before, onto_begins, own_entry, other_entry, own_test, own_later, same_place, version_step}
 use Rattle.run_order.specs.Placing.{is_look}
 use Rattle.run_order.specs.Trace.{Begins}
 use Rattle.run_order.proofs.Following.{IsRight, IsCall, Follows}
-use Rattle.run_order.proofs.Histories.{begins_self, begins_before, onto_begins, own_entry, other_entry, own_test, own_later, same_place, version_step}
 
 -- the looks at the front that are due after a history are right there, and K holds of what is left
 abbrev pub Due : Setup → List Entry → (List Done → Type 0) → List Done → Type 0

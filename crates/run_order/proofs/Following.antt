@@ -15,7 +15,7 @@ use Rattle.run_order.specs.declared.done.Done.{Done}
 use Rattle.run_order.specs.declared.done.Done.TheVariants.{Went, Looked}
 use Rattle.run_order.specs.Placing.{is_look, event_of, done_by}
 use Rattle.run_order.specs.Trace.{Begins}
-use Rattle.run_order.specs.PhaseRun.{onto}
+use Rattle.run_order.proofs.Histories.{onto}
 
 -- what a look saw is the answer after every beginning of the history that has as many map writes
 abbrev pub IsRight : Setup → List Entry → Event → Look → Type 0

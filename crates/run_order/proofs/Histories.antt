@@ -1,6 +1,8 @@
 -- Beginnings of a history, and a processor's entries in it.
 use Rattle.std.proofs.Common.{◌≡◌, ◌≢◌, ℕ, ◌+◌, ◌<◌, ◌≤◌, ◌==◌, Bool, true, false, List, [], ◌∷◌, ◌++◌, length, filter, refl, sym, ◌∙◌, ap, subst, arith, append_assoc, length-append, Option, Some, None, inl, inr}
 use Rattle.std.specs.Option.{option_to_list}
+use Rattle.std.specs.Prelude.{reverse}
+use Rattle.std.proofs.lemmas.List.{reverse-append}
 use Rattle.std.proofs.lemmas.Bool.{cases_Bool}
 use Rattle.std.proofs.lemmas.Bool.Decides.{nat_tests}
 use Rattle.board_spec.specs.declared.event.Entry.{Entry}
@@ -8,8 +10,17 @@ use Rattle.board_spec.specs.declared.map_change.MapChange.{MapChange}
 use Rattle.board_spec.specs.Setup.{Setup}
 use Rattle.board_spec.specs.MapWrites.{version_of, map_change_of, map_writes_of}
 use Rattle.board_spec.specs.Legal.{entries_by}
-use Rattle.run_order.specs.PhaseRun.{onto}
 use Rattle.run_order.specs.Trace.{Begins}
+
+-- what comes later, the oldest first, put before a list with the newest first
+abbrev pub onto : {X : Type 0} → List X → List X → List X
+onto [] before = before
+onto (x ∷ later) before = onto later (x ∷ before)
+
+pub onto_is : {X : Type 0} (later before : List X) → onto later before ≡ reverse later ++ before
+onto_is [] before = refl
+onto_is {X} (x ∷ later) before =
+    onto_is later (x ∷ before) ∙ sym (ap (λ (h : List X). h ++ before) (reverse-append (x ∷ []) later) ∙ append_assoc (reverse later) (x ∷ []) before)
 
 pub begins_self : (history : List Entry) → Begins history history
 begins_self history = ([], refl)

@@ -19,7 +19,8 @@ use Rattle.board_spec.specs.Legal.{entries_by, IsNext, IsLegal}
 use Rattle.run_order.specs.declared.done.Done.{Done}
 use Rattle.run_order.specs.declared.done.Done.TheVariants.{Went, Looked}
 use Rattle.run_order.specs.Placing.{is_look, next_entry, with_looks, left_after, with_all_looks, all_left, without_first, passed, done_by, noted, placed}
-use Rattle.run_order.specs.PhaseRun.{onto, bare, AnswersAreBlind}
+use Rattle.run_order.specs.PhaseRun.{bare, AnswersAreBlind}
+use Rattle.run_order.proofs.Histories.{onto}
 use Rattle.run_order.proofs.Fitting.{Due, Headed, Fits}
 
 -- K holds of each processor's statements, the lists being those of the processors from `first` on

@@ -3,7 +3,7 @@ use Rattle.std.proofs.Common.{◌≡◌, ◌≢◌, ℕ, zero, suc, ◌+◌, ◌
 use Rattle.std.specs.Prelude.{reverse, if◌then◌else◌}
 use Rattle.std.proofs.lemmas.Bool.{cases_Bool}
 use Rattle.std.proofs.lemmas.Bool.Decides.{nat_tests}
-use Rattle.std.proofs.lemmas.List.{append-nil, reverse-append, map-append, append_cancel_left, length-map, length-take, take_all, drop_all, take-append-le, drop-append-le}
+use Rattle.std.proofs.lemmas.List.{append-nil, reverse-append, reverse-reverse, map-append, append_cancel_left, length-map, length-take, take_all, drop_all, take-append-le, drop-append-le}
 use Rattle.std.proofs.lemmas.List.Elements.{filter-append}
 use Rattle.board_spec.specs.declared.event.Event.{Event}
 use Rattle.board_spec.specs.declared.event.Event.TheVariants.{Look as LookAt}
@@ -18,13 +18,13 @@ use Rattle.run_order.specs.declared.done.Done.{Done}
 use Rattle.run_order.specs.declared.done.Done.TheVariants.{Went, Looked}
 use Rattle.run_order.specs.Placing.{event_of, next_entry, with_looks, with_all_looks, all_left, passed, noted, placed, done_by}
 use Rattle.run_order.specs.Trace.{Begins}
-use Rattle.run_order.specs.PhaseRun.{onto, bare, IsPlaced, AnswersAreBlind}
+use Rattle.run_order.specs.PhaseRun.{bare, IsPlaced, AnswersAreBlind}
+use Rattle.run_order.proofs.Histories.{onto, onto_is, begins_self, begins_before, begins_trans}
 use Rattle.run_order.proofs.Following.{Follows, IsHandOver}
-use Rattle.run_order.proofs.Histories.{begins_self, begins_before, begins_trans}
 use Rattle.run_order.proofs.Fitting.{Fits, late_by, fits}
 use Rattle.run_order.proofs.Legality.{Each, Good, placed_good}
 use Rattle.run_order.proofs.Directness.{has_added}
-use Rattle.run_order.proofs.Wholes.{own, back, own_new, own_old, placed_own}
+use Rattle.run_order.proofs.Wholes.{own, own_new, own_old, placed_own}
 
 -- ---- statements and events
 
@@ -55,9 +55,9 @@ events_own c (entry ∷ before) =
       | inr not ↦ split ∙ (ap (λ (es : List Event). events_by c (statements_of before) ++ es) (one_other c entry not) ∙ (append-nil (events_by c (statements_of before)) ∙ (events_own c before ∙ ap reverse (sym (own_old c entry before not)))))
     ]
 
-reverse_back : (xs ys : List Event) → reverse (back xs ys) ≡ reverse ys ++ xs
-reverse_back [] ys = sym (append-nil (reverse ys))
-reverse_back (x ∷ xs) ys = reverse_back xs (x ∷ ys) ∙ (ap (λ (es : List Event). es ++ xs) (reverse_cons x ys) ∙ append_assoc (reverse ys) (x ∷ []) xs)
+reverse_onto : (xs ys : List Event) → reverse (onto xs ys) ≡ reverse ys ++ xs
+reverse_onto xs ys =
+    ap reverse (onto_is xs ys) ∙ (reverse-append (reverse xs) ys ∙ ap (λ (es : List Event). reverse ys ++ es) (reverse-reverse xs))
 
 -- ---- as many statements
 
@@ -167,14 +167,14 @@ phase_placed blind setup opened later phase rests final over legal same =
     let said : statements_of all ≡ statements_of final ++ part = ap statements_of adds.adds ∙ statements_more adds.added final in
     let events : (c : ℕ) → events_by c part ≡ events_by c phase = λ c.
     let one : events_by c (statements_of final) ++ events_by c part ≡ events_by c (statements_of all) = sym (ap (events_by c) said ∙ events_append c (statements_of final) part) in
-    let two : events_by c (statements_of all) ≡ reverse (back (map event_of (done_by 0 c rests)) (own c final)) = events_own c all ∙ ap reverse (placed_own setup later opened rests final c fit over.callers) in
-    let three : reverse (back (map event_of (done_by 0 c rests)) (own c final)) ≡ events_by c (statements_of final) ++ map event_of (done_by 0 c rests) =
-    reverse_back (map event_of (done_by 0 c rests)) (own c final) ∙ ap (λ (es : List Event). es ++ map event_of (done_by 0 c rests)) (sym (events_own c final)) in
+    let two : events_by c (statements_of all) ≡ reverse (onto (map event_of (done_by 0 c rests)) (own c final)) = events_own c all ∙ ap reverse (placed_own setup later opened rests final c fit over.callers) in
+    let three : reverse (onto (map event_of (done_by 0 c rests)) (own c final)) ≡ events_by c (statements_of final) ++ map event_of (done_by 0 c rests) =
+    reverse_onto (map event_of (done_by 0 c rests)) (own c final) ∙ ap (λ (es : List Event). es ++ map event_of (done_by 0 c rests)) (sym (events_own c final)) in
     append_cancel_left (events_by c (statements_of final)) (events_by c part) (map event_of (done_by 0 c rests)) (one ∙ (two ∙ three)) ∙ over.said c in
     let is_whole : IsWholePhase phase part = record { size = same_size part phase (λ c. ap length (events c)); each = events } in
     record {
       legal = good.legal;
-      bus = good.bare;
+      bus = good.bare ∙ ap bare (onto_is later opened);
       phases = λ phases has. subst (HasPhases (phases ++ phase ∷ [])) (sym said) (has_more phases phase (statements_of final) part has is_whole);
       added = adds.added;
       adds = adds.adds;

@@ -10,20 +10,18 @@ use Rattle.board_spec.specs.declared.event.Entry.{Entry}
 use Rattle.board_spec.specs.declared.event.Statement.{Statement}
 use Rattle.board_spec.specs.Setup.{Setup}
 use Rattle.board_spec.specs.MapWrites.{version_of}
+use Rattle.board_spec.specs.Legal.{IsLegal}
 use Rattle.board_spec.specs.Orders.{events_by}
 use Rattle.run_order.specs.declared.done.Done.{Done}
 use Rattle.run_order.specs.Placing.{event_of, done_by}
 use Rattle.run_order.proofs.Following.{Follows, IsHandOver}
-use Rattle.run_order.specs.PhaseRun.{onto, IsWork, IsPhaseRun, AnswersAreBlind, PhaseRuns}
-use Rattle.run_order.proofs.Traces.{rev_onto, follows}
+use Rattle.run_order.specs.PhaseRun.{IsWork, IsPhaseRun, AnswersAreBlind, PhaseRuns}
+use Rattle.run_order.proofs.Histories.{onto, onto_is}
+use Rattle.run_order.proofs.Traces.{follows}
 use Rattle.run_order.proofs.Phases.{phase_placed}
 
-rev_is_reverse : (xs ys : List Done) → rev_onto xs ys ≡ reverse xs ++ ys
-rev_is_reverse [] ys = refl
-rev_is_reverse (x ∷ xs) ys = rev_is_reverse xs (x ∷ ys) ∙ (sym (append_assoc (reverse xs) (x ∷ []) ys) ∙ ap (λ (h : List Done). h ++ ys) (sym (reverse-append (x ∷ []) xs)))
-
-back_again : (items : List Done) → rev_onto (reverse items) [] ≡ items
-back_again items = rev_is_reverse (reverse items) [] ∙ (append-nil (reverse (reverse items)) ∙ reverse-reverse items)
+back_again : (items : List Done) → onto (reverse items) [] ≡ items
+back_again items = onto_is (reverse items) [] ∙ (append-nil (reverse (reverse items)) ∙ reverse-reverse items)
 
 nobody_else : (actor n : ℕ) (phase : List Statement) → n ≤ actor → All (λ statement. statement.actor < n) phase → events_by actor phase ≡ []
 nobody_else actor n [] past few = refl
@@ -41,11 +39,12 @@ nothing_past first actor (items ∷ rests) past =
 pub phase_runs : AnswersAreBlind → PhaseRuns
 phase_runs blind setup opened later phase works final run legal same =
     let whole : List Entry = onto later opened in
+    let is : reverse later ++ opened ≡ whole = sym (onto_is later opened) in
     phase_placed blind setup opened later phase works final (record {
-      legal = run.legal;
+      legal = subst (IsLegal setup) is run.legal;
       callers = run.callers;
       follows = λ actor few.
-          let w = run.each actor few in
+          let w = subst (λ (h : List Entry). IsWork setup opened h phase actor (done_by 0 actor works)) is (run.each actor few) in
           subst (Follows setup whole actor opened (version_of setup opened)) (back_again (done_by 0 actor works))
           (follows setup run.cards whole actor opened (reverse (done_by 0 actor works)) w.seen w.known w.trace w.closed);
       said = λ actor. elim (cases_lt actor (length works)) [

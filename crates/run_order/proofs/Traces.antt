@@ -25,7 +25,7 @@ use Rattle.run_order.specs.declared.done.Done.{Done}
 use Rattle.run_order.specs.declared.done.Done.TheVariants.{Went, Looked}
 use Rattle.run_order.proofs.Following.{IsRight, IsCall, Follows}
 use Rattle.run_order.specs.Trace.{Begins, Extends, IsLookOf, IsSeen, IsGone, IsDone, IsClosed}
-use Rattle.run_order.proofs.Histories.{begins_before, begins_trans}
+use Rattle.run_order.proofs.Histories.{onto, begins_before, begins_trans}
 
 extends_trans : (first middle last : List MapChange) → Extends first middle → Extends middle last → Extends first last
 extends_trans first middle last a b = (b.0 ++ a.0, b.1 ∙ (ap (λ (h : List MapChange). b.0 ++ h) a.1 ∙ sym (append_assoc b.0 a.0 first)))
@@ -65,11 +65,6 @@ span_moves setup bytes other cards same addr kind smm lo hi area span =
       ends = ⊎_elim (λ e. inl e) (λ not. inr (λ e. not (area_same (hi + 1) ∙ e))) span.ends;
     }
 
--- what was done, the oldest first, before what follows
-abbrev pub rev_onto : List Done → List Done → List Done
-rev_onto [] items = items
-rev_onto (item ∷ done) items = rev_onto done (item ∷ items)
-
 module _ (setup : Setup) (cards : IsCardList setup.cards) (whole : List Entry) (actor : ℕ) (opened : List Entry) where
   right : (known : List MapChange) (kind : Kind) (addr : ℕ) (smm : Bool) (look : Look) → IsLookOf setup known kind addr smm look → Extends known (map_writes_of setup whole)
       → IsRight setup whole (LookAt kind addr smm) look
@@ -83,7 +78,7 @@ module _ (setup : Setup) (cards : IsCardList setup.cards) (whole : List Entry) (
   -- what a worker did leads on to what it still has to do
   pub follows_on : (done : List Done) (seen : List Entry) (known : List MapChange) (items : List Done) → IsDone setup actor opened done seen known
       → Begins seen whole → Extends known (map_writes_of setup whole) → Follows setup whole actor seen (length known) items
-      → Follows setup whole actor opened (version_of setup opened) (rev_onto done items)
+      → Follows setup whole actor opened (version_of setup opened) (onto done items)
   follows_on [] seen known items d b e f =
       subst (λ (z : List Entry × ℕ). Follows setup whole actor z.0 z.1 items) (λ i. (d.0 i, length (d.1 i))) f
   follows_on (Looked kind addr smm look ∷ before) seen known items d b e f =
@@ -114,5 +109,5 @@ module _ (setup : Setup) (cards : IsCardList setup.cards) (whole : List Entry) (
 
   -- a worker that is done, in a history that was closed
   pub follows : (done : List Done) (seen : List Entry) (known : List MapChange) → IsDone setup actor opened done seen known → IsClosed setup actor seen known whole
-      → Follows setup whole actor opened (version_of setup opened) (rev_onto done [])
+      → Follows setup whole actor opened (version_of setup opened) (onto done [])
   follows done seen known d closed = follows_on done seen known [] d closed.begins closed.meets closed.mine

@@ -20,8 +20,7 @@ use Rattle.board_spec.specs.Orders.{statement_of, statements_of, events_by, IsWh
 use Rattle.run_order.specs.declared.done.Done.{Done}
 use Rattle.run_order.specs.declared.done.Done.TheVariants.{Went, Looked}
 use Rattle.run_order.specs.Placing.{event_of, next_entry, with_looks, left_after, with_all_looks, all_left, without_first, passed, done_by, noted, placed}
-use Rattle.run_order.specs.PhaseRun.{onto}
-use Rattle.run_order.proofs.Histories.{own_entry, other_entry}
+use Rattle.run_order.proofs.Histories.{onto, own_entry, other_entry}
 use Rattle.run_order.proofs.Fitting.{Due, Headed, Fits}
 use Rattle.run_order.proofs.Legality.{Each, Beside, pass, same_test, each_at, passed_length, own_head, noted_is, few_left, few_passed}
 
@@ -29,25 +28,20 @@ use Rattle.run_order.proofs.Legality.{Each, Beside, pass, same_test, each_at, pa
 abbrev pub own : ℕ → List Entry → List Event
 own actor history = map (λ entry. entry.event) (entries_by actor history)
 
--- events that come after others, the oldest first
-abbrev pub back : List Event → List Event → List Event
-back [] before = before
-back (event ∷ later) before = back later (event ∷ before)
-
 pub own_new : (c : ℕ) (entry : Entry) (h : List Entry) → (entry.actor == c) ≡ true → own c (entry ∷ h) ≡ entry.event ∷ own c h
 own_new c entry h is = ap (map (λ (e : Entry). e.event)) (own_entry c entry h is)
 
 pub own_old : (c : ℕ) (entry : Entry) (h : List Entry) → (entry.actor == c) ≡ false → own c (entry ∷ h) ≡ own c h
 own_old c entry h not = ap (map (λ (e : Entry). e.event)) (other_entry c entry h not)
 
-with_looks_own : (v actor : ℕ) (items : List Done) (final : List Entry) → back (map event_of (left_after v items)) (own actor (with_looks v actor items final)) ≡ back (map event_of items) (own actor final)
+with_looks_own : (v actor : ℕ) (items : List Done) (final : List Entry) → onto (map event_of (left_after v items)) (own actor (with_looks v actor items final)) ≡ onto (map event_of items) (own actor final)
 unfolding with_looks left_after
 with_looks_own v actor [] final = refl
 with_looks_own v actor (Went event after ∷ items) final = refl
 with_looks_own v actor (Looked kind addr smm look ∷ items) final =
     let entry : Entry = next_entry final actor (LookAt kind addr smm) (Saw look) in
     elim (cases_Bool (nat_le look.version v)) [
-      | inl is ↦ rw is (with_looks_own v actor items (entry ∷ final) ∙ ap (back (map event_of items)) (own_new actor entry final (same_test actor)))
+      | inl is ↦ rw is (with_looks_own v actor items (entry ∷ final) ∙ ap (onto (map event_of items)) (own_new actor entry final (same_test actor)))
       | inr not ↦ rw not refl
     ]
 
@@ -70,7 +64,7 @@ with_all_other v (items ∷ rests) first c final less =
     with_all_other v rests (first + 1) c (with_looks v first items final) (omega (arith, less)) ∙ with_looks_other v first c items final other
 
 all_own : (v : ℕ) (rests : List (List Done)) (first c : ℕ) (final : List Entry)
-    → back (map event_of (done_by first c (all_left v rests))) (own c (with_all_looks v first rests final)) ≡ back (map event_of (done_by first c rests)) (own c final)
+    → onto (map event_of (done_by first c (all_left v rests))) (own c (with_all_looks v first rests final)) ≡ onto (map event_of (done_by first c rests)) (own c final)
 unfolding with_all_looks done_by
 all_own v [] first c final = refl
 all_own v (items ∷ rests) first c final =
@@ -79,12 +73,12 @@ all_own v (items ∷ rests) first c final =
           let here : first ≡ c = grind (arith, nat_tests) in
           let less : c < first + 1 = omega (arith, here) in
           let one : own c (with_all_looks v (first + 1) rests (with_looks v first items final)) ≡ own c (with_looks v first items final) = with_all_other v rests (first + 1) c (with_looks v first items final) less in
-          let two : back (map event_of (left_after v items)) (own c (with_looks v first items final)) ≡ back (map event_of items) (own c final) =
-          subst (λ (k : ℕ). back (map event_of (left_after v items)) (own k (with_looks v first items final)) ≡ back (map event_of items) (own k final)) here (with_looks_own v first items final) in
-          rw is (ap (back (map event_of (left_after v items))) one ∙ two)
+          let two : onto (map event_of (left_after v items)) (own c (with_looks v first items final)) ≡ onto (map event_of items) (own c final) =
+          subst (λ (k : ℕ). onto (map event_of (left_after v items)) (own k (with_looks v first items final)) ≡ onto (map event_of items) (own k final)) here (with_looks_own v first items final) in
+          rw is (ap (onto (map event_of (left_after v items))) one ∙ two)
       | inr not ↦
           let other : (first == c) ≡ false = grind (arith, nat_tests) in
-          rw not (all_own v rests (first + 1) c (with_looks v first items final) ∙ ap (back (map event_of (done_by (first + 1) c rests))) (with_looks_other v first c items final other))
+          rw not (all_own v rests (first + 1) c (with_looks v first items final) ∙ ap (onto (map event_of (done_by (first + 1) c rests))) (with_looks_other v first c items final other))
     ]
 
 passed_own : (actor first : ℕ) (rests : List (List Done)) → done_by first actor (passed first actor rests) ≡ without_first (done_by first actor rests)
@@ -143,12 +137,12 @@ left_each setup before K (items ∷ rests) first each = (left_one setup before (
 
 module _ (setup : Setup) where
   pub placed_own : (later before : List Entry) (rests : List (List Done)) (final : List Entry) (c : ℕ) → Each (λ a. Fits setup a before later) 0 rests
-      → All (λ entry. entry.actor < length rests) later → own c (placed (version_of setup before) later rests final) ≡ back (map event_of (done_by 0 c rests)) (own c final)
+      → All (λ entry. entry.actor < length rests) later → own c (placed (version_of setup before) later rests final) ≡ onto (map event_of (done_by 0 c rests)) (own c final)
   unfolding placed
   placed_own [] before rests final c fit few =
       let v : ℕ = version_of setup before in
       let none = none_at (all_left v rests) 0 c (left_each setup before (λ _ rest. rest ≡ []) rests 0 fit) in
-      ap (λ (items : List Done). back (map event_of items) (own c (with_all_looks v 0 rests final))) (sym none) ∙ all_own v rests 0 c final
+      ap (λ (items : List Done). onto (map event_of items) (own c (with_all_looks v 0 rests final))) (sym none) ∙ all_own v rests 0 c final
   placed_own (entry ∷ later) before rests final c fit few =
       let v : ℕ = version_of setup before in
       let left : List (List Done) = all_left v rests in
@@ -163,12 +157,12 @@ module _ (setup : Setup) where
             let same : entry.actor ≡ c = grind (arith, nat_tests) in
             let head = own_head setup entry before later left within each in
             let events = headed_events entry.event (version_of setup (entry ∷ before)) (Fits setup entry.actor (entry ∷ before) later) (done_by 0 entry.actor left) head in
-            let one = ap (λ (items : List Done). back (map event_of items) (own c (new ∷ looked))) (ap (λ (k : ℕ). done_by 0 k (passed 0 entry.actor left)) (sym same) ∙ passed_own entry.actor 0 left) in
-            let two = ap (back (map event_of (without_first (done_by 0 entry.actor left)))) (own_new c new looked is) in
-            let three = ap (λ (es : List Event). back es (own c looked)) (sym events ∙ ap (λ (k : ℕ). map event_of (done_by 0 k left)) same) in
+            let one = ap (λ (items : List Done). onto (map event_of items) (own c (new ∷ looked))) (ap (λ (k : ℕ). done_by 0 k (passed 0 entry.actor left)) (sym same) ∙ passed_own entry.actor 0 left) in
+            let two = ap (onto (map event_of (without_first (done_by 0 entry.actor left)))) (own_new c new looked is) in
+            let three = ap (λ (es : List Event). onto es (own c looked)) (sym events ∙ ap (λ (k : ℕ). map event_of (done_by 0 k left)) same) in
             more ∙ (one ∙ (two ∙ (three ∙ all_own v rests 0 c final)))
         | inr not ↦
-            let one = ap (λ (items : List Done). back (map event_of items) (own c (new ∷ looked))) (passed_other entry.actor c 0 left not) in
-            let two = ap (back (map event_of (done_by 0 c left))) (own_old c new looked not) in
+            let one = ap (λ (items : List Done). onto (map event_of items) (own c (new ∷ looked))) (passed_other entry.actor c 0 left not) in
+            let two = ap (onto (map event_of (done_by 0 c left))) (own_old c new looked not) in
             more ∙ (one ∙ (two ∙ all_own v rests 0 c final))
       ]

@@ -16,11 +16,6 @@ use Rattle.run_order.specs.Placing.{is_look, event_of, done_by, placed}
 use Rattle.run_order.specs.Places.{AreInPlace}
 use Rattle.run_order.specs.Trace.{IsDone, IsClosed}
 
--- entries after a history, the oldest of them first
-abbrev pub onto : List Entry → List Entry → List Entry
-onto [] history = history
-onto (entry ∷ later) history = onto later (entry ∷ history)
-
 -- ---- the phase
 
 -- what a processor did of a phase led from the bus's history `opened` to its history `whole`
@@ -35,11 +30,11 @@ pub record IsWork (setup : Setup) (opened whole : List Entry) (phase : List Stat
 -- `works` what each processor did, from processor 0 on
 pub record IsPhaseRun (setup : Setup) (opened later : List Entry) (phase : List Statement) (works : List (List Done)) : Type 0 where
   pub cards : IsCardList setup.cards
-  pub legal : IsLegal setup (onto later opened)
+  pub legal : IsLegal setup (reverse later ++ opened)
   pub callers : All (λ entry. entry.actor < length works) later
   pub speakers : All (λ statement. statement.actor < length works) phase
   pub each : (actor : ℕ) → actor < length works →
-      IsWork setup opened (onto later opened) phase actor (done_by 0 actor works)
+      IsWork setup opened (reverse later ++ opened) phase actor (done_by 0 actor works)
 
 -- ---- histories without their looks
 
@@ -59,7 +54,7 @@ AnswersAreBlind =
 -- `history` is the history of the run before a phase, and `all` the one with what the phase added
 pub record IsPlaced (setup : Setup) (opened later : List Entry) (phase : List Statement) (history all : List Entry) : Type 0 where
   pub legal : IsLegal setup all
-  pub bus : bare all ≡ bare (onto later opened)
+  pub bus : bare all ≡ bare (reverse later ++ opened)
   pub phases : (phases : List (List Statement)) → HasPhases phases (statements_of history) →
       HasPhases (phases ++ phase ∷ []) (statements_of all)
   pub added : List Entry

@@ -7,7 +7,10 @@ use board_spec::{Event, Look};
 #[derive(Clone, Copy, PartialEq, Eq, Debug)]
 pub enum Done {
     /// It went through the bus turn. The version is that of the address map after it.
-    Went { event: Event, version: u32 },
+    Went {
+        event: Event,
+        version: u32,
+    },
     /// It looked at the published map, and saw this.
     Looked {
         kind: Kind,

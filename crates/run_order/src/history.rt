@@ -83,12 +83,7 @@ impl RunHistory {
     /// Adds the entries that the bus's history gained in a phase, the oldest first, and the looks of all processors at their
     /// places. `version` is that of the map before the phase. Where there is no memory, or there would be 2^32 entries,
     /// nothing changes.
-    pub fn place(
-        &mut self,
-        version: u32,
-        later: &[Entry],
-        mut works: Works,
-    ) -> Result<(), NoMemory>
+    pub fn place(&mut self, version: u32, later: &[Entry], mut works: Works) -> Result<(), NoMemory>
         requires callers { All (λ entry. entry.actor < length works.items) later.now }
         ensures placed { OnOk result (self.new.entries
             ≡ placed version later.now (map (λ done. done.now) works.entry.items) self.old.entries) }
@@ -127,7 +122,9 @@ impl RunHistory {
         requires actor { actor < 8 }
         requires room { 1 ≤ self.old.spare }
         ensures pushed { self.new ≡ record {
-            entries = next_entry self.old.entries actor event reply ∷ self.old.entries; spare = self.old.spare - 1 } }
+          entries = next_entry self.old.entries actor event reply ∷ self.old.entries;
+          spare = self.old.spare - 1;
+        } }
     {
         let seq = self.counts[usize::from(actor)] + 1;
         let entry = Entry {

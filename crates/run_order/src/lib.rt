@@ -5,9 +5,9 @@
 #![tactic(auto)]
 
 mod done;
-mod next;
 mod history;
 pub mod laws;
+mod next;
 
 pub use done::Done;
 pub use history::{MOST_PROCESSORS, RunHistory, Works};

@@ -23,7 +23,7 @@ pub(crate) fn due_look(version: u32, done: &[Done]) -> Option<NextLook<'_>>
     ensures places { (actor : ℕ) (history : List Entry) → MatchOption result
         (with_looks version actor done.now history ≡ history)
         (λ next. with_looks version actor done.now history
-            ≡ with_looks version actor next.after.now (next_entry history actor next.event (Saw next.look) ∷ history)) }
+        ≡ with_looks version actor next.after.now (next_entry history actor next.event (Saw next.look) ∷ history)) }
     ensures left { MatchOption result (left_after version done.now ≡ done.now)
         (λ next. left_after version done.now ≡ left_after version next.after.now) }
     ensures shorter { IfSome result (λ next. length next.after.now + 1 ≡ length done.now) }

@@ -203,13 +203,23 @@ const CASES: [&[Phase]; 7] = [
         version: 0,
         calls: &[(1, Pulse), (0, Pulse), (0, Open), (0, Pulse)],
         works: &[&[PULSED_0, OPENED, PULSED_1], &[PULSED_0, LOOKED_1]],
-        placed: &[(1, 1, None), (0, 1, None), (0, 2, None), (1, 2, Some(1)), (0, 3, None)],
+        placed: &[
+            (1, 1, None),
+            (0, 1, None),
+            (0, 2, None),
+            (1, 2, Some(1)),
+            (0, 3, None),
+        ],
     }],
     // In the same place: in order of processor, and each processor's in its own order.
     &[Phase {
         version: 0,
         calls: &[(1, Open)],
-        works: &[&[LOOKED_1, LOOKED_1], &[LOOKED_0, OPENED, LOOKED_1], &[LOOKED_0, LOOKED_1]],
+        works: &[
+            &[LOOKED_1, LOOKED_1],
+            &[LOOKED_0, OPENED, LOOKED_1],
+            &[LOOKED_0, LOOKED_1],
+        ],
         placed: &[
             (1, 1, Some(0)),
             (2, 1, Some(0)),
@@ -225,7 +235,16 @@ const CASES: [&[Phase]; 7] = [
         Phase {
             version: 0,
             calls: &[(7, Open)],
-            works: &[&[], &[], &[], &[], &[], &[], &[LOOKED_1], &[LOOKED_0, OPENED]],
+            works: &[
+                &[],
+                &[],
+                &[],
+                &[],
+                &[],
+                &[],
+                &[LOOKED_1],
+                &[LOOKED_0, OPENED],
+            ],
             placed: &[(7, 1, Some(0)), (7, 2, None), (6, 1, Some(1))],
         },
         Phase {
