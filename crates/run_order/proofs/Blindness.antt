@@ -1,5 +1,5 @@
 -- No answer depends on the looks and the numbers before it: each definition over histories gives the same without them.
-use Rattle.std.proofs.Common.{◌≡◌, ℕ, zero, suc, ◌*◌, ◌+◌, ◌==◌, nat_lt, Bool, true, false, List, [], ◌∷◌, ◌++◌, length, refl, sym, ◌∙◌, ap, inl, inr, Option, Some, None}
+use Rattle.std.proofs.Common.{◌≡◌, ℕ, zero, suc, ◌*◌, ◌+◌, ◌==◌, nat_lt, Bool, true, List, [], ◌∷◌, ◌++◌, length, refl, sym, ◌∙◌, ap, inl, inr, Option, Some, None}
 use Rattle.std.specs.Prelude.{unwrap_or, option_map, option_and_then, if◌then◌else◌}
 use Rattle.std.specs.Option.{option_to_list, option_map_or}
 use Rattle.std.proofs.lemmas.Bool.{cases_Bool}
@@ -23,7 +23,6 @@ use Rattle.device_spec.specs.Pair.{Pair, pair_at_reset, pair_after_lines, port_b
 use Rattle.board_spec.specs.declared.event.Event.{Event}
 use Rattle.board_spec.specs.declared.event.Event.TheVariants.{Memory, Wide, Port, Look as LookAt, Ack, Pulses, Time, Wire, Line, BadSector}
 use Rattle.board_spec.specs.declared.event.Look.{Look}
-use Rattle.board_spec.specs.declared.event.Part.{Part}
 use Rattle.board_spec.specs.declared.event.Parts.{Parts as PartList}
 use Rattle.board_spec.specs.declared.event.Reply.{Reply}
 use Rattle.board_spec.specs.declared.event.Reply.TheVariants.{Bus, Parts, Saw}
@@ -33,11 +32,11 @@ use Rattle.board_spec.specs.Setup.{Setup, installed}
 use Rattle.board_spec.specs.Bits.{wide}
 use Rattle.board_spec.specs.RegisterNames.{pirq}
 use Rattle.board_spec.specs.Registers.{control_written, control_after, resets_hard, reset_control, is_hard_reset, address_written, kept_address, config_address, config_store, register_change, byte_with, byte_of}
-use Rattle.board_spec.specs.MapWrites.{touches_map, map_change_of, map_writes_of, version_of}
+use Rattle.board_spec.specs.MapWrites.{touches_map, map_change_of, map_writes_of}
 use Rattle.board_spec.specs.Stored.{Cell, DramCell, CardCell, entry_put, stored_of, dram_byte, expansion_byte}
 use Rattle.board_spec.specs.WideParts.{parts_of}
 use Rattle.board_spec.specs.Devices.{wire_set, wire_of, line_set, irq_of, triggers_after, triggers_of, SystemPort, system_at_reset, system_after, system_of, timer_after, timer_of, clock_after, clock_of, disk_after, disk_with, disk_of}
-use Rattle.board_spec.specs.Interrupts.{routes_of, pirqs, levels_with, levels_of, elcr_of, pair_after, pair_pulsed, pair_reset_or_after, pair_stepped, pair_of, device_value, system_value, vector_of, who_answered, acknowledged_by}
+use Rattle.board_spec.specs.Interrupts.{pirqs, levels_with, levels_of, elcr_of, pair_after, pair_pulsed, pair_reset_or_after, pair_stepped, pair_of, device_value, system_value, who_answered}
 use Rattle.board_spec.specs.DeviceLaws.{IsOfMemory, SameDevices, MemoryLeavesDevices}
 use Rattle.board_spec.specs.Answer.{IsAnswer, memory_answer, part_answer, wide_value, IsWideAnswer, port_answer, port_value, value_at, IsLookAnswer}
 use Rattle.board_spec.proofs.DeviceAlone.{map-same, SameDrivers, levels-same, disk_of-same}

@@ -1,23 +1,19 @@
 -- Each look is in its place.
-use Rattle.std.proofs.Common.{◌≡◌, ◌≢◌, ℕ, ◌+◌, ◌<◌, ◌≤◌, ◌==◌, ◌⊎◌, ◌&&◌, nat_le, nat_lt, Bool, true, false, List, [], ◌∷◌, ◌++◌, map, length, All, refl, sym, ◌∙◌, ap, subst, arith, inl, inr, append_assoc}
-use Rattle.std.specs.Prelude.{if◌then◌else◌}
+use Rattle.std.proofs.Common.{◌≡◌, ℕ, ◌+◌, ◌<◌, ◌≤◌, ◌==◌, nat_le, nat_lt, true, false, List, [], ◌∷◌, ◌++◌, length, All, refl, sym, ◌∙◌, ap, subst, arith, inl, inr}
 use Rattle.std.proofs.lemmas.Bool.{cases_Bool}
 use Rattle.std.proofs.lemmas.Bool.Decides.{nat_tests}
-use Rattle.board_base.specs.declared.access.Kind.{Kind}
 use Rattle.board_spec.specs.declared.event.Event.{Event}
 use Rattle.board_spec.specs.declared.event.Event.TheVariants.{Memory, Wide, Port, Look as LookAt, Ack, Pulses, Time, Wire, Line, BadSector}
-use Rattle.board_spec.specs.declared.event.Look.{Look}
 use Rattle.board_spec.specs.declared.event.Reply.{Reply}
 use Rattle.board_spec.specs.declared.event.Reply.TheVariants.{Saw}
 use Rattle.board_spec.specs.declared.event.Entry.{Entry}
-use Rattle.board_spec.specs.declared.map_change.MapChange.{MapChange}
 use Rattle.board_spec.specs.Setup.{Setup}
 use Rattle.board_spec.specs.MapWrites.{map_writes_of, version_of}
 use Rattle.board_spec.specs.Legal.{IsNext, IsLegal}
 use Rattle.run_order.specs.declared.done.Done.{Done}
 use Rattle.run_order.specs.declared.done.Done.TheVariants.{Went, Looked}
-use Rattle.run_order.specs.Placing.{is_look, next_entry, with_looks, left_after, with_all_looks, all_left, done_by, without_first, passed, noted, placed}
-use Rattle.run_order.specs.Places.{without_lower, IsMapWrite, IsPlaceOf, IsInPlace, AreInPlace}
+use Rattle.run_order.specs.Placing.{is_look, next_entry, with_looks, left_after, with_all_looks, all_left, done_by, without_first, passed, placed}
+use Rattle.run_order.specs.Places.{without_lower, IsPlaceOf, IsInPlace, AreInPlace}
 use Rattle.run_order.specs.PhaseRun.{bare, AnswersAreBlind}
 use Rattle.run_order.proofs.Histories.{onto, version_step}
 use Rattle.run_order.proofs.Blindness.{writes_bare}

@@ -1,5 +1,5 @@
 -- The looks of one processor after another.
-use Rattle.std.proofs.Common.{◌≡◌, ℕ, suc, ◌+◌, ◌<◌, ◌≤◌, List, [], ◌∷◌, ◌++◌, length, map, take, drop, get_or, set, refl, sym, ◌∙◌, ap, subst, arith}
+use Rattle.std.proofs.Common.{◌≡◌, ℕ, suc, ◌+◌, ◌<◌, ◌≤◌, List, [], ◌∷◌, ◌++◌, length, take, drop, get_or, set, refl, sym, ◌∙◌, ap, arith}
 use Rattle.std.proofs.lemmas.List.{take_more, drop_more, drop-set-lt, map-append, length-set, take_all, drop_all}
 use Rattle.std.proofs.Math.Seq.{take-suc-set}
 use Rattle.board_spec.specs.declared.event.Entry.{Entry}

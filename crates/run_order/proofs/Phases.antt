@@ -1,28 +1,24 @@
 -- A phase that was placed is whole.
-use Rattle.std.proofs.Common.{◌≡◌, ◌≢◌, ℕ, zero, suc, ◌+◌, ◌<◌, ◌≤◌, ◌==◌, nat_le, min, Bool, true, false, List, [], ◌∷◌, ◌++◌, map, length, filter, take, drop, All, refl, sym, ◌∙◌, ap, subst, arith, inl, inr, append_assoc, length-append}
+use Rattle.std.proofs.Common.{◌≡◌, ℕ, suc, ◌+◌, ◌<◌, ◌≤◌, ◌==◌, Bool, true, false, List, [], ◌∷◌, ◌++◌, map, length, filter, take, drop, refl, sym, ◌∙◌, ap, subst, arith, inl, inr}
 use Rattle.std.specs.Prelude.{reverse, if◌then◌else◌}
 use Rattle.std.proofs.lemmas.Bool.{cases_Bool}
 use Rattle.std.proofs.lemmas.Bool.Decides.{nat_tests}
-use Rattle.std.proofs.lemmas.List.{append-nil, reverse-append, reverse-reverse, map-append, append_cancel_left, length-map, length-take, take_all, drop_all, take-append-le, drop-append-le}
+use Rattle.std.proofs.lemmas.List.{append-nil, reverse-append, reverse-reverse, map-append, append_cancel_left, length-take, take_all, drop_all, take-append-le, drop-append-le}
 use Rattle.std.proofs.lemmas.List.Elements.{filter-append}
 use Rattle.board_spec.specs.declared.event.Event.{Event}
-use Rattle.board_spec.specs.declared.event.Event.TheVariants.{Look as LookAt}
-use Rattle.board_spec.specs.declared.event.Reply.TheVariants.{Saw}
 use Rattle.board_spec.specs.declared.event.Entry.{Entry}
 use Rattle.board_spec.specs.declared.event.Statement.{Statement}
 use Rattle.board_spec.specs.Setup.{Setup}
 use Rattle.board_spec.specs.MapWrites.{version_of}
-use Rattle.board_spec.specs.Legal.{entries_by, IsLegal}
+use Rattle.board_spec.specs.Legal.{IsLegal}
 use Rattle.board_spec.specs.Orders.{statement_of, statements_of, events_by, IsWholePhase, HasPhases}
 use Rattle.run_order.specs.declared.done.Done.{Done}
-use Rattle.run_order.specs.declared.done.Done.TheVariants.{Went, Looked}
-use Rattle.run_order.specs.Placing.{event_of, next_entry, with_looks, with_all_looks, all_left, passed, noted, placed, done_by}
-use Rattle.run_order.specs.Trace.{Begins}
+use Rattle.run_order.specs.Placing.{event_of, placed, done_by}
 use Rattle.run_order.specs.PhaseRun.{bare, IsPlaced, AnswersAreBlind}
-use Rattle.run_order.proofs.Histories.{onto, onto_is, begins_self, begins_before, begins_trans}
-use Rattle.run_order.proofs.Following.{Follows, IsHandOver}
+use Rattle.run_order.proofs.Histories.{onto, onto_is}
+use Rattle.run_order.proofs.Following.{IsHandOver}
 use Rattle.run_order.proofs.Fitting.{Fits, late_by, fits}
-use Rattle.run_order.proofs.Legality.{Each, Good, placed_good}
+use Rattle.run_order.proofs.Legality.{Each, placed_good}
 use Rattle.run_order.proofs.Directness.{has_added}
 use Rattle.run_order.proofs.Wholes.{own, own_new, own_old, placed_own}
 

@@ -1,30 +1,24 @@
 -- What the clauses of a worker's calls say is what the law of the places asks.
-use Rattle.std.proofs.Common.{◌≡◌, ℕ, ◌+◌, ◌-◌, ◌≤◌, Bool, true, false, List, [], ◌∷◌, ◌++◌, length, refl, sym, ◌∙◌, ap, subst, arith, inl, inr, append_assoc, length-append, Option, ⊎_elim, ◌⊎◌, ◌≢◌}
+use Rattle.std.proofs.Common.{◌≡◌, ℕ, ◌+◌, ◌-◌, ◌≤◌, Bool, List, [], ◌∷◌, ◌++◌, length, refl, sym, ◌∙◌, ap, subst, arith, inl, inr, append_assoc, length-append, ⊎_elim}
 use Rattle.std.specs.Option.{option_to_list}
-use Rattle.std.proofs.lemmas.List.{append_cancel_left}
 use Rattle.board_base.specs.declared.access.Kind.{Kind}
 use Rattle.board_base.specs.declared.target.Area.{Area}
-use Rattle.board_base.specs.declared.target.Reg.{Reg}
-use Rattle.board_spec.specs.declared.event.Event.{Event}
 use Rattle.board_spec.specs.declared.event.Event.TheVariants.{Look as LookAt}
 use Rattle.board_spec.specs.declared.event.Look.{Look}
-use Rattle.board_spec.specs.declared.event.Reply.TheVariants.{Saw}
 use Rattle.board_spec.specs.declared.event.Entry.{Entry}
 use Rattle.board_spec.specs.declared.map_change.MapChange.{MapChange}
 use Rattle.board_spec.specs.Setup.{Setup, IsCardList}
 use Rattle.board_spec.specs.Registers.{byte_of}
-use Rattle.board_spec.specs.MapWrites.{is_map_byte, map_change_of, map_writes_of, version_of, registers_after}
+use Rattle.board_spec.specs.MapWrites.{map_change_of, map_writes_of, version_of, registers_after}
 use Rattle.board_spec.specs.Decode.{Bytes, area_of}
-use Rattle.board_spec.specs.FlatMap.{IsSpan, address_count}
-use Rattle.board_spec.specs.Answer.{IsAnswer, IsLookAnswer}
-use Rattle.board_spec.specs.Legal.{entries_by}
+use Rattle.board_spec.specs.FlatMap.{IsSpan}
 use Rattle.board_spec.specs.Laws.{SameMapBytes}
 use Rattle.board_spec.proofs.MapWriteLaws.{map_writes_decide}
 use Rattle.board_spec.proofs.MapByteLaws.{map_bytes_decide}
 use Rattle.run_order.specs.declared.done.Done.{Done}
 use Rattle.run_order.specs.declared.done.Done.TheVariants.{Went, Looked}
 use Rattle.run_order.proofs.Following.{IsRight, IsCall, Follows}
-use Rattle.run_order.specs.Trace.{Begins, Extends, IsLookOf, IsSeen, IsGone, IsDone, IsClosed}
+use Rattle.run_order.specs.Trace.{Begins, Extends, IsLookOf, IsDone, IsClosed}
 use Rattle.run_order.proofs.Histories.{onto, begins_before, begins_trans}
 
 extends_trans : (first middle last : List MapChange) → Extends first middle → Extends middle last → Extends first last

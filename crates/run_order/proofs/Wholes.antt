@@ -1,28 +1,22 @@
 -- The placed history has each processor's statements, in its order.
-use Rattle.std.proofs.Common.{◌≡◌, ◌≢◌, ℕ, zero, suc, ◌+◌, ◌<◌, ◌≤◌, ◌==◌, nat_le, Bool, true, false, List, [], ◌∷◌, ◌++◌, map, length, filter, take, drop, All, refl, sym, ◌∙◌, ap, subst, arith, inl, inr, append_assoc, length-append}
-use Rattle.std.specs.Prelude.{MatchBool, reverse}
+use Rattle.std.proofs.Common.{◌≡◌, ℕ, ◌+◌, ◌<◌, ◌==◌, nat_le, Bool, true, false, List, [], ◌∷◌, map, length, All, refl, sym, ◌∙◌, ap, subst, arith, inl, inr}
+use Rattle.std.specs.Prelude.{MatchBool}
 use Rattle.std.proofs.lemmas.Bool.{cases_Bool}
 use Rattle.std.proofs.lemmas.Bool.Decides.{nat_tests}
-use Rattle.std.proofs.lemmas.List.{append-nil, reverse-append, map-append, append_cancel_left, length-map}
-use Rattle.std.proofs.lemmas.List.Elements.{filter-append, All-head, All-tail}
-use Rattle.board_base.specs.declared.access.Kind.{Kind}
 use Rattle.board_spec.specs.declared.event.Event.{Event}
 use Rattle.board_spec.specs.declared.event.Event.TheVariants.{Look as LookAt}
-use Rattle.board_spec.specs.declared.event.Look.{Look}
 use Rattle.board_spec.specs.declared.event.Reply.TheVariants.{Saw}
 use Rattle.board_spec.specs.declared.event.Entry.{Entry}
-use Rattle.board_spec.specs.declared.event.Statement.{Statement}
 use Rattle.board_spec.specs.Setup.{Setup}
 use Rattle.board_spec.specs.MapWrites.{version_of}
 use Rattle.board_spec.specs.Answer.{IsAnswer}
 use Rattle.board_spec.specs.Legal.{entries_by}
-use Rattle.board_spec.specs.Orders.{statement_of, statements_of, events_by, IsWholePhase, HasPhases}
 use Rattle.run_order.specs.declared.done.Done.{Done}
 use Rattle.run_order.specs.declared.done.Done.TheVariants.{Went, Looked}
-use Rattle.run_order.specs.Placing.{event_of, next_entry, with_looks, left_after, with_all_looks, all_left, without_first, passed, done_by, noted, placed}
+use Rattle.run_order.specs.Placing.{event_of, next_entry, with_looks, left_after, with_all_looks, all_left, without_first, passed, done_by, placed}
 use Rattle.run_order.proofs.Histories.{onto, own_entry, other_entry}
 use Rattle.run_order.proofs.Fitting.{Due, Headed, Fits}
-use Rattle.run_order.proofs.Legality.{Each, Beside, pass, same_test, each_at, passed_length, own_head, noted_is, few_left, few_passed}
+use Rattle.run_order.proofs.Legality.{Each, Beside, pass, same_test, own_head, noted_is, few_left, few_passed}
 
 -- a processor's events in a history, the newest first
 abbrev pub own : ℕ → List Entry → List Event

@@ -1,7 +1,6 @@
 -- A phase that was run, and the history of the run with that phase.
-use Rattle.std.specs.Prelude.{ℕ, ◌≡◌, ◌<◌, Bool, true, false, if◌then◌else◌, List, [], ◌∷◌, ◌++◌, length, map, reverse, All}
+use Rattle.std.specs.Prelude.{ℕ, ◌≡◌, ◌<◌, if◌then◌else◌, List, [], ◌∷◌, ◌++◌, length, map, reverse, All}
 use Rattle.board_spec.specs.declared.event.Event.{Event}
-use Rattle.board_spec.specs.declared.event.Event.TheVariants.{Look as LookAt}
 use Rattle.board_spec.specs.declared.event.Reply.{Reply}
 use Rattle.board_spec.specs.declared.event.Entry.{Entry}
 use Rattle.board_spec.specs.declared.event.Statement.{Statement}
@@ -19,16 +18,18 @@ use Rattle.run_order.specs.Trace.{IsDone, IsClosed}
 -- ---- the phase
 
 -- what a processor did of a phase led from the bus's history `opened` to its history `whole`
-pub record IsWork (setup : Setup) (opened whole : List Entry) (phase : List Statement) (actor : ℕ) (done : List Done) : Type 0 where
+pub record IsWork (setup : Setup) (opened whole : List Entry) (phase : List Statement) (actor : ℕ)
+    (done : List Done) : Type 0 where
   pub seen : List Entry
   pub known : List MapChange
   pub trace : IsDone setup actor opened (reverse done) seen known
   pub closed : IsClosed setup actor seen known whole
   pub said : map event_of done ≡ events_by actor phase
 
--- a phase that was run: `opened` is the bus's history before it, `later` what the history gained in it, the oldest first, and
--- `works` what each processor did, from processor 0 on
-pub record IsPhaseRun (setup : Setup) (opened later : List Entry) (phase : List Statement) (works : List (List Done)) : Type 0 where
+-- a phase that was run: `opened` is the bus's history before it, `later` what the history gained in it, the oldest
+-- first, and `works` what each processor did, from processor 0 on
+pub record IsPhaseRun (setup : Setup) (opened later : List Entry) (phase : List Statement)
+    (works : List (List Done)) : Type 0 where
   pub cards : IsCardList setup.cards
   pub legal : IsLegal setup (reverse later ++ opened)
   pub callers : All (λ entry. entry.actor < length works) later
@@ -52,7 +53,8 @@ AnswersAreBlind =
 -- ---- the history of the run
 
 -- `history` is the history of the run before a phase, and `all` the one with what the phase added
-pub record IsPlaced (setup : Setup) (opened later : List Entry) (phase : List Statement) (history all : List Entry) : Type 0 where
+pub record IsPlaced (setup : Setup) (opened later : List Entry) (phase : List Statement)
+    (history all : List Entry) : Type 0 where
   pub legal : IsLegal setup all
   pub bus : bare all ≡ bare (reverse later ++ opened)
   pub phases : (phases : List (List Statement)) → HasPhases phases (statements_of history) →
@@ -61,10 +63,11 @@ pub record IsPlaced (setup : Setup) (opened later : List Entry) (phase : List St
   pub adds : all ≡ added ++ history
   pub places : AreInPlace setup history added
 
--- with its looks placed, the history of a run stays legal and that of the bus, and has one phase more, in which each look is
--- in its place
+-- with its looks placed, the history of a run stays legal and that of the bus, and has one phase more, in which each
+-- look is in its place
 abbrev pub PhaseRuns : Type 0
 PhaseRuns =
-    (setup : Setup) (opened later : List Entry) (phase : List Statement) (works : List (List Done)) (history : List Entry) →
+    (setup : Setup) (opened later : List Entry) (phase : List Statement) (works : List (List Done))
+    (history : List Entry) →
     IsPhaseRun setup opened later phase works → IsLegal setup history → bare history ≡ bare opened →
     IsPlaced setup opened later phase history (placed (version_of setup opened) later works history)

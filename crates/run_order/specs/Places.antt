@@ -1,9 +1,8 @@
--- The place of a look: directly after the later of its processor's previous statement and the map write whose count is its
--- version. Looks in the same place stand in order of processor. Histories have the newest entry first.
+-- The place of a look: directly after the later of its processor's previous statement and the map write whose count is
+-- its version. Looks in the same place stand in order of processor. Histories have the newest entry first.
 use Rattle.std.specs.Prelude.{ℕ, ◌≡◌, ◌<◌, ◌⊎◌, ◌&&◌, nat_lt, if◌then◌else◌, List, [], ◌∷◌, ◌++◌}
 use Rattle.board_spec.specs.declared.event.Event.{Event}
 use Rattle.board_spec.specs.declared.event.Event.TheVariants.{Look as LookAt}
-use Rattle.board_spec.specs.declared.event.Look.{Look}
 use Rattle.board_spec.specs.declared.event.Reply.{Reply}
 use Rattle.board_spec.specs.declared.event.Reply.TheVariants.{Saw}
 use Rattle.board_spec.specs.declared.event.Entry.{Entry}
@@ -22,8 +21,8 @@ pub record IsMapWrite (setup : Setup) (before : List Entry) (entry : Entry) (cou
   pub fewer : version_of setup before < count
   pub count_is : version_of setup (entry ∷ before) ≡ count
 
--- the last of the entries that a phase added to a history is the processor's own, or the map write whose count is this version;
--- or there is none
+-- the last of the entries that a phase added to a history is the processor's own, or the map write whose count is this
+-- version; or there is none
 abbrev pub IsPlaceOf : Setup → List Entry → (actor version : ℕ) → List Entry → Type 0
 IsPlaceOf setup history actor version [] = Unit {0}
 IsPlaceOf setup history actor version (last ∷ before) =

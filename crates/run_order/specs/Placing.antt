@@ -1,5 +1,5 @@
--- Where the looks of a phase stand in the history of a run. Histories have the newest entry first; what the processors did,
--- and what the bus's history gained in the phase, has the oldest first.
+-- Where the looks of a phase stand in the history of a run. Histories have the newest entry first; what the processors
+-- did, and what the bus's history gained in the phase, has the oldest first.
 use Rattle.std.specs.Prelude.{ℕ, ◌+◌, ◌==◌, nat_le, Bool, true, false, if◌then◌else◌, List, [], ◌∷◌, length, map}
 use Rattle.board_spec.specs.declared.event.Event.{Event}
 use Rattle.board_spec.specs.declared.event.Event.TheVariants.{Look as LookAt}
@@ -24,7 +24,8 @@ abbrev pub next_entry : List Entry → ℕ → Event → Reply → Entry
 next_entry history actor event reply =
     record { actor = actor; seq = length (entries_by actor history) + 1; event = event; reply = reply }
 
--- the looks that come first in what a processor did enter a history, in their order, as far as they are of this version or before
+-- the looks that come first in what a processor did enter a history, in their order, as far as they are of this version
+-- or before
 unfoldable pub with_looks : (version actor : ℕ) → List Done → List Entry → List Entry
 with_looks version actor [] history = history
 with_looks version actor (Went event after ∷ done) history = history
@@ -69,8 +70,8 @@ abbrev pub noted : (version : ℕ) → List Done → ℕ
 noted version (Went event after ∷ done) = after
 noted version _ = version
 
--- the history with the entries that the bus's history gained in a phase, and with the looks of all processors: before each
--- entry of the bus, and after the last, the looks of the versions until then
+-- the history with the entries that the bus's history gained in a phase, and with the looks of all processors: before
+-- each entry of the bus, and after the last, the looks of the versions until then
 unfoldable pub placed : (version : ℕ) → List Entry → List (List Done) → List Entry → List Entry
 placed version [] rests history = with_all_looks version 0 rests history
 placed version (entry ∷ later) rests history =

@@ -80,19 +80,20 @@ impl RunHistory {
         &self.entries
     }
 
-    /// Adds the entries that the bus's history gained in a phase, the oldest first, and the looks of all processors at their
-    /// places. `version` is that of the map before the phase. Where there is no memory, or there would be 2^32 entries,
-    /// nothing changes.
+    /// Adds the entries that the bus's history gained in a phase, the oldest first, and the looks of all processors at
+    /// their places. `version` is that of the map before the phase. Where there is no memory, or there would be 2^32
+    /// entries, nothing changes.
     pub fn place(&mut self, version: u32, later: &[Entry], mut works: Works) -> Result<(), NoMemory>
         requires callers { All (λ entry. entry.actor < length works.items) later.now }
         ensures placed { OnOk result (self.new.entries
             ≡ placed version later.now (map (λ done. done.now) works.entry.items) self.old.entries) }
         ensures runs { OnOk result ((setup : Setup) (opened : List Entry) (phase : List Statement)
-            → IsPhaseRun setup opened later.now phase (map (λ done. done.now) works.entry.items) → version ≡ version_of setup opened
-            → IsLegal setup self.old.entries → bare self.old.entries ≡ bare opened
+            → IsPhaseRun setup opened later.now phase (map (λ done. done.now) works.entry.items)
+            → version ≡ version_of setup opened → IsLegal setup self.old.entries → bare self.old.entries ≡ bare opened
             → IsPlaced setup opened later.now phase self.old.entries self.new.entries) }
         ensures unplaced { OnErr result (self.new ≡ self.old) }
-        ensures room { length later.now + all_looks_in (map (λ done. done.now) works.entry.items) ≤ self.old.spare → IsOk result }
+        ensures room { length later.now + all_looks_in (map (λ done. done.now) works.entry.items) ≤ self.old.spare
+            → IsOk result }
     {
         self.reserve(entries_in(later, &works))?;
         law_phase_runs();
@@ -138,8 +139,8 @@ impl RunHistory {
         self.counts[usize::from(actor)] = seq;
     }
 
-    /// Adds the looks that come first in what a processor did, as far as they are of this version or of one before. What is
-    /// left comes back.
+    /// Adds the looks that come first in what a processor did, as far as they are of this version or of one before.
+    /// What is left comes back.
     fn looks<'a>(&mut self, version: u32, actor: u8, done: &'a [Done]) -> &'a [Done]
         requires actor { actor < 8 }
         requires room { looks_in done.now ≤ self.old.spare }
@@ -159,7 +160,8 @@ impl RunHistory {
     fn all_looks(&mut self, version: u32, rests: &mut [&[Done]])
         requires few { length rests.old ≤ 8 }
         requires room { all_looks_in (map (λ done. done.now) rests.old) ≤ self.old.spare }
-        ensures placed { self.new.entries ≡ with_all_looks version 0 (map (λ done. done.now) rests.old) self.old.entries }
+        ensures placed { self.new.entries
+            ≡ with_all_looks version 0 (map (λ done. done.now) rests.old) self.old.entries }
         ensures left { map (λ done. done.now) rests.new ≡ all_left version (map (λ done. done.now) rests.old) }
         ensures room { self.new.spare + all_looks_in (map (λ done. done.now) rests.old)
             ≡ self.old.spare + all_looks_in (map (λ done. done.now) rests.new) }
@@ -174,7 +176,8 @@ impl RunHistory {
         requires few { length rests.old ≤ 8 }
         requires callers { All (λ entry. entry.actor < length rests.old) later.now }
         requires room { length later.now + all_looks_in (map (λ done. done.now) rests.old) ≤ self.old.spare }
-        ensures placed { self.new.entries ≡ placed version later.now (map (λ done. done.now) rests.old) self.old.entries }
+        ensures placed { self.new.entries
+            ≡ placed version later.now (map (λ done. done.now) rests.old) self.old.entries }
     {
         let mut version = version;
         for entry in later {

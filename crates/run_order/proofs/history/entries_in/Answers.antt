@@ -1,5 +1,4 @@
-use Rattle.std.proofs.Common.{◌≡◌, ◌+◌, ◌<◌, ◌≤◌, [], length, map, arith}
-use Rattle.run_order.specs.Room.{most, all_looks_in}
+use Rattle.std.proofs.Common.{[], arith}
 use Rattle.run_order.proofs.Counts.{count_next}
 use Rattle.run_order.proofs.history.entries_in.Goals as goal
 

@@ -1,4 +1,4 @@
-use Rattle.std.proofs.Common.{◌≡◌, ◌≤◌, take, arith}
+use Rattle.std.proofs.Common.{arith}
 use Rattle.run_order.proofs.Counts.{looks_next}
 use Rattle.run_order.proofs.next.looks_in.Goals as goal
 

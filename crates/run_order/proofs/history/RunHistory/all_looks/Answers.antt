@@ -1,9 +1,9 @@
-use Rattle.std.proofs.Common.{◌≡◌, ◌+◌, ◌<◌, ◌≤◌, List, [], length, map, get_or, set, Bor, refl, sym, ◌∙◌, ap, subst, arith}
+use Rattle.std.proofs.Common.{◌<◌, List, [], length, map, refl, sym, ◌∙◌, ap, arith}
 use Rattle.std.proofs.lemmas.List.{get_or-map, map-set, length-map}
 use Rattle.run_order.specs.declared.done.Done.{Done}
 use Rattle.run_order.specs.Placing.{with_looks, left_after}
 use Rattle.run_order.specs.Room.{looks_in}
-use Rattle.run_order.proofs.Looked.{AreLooked, looked_next, looked_last, looked_fits}
+use Rattle.run_order.proofs.Looked.{looked_next, looked_last, looked_fits}
 use Rattle.run_order.proofs.history.RunHistory.all_looks.Goals as goal
 
 pub looks-requires-clause-room : goal.looks-requires-clause-room

@@ -1,5 +1,4 @@
-use Rattle.std.proofs.Common.{◌≡◌, ℕ, List, map, sym, ◌∙◌, ap, subst}
-use Rattle.board_spec.specs.declared.event.Entry.{Entry}
+use Rattle.std.proofs.Common.{◌≡◌, ℕ, map, sym, ◌∙◌, ap, subst}
 use Rattle.run_order.specs.PhaseRun.{IsPlaced}
 use Rattle.run_order.specs.Placing.{placed}
 use Rattle.run_order.proofs.history.RunHistory.place.Goals as goal

@@ -1,4 +1,4 @@
-use Rattle.std.proofs.Common.{◌≡◌, ◌+◌, ◌<◌, ◌^◌, ◌≤◌, ap, arith}
+use Rattle.std.proofs.Common.{◌+◌, ◌<◌, ◌^◌, ◌≤◌, ap, arith}
 use Rattle.std.specs.Prelude.{reverse, slice_index, vec_capacity}
 use Rattle.run_order.specs.Room.{Entries}
 use Rattle.run_order.proofs.Counts.{count_fits}
