@@ -1,5 +1,5 @@
 //! The one who publishes.
-ghost use Rattle.std.specs.Prelude.{◌≡◌, ◌≤◌, ◌<◌, ◌++◌, ◌∷◌, [], All, drop, length, IfOk, OnOk, OnErr, MatchResult};
+ghost use Rattle.std.specs.Prelude.{◌≡◌, ◌≤◌, ◌<◌, ◌++◌, ◌∷◌, [], All, drop, length, IfSome, IfOk, OnOk, MatchResult};
 ghost use Rattle.left_right.specs.Sides.{view};
 ghost use Rattle.map_publish.specs.Lists.{opened_of, changes_of, version_after, IsMapOfLog};
 ghost use Rattle.map_publish.specs.Fronts.{head_of};
@@ -86,16 +86,24 @@ impl Publisher {
         ensures opened { opened_of self.new.front.seen.log ≡ opened_of self.old.front.seen.log }
         ensures list { MatchResult result (λ _. self.new.front.seen.log ≡ self.old.front.seen.log ++ Changed change.now ∷ []) (λ _. self.new.front.seen.log ≡ self.old.front.seen.log) }
     {
-        let front = self.front.add(&self.head, change).ok_or(NoMemory)?;
-        let mut map = self.map().copy();
-        map.apply(change);
-        let next = Shown {
-            map,
-            front: front.again(),
-        };
+        let next = self.after(change).ok_or(NoMemory)?;
+        let front = next.front.again();
         replace_with(&mut self.writer, (rt, next), published)?;
         self.front = front;
         Ok(())
+    }
+
+    /// The published map with a change made in it, and its list. None where more stands in the list.
+    fn after(&self, change: &MapChange) -> Option<Shown>
+        requires room { version_after self.now.front.seen.log < 4_000_000 }
+        ensures own { IfSome result (λ next. next.front.seen.book ≡ self.now.front.seen.book) }
+        ensures list { IfSome result (λ next. next.front.seen.log ≡ self.now.front.seen.log ++ Changed change.now ∷ []) }
+        ensures map { IfSome result (λ next. IsMapOfLog next.front.seen.log next.map) }
+    {
+        let front = self.front.add(&self.head, change)?;
+        let mut map = self.map().copy();
+        map.apply(change);
+        Some(Shown { map, front })
     }
 
     /// A note of the list that is published.
@@ -192,8 +200,10 @@ fn publisher_of<R: Wait>(
     })
 }
 
-/// A copy of a map and its list.
+/// A copy of a map, as it is opened, and its list.
 fn shown(map: &FlatMap, front: &Front) -> Shown
+    requires opened { front.now.seen.log ≡ Opened map.now ∷ [] }
+    ensures is_map { IsMapOfLog result.front.seen.log result.map }
     ensures map { result.map ≡ map.now }
     ensures front { result.front ≡ front.now }
 {
