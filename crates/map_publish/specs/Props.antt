@@ -2,7 +2,6 @@
 use Rattle.std.specs.Prelude.{ℕ, List, Option, Some, None}
 use Rattle.std.specs.Coded.{Unit-prop}
 use Rattle.std.proofs.Props.{props}
-use Rattle.board_spec.specs.Setup.{Base, FittedCard}
 use Rattle.board_spec.specs.Decode.{Bytes}
 use Rattle.board_spec.specs.declared.map_change.MapChange.{MapChange}
 use Rattle.pci_bars.specs.Cards.{HoldsRom}

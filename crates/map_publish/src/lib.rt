@@ -3,15 +3,15 @@
 #![tactic(auto)]
 
 mod front;
+pub mod laws;
 mod mark;
 mod names;
 mod publisher;
 pub mod sends;
 mod shown;
-mod viewer;
-
 #[cfg(test)]
 mod tests;
+mod viewer;
 
 pub use board_base::{Kind, NoMemory};
 pub use board_spec::{Look, MapChange};
