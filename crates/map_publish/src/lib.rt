@@ -18,7 +18,5 @@ pub use board_spec::{Look, MapChange};
 pub use front::{Front, ListRule};
 pub use map_builder::FlatMap;
 pub use mark::Mark;
-pub use names::{Name, Published};
 pub use publisher::{Publisher, open};
-pub use shown::Shown;
 pub use viewer::{Note, Viewer};
