@@ -1,0 +1,5 @@
+pub mod Fronts
+pub mod Adding
+pub mod Changes
+pub mod Naming
+pub mod Looks

@@ -1,0 +1,6 @@
+pub mod Lists
+pub mod Changes
+pub mod Props
+pub mod Fronts
+pub mod Names
+pub mod Laws
