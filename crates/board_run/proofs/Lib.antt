@@ -1,7 +1,5 @@
-mod FrontLemmas
-mod SentLemmas
-mod CauseLemmas
-mod ExactLemmas
-mod TakenLemmas
-mod ReplayLemmas
-mod MapLemmas
+pub mod FrontLemmas
+pub mod SentLemmas
+pub mod MapLemmas
+pub mod Statements
+pub mod Refusals
