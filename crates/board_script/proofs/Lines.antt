@@ -7,7 +7,7 @@ use Rattle.board_spec.specs.Text.{line_feed}
 use Rattle.board_spec.specs.LogText.{line_text, lines_text, log_text}
 
 -- with the entry at i as the newest, the history is one longer
-reverse-take_more :
+pub reverse-take_more :
     (entries : List Entry) (i : ℕ) (default : Entry) → i < length entries
     → reverse (take (i + 1) entries) ≡ get_or entries i default ∷ reverse (take i entries)
 reverse-take_more entries i default inside =

@@ -54,7 +54,7 @@ pub(crate) fn push_hex(text: &mut String, bytes: u32, value: u64) -> Result<(), 
 }
 
 /// Appends an address or an offset, in eight digits.
-pub(crate) fn push_hex_long(text: &mut String, long: u32) -> Result<(), NoMemory>
+pub fn push_hex_long(text: &mut String, long: u32) -> Result<(), NoMemory>
     ensures appended { OnOk result (Adds text.old text.new (hex_number 4 long)) }
     ensures front { OnErr result (KeepsFront text.old text.new) }
 {

@@ -13,9 +13,11 @@ mod target;
 mod words;
 
 pub use board_spec::{Entry, Event, Look, Reply, Statement};
+pub use hex::push_hex_long;
 pub use line::Line;
 pub use log::{log_line, push_log};
 pub use map::push_range;
+pub use words::{push_decimal, push_words};
 
 #[cfg(test)]
 mod tests;

@@ -8,7 +8,7 @@ use board_base::NoMemory;
 use itoa::Buffer;
 
 /// Appends words as they are.
-pub(crate) fn push_words(text: &mut String, words: &str) -> Result<(), NoMemory>
+pub fn push_words(text: &mut String, words: &str) -> Result<(), NoMemory>
     ensures appended { OnOk result (Adds text.old text.new words.now) }
     ensures front { OnErr result (KeepsFront text.old text.new) }
 {
@@ -17,7 +17,7 @@ pub(crate) fn push_words(text: &mut String, words: &str) -> Result<(), NoMemory>
 }
 
 /// Appends a number in decimal.
-pub(crate) fn push_decimal(text: &mut String, number: u64) -> Result<(), NoMemory>
+pub fn push_decimal(text: &mut String, number: u64) -> Result<(), NoMemory>
     ensures appended { OnOk result (Adds text.old text.new (decimal number)) }
     ensures front { OnErr result (KeepsFront text.old text.new) }
 {

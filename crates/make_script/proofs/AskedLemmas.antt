@@ -1,0 +1,182 @@
+-- Statements that are read one after the other behind a setup and a phase.
+use Rattle.std.proofs.Common.{ℕ, ◌≡◌, ◌+◌, ◌*◌, ◌<◌, ◌≤◌, Bool, true, false, ◌&&◌, ◌||◌, not, ltb, None, List, [], ◌∷◌, ◌++◌, length, map, filter, reverse, sum_by, All, refl, sym, ap, ◌∙◌, inl, inr, append_assoc, append-nil, arith}
+use Rattle.std.specs.Prelude.{option_map, decimal}
+use Rattle.std.specs.List.{find, list_any, AllZip, onto_first, list_all}
+use Rattle.std.proofs.lemmas.Bool.{le-ltb, and_from, and_parts}
+use Rattle.std.proofs.lemmas.List.{reverse-append}
+use Rattle.std.proofs.lemmas.List.Elements.{All-head, All-tail}
+use Rattle.std.proofs.lemmas.List.Sums.{sum_by-cons}
+use Rattle.board_spec.specs.declared.event.Statement.{Statement}
+use Rattle.board_spec.specs.Setup.{memory_of_cards}
+use Rattle.board_spec.specs.Text.{space, line_feed}
+use Rattle.board_spec.specs.LogText.{event_text}
+use Rattle.script_spec.specs.Lines.{lines_of, text_of_lines}
+use Rattle.script_spec.specs.Grammar.{Item, Ask, StandsFor, IsEventForm, item_text}
+use Rattle.script_spec.specs.Reasons.{reason, is_phase, is_statement, is_setup, cards_of, is_misplaced, is_repeated, lacks_setup, is_in_range, is_event_in_range, is_placed, is_event_placed, is_there, is_cpus_above, is_card_there, pulses_of, pulses_of_event, passes_limits, least_reason}
+use Rattle.script_spec.specs.ScriptText.{most_bytes, is_skipped, AreRead}
+use Rattle.script_spec.proofs.Digits.{lacks}
+use Rattle.script_spec.proofs.Fields.{lacks-first, lacks-later, lacks-append}
+use Rattle.script_spec.proofs.PlainText.{lacks-word, lacks-plain, decimal_word}
+use Rattle.script_spec.proofs.PlainLines.{event_plain}
+
+-- ---- lines
+
+line-cut : (line rest : List ℕ) → lacks line_feed line ≡ true
+    → lines_of (line ++ line_feed ∷ rest) ≡ line ∷ lines_of rest
+unfolding lines_of
+line-cut [] rest lack = refl
+line-cut (c ∷ line) rest lack =
+    rw (lacks-first line_feed c line lack)
+    (ap (onto_first c) (line-cut line rest (lacks-later line_feed c line lack)))
+
+-- the lines of a text are those that it was made of
+pub lines-back : (lines : List (List ℕ)) → list_all (λ line. lacks line_feed line) lines ≡ true
+    → lines_of (text_of_lines lines) ≡ lines
+unfolding lines_of
+lines-back [] lack = refl
+lines-back (line ∷ later) lack =
+    let parts : (lacks line_feed line ≡ true) × (list_all (λ l. lacks line_feed l) later ≡ true) =
+    and_parts (lacks line_feed line) (list_all (λ l. lacks line_feed l) later) lack
+    in
+    ap lines_of (append_assoc line (line_feed ∷ []) (text_of_lines later))
+    ∙ line-cut line (text_of_lines later) parts.0
+    ∙ ap (λ (ls : List (List ℕ)). line ∷ ls) (lines-back later parts.1)
+
+-- ---- a statement
+
+-- its line
+abbrev pub said : Statement → List ℕ
+said statement = item_text (Ask statement)
+
+pub said-line : (statement : Statement) → lacks line_feed (said statement) ≡ true
+unfolding item_text
+said-line statement =
+    lacks-append line_feed (decimal statement.actor) (space ∷ event_text statement.event)
+    (lacks-word line_feed (decimal statement.actor) refl (decimal_word statement.actor))
+    (lacks-plain line_feed (event_text statement.event) refl (event_plain statement.event))
+
+pub said-lines : (statements : List Statement) → list_all (λ line. lacks line_feed line) (map said statements) ≡ true
+said-lines [] = refl
+said-lines (statement ∷ later) =
+    and_from (lacks line_feed (said statement)) (list_all (λ line. lacks line_feed line) (map said later))
+    (said-line statement) (said-lines later)
+
+-- one of two processors can ask it, wherever it stands
+pub record IsFine (statement : Statement) : Type 0 where
+  pub actor : statement.actor < 2
+  pub short : length (said statement) ≤ most_bytes
+  pub read : is_skipped (said statement) ≡ false
+  pub form : IsEventForm 1 statement.event
+  pub range : is_event_in_range statement.event ≡ true
+  pub placed : is_event_placed statement.event ≡ true
+  pub card : (before : List Item) → is_card_there before statement.event ≡ true
+  pub few : pulses_of_event statement.event ≤ 4
+
+-- a text spells itself
+same : (text : List ℕ) → AllZip StandsFor text text
+same [] = tt
+same (c ∷ text) = (inl refl, same text)
+
+-- ---- behind a setup of two processors, a phase and so many statements
+
+pub record AreBehind (count : ℕ) (before : List Item) : Type 0 where
+  pub begun : list_any is_phase before ≡ true
+  pub cpus : (actor : ℕ) → actor < 2 → list_any (is_cpus_above actor) before ≡ true
+  pub statements : length (filter is_statement before) ≡ count
+  pub phases : length (filter is_phase before) ≤ 1_000
+  pub pulses : sum_by pulses_of before ≤ 4 * count
+  pub memory : memory_of_cards (cards_of before) ≤ 0x400_0000
+
+behind-more : (count : ℕ) (before : List Item) (statement : Statement) → AreBehind count before → IsFine statement
+    → AreBehind (count + 1) (Ask statement ∷ before)
+behind-more count before statement behind fine = record {
+  begun = behind.begun;
+  cpus = behind.cpus;
+  statements = omega (arith, behind.statements);
+  phases = behind.phases;
+  pulses = omega (arith, sum_by-cons pulses_of (Ask statement) before, behind.pulses, fine.few);
+  memory = behind.memory;
+}
+
+all-false : (a b c d e f g : Bool) → a ≡ false → b ≡ false → c ≡ false → d ≡ false → e ≡ false → f ≡ false → g ≡ false
+    → option_map (λ r. r.why) (find (λ r. r.holds)
+    (reason 4 a ∷ reason 5 b ∷ reason 6 c ∷ reason 7 d ∷ reason 8 e ∷ reason 9 f ∷ reason 10 g ∷ [])) ≡ None
+all-false a b c d e f g one two three four five six seven = rw (one, two, three, four, five, six, seven) refl
+
+none-of-four : (a b c d : Bool) → a ≡ false → b ≡ false → c ≡ false → d ≡ false → (a || b || c || d) ≡ false
+none-of-four a b c d one two three four = rw (one, two, three, four) refl
+
+within-limits : (count : ℕ) (items : List Item) → AreBehind count items → count ≤ 250_000 → passes_limits items ≡ false
+within-limits count items behind few =
+    none-of-four (ltb 250_000 (length (filter is_statement items))) (ltb 1_000 (length (filter is_phase items)))
+    (ltb 100_000_000 (sum_by pulses_of items)) (ltb 0x400_0000 (memory_of_cards (cards_of items)))
+    (le-ltb 250_000 (length (filter is_statement items)) (omega (arith, behind.statements, few)))
+    (le-ltb 1_000 (length (filter is_phase items)) behind.phases)
+    (le-ltb 100_000_000 (sum_by pulses_of items) (omega (arith, behind.pulses, few)))
+    (le-ltb 0x400_0000 (memory_of_cards (cards_of items)) behind.memory)
+
+placed-behind : (before : List Item) (statement : Statement) → list_any is_phase before ≡ true
+    → is_misplaced before (Ask statement) ≡ false
+placed-behind before statement begun = rw begun refl
+
+not-so : (b : Bool) → b ≡ true → not b ≡ false
+not-so b holds = rw holds refl
+
+no-reason : (count : ℕ) (before : List Item) (statement : Statement) → AreBehind count before → IsFine statement
+    → count + 1 ≤ 250_000 → least_reason before (Ask statement) ≡ None
+unfolding least_reason
+no-reason count before statement behind fine few =
+    let item : Item = Ask statement in
+    all-false (is_misplaced before item) (is_repeated before item) (is_phase item && lacks_setup before)
+    (not (is_in_range item)) (not (is_placed item)) (not (is_there before item)) (passes_limits (item ∷ before))
+    (placed-behind before statement behind.begun) refl refl
+    (not-so (is_in_range item) fine.range)
+    (not-so (is_placed item) fine.placed)
+    (not-so (is_there before item) (and_from (list_any (is_cpus_above statement.actor) before)
+    (is_card_there before statement.event) (behind.cpus statement.actor fine.actor) (fine.card before)))
+    (within-limits (count + 1) (item ∷ before) (behind-more count before statement behind fine) few)
+
+-- ---- all of them
+
+-- the items that stand there once statements are read, the newest first
+abbrev pub asked : List Statement → List Item → List Item
+asked [] before = before
+asked (statement ∷ later) before = asked later (Ask statement ∷ before)
+
+pub asks-read : (statements : List Statement) (count : ℕ) (before : List Item) → AreBehind count before
+    → All IsFine statements → count + length statements ≤ 250_000
+    → AreRead 1 before (map said statements) (asked statements before)
+asks-read [] count before behind fine few = refl
+asks-read (statement ∷ later) count before behind fine few =
+    let first : IsFine statement = All-head IsFine statement later fine in
+    inr (
+      Ask statement,
+      record {
+        short = first.short;
+        read = first.read;
+        has = record { form = (omega (arith, first.actor), first.form); says = same (said statement) };
+        none = no-reason count before statement behind first (omega (arith, few));
+      },
+      asks-read later (count + 1) (Ask statement ∷ before) (behind-more count before statement behind first)
+          (All-tail IsFine statement later fine) (omega (arith, few)),
+    )
+
+-- what does not look at statements is as before
+pub asked-keeps : {X : Type 0} (f : List Item → X) (statements : List Statement) (before : List Item)
+    → ((statement : Statement) (items : List Item) → f (Ask statement ∷ items) ≡ f items)
+    → f (asked statements before) ≡ f before
+asked-keeps f [] before keeps = refl
+asked-keeps f (statement ∷ later) before keeps =
+    asked-keeps f later (Ask statement ∷ before) keeps ∙ keeps statement before
+
+abbrev pub run_of : List Item → List Item
+run_of items = reverse (filter (λ item. not (is_setup item)) items)
+
+pub asked-run : (statements : List Statement) (before : List Item)
+    → run_of (asked statements before) ≡ run_of before ++ map Ask statements
+asked-run [] before = sym (append-nil (run_of before))
+asked-run (statement ∷ later) before =
+    asked-run later (Ask statement ∷ before)
+    ∙ ap (λ (items : List Item). items ++ map Ask later)
+    (reverse-append (Ask statement ∷ []) (filter (λ item. not (is_setup item)) before))
+    ∙ append_assoc (run_of before) (Ask statement ∷ []) (map Ask later)

@@ -1,0 +1,107 @@
+-- The counts of one entry more.
+use Rattle.std.proofs.Common.{ℕ, ◌≡◌, ◌+◌, ◌≤◌, ◌<◌, ◌^◌, ◌-◌, Bool, cond, List, [], ◌∷◌, length, refl, ap, ◌∙◌, inl, inr, arith}
+use mir.Val.{bool_byte}
+use Rattle.std.proofs.lemmas.Bool.{cases_Bool}
+use Rattle.std.proofs.lemmas.List.Elements.{All-head, All-tail}
+use Rattle.board_base.specs.declared.target.Target.TheVariants.{Dram, Shadow, Smram, Rom, Card, Device, Config, Abort}
+use Rattle.board_spec.specs.declared.event.Event.{Event}
+use Rattle.board_spec.specs.declared.event.Reply.{Reply}
+use Rattle.board_spec.specs.declared.event.Reply.TheVariants.{Bus, Parts as InParts, Saw}
+use Rattle.board_spec.specs.declared.event.Entry.{Entry}
+use Rattle.make_script.specs.Summary.{is_dram, is_shadow, is_smram, is_rom, is_card, is_config, is_device, is_abort, answers, is_look, count_of}
+use Rattle.make_script.specs.Laws.{IsOneCycle, KindsAddUp}
+use Rattle.make_script.specs.declared.counts.Counts.{Counts}
+use Rattle.make_script.specs.Counts.{AreCounts, HasRoom}
+
+pub count-more :
+    (test : Entry → Bool) (entry : Entry) (history : List Entry) (mark : Bool) (n more : ℕ) → mark ≡ test entry
+    → n ≡ count_of test history → more ≡ bool_byte mark
+    → n + more ≡ count_of test (entry ∷ history)
+count-more test entry history mark n more marked before one =
+    elim (cases_Bool (test entry)) [
+      | inl passes ↦
+          let now : more ≡ 1 = one ∙ ap bool_byte (marked ∙ passes) in
+          rw passes (omega (arith, now, before))
+      | inr fails ↦
+          let now : more ≡ 0 = one ∙ ap bool_byte (marked ∙ fails) in
+          rw fails (omega (arith, now, before))
+    ]
+
+count-below : (test : Entry → Bool) (history : List Entry) → count_of test history ≤ length history
+count-below test [] = omega arith
+count-below test (entry ∷ before) =
+    elim (cases_Bool (test entry)) [
+      | inl passes ↦ rw passes (omega (arith, count-below test before))
+      | inr fails ↦ rw fails (omega (arith, count-below test before))
+    ]
+
+has-room : (test : Entry → Bool) (history : List Entry) (n most : ℕ) → n ≡ count_of test history → length history < most
+    → n < most
+has-room test history n most is few = omega (arith, is, few, count-below test history)
+
+-- the counts of a history can take one more, where the history can
+pub counts-room : (history : List Entry) (counts : Counts) → AreCounts history counts → length history < 2 ^ 64 - 1
+    → HasRoom counts
+counts-room history counts are few = record {
+  dram = has-room _ history counts.dram (2 ^ 64 - 1) are.dram few;
+  shadow = has-room _ history counts.shadow (2 ^ 64 - 1) are.shadow few;
+  smram = has-room _ history counts.smram (2 ^ 64 - 1) are.smram few;
+  rom = has-room _ history counts.rom (2 ^ 64 - 1) are.rom few;
+  card = has-room _ history counts.card (2 ^ 64 - 1) are.card few;
+  config = has-room _ history counts.config (2 ^ 64 - 1) are.config few;
+  device = has-room _ history counts.device (2 ^ 64 - 1) are.device few;
+  abort = has-room _ history counts.abort (2 ^ 64 - 1) are.abort few;
+  denied = has-room _ history counts.denied (2 ^ 64 - 1) are.denied few;
+  looks = has-room _ history counts.looks (2 ^ 64 - 1) are.looks few;
+}
+
+-- ---- an entry counts once
+
+abbrev one : (Entry → Bool) → Entry → ℕ
+one test entry = cond {A = ℕ} (test entry) 1 0
+
+count-one : (test : Entry → Bool) (entry : Entry) (before : List Entry)
+    → count_of test (entry ∷ before) ≡ one test entry + count_of test before
+count-one test entry before =
+    elim (cases_Bool (test entry)) [
+      | inl passes ↦ rw passes (omega arith)
+      | inr fails ↦ rw fails (omega arith)
+    ]
+
+abbrev kinds : Entry → ℕ
+kinds entry =
+    one (answers is_dram) entry + one (answers is_shadow) entry + one (answers is_smram) entry
+    + one (answers is_rom) entry
+    + one (answers is_card) entry + one (answers is_config) entry + one (answers is_device) entry
+    + one (answers is_abort) entry + one is_look entry
+
+one-kind : (actor seq : ℕ) (event : Event) (reply : Reply) → IsOneCycle reply
+    → kinds (record { actor = actor; seq = seq; event = event; reply = reply }) ≡ 1
+one-kind actor seq event (Bus value (Dram row) denial) cycle = refl
+one-kind actor seq event (Bus value (Shadow row) denial) cycle = refl
+one-kind actor seq event (Bus value Smram denial) cycle = refl
+one-kind actor seq event (Bus value (Rom off) denial) cycle = refl
+one-kind actor seq event (Bus value (Card dev base off) denial) cycle = refl
+one-kind actor seq event (Bus value (Config reg) denial) cycle = refl
+one-kind actor seq event (Bus value (Device dev) denial) cycle = refl
+one-kind actor seq event (Bus value Abort denial) cycle = refl
+one-kind actor seq event (Saw look) cycle = refl
+one-kind actor seq event (InParts value parts) cycle = absurd cycle
+
+pub kinds-add-up : KindsAddUp
+kinds-add-up [] all = refl
+kinds-add-up (entry ∷ before) all =
+    omega (
+      arith,
+      one-kind entry.actor entry.seq entry.event entry.reply (All-head (λ e. IsOneCycle e.reply) entry before all),
+      kinds-add-up before (All-tail (λ e. IsOneCycle e.reply) entry before all),
+      count-one (answers is_dram) entry before,
+      count-one (answers is_shadow) entry before,
+      count-one (answers is_smram) entry before,
+      count-one (answers is_rom) entry before,
+      count-one (answers is_card) entry before,
+      count-one (answers is_config) entry before,
+      count-one (answers is_device) entry before,
+      count-one (answers is_abort) entry before,
+      count-one is_look entry before,
+    )

@@ -1,0 +1,245 @@
+-- The text that is made is that of the made script.
+use Rattle.std.proofs.Common.{ℕ, zero, suc, ◌≡◌, ◌+◌, ◌*◌, ◌%◌, ◌/◌, ◌<◌, ◌≤◌, true, false, List, [], ◌∷◌, ◌++◌, length, map, Some, None, refl, sym, ap, ◌∙◌, inl, inr, append_assoc, append-nil, arith}
+use Rattle.std.specs.Prelude.{codes}
+use Rattle.std.specs.List.{find, list_any, list_all}
+use Rattle.std.specs.Fmt.{digits}
+use Rattle.std.proofs.lemmas.Bool.{and_from}
+use Rattle.std.proofs.lemmas.List.{map-append, length-append}
+use Rattle.std.proofs.lemmas.List.Folds.{list_all-append}
+use Rattle.std.proofs.lemmas.List.Elements.{All-nil, All-cons}
+use Rattle.std.proofs.lemmas.List.Sorted.{IsPermutation-reverse}
+use Rattle.std.proofs.lemmas.List.FromFn.{length-map-range_with_len}
+use Rattle.board_spec.specs.Setup.{IsCardList, IsRomSize, IsDisk, MemoryBase, IoBase, FittedCard}
+use Rattle.board_spec.specs.Text.{line_feed}
+use Rattle.board_spec.specs.LogText.{event_text}
+use Rattle.board_spec.specs.declared.event.Statement.{Statement}
+use Rattle.script_spec.specs.Lines.{lines_of, text_of_lines}
+use Rattle.script_spec.specs.Grammar.{Item, SetCpus, SetMemory, SetRom, SetDisk, FitCard, BeginPhase, Ask, IsBaseForm, IsForm, Says, item_text}
+use Rattle.script_spec.specs.Reasons.{is_cpus, is_memory, is_rom, is_disk, is_cpus_above, cards_of, lacks_setup, least_reason}
+use Rattle.script_spec.specs.ScriptText.{most_bytes, is_skipped, IsGoodLine, AreRead, IsSaidBy}
+use Rattle.script_spec.proofs.Digits.{lacks}
+use Rattle.script_spec.proofs.RangeLaws.{scripts_are_in_range}
+use Rattle.make_script.specs.MakeText.{setup_lines, opening_lines, round_lines, lines_of_rounds, make_lines, make_text}
+use Rattle.make_script.specs.MadeScript.{asks, opening_events, round_statements, statements_of_rounds, made_statements, made_cards, made_script}
+use Rattle.make_script.specs.Images.{rom_image, disk_image}
+use Rattle.make_script.specs.Laws.{MakeTextIsScript, MadeIsInRange, StatementCount, MadeSetupFits}
+use Rattle.make_script.proofs.AskedLemmas.{lines-back, said, said-lines, AreBehind, asked, asks-read, asked-keeps, asked-run}
+use Rattle.make_script.proofs.FineLemmas.{made-fine}
+
+-- ---- each line is that of its statement
+
+opening-said : opening_lines ≡ map said (map (asks 0) opening_events)
+unfolding opening_lines opening_events digits item_text event_text
+opening-said = refl
+
+round-said : (i : ℕ) → round_lines i ≡ map said (round_statements i)
+unfolding round_lines round_statements digits item_text event_text
+round-said i = refl
+
+rounds-said : (n : ℕ) → lines_of_rounds n ≡ map said (statements_of_rounds n)
+unfolding lines_of_rounds statements_of_rounds
+rounds-said zero = refl
+rounds-said (suc i) =
+    ap (λ (ls : List (List ℕ)). ls ++ round_lines i) (rounds-said i)
+    ∙ ap (λ (ls : List (List ℕ)). map said (statements_of_rounds i) ++ ls) (round-said i)
+    ∙ sym (map-append said (statements_of_rounds i) (round_statements i))
+
+made-lines : (n : ℕ) → make_lines n ≡ setup_lines ++ map said (made_statements n)
+made-lines n =
+    append_assoc setup_lines opening_lines (lines_of_rounds n)
+    ∙ ap (λ (ls : List (List ℕ)). setup_lines ++ (ls ++ lines_of_rounds n)) opening-said
+    ∙ ap (λ (ls : List (List ℕ)). setup_lines ++ (map said (map (asks 0) opening_events) ++ ls)) (rounds-said n)
+    ∙ ap (λ (ls : List (List ℕ)). setup_lines ++ ls)
+    (sym (map-append said (map (asks 0) opening_events) (statements_of_rounds n)))
+
+setup-lines : list_all (λ line. lacks line_feed line) setup_lines ≡ true
+unfolding setup_lines
+setup-lines = refl
+
+made-back : (n : ℕ) → lines_of (make_text n) ≡ setup_lines ++ map said (made_statements n)
+unfolding make_text
+made-back n =
+    let lines : List (List ℕ) = setup_lines ++ map said (made_statements n) in
+    ap (λ (ls : List (List ℕ)). lines_of (text_of_lines ls)) (made-lines n)
+    ∙ lines-back lines
+    (list_all-append (λ line. lacks line_feed line) setup_lines (map said (made_statements n))
+    ∙ and_from (list_all (λ line. lacks line_feed line) setup_lines)
+    (list_all (λ line. lacks line_feed line) (map said (made_statements n))) setup-lines
+    (said-lines (made_statements n)))
+
+-- ---- the setup
+
+abbrev vga : FittedCard
+vga = record { dev = 2; vga = true; bases = MemoryBase 20 ∷ []; rom = None }
+
+abbrev plain : FittedCard
+plain = record { dev = 3; vga = false; bases = MemoryBase 12 ∷ IoBase 4 ∷ []; rom = None }
+
+abbrev setup_items : List Item
+setup_items =
+    BeginPhase ∷ FitCard plain ∷ FitCard vga ∷ SetDisk (codes "make.disk") ∷ SetRom (codes "make.rom") ∷ SetMemory 16
+    ∷ SetCpus 2 ∷ []
+
+cpus-above : (actor : ℕ) → actor < 2 → list_any (is_cpus_above actor) setup_items ≡ true
+cpus-above zero few = refl
+cpus-above (suc zero) few = refl
+cpus-above (suc (suc n)) few = let none : ⊥ = omega (arith, few) in absurd none
+
+setup-behind : AreBehind 0 setup_items
+setup-behind = record {
+  begun = refl;
+  cpus = cpus-above;
+  statements = refl;
+  phases = omega arith;
+  pulses = omega arith;
+  memory = omega arith;
+}
+
+-- a setup line whose item is known
+good : (before : List Item) (line : List ℕ) (item : Item) → length line ≤ most_bytes → is_skipped line ≡ false
+    → IsForm 1 item → Says line item → least_reason before item ≡ None → IsGoodLine 1 before line item
+good before line item short read form says none =
+    record { short = short; read = read; has = record { form = form; says = says }; none = none }
+
+setup-read : (later : List (List ℕ)) (items : List Item) → AreRead 1 setup_items later items
+    → AreRead 1 []
+    (codes "cpus 2" ∷ codes "memory 16" ∷ codes "rom make.rom" ∷ codes "disk make.disk" ∷ codes "card 2 vga m20"
+    ∷ codes "card 3 plain m12 i4" ∷ codes "phase" ∷ later)
+    items
+unfolding digits item_text least_reason
+setup-read later items read =
+    inr (
+      SetCpus 2,
+      good _ (codes "cpus 2") (SetCpus 2) (omega arith) refl (omega arith) refl refl,
+      inr (
+        SetMemory 16,
+        good _ (codes "memory 16") (SetMemory 16) (omega arith) refl (omega arith) refl refl,
+        inr (
+          SetRom (codes "make.rom"),
+          good _ (codes "rom make.rom") (SetRom (codes "make.rom")) (omega arith) refl
+              (record { some = omega arith; few = omega arith; first = refl; each = refl }) refl refl,
+          inr (
+            SetDisk (codes "make.disk"),
+            good _ (codes "disk make.disk") (SetDisk (codes "make.disk")) (omega arith) refl
+                (record { some = omega arith; few = omega arith; first = refl; each = refl }) refl refl,
+            inr (
+              FitCard vga,
+              good _ (codes "card 2 vga m20") (FitCard vga) (omega arith) refl (record {
+                dev = omega arith;
+                count = omega arith;
+                each = All-cons IsBaseForm (MemoryBase 20) [] (omega arith) (All-nil IsBaseForm);
+                rom = tt;
+              }) refl refl,
+              inr (
+                FitCard plain,
+                good _ (codes "card 3 plain m12 i4") (FitCard plain) (omega arith) refl (record {
+                  dev = omega arith;
+                  count = omega arith;
+                  each =
+                      All-cons IsBaseForm (MemoryBase 12) (IoBase 4 ∷ []) (omega arith)
+                      (All-cons IsBaseForm (IoBase 4) [] (omega arith) (All-nil IsBaseForm));
+                  rom = tt;
+                }) refl refl,
+                inr (
+                  BeginPhase,
+                  good _ (codes "phase") BeginPhase (omega arith) refl tt refl refl,
+                  read,
+                ),
+              ),
+            ),
+          ),
+        ),
+      ),
+    )
+
+-- ---- the whole
+
+opening-count : length (map (asks 0) opening_events) ≡ 47
+unfolding opening_events
+opening-count = refl
+
+round-count : (i : ℕ) → length (round_statements i) ≡ 11
+unfolding round_statements
+round-count i = refl
+
+rounds-count : (n : ℕ) → length (statements_of_rounds n) ≡ 11 * n
+unfolding statements_of_rounds
+rounds-count zero = refl
+rounds-count (suc i) =
+    let joined : length (statements_of_rounds i ++ round_statements i) ≡ length (statements_of_rounds i) + length
+    (round_statements i) =
+    length-append (statements_of_rounds i) (round_statements i)
+    in
+    omega (arith, joined, rounds-count i, round-count i)
+
+pub statement-count : StatementCount
+statement-count n =
+    omega (arith, length-append (map (asks 0) opening_events) (statements_of_rounds n), opening-count, rounds-count n)
+
+said-by : (n : ℕ) → IsSaidBy (made_script n) (asked (made_statements n) setup_items)
+unfolding made_script
+said-by n =
+    let statements : List Statement = made_statements n in
+    record {
+      cpus = asked-keeps (find is_cpus) statements setup_items (λ s items. refl);
+      memory = asked-keeps (find is_memory) statements setup_items (λ s items. refl);
+      rom = asked-keeps (find is_rom) statements setup_items (λ s items. refl);
+      disk = asked-keeps (find is_disk) statements setup_items (λ s items. refl);
+      cards =
+          rw (asked-keeps cards_of statements setup_items (λ s items. refl)) (IsPermutation-reverse (plain ∷ vga ∷ []));
+      rises = (
+        All-cons (λ other. 2 < other.dev) plain [] (omega arith) (All-nil (λ other. 2 < other.dev)),
+        (All-nil (λ other. 3 < other.dev), tt),
+      );
+      phases =
+          asked-run statements setup_items
+          ∙ ap (λ (items : List Item). BeginPhase ∷ items) (sym (append-nil (map Ask statements)));
+    }
+
+pub make-text-is-script : MakeTextIsScript
+unfolding made_script setup_lines digits
+make-text-is-script n few =
+    let statements : List Statement = made_statements n in
+    let items : List Item = asked statements setup_items in
+    record {
+      version = inl refl;
+      later =
+          codes "cpus 2" ∷ codes "memory 16" ∷ codes "rom make.rom" ∷ codes "disk make.disk" ∷ codes "card 2 vga m20"
+          ∷ codes "card 3 plain m12 i4" ∷ codes "phase" ∷ map said statements;
+      lines = made-back n;
+      items = items;
+      read =
+          setup-read (map said statements) items
+          (asks-read statements 0 setup_items setup-behind (made-fine n (omega (arith, few)))
+          (omega (arith, few, statement-count n)));
+      whole = asked-keeps lacks_setup statements setup_items (λ s items. refl);
+      said = said-by n;
+    }
+
+pub made-is-in-range : MadeIsInRange
+made-is-in-range n few = scripts_are_in_range (make_text n) (made_script n) (make-text-is-script n few)
+
+-- ---- the board that it is for
+
+rom-fits : IsRomSize (length rom_image)
+unfolding rom_image
+rom-fits = inl (length-map-range_with_len (λ offset. offset % 256) 0 0x1_0000)
+
+disk-fits : IsDisk (Some disk_image)
+unfolding disk_image
+disk-fits =
+    (64, omega arith, omega arith, length-map-range_with_len (λ offset. offset / 512) 0 (64 * 512))
+
+made-cards : IsCardList made_cards
+unfolding made_script
+made-cards = (made-is-in-range 0 (omega arith)).cards
+
+pub made-setup-fits : MadeSetupFits
+made-setup-fits = record {
+  some_memory = omega arith;
+  most_memory = omega arith;
+  cards = made-cards;
+  windows = omega arith;
+  rom = rom-fits;
+  disk = disk-fits;
+}

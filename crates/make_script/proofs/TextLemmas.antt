@@ -1,0 +1,47 @@
+-- The lines of one round more.
+use Rattle.std.proofs.Common.{ℕ, suc, ◌≡◌, ◌+◌, List, [], ◌∷◌, ◌++◌, append-nil, Result, Ok, Err, OnErr, sym, ap, ◌∙◌, append_assoc, arith}
+use Rattle.std.proofs.lemmas.Grind.{flat_map-append}
+use Rattle.board_spec.specs.Text.{line_feed}
+use Rattle.board_script.specs.Adds.{IsFront}
+use Rattle.script_spec.specs.Lines.{text_of_lines}
+use Rattle.make_script.specs.MakeText.{setup_lines, opening_lines, round_lines, lines_of_rounds, make_lines}
+
+pub text-append : (front more : List (List ℕ))
+    → text_of_lines (front ++ more) ≡ text_of_lines front ++ text_of_lines more
+text-append front more = flat_map-append (λ line. line ++ line_feed ∷ []) front more
+
+lines-more : (i : ℕ) → make_lines (suc i) ≡ make_lines i ++ round_lines i
+unfolding lines_of_rounds
+lines-more i = sym (append_assoc (setup_lines ++ opening_lines) (lines_of_rounds i) (round_lines i))
+
+-- with round i the text is that of one round more
+pub text-more : (i : ℕ) (old text new : List ℕ) → text ≡ old ++ text_of_lines (make_lines i)
+    → new ≡ text ++ text_of_lines (round_lines i) → new ≡ old ++ text_of_lines (make_lines (i + 1))
+text-more i old text new so_far round =
+    let one : i + 1 ≡ suc i = omega arith in
+    let more : text_of_lines (make_lines (i + 1)) ≡ text_of_lines (make_lines i) ++ text_of_lines (round_lines i) =
+    ap (λ (n : ℕ). text_of_lines (make_lines n)) one ∙ ap text_of_lines (lines-more i)
+    ∙ text-append (make_lines i) (round_lines i)
+    in
+    round
+    ∙ ap (λ (t : List ℕ). t ++ text_of_lines (round_lines i)) so_far
+    ∙ append_assoc old (text_of_lines (make_lines i)) (text_of_lines (round_lines i))
+    ∙ ap (λ (t : List ℕ). old ++ t) (sym more)
+
+-- before the first round it is the setup and the opening
+pub text-begun : (text : List ℕ) → text ≡ text_of_lines (setup_lines ++ opening_lines)
+    → text ≡ text_of_lines (make_lines 0)
+unfolding lines_of_rounds
+text-begun text begun =
+    begun ∙ ap (λ (ls : List (List ℕ)). text_of_lines ls) (sym (append-nil (setup_lines ++ opening_lines)))
+
+-- what is kept behind words that were appended
+pub kept-twice :
+    {T E : Type 0} (r : Result T E) (old first middle new : List ℕ) → middle ≡ old ++ first
+    → OnErr r (IsFront middle new) → OnErr r (IsFront old new)
+kept-twice (Ok x) old first middle new one two = tt
+kept-twice (Err e) old first middle new one two =
+    record {
+      rest = first ++ two.rest;
+      joined = two.joined ∙ ap (λ (t : List ℕ). t ++ two.rest) one ∙ append_assoc old first two.rest;
+    }

@@ -1,0 +1,25 @@
+use Rattle.std.proofs.Common.{ℕ, ◌++◌, reverse, sym, ap, ◌∙◌}
+use Rattle.std.proofs.lemmas.List.{length-reverse}
+use Rattle.board_script.proofs.Joined.{appended_twice}
+use Rattle.script_spec.specs.Lines.{text_of_lines}
+use Rattle.board_spec.specs.MapWrites.{version_of}
+use Rattle.make_script.specs.Summary.{entry_lines, map_lines, summary_of}
+use Rattle.make_script.proofs.TextLemmas.{text-append, kept-twice}
+use Rattle.make_script.proofs.summary.push_summary.Goals as goal
+
+pub returns-clause-appended : goal.returns-clause-appended
+unfolding summary_of
+returns-clause-appended c setup writes =
+    let history = reverse c.args.entries.now in
+    appended_twice c.push_map.result _ _ _ _ _ _
+    (c.in_ok-push_counts.ensures.appended history (sym (length-reverse c.args.entries.now)) c.counts_of.ensures.counts)
+    c.push_map.ensures.appended
+    (text-append (entry_lines history) (map_lines (version_of setup history) c.args.ranges)
+    ∙ ap (λ (n : ℕ). text_of_lines (entry_lines history) ++ text_of_lines (map_lines n c.args.ranges)) (sym writes))
+
+pub returns-clause-front : goal.returns-clause-front
+returns-clause-front c =
+    kept-twice c.push_map.result _ _ _ _
+    (c.in_ok-push_counts.ensures.appended (reverse c.args.entries.now) (sym (length-reverse c.args.entries.now))
+    c.counts_of.ensures.counts)
+    c.push_map.ensures.front

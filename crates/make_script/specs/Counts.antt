@@ -1,0 +1,50 @@
+-- What the parts of a reply count as, and how many entries of each kind a history has.
+use Rattle.std.specs.Prelude.{◌≡◌, ◌<◌, ◌^◌, ◌-◌, Bool, List, is_some}
+use Rattle.std.specs.List.{list_any}
+use Rattle.board_base.specs.declared.target.Target.{Target}
+use Rattle.board_spec.specs.declared.event.Part.{Part}
+use Rattle.board_spec.specs.declared.event.Entry.{Entry}
+use Rattle.make_script.specs.Summary.{is_dram, is_shadow, is_smram, is_rom, is_card, is_config, is_device, is_abort, answers, is_denied, is_look, count_of}
+use Rattle.make_script.specs.declared.counts.Marks.{Marks}
+use Rattle.make_script.specs.declared.counts.Counts.{Counts}
+
+abbrev pub any_target : (Target → Bool) → List Part → Bool
+any_target is_kind parts = list_any (λ part. is_kind part.target) parts
+
+-- the marks of some parts
+pub record AreMarks (parts : List Part) (marks : Marks) : Type 0 where
+  pub dram : marks.dram ≡ any_target is_dram parts
+  pub shadow : marks.shadow ≡ any_target is_shadow parts
+  pub smram : marks.smram ≡ any_target is_smram parts
+  pub rom : marks.rom ≡ any_target is_rom parts
+  pub card : marks.card ≡ any_target is_card parts
+  pub config : marks.config ≡ any_target is_config parts
+  pub device : marks.device ≡ any_target is_device parts
+  pub abort : marks.abort ≡ any_target is_abort parts
+  pub denied : marks.denied ≡ list_any (λ part. is_some part.denial) parts
+
+-- the counts of a history
+pub record AreCounts (history : List Entry) (counts : Counts) : Type 0 where
+  pub dram : counts.dram ≡ count_of (answers is_dram) history
+  pub shadow : counts.shadow ≡ count_of (answers is_shadow) history
+  pub smram : counts.smram ≡ count_of (answers is_smram) history
+  pub rom : counts.rom ≡ count_of (answers is_rom) history
+  pub card : counts.card ≡ count_of (answers is_card) history
+  pub config : counts.config ≡ count_of (answers is_config) history
+  pub device : counts.device ≡ count_of (answers is_device) history
+  pub abort : counts.abort ≡ count_of (answers is_abort) history
+  pub denied : counts.denied ≡ count_of is_denied history
+  pub looks : counts.looks ≡ count_of is_look history
+
+-- each count can take one more
+pub record HasRoom (counts : Counts) : Type 0 where
+  pub dram : counts.dram < 2 ^ 64 - 1
+  pub shadow : counts.shadow < 2 ^ 64 - 1
+  pub smram : counts.smram < 2 ^ 64 - 1
+  pub rom : counts.rom < 2 ^ 64 - 1
+  pub card : counts.card < 2 ^ 64 - 1
+  pub config : counts.config < 2 ^ 64 - 1
+  pub device : counts.device < 2 ^ 64 - 1
+  pub abort : counts.abort < 2 ^ 64 - 1
+  pub denied : counts.denied < 2 ^ 64 - 1
+  pub looks : counts.looks < 2 ^ 64 - 1

@@ -1,0 +1,13 @@
+pub mod Blindness
+pub mod Counts
+pub mod Directness
+pub mod Fitting
+pub mod Following
+pub mod Histories
+pub mod Legality
+pub mod Looked
+pub mod Phases
+pub mod Runs
+pub mod Steps
+pub mod Traces
+pub mod Wholes

@@ -1,0 +1,16 @@
+use Rattle.std.proofs.Common.{[], arith}
+use Rattle.run_order.proofs.Counts.{count_next}
+use Rattle.run_order.proofs.history.entries_in.Goals as goal
+
+pub loop-done-init : goal.loop-done-init
+loop-done-init c = record { count = λ few. omega arith; small = omega arith }
+
+pub loop-done-preserved : goal.loop-done-preserved
+loop-done-preserved c =
+    let next = count_next (λ done. done.now) c.deref-done-items.result.now c.loop-done.done-index (record { ref_ptr = (0, 0); now = [] }) c.loop-done-test.true in
+    let sum = c.saturating_add-count.ensures in
+    let one = c.looks_in.ensures.count in
+    record {
+      count = λ few. let inv = c.loop-done.invariant.count (omega (arith, sum, few)) in omega (arith, next, one, sum, inv, few);
+      small = let inv = c.loop-done.invariant.small in omega (arith, next, one, sum, inv);
+    }

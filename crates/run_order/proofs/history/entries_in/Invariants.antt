@@ -1,0 +1,10 @@
+use Rattle.std.proofs.Common.{◌≡◌, ◌+◌, ◌<◌, ◌≤◌, length, map}
+use Rattle.std.specs.Prelude.{take}
+use Rattle.run_order.specs.Room.{most, all_looks_in}
+use Rattle.run_order.proofs.history.entries_in.Given as goal
+
+abbrev pub invariant-loop-done : goal.invariant-loop-done
+invariant-loop-done l = record {
+  count : l.count < most → l.count ≡ length l.later + all_looks_in (map (λ done. done.now) (take l.done-index l.done-items));
+  small : l.count ≤ length l.later + all_looks_in (map (λ done. done.now) (take l.done-index l.done-items));
+}

@@ -1,0 +1,5 @@
+pub mod PhaseRun
+pub mod Places
+pub mod Placing
+pub mod Room
+pub mod Trace

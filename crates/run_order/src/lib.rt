@@ -1,0 +1,16 @@
+//! Where the looks of `run` stand in its history. In a phase of `run` each processor is a worker: its looks are
+//! answered by the published map, and all else goes through the bus turn, whose history has no looks. After the phase
+//! each look is put directly after the later of its processor's previous statement and the map write whose count is
+//! the look's version; looks in the same place stand in order of processor, and each processor's in its own order.
+#![tactic(auto)]
+
+mod done;
+mod history;
+pub mod laws;
+mod next;
+
+pub use done::Done;
+pub use history::{MOST_PROCESSORS, RunHistory, Works};
+
+#[cfg(test)]
+mod tests;
