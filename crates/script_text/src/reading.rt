@@ -57,7 +57,22 @@ impl Reading {
         ensures reason { IfErr result (λ reason. reason ≡ Reason.NoSetup) }
         ensures lacks { IfErr result (λ reason. (items : List Item) → IsReadingOf items self → lacks_setup items ≡ true) }
     {
-        let (Some(cpus), Some(mib), Some(rom)) = (self.cpus, self.mib, self.rom) else {
+        let Reading {
+            cpus,
+            mib,
+            rom,
+            disk,
+            cards,
+            phases,
+            ..
+        } = self;
+        let Some(cpus) = cpus else {
+            return Err(Reason::NoSetup);
+        };
+        let Some(mib) = mib else {
+            return Err(Reason::NoSetup);
+        };
+        let Some(rom) = rom else {
             return Err(Reason::NoSetup);
         };
         Ok(Script {
@@ -65,9 +80,9 @@ impl Reading {
             cpus,
             mib: u32::from(mib),
             rom,
-            disk: self.disk,
-            cards: self.cards,
-            phases: self.phases,
+            disk,
+            cards,
+            phases,
         })
     }
 }

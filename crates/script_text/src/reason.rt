@@ -1,14 +1,14 @@
 //! Whether an item can stand behind those before it, and the least reason if not.
 
-ghost use Rattle.std.specs.Prelude.{◌≡◌, ◌≤◌, ◌+◌, ◌||◌, nat_lt, List, length, sum_by, IfOk};
+ghost use Rattle.std.specs.Prelude.{◌≡◌, ◌≤◌, ◌<◌, ◌+◌, ◌&&◌, ◌||◌, nat_lt, is_some, ℕ, List, length, sum_by, IfOk, IsTrue};
 ghost use Rattle.std.specs.List.{list_any};
 ghost use Rattle.board_spec.specs.Setup.{IsBase, IsCard, memory_size};
 ghost use Rattle.pci_bars.specs.Bases.{base_of};
 ghost use Rattle.script_spec.specs.Grammar.{Item as Said, SetCpus, SetMemory, SetRom, SetDisk, FitCard, BeginPhase, Ask, IsForm};
-ghost use Rattle.script_spec.specs.Reasons.{is_phase, is_cpus_above, has_card, has_setup, is_card_there, pulses_of_event};
+ghost use Rattle.script_spec.specs.Reasons.{is_phase, has_card, is_card_there, pulses_of_event};
 ghost use Rattle.script_lines.specs.Items.{card_said, asked_said, line_said};
 ghost use Rattle.script_text.specs.Valid.{item_said, IsValid};
-ghost use Rattle.script_text.specs.Reading.{IsReadingOf, IsWithinLimits, Judges};
+ghost use Rattle.script_text.specs.Reading.{is_below, IsReadingOf, IsWithinLimits, Judges};
 
 use crate::fault::Reason;
 use crate::reading::Reading;
@@ -67,7 +67,7 @@ impl Reading {
     }
 
     fn has_setup(&self) -> bool
-        ensures setup { (items : List Said) → IsReadingOf items self.now → result ≡ has_setup items }
+        ensures setup { result ≡ (is_some self.now.cpus && is_some self.now.mib && is_some self.now.rom) }
     {
         self.cpus.is_some() && self.mib.is_some() && self.rom.is_some()
     }
@@ -79,8 +79,8 @@ impl Reading {
     }
 
     fn has_processor(&self, actor: u32) -> bool
-        ensures processor { (items : List Said) → IsReadingOf items self.now
-            → result ≡ list_any (is_cpus_above actor) items }
+        ensures processor { result ≡ is_below actor self.now.cpus }
+        ensures byte { IsTrue result → actor < 256 }
     {
         match self.cpus {
             Some(cpus) => actor < u32::from(cpus),
@@ -136,9 +136,9 @@ impl Reading {
         Ok(mib as u8)
     }
 
-    fn judge_rom<'a>(&self, name: &'a [u8]) -> Result<&'a [u8], Reason>
-        ensures judged { (items : List Said) → IsReadingOf items self.now
-            → Judges (λ name. SetRom name.now) items (SetRom name.now) result }
+    fn judge_rom(&self) -> Result<(), Reason>
+        ensures judged { (items : List Said) (name : List ℕ) → IsReadingOf items self.now
+            → Judges (λ done. SetRom name) items (SetRom name) result }
     {
         if self.has_phase() {
             return Err(Reason::Misplaced);
@@ -146,12 +146,12 @@ impl Reading {
         if self.rom.is_some() {
             return Err(Reason::Repeated);
         }
-        Ok(name)
+        Ok(())
     }
 
-    fn judge_disk<'a>(&self, name: &'a [u8]) -> Result<&'a [u8], Reason>
-        ensures judged { (items : List Said) → IsReadingOf items self.now
-            → Judges (λ name. SetDisk name.now) items (SetDisk name.now) result }
+    fn judge_disk(&self) -> Result<(), Reason>
+        ensures judged { (items : List Said) (name : List ℕ) → IsReadingOf items self.now
+            → Judges (λ done. SetDisk name) items (SetDisk name) result }
     {
         if self.has_phase() {
             return Err(Reason::Misplaced);
@@ -159,7 +159,7 @@ impl Reading {
         if self.disk.is_some() {
             return Err(Reason::Repeated);
         }
-        Ok(name)
+        Ok(())
     }
 
     fn judge_card(&self, fields: &CardFields) -> Result<CardSpec, Reason>
@@ -186,9 +186,9 @@ impl Reading {
 
     fn judge_phase(&self) -> Result<(), Reason>
         ensures judged { (items : List Said) → IsReadingOf items self.now
-            → Judges (λ phase. BeginPhase) items BeginPhase result }
+            → Judges (λ done. BeginPhase) items BeginPhase result }
     {
-        if !self.has_phase() && !self.has_setup() {
+        if !self.has_setup() {
             return Err(Reason::NoSetup);
         }
         if self.phases.len() == MOST_PHASES {
@@ -222,7 +222,10 @@ impl Reading {
         if !is_placed(&event) {
             return Err(Reason::NotPlaced);
         }
-        if !self.has_processor(actor) || !self.has_card_of(&event) {
+        if !self.has_processor(actor) {
+            return Err(Reason::NotThere);
+        }
+        if !self.has_card_of(&event) {
             return Err(Reason::NotThere);
         }
         if self.is_past_limit(&event) {
@@ -244,8 +247,14 @@ impl Reading {
         match item {
             Item::Cpus(count) => Ok(ValidItem::Cpus(self.judge_cpus(count)?)),
             Item::Memory(mib) => Ok(ValidItem::Memory(self.judge_memory(mib)?)),
-            Item::Rom(name) => Ok(ValidItem::Rom(self.judge_rom(name)?)),
-            Item::Disk(name) => Ok(ValidItem::Disk(self.judge_disk(name)?)),
+            Item::Rom(name) => {
+                self.judge_rom()?;
+                Ok(ValidItem::Rom(name))
+            }
+            Item::Disk(name) => {
+                self.judge_disk()?;
+                Ok(ValidItem::Disk(name))
+            }
             Item::Card(fields) => Ok(ValidItem::Card(self.judge_card(&fields)?)),
             Item::Phase => {
                 self.judge_phase()?;
