@@ -18,7 +18,8 @@ returns-then-len-eq-MOST_PHASES c = record {
   let has : has_setup items ≡ true = setup_kept items c.args.self.now is ∙ sym c.has_setup.ensures.setup ∙ c.if-not-has_setup.false in
   past_limit items BeginPhase (phase_placed items) refl (lacks_is items is.whole ∙ ap not has) refl refl refl
   (limits_with items reading BeginPhase is
-  ∙ past_phases reading.statements (length reading.phases.items + 1) (0 + reading.pulses) reading.memory ?);
+  ∙ past_phases reading.statements (length reading.phases.items + 1) (0 + reading.pulses) reading.memory
+  (omega (arith, c.args.self.now.phases.ok, c.len.ensures, c.if-len-eq-MOST_PHASES.true)));
 }
 
 pub returns : goal.returns
@@ -29,7 +30,8 @@ returns c = record {
     no_reason items BeginPhase (phase_placed items) refl (lacks_is items is.whole ∙ ap not has) refl refl refl
     (limits_with items reading BeginPhase is
     ∙ within reading.statements (length reading.phases.items + 1) (0 + reading.pulses) reading.memory
-    is.limits.statements ? (omega (arith, is.limits.pulses)) is.limits.memory),
+    is.limits.statements
+    (omega (arith, is.limits.phases, c.args.self.now.phases.ok, c.len.ensures, c.if-len-eq-MOST_PHASES.false)) (omega (arith, is.limits.pulses)) is.limits.memory),
     refl,
   );
 }
