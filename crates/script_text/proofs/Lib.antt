@@ -4,3 +4,5 @@ pub mod CardLemmas
 pub mod Runs
 pub mod Reasons
 pub mod BaseRuns
+pub mod TakenSetup
+pub mod TakenPhases
