@@ -1,8 +1,8 @@
 pub mod LineLemmas
 pub mod NameLemmas
 pub mod CardLemmas
-pub mod Runs
-pub mod Reasons
 pub mod BaseRuns
+pub mod Reasons
 pub mod TakenSetup
 pub mod TakenPhases
+pub mod Runs

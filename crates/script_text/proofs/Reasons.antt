@@ -241,8 +241,12 @@ past statements phases pulses memory =
 pub within : (statements phases pulses memory : ℕ) → statements ≤ 250_000 → phases ≤ 1_000 → pulses ≤ 100_000_000 →
     memory ≤ 0x400_0000 → past statements phases pulses memory ≡ false
 within statements phases pulses memory few_statements few_phases few_pulses little =
-    rw (le-ltb 250_000 statements few_statements, le-ltb 1_000 phases few_phases,
-    le-ltb 100_000_000 pulses few_pulses, le-ltb 0x400_0000 memory little) refl
+    rw (
+      le-ltb 250_000 statements few_statements,
+      le-ltb 1_000 phases few_phases,
+      le-ltb 100_000_000 pulses few_pulses,
+      le-ltb 0x400_0000 memory little,
+    ) refl
 
 only_two : (a b : Bool) → (a || false || b || false) ≡ (a || b)
 only_two true b = refl
@@ -298,8 +302,16 @@ pub limits_with : (items : List Item) (reading : Reading) (item : Item) → IsRe
     ≡ past (one_more (is_statement item) reading.statements) (one_more (is_phase item) (length reading.phases.items))
     (pulses_of item + reading.pulses) (memory_with item reading.memory)
 limits_with items reading item is =
-    rw (count_more is_statement (is_statement item) item items, count_more is_phase (is_phase item) item items,
-    sum_by-cons pulses_of item items, memory_more item items, is.statements, is.count, is.pulses, is.memory) refl
+    rw (
+      count_more is_statement (is_statement item) item items,
+      count_more is_phase (is_phase item) item items,
+      sum_by-cons pulses_of item items,
+      memory_more item items,
+      is.statements,
+      is.count,
+      is.pulses,
+      is.memory,
+    ) refl
 
 pub setup_within : (items : List Item) (reading : Reading) (item : Item) → IsReadingOf items reading →
     is_statement item ≡ false → is_phase item ≡ false → pulses_of item ≡ 0 →

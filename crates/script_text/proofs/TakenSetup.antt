@@ -14,6 +14,7 @@ use Rattle.script_spec.specs.Reasons.{is_phase, is_setup, is_cpus, is_cpus_above
 use Rattle.script_spec.proofs.GoodItems.{NoReason, no_reason}
 use Rattle.script_spec.proofs.RangeLaws.{none_any}
 use Rattle.script_text.specs.declared.reading.Reading.{Reading}
+use Rattle.script_text.proofs.Reasons.{memory_cons}
 use Rattle.script_text.specs.Reading.{Takes}
 
 -- a line of the setup is not misplaced: no phase has begun
@@ -125,10 +126,6 @@ apart_from items cards card same none k d inside =
     (none_any (λ other. other.dev == card.dev) (cards_of items) none) in
     eqb-false (get_or cards k d).dev card.dev (apart k d inside)
 
-memory_more : (card : FittedCard) (cards : List FittedCard) →
-    memory_of_cards (card ∷ cards) ≡ sum_by memory_size card.bases + memory_of_cards cards
-memory_more card cards = sum_by-append memory_size card.bases (flat_map (λ card. card.bases) cards)
-
 memory_within : (items : List Item) (card : FittedCard) → NoReason items (FitCard card) →
     memory_of_cards (card ∷ cards_of items) ≤ 0x400_0000
 memory_within items card none =
@@ -142,7 +139,7 @@ pub card_taken :
 card_taken old card cards memory at_place decoded items is least =
     let none : NoReason items (FitCard card) = no_reason items (FitCard card) least in
     let total : memory_of_cards (card ∷ cards_of items) ≡ old.memory + memory =
-    omega (arith, memory_more card (cards_of items), is.memory, decoded) in
+    omega (arith, memory_cons card (cards_of items), is.memory, decoded) in
     record {
       cpus = is.cpus;
       actors = is.actors;

@@ -73,7 +73,7 @@ fn read_later(alloc: Global, version: u8, bytes: &[u8]) -> Result<Script, Script
     }
     match reading.finish(version) {
         Ok(script) => Ok(script),
-        Err(reason) => Err(ScriptFault::at(number, reason)),
+        Err(no_setup) => Err(ScriptFault::at(number, no_setup)),
     }
 }
 

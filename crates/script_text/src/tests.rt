@@ -23,7 +23,7 @@ fn refused_at(alloc: Global, text: &[u8]) -> Option<(u32, u8)> {
 }
 
 /// Texts by their first lines and the end.
-const TEXTS: [Row; 24] = [
+const TEXTS: [Row; 27] = [
     (b"", 1, 1),
     (b"\n", 1, 1),
     (b"board 3\n", 1, 1),
@@ -38,6 +38,17 @@ const TEXTS: [Row; 24] = [
     (b"board 1\ncpus 1\n", 3, 6),
     (b"board 1\ncpus 1\n# a comment\n", 4, 6),
     (b"board 1\ncpus 1\n0 ack\n", 3, 4),
+    (
+        b"board 1\n\n# a comment\r\n#\ncpus 1\nmemory 1\nrom r\nphase\n",
+        0,
+        0,
+    ),
+    (
+        b"board 1\nrom r\nmemory 1\ncpus 8\nphase\n7 ack\n8 ack\n",
+        7,
+        9,
+    ),
+    (b"board 1\nrom r\nmemory 1\n 0 ack\n", 4, 3),
     (b"board 1\ncpus 0\n", 2, 7),
     (b"board 1\ncpus 9\n", 2, 7),
     (b"board 1\ncpus 8\nmemory 64\nrom r64", 0, 0),

@@ -54,10 +54,10 @@ returns-clause-judged c items is =
     let size : c.memory_of_card.result ≡ sum_by memory_size card.bases =
     c.memory_of_card.ensures.memory ∙ ap (λ (k : FittedCard). sum_by memory_size k.bases) read.1 in (
       no_reason items (FitCard card)
-      (setup_place items (FitCard card) false refl refl (sym (c.has_phase.ensures.phase items is) ∙ c.if-has_phase.false))
-      (sym (c.has_card.ensures.card items is) ∙ c.if-has_card.false)
-      refl read.0 refl refl
-      (setup_within items reading (FitCard card) is refl refl refl
-      (omega (arith, size, c.if-self-memory_of_card-gt-MOST_MEMORY.false))),
+          (setup_place items (FitCard card) false refl refl (sym (c.has_phase.ensures.phase items is) ∙ c.if-has_phase.false))
+          (sym (c.has_card.ensures.card items is) ∙ c.if-has_card.false)
+          refl read.0 refl refl
+          (setup_within items reading (FitCard card) is refl refl refl
+          (omega (arith, size, c.if-self-memory_of_card-gt-MOST_MEMORY.false))),
       ap FitCard read.1,
     )

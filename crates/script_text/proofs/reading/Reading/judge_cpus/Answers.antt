@@ -27,11 +27,14 @@ returns-then-not-is_within c = record {
 
 pub returns : goal.returns
 returns c = record {
-  judged = λ items is. (no_reason items (SetCpus c.args.count)
-      (setup_place items (SetCpus c.args.count) false refl refl (sym (c.has_phase.ensures.phase items is) ∙ c.if-has_phase.false))
-      (cpus_kept items c.args.self.now is ∙ sym c.is_some.ensures ∙ c.if-is_some.false)
-      refl
-      (sym c.is_within.ensures.within ∙ c.if-not-is_within.false)
-      refl refl
-      (setup_within items c.args.self.now (SetCpus c.args.count) is refl refl refl is.limits.memory), refl);
+  judged = λ items is. (
+    no_reason items (SetCpus c.args.count)
+        (setup_place items (SetCpus c.args.count) false refl refl (sym (c.has_phase.ensures.phase items is) ∙ c.if-has_phase.false))
+        (cpus_kept items c.args.self.now is ∙ sym c.is_some.ensures ∙ c.if-is_some.false)
+        refl
+        (sym c.is_within.ensures.within ∙ c.if-not-is_within.false)
+        refl refl
+        (setup_within items c.args.self.now (SetCpus c.args.count) is refl refl refl is.limits.memory),
+    refl,
+  );
 }

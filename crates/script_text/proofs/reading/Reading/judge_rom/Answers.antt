@@ -18,9 +18,12 @@ returns-then-is_some c = record {
 
 pub returns : goal.returns
 returns c = record {
-  judged = λ items name is. (no_reason items (SetRom name)
-      (setup_place items (SetRom name) false refl refl (sym (c.has_phase.ensures.phase items is) ∙ c.if-has_phase.false))
-      (rom_kept items c.args.self.now is ∙ sym c.is_some.ensures ∙ c.if-is_some.false)
-      refl refl refl refl
-      (setup_within items c.args.self.now (SetRom name) is refl refl refl is.limits.memory), refl);
+  judged = λ items name is. (
+    no_reason items (SetRom name)
+        (setup_place items (SetRom name) false refl refl (sym (c.has_phase.ensures.phase items is) ∙ c.if-has_phase.false))
+        (rom_kept items c.args.self.now is ∙ sym c.is_some.ensures ∙ c.if-is_some.false)
+        refl refl refl refl
+        (setup_within items c.args.self.now (SetRom name) is refl refl refl is.limits.memory),
+    refl,
+  );
 }

@@ -97,13 +97,13 @@ returns-clause-judged c items is =
     (actor_kept items c.args.self.now c.args.actor is ∙ sym c.has_processor.ensures.processor ∙ c.if-not-has_processor.false)
     (sym (c.has_card_of.ensures.there items is) ∙ c.if-not-has_card_of.false) in (
       ap (least_reason items) (sym read.1)
-      ∙ no_reason items asks
-      (statement_place items asks true refl refl (sym (c.has_phase.ensures.phase items is) ∙ c.if-not-has_phase.false))
-      refl refl (ap is_in_range read.1 ∙ read.0) (sym c.is_placed.ensures.placed ∙ c.if-not-is_placed.false) there
-      (limits_with items reading asks is
-      ∙ past_two (reading.statements + 1) (length reading.phases.items) (pulses_of_event c.in-Some.event + reading.pulses) reading.memory
-      is.limits.phases is.limits.memory
-      ∙ sym c.is_past_limit.ensures.past ∙ c.if-is_past_limit.false),
+          ∙ no_reason items asks
+          (statement_place items asks true refl refl (sym (c.has_phase.ensures.phase items is) ∙ c.if-not-has_phase.false))
+          refl refl (ap is_in_range read.1 ∙ read.0) (sym c.is_placed.ensures.placed ∙ c.if-not-is_placed.false) there
+          (limits_with items reading asks is
+          ∙ past_two (reading.statements + 1) (length reading.phases.items) (pulses_of_event c.in-Some.event + reading.pulses) reading.memory
+          is.limits.phases is.limits.memory
+          ∙ sym c.is_past_limit.ensures.past ∙ c.if-is_past_limit.false),
       read.1,
     )
 
