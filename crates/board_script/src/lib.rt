@@ -14,7 +14,7 @@ mod words;
 
 pub use board_spec::{Entry, Event, Look, Reply, Statement};
 pub use line::Line;
-pub use log::{log_line, push_log};
+pub use log::{log_line, push_line, push_log};
 pub use map::push_range;
 
 #[cfg(test)]
