@@ -52,6 +52,7 @@ fn check_line<'a>(
     let Some(statement) = front.next(actor) else {
         return Err(CheckFault::Differs { line });
     };
+    law_one_replay();
     board.step(statement.actor, &statement.event);
     print_newest(text, board.history())?;
     go_past(text, rest, line)
