@@ -1,18 +1,23 @@
 -- A text is cut at a byte, and a line of a log names its processor.
-use Rattle.std.proofs.Common.{ℕ, zero, suc, ◌≡◌, ◌≢◌, ◌+◌, ◌-◌, ◌<◌, ◌≤◌, Bool, true, false, not, cond, eqb, ltb, List, [], ◌∷◌, ◌++◌, length, take, drop, All, Option, Some, None, Result, Ok, Err, refl, sym, ap, ◌∙◌, inl, inr, append_assoc, add-one, length-append, length-drop, arith}
+use Rattle.std.proofs.Common.{ℕ, zero, suc, ◌≡◌, ◌≢◌, ◌+◌, ◌-◌, ◌<◌, ◌≤◌, Bool, true, false, not, cond, eqb, ltb, List, [], ◌∷◌, ◌++◌, length, take, drop, All, Option, Some, None, Result, Ok, Err, refl, sym, ap, ◌∙◌, inl, inr, append_assoc, add-one, subst, MatchOption, length-append, length-drop, arith}
 use Rattle.std.specs.Prelude.{decimal, codes, MatchResult, ◌==◌}
 use Rattle.std.specs.List.{position, position_or_len}
 use Rattle.std.specs.Result.{result_ok}
+use Rattle.std.specs.Option.{ok_or}
+use Rattle.std.specs.Str.{IsUtf8}
+use Rattle.std.proofs.lemmas.Str.{IsUtf8-from_ascii}
+use Rattle.std.proofs.lemmas.Fmt.{IsAscii-decimal}
 use Rattle.std.proofs.Math.Seq.{take-append_seam}
-use Rattle.std.proofs.lemmas.Bool.{eq-eqb, ne_eqb, lt-ltb, cond-true}
+use Rattle.std.proofs.lemmas.Bool.{eq-eqb, ne_eqb, eqb-false, lt-ltb, cond-true}
 use Rattle.std.proofs.lemmas.List.{take_all}
-use Rattle.std.proofs.lemmas.List.Elements.{All-head, All-tail}
+use Rattle.std.proofs.lemmas.List.Elements.{All-nil, All-cons, All-head, All-tail}
 use Rattle.board_spec.specs.declared.event.Entry.{Entry}
 use Rattle.board_spec.specs.Text.{space, line_feed}
 use Rattle.board_spec.specs.LogText.{event_text, value_bytes, reply_text, line_text}
 use Rattle.script_spec.specs.Lines.{IsOneLine}
 use Rattle.script_spec.proofs.Digits.{lacks, value_of_decimal}
-use Rattle.script_spec.proofs.Fields.{front, back, front-field, back-field}
+use Rattle.script_spec.proofs.Fields.{front, back, front-field, back-field, lacks-first, lacks-later, lacks-decimal}
+use Rattle.script_spec.proofs.PlainText.{lacks-word, decimal_word}
 use Rattle.script_spec.proofs.CheckLaws.{lacks-line}
 
 -- ---- the first byte of a kind
@@ -79,7 +84,32 @@ pub the_error :
 the_error P Q (Ok value) holds none = cc
 the_error P Q (Err fault) holds none = (fault, holds)
 
+-- and the value where one is read
+pub the_value :
+    {T E : Type 0} (P : T → Type 0) (Q : E → Type 0) (result : Result T E) (value : T) → MatchResult result P Q →
+    result_ok result ≡ Some value → P value
+the_value P Q (Ok other) value holds some = let same : other ≡ value = cc in subst P same holds
+the_value P Q (Err fault) value holds some = cc
+
+-- the bytes of a decimal are text
+pub digits_utf8 : (bytes : List ℕ) (number : ℕ) → number < 256 → bytes ≡ decimal number → IsUtf8 bytes
+digits_utf8 bytes number small is =
+    subst IsUtf8 (sym is) (IsUtf8-from_ascii (decimal number) (IsAscii-decimal number (omega (arith, small))))
+
+-- an option as a result
+pub ok_or_cases :
+    {T E : Type 0} (P : Type 0) (Q : T → Type 0) (result : Option T) (fault : E) → MatchOption result P Q →
+    MatchResult (ok_or result fault) Q (λ given. (given ≡ fault) × P)
+ok_or_cases P Q None fault none = (refl, none)
+ok_or_cases P Q (Some value) fault some = some
+
 -- ---- lines
+
+apart_from : (mark : ℕ) (bytes : List ℕ) → lacks mark bytes ≡ true → All (λ byte. byte ≢ mark) bytes
+apart_from mark [] lack = All-nil (λ byte. byte ≢ mark)
+apart_from mark (c ∷ cs) lack =
+    All-cons (λ byte. byte ≢ mark) c cs (eqb-false c mark (lacks-first mark c cs lack))
+    (apart_from mark cs (lacks-later mark c cs lack))
 
 -- two lines that each end in a line feed
 pub cut_line :
@@ -112,3 +142,12 @@ named n entry after =
       is = eight_parts (decimal n) (space ∷ decimal entry.actor) (codes ".") (decimal entry.seq) (space ∷ event)
           (codes " = ") reply after;
     }
+
+-- no byte of a number is a space
+pub number_apart : (n : ℕ) → All (λ byte. byte ≢ space) (decimal n)
+number_apart n = apart_from space (decimal n) (lacks-word space (decimal n) refl (decimal_word n))
+
+-- nor a full stop
+pub decimal_apart : (n : ℕ) → n < 256 → All (λ byte. byte ≢ 0x2E) (decimal n)
+decimal_apart n small =
+    apart_from 0x2E (decimal n) (lacks-decimal 0x2E n (inl (omega arith)) (omega (arith, small)))

@@ -1,15 +1,23 @@
 //! The processor of a line.
 
-ghost use Rattle.std.specs.Prelude.{◌≡◌, ◌≢◌, ◌<◌, ◌++◌, ◌∷◌, ℕ, List, Some, All, MatchOption, decimal};
+ghost use Rattle.std.specs.Prelude.{◌≡◌, ◌≢◌, ◌<◌, ◌++◌, ◌∷◌, ◌==◌, ℕ, List, Some, All, MatchOption, decimal};
+ghost use Rattle.std.specs.List.{position};
 ghost use Rattle.board_spec.specs.declared.event.Entry.{Entry};
 ghost use Rattle.board_spec.specs.LogText.{line_text};
+
+/// The place of the first such byte.
+fn place_of(mark: u8, bytes: &[u8]) -> Option<usize>
+    ensures place { result ≡ position (λ byte. byte == mark) bytes.now }
+{
+    bytes.iter().position(|byte| *byte == mark)
+}
 
 /// What stands before the first such byte, and what stands after it.
 fn cut(mark: u8, bytes: &[u8]) -> Option<(&[u8], &[u8])>
     ensures parts { (before after : List ℕ) → All (λ byte. byte ≢ mark) before → bytes.now ≡ before ++ mark ∷ after
         → MatchOption result ⊥ (λ parts. (parts.0.now ≡ before) × (parts.1.now ≡ after)) }
 {
-    let at = bytes.iter().position(|byte| *byte == mark)?;
+    let at = place_of(mark, bytes)?;
     Some((&bytes[..at], &bytes[at + 1..]))
 }
 
