@@ -163,7 +163,7 @@ no_event_more : (events : List Event) (event : Event) (rest : List Event) → []
 no_event_more [] event rest e = cc
 no_event_more (first ∷ later) event rest e = cc
 
-known_first :
+pub known_first :
     (phase part : List Statement) (last : Statement) → All IsTyped phase → GoesFirst phase part last →
     last.actor < 256
 known_first phase part last typed first =

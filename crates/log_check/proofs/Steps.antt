@@ -7,9 +7,10 @@ use Rattle.board_spec.specs.declared.event.Entry.{Entry}
 use Rattle.board_spec.specs.declared.event.Statement.{Statement}
 use Rattle.board_spec.specs.Orders.{statement_of, statements_of, events_by, IsWholePhase, IsFrontOfPhase, HasPhases, HasPhasesSoFar, IsBegunFor, IsCompleteFor}
 use Rattle.board_spec.proofs.OrderLawProofs.{statements-newest}
+use Rattle.log_check.specs.Phases.{IsTyped}
 use Rattle.log_check.specs.Walks.{Place, IsWithin}
 use Rattle.log_check.proofs.PhaseCuts.{begun_behind, whole_behind, whole_left, begun_left, in_first_phase, full_phase, phase_fits}
-use Rattle.log_check.proofs.NextStatements.{events-last, events-last_other, GoesFirst, goes_first}
+use Rattle.log_check.proofs.NextStatements.{events-last, events-last_other, GoesFirst, goes_first, known_first}
 
 front_of :
     (place : Place) (phase : List Statement) (left : ℕ → List Event) (history : List Entry) →
@@ -96,12 +97,13 @@ within_next place phase left after history entry within own others =
       ];
     }
 
--- a processor that has nothing left has no entry that may come next
-pub none_left :
+-- an entry that may come next is of its processor's next statement
+next_first :
     (place : Place) (phase : List Statement) (left : ℕ → List Event) (history : List Entry) (entry : Entry) →
-    IsWithin place phase left history → place.count < length phase → left entry.actor ≡ [] →
-    IsBegunFor (place.done ++ phase ∷ place.later) (entry ∷ history) → ⊥
-none_left place phase left history entry within short nothing begun =
+    (within : IsWithin place phase left history) → place.count < length phase →
+    IsBegunFor (place.done ++ phase ∷ place.later) (entry ∷ history) →
+    GoesFirst phase within.part (statement_of entry)
+next_first place phase left history entry within short begun =
     let last : Statement = statement_of entry in
     let said : statements_of (entry ∷ history) ≡ within.before ++ (within.part ++ last ∷ []) =
     statements-newest entry history
@@ -112,9 +114,24 @@ none_left place phase left history entry within short nothing begun =
     let rest : HasPhasesSoFar (phase ∷ place.later) (within.part ++ last ∷ []) =
     begun_left place.done (phase ∷ place.later) within.before (within.part ++ last ∷ []) within.whole (omega arith)
     (subst (HasPhasesSoFar (place.done ++ phase ∷ place.later)) said begun) in
-    let first : GoesFirst phase within.part last =
     goes_first phase within.part last
-    (in_first_phase phase place.later (within.part ++ last ∷ []) (omega arith) rest) in
+    (in_first_phase phase place.later (within.part ++ last ∷ []) (omega arith) rest)
+
+pub small_actor :
+    (place : Place) (phase : List Statement) (left : ℕ → List Event) (history : List Entry) (entry : Entry) →
+    IsWithin place phase left history → place.count < length phase → All IsTyped phase →
+    IsBegunFor (place.done ++ phase ∷ place.later) (entry ∷ history) → entry.actor < 256
+small_actor place phase left history entry within short typed begun =
+    known_first phase within.part (statement_of entry) typed
+    (next_first place phase left history entry within short begun)
+
+-- a processor that has nothing left has no entry that may come next
+pub none_left :
+    (place : Place) (phase : List Statement) (left : ℕ → List Event) (history : List Entry) (entry : Entry) →
+    IsWithin place phase left history → place.count < length phase → left entry.actor ≡ [] →
+    IsBegunFor (place.done ++ phase ∷ place.later) (entry ∷ history) → ⊥
+none_left place phase left history entry within short nothing begun =
+    let first = next_first place phase left history entry within short begun in
     let same : left entry.actor ≡ entry.event ∷ first.rest =
     append_cancel_left (events_by entry.actor within.part) (left entry.actor) (entry.event ∷ first.rest)
     (sym (within.each entry.actor) ∙ first.whole) in
