@@ -15,7 +15,7 @@ mod words;
 pub use board_spec::{Entry, Event, Look, Reply, Statement};
 pub use hex::push_hex_long;
 pub use line::Line;
-pub use log::{log_line, push_log};
+pub use log::{log_line, push_line, push_log};
 pub use map::push_range;
 pub use words::{push_decimal, push_words};
 
