@@ -11,6 +11,7 @@ mod numbers;
 pub use card::{BaseField, CardFields};
 pub use item::{Asked, Item, item_of};
 pub use moment::MomentFields;
+pub use numbers::decimal_of;
 
 #[cfg(test)]
 mod tests;

@@ -68,7 +68,7 @@ fn has_leading_zero(field: &[u8]) -> bool
 }
 
 /// The number of 1 to 9 decimal digits, with no leading zero but in `0` itself.
-pub(crate) fn decimal_of(field: &[u8]) -> Option<u32>
+pub fn decimal_of(field: &[u8]) -> Option<u32>
     ensures number { result ≡ decimal_of field.now }
 {
     if field.is_empty() || field.len() > MOST_DIGITS || has_leading_zero(field) {
