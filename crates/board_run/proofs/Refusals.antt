@@ -6,17 +6,21 @@ use Rattle.board_spec.specs.Setup.{Setup, IsRomSize, IsDiskSize, IsDisk}
 use Rattle.script_spec.specs.ScriptText.{Script as Said, IsScriptText, IsScriptBad}
 use Rattle.script_text.specs.declared.fault.ScriptFault.{ScriptFault}
 use Rattle.script_text.specs.declared.fault.ScriptFault.TheVariants.{Bad as BadLine, NoMemory as NoMemoryForScript}
-use Rattle.script_text.specs.Reading.{OnBad}
+use Rattle.script_text.specs.Faults.{OnBad}
 use Rattle.board_core.specs.declared.setup.BoardOpen.{BoardOpen}
 use Rattle.board_core.specs.declared.setup.BoardOpen.TheVariants.{BadRom, BadDisk, NoMemory as NoMemoryForBoard}
 use Rattle.board_run.specs.declared.status.Which.{Which}
 use Rattle.board_run.specs.declared.status.Which.TheVariants.{Script, Rom, Disk, Log}
 use Rattle.board_run.specs.declared.status.Status.{Status}
 use Rattle.board_run.specs.declared.status.Status.TheVariants.{Done, Usage, ReadFault, WriteFault, TooLong, BadScript, BadImage, Differs, NoMemory}
-use Rattle.board_run.specs.Words.{Command, script_name}
-use Rattle.board_run.specs.Asked.{Files, limit_of, disk_of, fitted, setup_of, SaysScript, IsGood, ComesTo, ReadsFile, IsLength, Fits, AsksFor}
+use Rattle.script_spec.specs.Checks.{DiffersAt}
+use Rattle.log_check.specs.declared.fault.CheckFault.{CheckFault}
+use Rattle.log_check.specs.declared.fault.CheckFault.TheVariants.{Differs as DiffersAtLine, NoMemory as NoMemoryForCheck}
+use Rattle.board_run.specs.Words.{Command, Check, script_name}
+use Rattle.board_run.specs.Texts.{IsLegalText, IsCommandText}
+use Rattle.board_run.specs.Asked.{Files, limit_of, disk_of, fitted, setup_of, SaysScript, IsGood, HasScript, ComesTo, ReadsFile, IsLength, Fits, AsksFor}
 use Rattle.board_run.specs.Outcomes.{ShelfCall, OfFiles, name_in_words, FailsAt}
-use Rattle.board_run.specs.Statuses.{status_of_script_fault, status_of_board_fault, IsNotTaken, IsRefused, FitsDisk, IsDiskNotTaken, IsNotOpened, IsReady}
+use Rattle.board_run.specs.Statuses.{status_of_script_fault, status_of_board_fault, status_of_check_fault, IsNotTaken, IsRefused, FitsDisk, IsDiskNotTaken, IsNotOpened, IsReady}
 
 -- ---- where the shelf tells its files
 
@@ -215,3 +219,83 @@ module _ (told : Option Files) (before now : ℕ) (kept : List ℕ) (command : C
           bad_disk disk script.disk files is size refl (at_files told files (λ files'. disk ≡ option_map files' script.disk) is read)
           fits bad)
     board_refused NoMemoryForBoard disk size read fits bad = tt
+
+-- ---- a whole text
+
+-- a result refuses a command
+pub refuses_with :
+    {T : Type 0} (command : Command) (call : ShelfCall) (result : Result T Status) (status : Status) → result ≡ Err status →
+    IsRefused command call status → IfErr result (IsRefused command call)
+refuses_with {T = T} command call result status is refused =
+    subst (λ (result' : Result T Status). IfErr result' (IsRefused command call)) (sym is) refused
+
+-- no fault of the shelf is passed over
+pub hides_none :
+    {T : Type 0} (before now : ℕ) (result : Result T Status) (status : Status) → result ≡ Err status →
+    (((of : Which) → status ≢ ReadFault of) → now ≡ before) →
+    IfErr result (λ status'. ((of : Which) → status' ≢ ReadFault of) → now ≡ before)
+hides_none {T = T} before now result status is quiet =
+    subst (λ (result' : Result T Status). IfErr result' (λ status'. ((of : Which) → status' ≢ ReadFault of) → now ≡ before)) (sym is) quiet
+
+module _ (told : Option Files) (name log : List ℕ) (script : Said) (setup : Setup) (ready : OfFiles told (λ files. IsReady files name script setup)) where
+  abbrev Checks : Command
+  Checks = Check name log
+
+  good : (files : Files) → told ≡ Some files → HasScript Checks (IsGood files)
+  good files is = record {
+    name = name;
+    named = refl;
+    script = script;
+    holds = (at_files told files (λ files'. IsReady files' name script setup) is ready).good;
+  }
+
+  pub comes_to_log : (before now : ℕ) (kept : List ℕ) → Comes told before now kept Checks Log log
+  comes_to_log before now kept = record {
+    comes = of_files told (λ files. ComesTo Checks files Log log) (λ files is. (refl, good files is));
+    in_words = λ other is. some_same other log (sym is);
+  }
+
+  module _ (bytes given : List ℕ) (whole : OfFile told log (λ file. bytes ≡ file)) (fits : length bytes ≤ limit_of Log) (same : given ≡ bytes) where
+    pub log_differs :
+        (line : ℕ) → DiffersAt setup script.version script.phases given line →
+        OfFiles told (λ files. AsksFor Checks files (Differs line))
+    log_differs line differs =
+        of_files told (λ files. AsksFor Checks files (Differs line))
+        (λ files is.
+          let read : bytes ≡ files log = at_file told files log (λ file. bytes ≡ file) is whole in
+          let fitted = at_files told files (λ files'. IsReady files' name script setup) is ready in
+          record {
+            name = name;
+            named = refl;
+            script = script;
+            holds = record {
+              good = fitted.good;
+              fits = subst (λ (file : List ℕ). length file ≤ limit_of Log) read fits;
+              differs =
+                  subst (λ (setup' : Setup). DiffersAt setup' script.version script.phases (files log) line) fitted.fits
+                  (subst (λ (file : List ℕ). DiffersAt setup script.version script.phases file line) (same ∙ read) differs);
+            };
+          })
+
+    pub check_refused :
+        (call : ShelfCall) (fault : CheckFault) → call.files ≡ told →
+        ((line : ℕ) → fault ≡ DiffersAtLine line → DiffersAt setup script.version script.phases given line) →
+        IsRefused Checks call (status_of_check_fault fault)
+    check_refused call (DiffersAtLine line) told_is differs =
+        subst (λ (told' : Option Files). OfFiles told' (λ files. AsksFor Checks files (Differs line))) (sym told_is) (log_differs line (differs line refl))
+    check_refused call NoMemoryForCheck told_is differs = tt
+
+    pub legal_text :
+        (text : List ℕ) → IsLegalText setup script given text → OfFiles told (λ files. IsCommandText Checks files text)
+    legal_text text says =
+        of_files told (λ files. IsCommandText Checks files text)
+        (λ files is.
+          let read : bytes ≡ files log = at_file told files log (λ file. bytes ≡ file) is whole in
+          let fitted = at_files told files (λ files'. IsReady files' name script setup) is ready in
+          record {
+            script = script;
+            good = fitted.good;
+            says =
+                subst (λ (setup' : Setup). IsLegalText setup' script (files log) text) fitted.fits
+                (subst (λ (file : List ℕ). IsLegalText setup script file text) (same ∙ read) says);
+          })

@@ -3,7 +3,7 @@
 ghost use Rattle.std.specs.Prelude.{◌≡◌, ◌≤◌, [], Some, string_bytes, IfOk};
 ghost use Rattle.script_spec.specs.ScriptText.{IsScriptText};
 ghost use Rattle.script_spec.specs.ScriptRange.{IsInRangeScript};
-ghost use Rattle.script_text.specs.Reading.{said_of};
+ghost use Rattle.script_text.specs.Script.{said_of};
 ghost use Rattle.make_script.specs.MakeText.{make_text};
 ghost use Rattle.make_script.specs.Images.{rom_image, disk_image};
 ghost use Rattle.board_run.specs.Asked.{fitted};
@@ -13,7 +13,7 @@ use crate::prepare::open;
 use crate::replay::replay_script;
 use board_base::NoMemory;
 use board_core::{Board, BoardOpen};
-// use make_script::laws::law_make_text;
+use make_script::laws::{law_made_script, law_make_text};
 use make_script::{make_disk, make_rom, make_text, push_summary};
 use script_text::{Script, ScriptFault, read_script};
 use std::alloc::Global;
@@ -25,7 +25,7 @@ fn made_script(alloc: Global, rounds: u32) -> Result<Script, NoMemory>
     ensures says { IfOk result (λ script. IsScriptText (make_text rounds) (said_of script)) }
     ensures in_range { IfOk result (λ script. IsInRangeScript (said_of script)) }
 {
-    // law_make_text();
+    law_make_text();
     let text = make_text(alloc, rounds)?;
     match read_script(alloc, text.as_bytes()) {
         Ok(script) => Ok(script),
@@ -40,6 +40,7 @@ fn made_board(alloc: Global, script: &Script) -> Result<Board, NoMemory>
     ensures fresh { IfOk result (λ board. board ≡ record {
         setup = fitted (said_of script.now) rom_image (Some disk_image); entries = []; spare = 0 }) }
 {
+    law_made_script();
     let rom = make_rom(alloc)?;
     let disk = make_disk(alloc)?;
     match open(alloc, script, rom, Some(disk)) {

@@ -3,7 +3,7 @@
 ghost use Rattle.std.specs.Prelude.{◌≡◌, ◌≢◌, ◌≤◌, [], List, Some, length, option_map, is_some, IfOk, IfErr, OnOk};
 ghost use Rattle.board_spec.specs.Setup.{IsRomSize, IsDisk, IsCardList};
 ghost use Rattle.script_spec.specs.ScriptRange.{IsInRangeScript};
-ghost use Rattle.script_text.specs.Reading.{said_of};
+ghost use Rattle.script_text.specs.Script.{said_of};
 ghost use Rattle.board_run.specs.declared.status.Which.{Which};
 ghost use Rattle.board_run.specs.declared.status.Status.{Status};
 ghost use Rattle.board_run.specs.Words.{Command, script_name};

@@ -7,7 +7,7 @@ ghost use Rattle.board_spec.specs.MapText.{map_text};
 ghost use Rattle.map_builder.specs.Map.{range_of};
 ghost use Rattle.script_spec.specs.ScriptRange.{IsInRangeScript, statements_in};
 ghost use Rattle.script_spec.specs.Checks.{DiffersAt};
-ghost use Rattle.script_text.specs.Reading.{said_of};
+ghost use Rattle.script_text.specs.Script.{said_of};
 ghost use Rattle.log_check.specs.declared.fault.CheckFault.{CheckFault};
 ghost use Rattle.log_check.specs.Checked.{IsCheckedLog};
 ghost use Rattle.board_run.specs.Texts.{IsReplayText, IsMapText, IsLegalText};
@@ -15,24 +15,11 @@ ghost use Rattle.board_run.specs.Texts.{IsReplayText, IsMapText, IsLegalText};
 use board_base::NoMemory;
 use board_core::Board;
 use board_script::{push_decimal, push_log, push_range, push_words};
-use board_spec::Statement;
 use board_spec::laws::law_lock;
-use log_check::CheckFault;
+use log_check::{CheckFault, statement_count};
 use map_builder::Range;
 use script_text::Script;
 use std::alloc::Global;
-
-/// How many statements phases have, where these are at most 250,000.
-fn count_of(phases: &[Vec<Statement>]) -> u32
-    requires few { length (flat_map (λ phase. phase.items) phases.now) ≤ 250_000 }
-    ensures count { result ≡ length (flat_map (λ phase. phase.items) phases.now) }
-{
-    let mut count = 0;
-    for phase in phases {
-        count += phase.len() as u32;
-    }
-    count
-}
 
 /// Does the statements of a script in the order of its file, on a fresh board with its cards. One thread does it, and
 /// nobody is waited for. Where there is no memory the board is as before.
@@ -44,7 +31,7 @@ pub fn replay_script(board: &mut Board, script: &Script) -> Result<(), NoMemory>
     ensures setup { board.new.setup ≡ board.old.setup }
     ensures err { OnErr result (board.new ≡ board.old) }
 {
-    board.reserve(count_of(&script.phases))?;
+    board.reserve(statement_count(&script.phases))?;
     for phase in &script.phases {
         board.steps(phase);
     }

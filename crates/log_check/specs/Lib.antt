@@ -1,4 +1,2 @@
 pub mod Phases
-pub mod Fronts
 pub mod Checked
-pub mod Walks

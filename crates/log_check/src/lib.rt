@@ -4,13 +4,9 @@
 
 mod check;
 mod fault;
-mod field;
-mod front;
-mod line;
 mod range;
 
 pub use check::check_log;
+pub use range::statement_count;
 pub use fault::CheckFault;
 
-#[cfg(test)]
-mod tests;

@@ -35,7 +35,7 @@ pub(crate) fn phases_fit(phases: &[Vec<Statement>])
 }
 
 /// How many statements the phases have.
-pub(crate) fn statement_count(phases: &[Vec<Statement>]) -> u32
+pub fn statement_count(phases: &[Vec<Statement>]) -> u32
     requires few { length (in_file_order (listed phases.now)) ≤ 250_000 }
     ensures count { result ≡ length (in_file_order (listed phases.now)) }
 {

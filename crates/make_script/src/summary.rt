@@ -88,7 +88,7 @@ pub fn push_summary(
     text: &mut String,
     entries: &[Entry],
     map_writes: u32,
-    ranges: u32,
+    ranges: usize,
 ) -> Result<(), NoMemory>
     ensures appended { (setup : Setup) → map_writes ≡ version_of setup (reverse entries.now)
         → OnOk result (Adds text.old text.new (summary_of setup (reverse entries.now) ranges)) }

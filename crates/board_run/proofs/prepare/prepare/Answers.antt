@@ -5,7 +5,7 @@ use Rattle.board_run.specs.Words.{Command, script_name}
 use Rattle.board_run.specs.Asked.{Files}
 use Rattle.board_run.specs.Outcomes.{ShelfCall}
 use Rattle.board_run.specs.Statuses.{IsRefused, status_of_script_fault, status_of_board_fault}
-use Rattle.script_text.specs.Reading.{said_of}
+use Rattle.script_text.specs.Script.{said_of}
 use Rattle.board_run.proofs.Refusals.{refuses, not_taken, says_script, rom_size, comes_to_script, script_refused, comes_to_rom, disk_refused, board_refused}
 use Rattle.board_run.proofs.prepare.prepare.Goals as goal
 

@@ -1,4 +1,4 @@
-use Rattle.script_text.specs.Reading.{said_of}
+use Rattle.script_text.specs.Script.{said_of}
 use Rattle.board_run.proofs.Statements.{in_range}
 use Rattle.board_run.proofs.replay.check_log.Goals as goal
 
