@@ -1,13 +1,15 @@
 //! The text of each command, from its files.
 
-ghost use Rattle.std.specs.Prelude.{◌≡◌, ◌≢◌, ◌≤◌, string_bytes, IfOk, IfErr, OnOk};
+ghost use Rattle.std.specs.Prelude.{◌≡◌, ◌≢◌, ◌≤◌, ℕ, List, [], string_bytes, IfOk, IfErr, OnOk};
+ghost use Rattle.script_spec.specs.ScriptRange.{IsInRangeScript};
+ghost use Rattle.script_text.specs.Script.{said_of};
 ghost use Rattle.board_run.specs.declared.status.Which.{Which};
 ghost use Rattle.board_run.specs.declared.status.Status.{Status};
 ghost use Rattle.board_run.specs.Words.{Replay, Map, Check};
 ghost use Rattle.board_run.specs.Commands.{said_by, IsCalled};
-ghost use Rattle.board_run.specs.Texts.{IsMakeText, IsCommandText};
+ghost use Rattle.board_run.specs.Texts.{IsCommandText};
 ghost use Rattle.board_run.specs.Outcomes.{OfFiles};
-ghost use Rattle.board_run.specs.Statuses.{IsRefused};
+ghost use Rattle.board_run.specs.Statuses.{IsRefused, IsReady};
 
 use crate::fetch::fetch;
 use crate::prepare::{Prepared, prepare};
@@ -46,6 +48,32 @@ fn map<S: Shelf>(alloc: Global, shelf: &mut S, name: &str) -> Result<String, Sta
     Ok(text)
 }
 
+/// How many entries a log has, which is that of a legal and complete history of a script that was read.
+fn verdict<S: Shelf>(
+    alloc: Global,
+    shelf: &mut S,
+    prepared: &mut Prepared,
+    log: &str,
+) -> Result<String, Status>
+    requires in_range { IsInRangeScript (said_of prepared.old.script) }
+    requires cards { prepared.old.board.setup.cards ≡ (said_of prepared.old.script).cards }
+    requires fresh { prepared.old.board.entries ≡ [] }
+    ensures text { (name : List ℕ)
+        → OfFiles (S.files shelf.old) (λ files. IsReady files name (said_of prepared.old.script) prepared.old.board.setup)
+        → IfOk result (λ text. OfFiles (S.files shelf.old) (λ files. IsCommandText (Check name log.now) files (string_bytes text))) }
+    ensures refused { (name : List ℕ)
+        → OfFiles (S.files shelf.old) (λ files. IsReady files name (said_of prepared.old.script) prepared.old.board.setup)
+        → IfErr result (IsRefused (Check name log.now)
+          (record { files = S.files shelf.old; faults_before = S.faults shelf.old; faults_now = S.faults shelf.new; failed_name = S.failed_name shelf.new })) }
+    ensures quiet { OnOk result (S.faults shelf.new ≡ S.faults shelf.old) }
+    ensures no_fault { IfErr result (λ status. ((of : Which) → status ≢ Status.ReadFault of) → S.faults shelf.new ≡ S.faults shelf.old) }
+    ensures same_files { S.files shelf.new ≡ S.files shelf.old }
+{
+    let bytes = fetch(alloc, shelf, Which::Log, log)?;
+    let text = verdict_on_log(alloc, &mut prepared.board, &prepared.script, &bytes)?;
+    Ok(text)
+}
+
 /// How many entries a log has, which is that of a legal and complete history of a script.
 fn check<S: Shelf>(alloc: Global, shelf: &mut S, name: &str, log: &str) -> Result<String, Status>
     ensures text { IfOk result (λ text. OfFiles (S.files shelf.old) (λ files. IsCommandText (Check name.now log.now) files (string_bytes text))) }
@@ -56,9 +84,7 @@ fn check<S: Shelf>(alloc: Global, shelf: &mut S, name: &str, log: &str) -> Resul
     ensures same_files { S.files shelf.new ≡ S.files shelf.old }
 {
     let mut prepared = prepare(alloc, shelf, name)?;
-    let bytes = fetch(alloc, shelf, Which::Log, log)?;
-    let text = verdict_on_log(alloc, &mut prepared.board, &prepared.script, &bytes)?;
-    Ok(text)
+    verdict(alloc, shelf, &mut prepared, log)
 }
 
 /// The text of a command.

@@ -1,35 +1,7 @@
-use Rattle.std.proofs.Common.{rules, refl, ◌∙◌, ap, Err}
-use Rattle.script_text.specs.Script.{said_of}
-use Rattle.board_run.specs.Statuses.{status_of_check_fault}
-use Rattle.board_run.proofs.Refusals.{refuses_with, hides_none, not_taken, comes_to_log, check_refused, legal_text}
+use Rattle.std.proofs.Common.{rules, refl}
+use Rattle.board_run.proofs.Refusals.{refuses_with}
 use Rattle.board_run.proofs.texts.check.Goals as goal
 
 pub returns-in_err-prepared-clause-refused : goal.returns-in_err-prepared-clause-refused
 returns-in_err-prepared-clause-refused g c =
     refuses_with _ _ _ c.in_err-prepared.field-0.0 (search rules) (c.in_err-prepared.ensures.refused _ refl)
-
-pub returns-in_err-bytes-clause-refused : goal.returns-in_err-bytes-clause-refused
-returns-in_err-bytes-clause-refused g c =
-    refuses_with _ _ _ c.in_err-bytes.field-0.0 (search rules)
-    (not_taken _ _ _ _ _ _ _ _ _ c.in_ok-prepared.ensures.quiet
-    (comes_to_log _ _ _ (said_of c.in_ok-prepared.prepared.script) _ c.in_ok-prepared.ensures.ready _ _ _)
-    (rw c.prepare.ensures.same_files at c.in_err-bytes.ensures.refused))
-
-pub returns-in_err-bytes-clause-no_fault : goal.returns-in_err-bytes-clause-no_fault
-returns-in_err-bytes-clause-no_fault g c =
-    hides_none _ _ _ c.in_err-bytes.field-0.0 (search rules)
-    (λ other. c.in_err-bytes.ensures.no_fault other ∙ c.in_ok-prepared.ensures.quiet)
-
-pub returns-in_err-text-clause-refused : goal.returns-in_err-text-clause-refused
-returns-in_err-text-clause-refused g c =
-    refuses_with _ _ _ (status_of_check_fault c.in_err-text.field-0.0) (search rules)
-    (check_refused _ _ _ (said_of c.in_ok-prepared.prepared.script) _ c.in_ok-prepared.ensures.ready _ _
-    (rw c.prepare.ensures.same_files at c.in_ok-bytes.ensures.whole) (search rules) c.deref.ensures.value _
-    c.in_err-text.field-0.0 refl
-    (λ line is. c.verdict_on_log.ensures.differs line (c.in_err-text.was ∙ ap Err is)))
-
-pub returns-clause-text : goal.returns-clause-text
-returns-clause-text g c =
-    legal_text _ _ _ (said_of c.in_ok-prepared.prepared.script) _ c.in_ok-prepared.ensures.ready _ _
-    (rw c.prepare.ensures.same_files at c.in_ok-bytes.ensures.whole) (search rules) c.deref.ensures.value _
-    c.in_ok-text.ensures.text
