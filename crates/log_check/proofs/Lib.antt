@@ -8,3 +8,4 @@ pub mod Steps
 pub mod PhaseLists
 pub mod Fronts
 pub mod LineSteps
+pub mod LogChecks

@@ -173,9 +173,9 @@ past_line setup place phase left after history entry rest printed line (Err faul
       ∙ ap (λ (t : List ℕ). t ++ behind) (sym is)))
     (inr (entry, refl)) entries at_place)
 
--- a fault of memory is handed on
-pub without_memory :
-    {T : Type 0} (result : Result T CheckFault) (P : T → Type 0) (Q : CheckFault → Type 0) →
-    IsErrAnd result (λ fault. fault ≡ NoMemory) → Q NoMemory → MatchResult result P Q
-without_memory (Ok value) P Q is holds = absurd is
-without_memory (Err fault) P Q is holds = subst Q (sym is) holds
+-- a fault is handed on
+pub handed_on :
+    {T : Type 0} (result : Result T CheckFault) (fault : CheckFault) (P : T → Type 0) (Q : CheckFault → Type 0) →
+    IsErrAnd result (λ given. given ≡ fault) → Q fault → MatchResult result P Q
+handed_on (Ok value) fault P Q is holds = absurd is
+handed_on (Err given) fault P Q is holds = subst Q (sym is) holds

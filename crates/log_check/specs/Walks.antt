@@ -8,9 +8,10 @@ use Rattle.board_spec.specs.Legal.{IsNext, IsLegal}
 use Rattle.board_spec.specs.Orders.{statements_of, events_by, HasPhases, IsCompleteFor, IsBegunFor}
 use Rattle.board_spec.specs.Text.{line_feed}
 use Rattle.board_spec.specs.LogText.{line_text, log_text}
+use Rattle.script_spec.specs.Checks.{DiffersAt}
 use Rattle.log_check.specs.declared.fault.CheckFault.{CheckFault}
 use Rattle.log_check.specs.declared.fault.CheckFault.TheVariants.{Differs, NoMemory}
-use Rattle.log_check.specs.Checked.{IsAtLine}
+use Rattle.log_check.specs.Checked.{IsAtLine, StandsAfter}
 
 -- a place in a walk over bytes: the phases that are done, those after the one that is open, and how many statements of
 -- the open one are done
@@ -59,3 +60,14 @@ pub record Stopped (setup : Setup) (version : ℕ) (phases : List (List Statemen
     (entries : List Entry) (fault : CheckFault) : Type 0 where
   pub by : StoppedBy setup version phases bytes entries fault
   pub begun : IsBegunFor phases entries
+
+abbrev pub Refused : Setup → (version : ℕ) → List (List Statement) → (bytes : List ℕ) → CheckFault → Type 0
+Refused setup version phases bytes (Differs line) = DiffersAt setup version phases bytes line
+Refused setup version phases bytes NoMemory = Unit {0}
+
+-- a check was not passed, by a fault, and these entries stand
+pub record Failed (setup : Setup) (version : ℕ) (phases : List (List Statement)) (bytes : List ℕ)
+    (entries : List Entry) (fault : CheckFault) : Type 0 where
+  pub refused : Refused setup version phases bytes fault
+  pub begun : IsBegunFor phases entries
+  pub stands : StandsAfter version bytes entries fault

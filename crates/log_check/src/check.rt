@@ -12,7 +12,7 @@ ghost use Rattle.log_check.specs.declared.fault.CheckFault.{CheckFault};
 ghost use Rattle.log_check.specs.Phases.{IsTyped, listed};
 ghost use Rattle.log_check.specs.Fronts.{left_of};
 ghost use Rattle.log_check.specs.Checked.{IsCheckedLog, StandsAfter};
-ghost use Rattle.log_check.specs.Walks.{Place, IsWithin, IsPast, Stopped};
+ghost use Rattle.log_check.specs.Walks.{Place, IsWithin, IsPast, Stopped, Failed};
 
 use crate::fault::CheckFault;
 use crate::field::processor;
@@ -77,11 +77,11 @@ fn check_phase<'a>(
             board.new.entries fault) }
 {
     let mut front = Front::new(phase);
-    let mut rest = rest;
+    let mut left = rest;
     for _ in 0..phase.len() {
-        rest = check_line(board, text, &mut front, rest)?;
+        left = check_line(board, text, &mut front, left)?;
     }
-    Ok(rest)
+    Ok(left)
 }
 
 /// Goes past the lines of all phases.
@@ -102,11 +102,41 @@ fn check_phases<'a>(
             × (bytes ≡ log_text version board.new.entries ++ after.now))
           (λ fault. Stopped board.old.setup version (listed phases.now) bytes board.new.entries fault) }
 {
-    let mut rest = rest;
+    let mut left = rest;
     for phase in phases {
-        rest = check_phase(board, text, phase, rest)?;
+        left = check_phase(board, text, phase, left)?;
     }
-    Ok(rest)
+    Ok(left)
+}
+
+/// Goes past the heading and all lines, to the end. The board is fresh, with room for the statements.
+fn check_lines(
+    alloc: Global,
+    board: &mut Board,
+    version: u8,
+    phases: &[Vec<Statement>],
+    bytes: &[u8],
+) -> Result<u32, CheckFault>
+    requires fresh { board.old.entries ≡ [] }
+    requires spare { length (in_file_order (listed phases.now)) ≤ board.old.spare }
+    requires in_range { AreInRange board.old.setup (in_file_order (listed phases.now)) }
+    requires typed { All IsTyped (in_file_order (listed phases.now)) }
+    ensures setup { board.new.setup ≡ board.old.setup }
+    ensures checked { MatchResult result
+        (λ count. IsCheckedLog board.old.setup version (listed phases.now) bytes.now board.new.entries count)
+        (λ fault. Failed board.old.setup version (listed phases.now) bytes.now board.new.entries fault) }
+{
+    law_one_replay();
+    let mut text = String::new(alloc);
+    print_heading(&mut text, version)?;
+    let rest = go_past(&text, bytes, 1)?;
+    let rest = check_phases(board, &mut text, phases, rest)?;
+    let count = board.history().len();
+    if rest.is_empty() {
+        Ok(count)
+    } else {
+        Err(CheckFault::Differs { line: count + 2 })
+    }
 }
 
 /// Whether bytes are the log, in a version, of a legal and complete history of the phases of a script: the number of its
@@ -136,14 +166,7 @@ pub fn check_log(
 {
     phases_fit(phases);
     board.reserve(statement_count(phases))?;
-    let mut text = String::new(alloc);
-    print_heading(&mut text, version)?;
-    let rest = go_past(&text, bytes, 1)?;
-    let rest = check_phases(board, &mut text, phases, rest)?;
-    let count = board.history().len();
-    if rest.is_empty() {
-        Ok(count)
-    } else {
-        Err(CheckFault::Differs { line: count + 2 })
-    }
+    let count = check_lines(alloc, board, version, phases, bytes)?;
+    board.history();
+    Ok(count)
 }

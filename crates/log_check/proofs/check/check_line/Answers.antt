@@ -7,7 +7,7 @@ use Rattle.board_spec.specs.InRange.{IsInRange}
 use Rattle.board_spec.specs.LogText.{line_text}
 use Rattle.board_core.specs.Kept.{next_entry}
 use Rattle.log_check.specs.Fronts.{left_of}
-use Rattle.log_check.proofs.LineSteps.{stops_unnamed, stops_idle, stops_without_memory, past_line, without_memory, phases_of, next_place}
+use Rattle.log_check.proofs.LineSteps.{stops_unnamed, stops_idle, stops_without_memory, past_line, handed_on, phases_of, next_place}
 use Rattle.log_check.specs.declared.fault.CheckFault.TheVariants.{NoMemory}
 use Rattle.log_check.specs.Walks.{IsWithin, IsPast, Stopped}
 use Rattle.log_check.proofs.check.check_line.Goals as goal
@@ -72,7 +72,7 @@ returns-in_err-print_newest-clause-walked c = λ place within past short.
           ≡ c.in-Some-next.statement.event ∷ left_of c.next.new.self actor) (sym taken.0) taken.1;
       others = λ other apart. c.next.ensures.others other (λ same. apart (same ∙ sym taken.0));
     }) in
-    without_memory c.from_residual.result _ _ c.from_residual.ensures.1
+    handed_on c.from_residual.result NoMemory _ _ c.from_residual.ensures.1
     (subst (λ (entries : List Entry). Stopped c.args.board.now.setup place.version
     (phases_of place c.args.front.now.phase.now) place.bytes entries NoMemory)
     (sym (ap (λ board. board.entries) c.step.ensures.entry)) stopped)
