@@ -50,9 +50,9 @@ stopped :
     (setup : Setup) (place : Place) (phase : List Statement) (left : ℕ → List Event) (history entries : List Entry)
     (rest : List ℕ) (line : ℕ) → Walk setup place phase left history rest →
     GoesOnWithNone setup (phases_of place phase) history rest → IsAtMostNext history entries →
-    IsBegunFor (phases_of place phase) entries → line ≡ length history + 2 →
+    IsLegal setup entries → IsBegunFor (phases_of place phase) entries → line ≡ length history + 2 →
     Stopped setup place.version (phases_of place phase) place.bytes entries (Differs line)
-stopped setup place phase left history entries rest line walk none stepped after is = record {
+stopped setup place phase left history entries rest line walk none stepped legal after is = record {
   by = record {
     at_line = at_line place history entries rest line walk.past stepped is;
     legal = walk.legal;
@@ -60,6 +60,7 @@ stopped setup place phase left history entries rest line walk none stepped after
     none = none;
     unfinished = λ nothing. within_unfinished place phase left history walk.within walk.short;
   };
+  legal = legal;
   begun = after;
 }
 
@@ -75,7 +76,7 @@ stops_unnamed setup place phase left history rest line walk unnamed is =
     (λ entry after next more text.
       unnamed (length history + 1) entry (line_feed ∷ after)
       (small_actor place phase left history entry walk.within walk.short walk.typed more) text)
-    (inl refl) (begun setup place phase left history rest walk) is
+    (inl refl) walk.legal (begun setup place phase left history rest walk) is
 
 -- the processor has nothing left
 pub stops_idle :
@@ -92,7 +93,7 @@ stops_idle setup place phase left history rest line actor walk named nothing is 
       (named (length history + 1) entry (line_feed ∷ after)
       (small_actor place phase left history entry walk.within walk.short walk.typed more) text) nothing)
       more)
-    (inl refl) (begun setup place phase left history rest walk) is
+    (inl refl) walk.legal (begun setup place phase left history rest walk) is
 
 -- ---- with the entry of the processor's next statement
 
@@ -130,6 +131,7 @@ pub stops_without_memory :
 stops_without_memory setup place phase left after history entry rest walk made = record {
   by = (length history + 2, at_line place history (entry ∷ history) rest (length history + 2) walk.past
       (inr (entry, refl)) refl);
+  legal = (made.next, walk.legal);
   begun = made_begun setup place phase left after history entry rest walk made;
 }
 
@@ -171,7 +173,7 @@ past_line setup place phase left after history entry rest printed line (Err faul
       ∙ ap (λ (e : Entry). line_text (length history + 1) e ++ line_feed ∷ behind) (sym equal)
       ∙ sym (append_assoc text (line_feed ∷ []) behind)
       ∙ ap (λ (t : List ℕ). t ++ behind) (sym is)))
-    (inr (entry, refl)) entries at_place)
+    (inr (entry, refl)) (made.next, walk.legal) entries at_place)
 
 -- a fault is handed on
 pub handed_on :

@@ -1,6 +1,7 @@
 -- A whole check: passed, or where it fails.
 use Rattle.std.proofs.Common.{ℕ, ◌≡◌, ◌≢◌, ◌+◌, ◌<◌, ◌≤◌, ◌⊎◌, List, [], ◌∷◌, ◌++◌, length, All, refl, sym, ap, ◌∙◌, subst, inl, inr, append-nil, arith}
-use Rattle.std.specs.Prelude.{Result, Ok, Err, MatchResult, IfOk, IfErr}
+use Rattle.std.proofs.lemmas.Bool.{eq-eqb, eqb-true, true≢false}
+use Rattle.std.specs.Prelude.{◌==◌, true, false, Result, Ok, Err, MatchResult, IfOk, IfErr}
 use Rattle.std.proofs.lemmas.List.Elements.{All-nil, All-cons, All-head, All-tail}
 use Rattle.board_spec.specs.declared.event.Event.{Event}
 use Rattle.board_spec.specs.declared.event.Event.TheVariants.{Memory, Wide, Port, Look as LookAt, Ack, Pulses, Time, Wire, Line, BadSector}
@@ -57,15 +58,19 @@ known setup phases one typed range =
 
 -- ---- before the first line of an entry
 
-nothing_begun : (phases : List (List Statement)) (entries : List Entry) → entries ≡ [] → IsBegunFor phases entries
+pub nothing_begun : (phases : List (List Statement)) (entries : List Entry) → entries ≡ [] → IsBegunFor phases entries
 nothing_begun phases entries fresh =
     subst (λ (history : List Entry). IsBegunFor phases history) (sym fresh) (none_so_far phases)
+
+nothing_legal : (setup : Setup) (entries : List Entry) → entries ≡ [] → IsLegal setup entries
+nothing_legal setup entries fresh = subst (IsLegal setup) (sym fresh) tt
 
 pub failed_first :
     (setup : Setup) (version : ℕ) (phases : List (List Statement)) (bytes : List ℕ) (entries : List Entry) →
     entries ≡ [] → Failed setup version phases bytes entries NoMemory
 failed_first setup version phases bytes entries fresh = record {
   refused = tt;
+  legal = nothing_legal setup entries fresh;
   begun = nothing_begun phases entries fresh;
   stands = (1, inl (refl, fresh));
 }
@@ -76,6 +81,7 @@ pub failed_heading :
     Failed setup version phases bytes entries (Differs 1)
 failed_heading setup version phases bytes entries known fresh none = record {
   refused = differs_at_once setup version phases bytes known none;
+  legal = nothing_legal setup entries fresh;
   begun = nothing_begun phases entries fresh;
   stands = inl (refl, fresh);
 }
@@ -88,16 +94,26 @@ pub failed_within :
     Failed setup version phases bytes entries fault
 failed_within setup version phases bytes entries (Differs line) known stopped = record {
   refused = differs setup version phases bytes entries line known stopped.by;
+  legal = stopped.legal;
   begun = stopped.begun;
   stands = inr stopped.by.at_line;
 }
 failed_within setup version phases bytes entries NoMemory known stopped = record {
   refused = tt;
+  legal = stopped.legal;
   begun = stopped.begun;
   stands = (stopped.by.0, inr stopped.by.1);
 }
 
 -- ---- behind all lines
+
+pub nothing_left : (rest : List ℕ) → (length rest == 0) ≡ true → rest ≡ []
+nothing_left [] empty = refl
+nothing_left (c ∷ cs) empty = let e : length (c ∷ cs) ≡ 0 = eqb-true (length (c ∷ cs)) 0 empty in absurd (omega arith)
+
+pub something_left : (rest : List ℕ) → (length rest == 0) ≡ false → rest ≢ []
+something_left rest some nothing =
+    true≢false (sym (eq-eqb (length rest) 0 (ap length nothing)) ∙ some)
 
 pub passed :
     (setup : Setup) (version : ℕ) (phases : List (List Statement)) (bytes : List ℕ) (history : List Entry)
@@ -141,6 +157,7 @@ failed_end setup version phases bytes history rest count known legal complete te
             omega arith;
         unfinished = λ nothing whole. some nothing;
       };
+      legal = legal;
       begun = begun;
     })
 
@@ -154,6 +171,31 @@ pub begun_after :
 begun_after setup version phases bytes entries (Ok count) checked =
     complete_is_begun phases entries (subst (IsCompleteFor phases) checked.same checked.log.complete)
 begun_after setup version phases bytes entries (Err fault) checked = checked.begun
+
+pub legal_after :
+    (setup : Setup) (version : ℕ) (phases : List (List Statement)) (bytes : List ℕ) (entries : List Entry)
+    (result : Result ℕ CheckFault) →
+    MatchResult result (IsCheckedLog setup version phases bytes entries) (Failed setup version phases bytes entries) →
+    IsLegal setup entries
+legal_after setup version phases bytes entries (Ok count) checked =
+    subst (IsLegal setup) checked.same checked.log.legal
+legal_after setup version phases bytes entries (Err fault) checked = checked.legal
+
+pub stands_after :
+    (setup : Setup) (version : ℕ) (phases : List (List Statement)) (bytes : List ℕ) (entries : List Entry)
+    (result : Result ℕ CheckFault) →
+    MatchResult result (IsCheckedLog setup version phases bytes entries) (Failed setup version phases bytes entries) →
+    IfErr result (StandsAfter version bytes entries)
+stands_after setup version phases bytes entries (Ok count) checked = tt
+stands_after setup version phases bytes entries (Err fault) checked = checked.stands
+
+pub log_after :
+    (setup : Setup) (version : ℕ) (phases : List (List Statement)) (bytes : List ℕ) (entries : List Entry)
+    (result : Result ℕ CheckFault) →
+    MatchResult result (IsCheckedLog setup version phases bytes entries) (Failed setup version phases bytes entries) →
+    IfOk result (IsCheckedLog setup version phases bytes entries)
+log_after setup version phases bytes entries (Ok count) checked = checked
+log_after setup version phases bytes entries (Err fault) checked = tt
 
 pub exactly :
     (setup : Setup) (version : ℕ) (phases : List (List Statement)) (bytes : List ℕ) (entries : List Entry)

@@ -59,6 +59,7 @@ StoppedBy setup version phases bytes entries NoMemory = (line : ℕ) × IsAtLine
 pub record Stopped (setup : Setup) (version : ℕ) (phases : List (List Statement)) (bytes : List ℕ)
     (entries : List Entry) (fault : CheckFault) : Type 0 where
   pub by : StoppedBy setup version phases bytes entries fault
+  pub legal : IsLegal setup entries
   pub begun : IsBegunFor phases entries
 
 abbrev pub Refused : Setup → (version : ℕ) → List (List Statement) → (bytes : List ℕ) → CheckFault → Type 0
@@ -69,5 +70,6 @@ Refused setup version phases bytes NoMemory = Unit {0}
 pub record Failed (setup : Setup) (version : ℕ) (phases : List (List Statement)) (bytes : List ℕ)
     (entries : List Entry) (fault : CheckFault) : Type 0 where
   pub refused : Refused setup version phases bytes fault
+  pub legal : IsLegal setup entries
   pub begun : IsBegunFor phases entries
   pub stands : StandsAfter version bytes entries fault

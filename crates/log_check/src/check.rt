@@ -166,7 +166,5 @@ pub fn check_log(
 {
     phases_fit(phases);
     board.reserve(statement_count(phases))?;
-    let count = check_lines(alloc, board, version, phases, bytes)?;
-    board.history();
-    Ok(count)
+    check_lines(alloc, board, version, phases, bytes)
 }
