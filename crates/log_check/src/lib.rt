@@ -4,9 +4,14 @@
 
 mod check;
 mod fault;
+mod field;
+mod front;
+mod line;
 mod range;
 
 pub use check::check_log;
-pub use range::statement_count;
 pub use fault::CheckFault;
+pub use range::statement_count;
 
+#[cfg(test)]
+mod tests;
