@@ -3,3 +3,4 @@ pub mod SentLemmas
 pub mod MapLemmas
 pub mod Statements
 pub mod Refusals
+pub mod MadeScripts

@@ -46,7 +46,8 @@ fn made_board(alloc: Global, script: &Script) -> Result<Board, NoMemory>
     match open(alloc, script, rom, Some(disk)) {
         Ok(board) => Ok(board),
         Err(BoardOpen::NoMemory) => Err(NoMemory),
-        Err(_) => unreachable!(),
+        Err(BoardOpen::BadRom) => unreachable!(),
+        Err(BoardOpen::BadDisk) => unreachable!(),
     }
 }
 
