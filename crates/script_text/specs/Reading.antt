@@ -1,5 +1,5 @@
 -- What is kept of the lines so far, held against the items that they say.
-use Rattle.std.specs.Prelude.{ℕ, ◌≡◌, ◌≤◌, Bool, true, false, not, nat_lt, Vec, List, [], ◌∷◌, length, map, filter, reverse, sum_by, Option, Some, None, Result, Ok, Err}
+use Rattle.std.specs.Prelude.{ℕ, ◌≡◌, ◌≤◌, Bool, true, false, not, nat_lt, Vec, List, ◌∷◌, length, map, filter, reverse, sum_by, Option, Some, None, Result, Ok, Err}
 use Rattle.std.specs.Option.{option_map}
 use Rattle.std.specs.List.{list_any, find}
 use Rattle.std.specs.List.Sorted.{IsPermutation}
