@@ -1,9 +1,10 @@
 -- The least reason for an item, by what is kept of the lines before it.
-use Rattle.std.proofs.Common.{ℕ, ◌≡◌, ◌≢◌, ◌+◌, ◌<◌, ◌≤◌, Bool, true, false, not, ◌&&◌, ◌||◌, Option, Some, None, List, [], ◌∷◌, length, filter, flat_map, sum_by, refl, sym, ap, ◌∙◌, arith}
+use Rattle.std.proofs.Common.{ℕ, ◌≡◌, ◌+◌, ◌<◌, ◌≤◌, Bool, true, false, not, ◌&&◌, ◌||◌, Option, Some, None, Result, Ok, Err, List, [], ◌∷◌, length, filter, flat_map, sum_by, refl, sym, ap, ◌∙◌, arith}
 use Rattle.std.specs.Prelude.{◌==◌, nat_le, nat_lt, is_some, if◌then◌else◌, codes}
 use Rattle.std.specs.Option.{option_map}
+use Rattle.std.specs.Result.{IsErr, IsErrAnd}
 use Rattle.std.specs.List.{find, list_any}
-use Rattle.std.proofs.lemmas.Bool.{le-ltb, lt-ltb, leb-true, or_right, or_from, and_parts, cases_Bool}
+use Rattle.std.proofs.lemmas.Bool.{false≢true, le-ltb, lt-ltb, leb-true, or_right, and_parts}
 use Rattle.std.proofs.lemmas.Option.{none-some}
 use Rattle.std.proofs.lemmas.List.Sorted.{list_any-IsPermutation}
 use Rattle.std.proofs.lemmas.List.Sums.{sum_by-append, sum_by-cons}
@@ -17,9 +18,11 @@ use Rattle.script_spec.proofs.ReadingLaws.{same_some}
 use Rattle.script_lines.specs.declared.item.Asked.{Asked}
 use Rattle.script_lines.specs.declared.item.Asked.TheVariants.{Event as AnEvent, Moment as AMoment, Wire as WireAt, Line as LineAt}
 use Rattle.script_lines.specs.Items.{ask, asked_said, moment_said}
+use Rattle.script_text.specs.declared.fault.Reason.{Reason}
 use Rattle.script_text.specs.declared.reading.Reading.{Reading}
 use Rattle.script_text.specs.Valid.{in_case}
-use Rattle.script_text.specs.Reading.{is_below, IsReadingOf}
+use Rattle.script_text.specs.Faults.{number_of}
+use Rattle.script_text.specs.Reading.{is_below, IsReadingOf, Judges, Stands}
 
 -- ---- of several reasons the least
 
@@ -81,12 +84,20 @@ no_reason items item ea eb ec ed ee ef eg = first_is false false false true true
 
 -- ---- places
 
+neither : (phase statement : Bool) → not (phase || statement) ≡ true → (phase ≡ false) × (statement ≡ false)
+neither false false setup = (refl, refl)
+neither true statement setup = absurd (false≢true setup)
+neither false true setup = absurd (false≢true setup)
+
 -- a line of the setup stands before the first phase
 pub setup_place :
-    (items : List Item) (item : Item) (any : Bool) → is_setup item ≡ true → is_statement item ≡ false →
-    list_any is_phase items ≡ any → is_misplaced items item ≡ any
-setup_place items item true setup statement e = rw (e, setup) refl
-setup_place items item false setup statement e = rw (e, statement) refl
+    (items : List Item) (item : Item) (any : Bool) → is_setup item ≡ true → list_any is_phase items ≡ any →
+    is_misplaced items item ≡ any
+setup_place items item true setup e = rw (e, setup) refl
+setup_place items item false setup e = rw e (neither (is_phase item) (is_statement item) setup).1
+
+pub begun_setup : (items : List Item) (item : Item) → is_setup item ≡ true → (is_phase item && lacks_setup items) ≡ false
+begun_setup items item setup = rw (neither (is_phase item) (is_statement item) setup).0 refl
 
 -- a statement behind it
 pub statement_place :
@@ -314,10 +325,30 @@ limits_with items reading item is =
     ) refl
 
 pub setup_within : (items : List Item) (reading : Reading) (item : Item) → IsReadingOf items reading →
-    is_statement item ≡ false → is_phase item ≡ false → pulses_of item ≡ 0 →
+    is_setup item ≡ true → pulses_of item ≡ 0 →
     memory_with item reading.memory ≤ 0x400_0000 → passes_limits (item ∷ items) ≡ false
-setup_within items reading item is statement phase pulses little =
+setup_within items reading item is setup pulses little =
+    let kind : (is_phase item ≡ false) × (is_statement item ≡ false) = neither (is_phase item) (is_statement item) setup in
     let few : pulses_of item + reading.pulses ≤ 100_000_000 = omega (arith, pulses, is.limits.pulses) in
     limits_with items reading item is
-    ∙ rw (statement, phase) (within reading.statements (length reading.phases.items) (pulses_of item + reading.pulses)
+    ∙ rw (kind.0, kind.1) (within reading.statements (length reading.phases.items) (pulses_of item + reading.pulses)
     (memory_with item reading.memory) is.limits.statements is.limits.phases few little)
+
+-- a reason that is handed on
+pub refused : {X : Type 0} (said : X → Item) (items : List Item) (item : Item) (result : Result X Reason) (least : Reason) →
+    IsErr result × IsErrAnd result (λ handed. handed ≡ least) → least_reason items item ≡ Some (number_of least) →
+    Judges said items item result
+refused said items item (Ok x) least e is = absurd (false≢true e.0)
+refused said items item (Err handed) least e is = is ∙ ap (λ (r : Reason). Some (number_of r)) (sym e.1)
+
+-- a line of the setup with a name is refused for no more reasons
+pub name_judged : (items : List Item) (reading : Reading) (item : Item) (result : Result (Unit {0}) Reason) →
+    IsReadingOf items reading → is_setup item ≡ true → is_in_range item ≡ true → is_placed item ≡ true →
+    is_there items item ≡ true → memory_with item reading.memory ≡ reading.memory → pulses_of item ≡ 0 →
+    Stands items item result → Judges (λ done. item) items item result
+name_judged items reading item (Ok done) is setup range placed there memory pulses stands = (
+  no_reason items item stands.0 stands.1 (begun_setup items item setup) range placed there
+      (setup_within items reading item is setup pulses (rw memory is.limits.memory)),
+  refl,
+)
+name_judged items reading item (Err reason) is setup range placed there memory pulses stands = stands

@@ -1,11 +1,11 @@
 -- What the lines of the setup add to what is kept.
-use Rattle.std.proofs.Common.{◌≡◌, ℕ, ◌+◌, ◌<◌, ◌≤◌, ◌≢◌, true, false, Some, List, [], ◌∷◌, Vec, Global, get_or, insert, sum_by, All, flat_map, refl, sym, ap, ◌∙◌, inl, inr, arith, one-add}
+use Rattle.std.proofs.Common.{◌≡◌, ℕ, ◌+◌, ◌<◌, ◌≤◌, ◌≢◌, true, false, Some, List, [], ◌∷◌, Vec, Global, get_or, insert, sum_by, All, refl, sym, ap, ◌∙◌, inl, inr, arith, one-add}
 use Rattle.std.specs.Prelude.{nat_lt, ◌==◌}
 use Rattle.std.specs.List.{list_any, position_or_len}
 use Rattle.std.specs.List.Sorted.{IsPermutation}
 use Rattle.std.proofs.lemmas.Bool.{true≢false, cases_Bool, or_parts, ltb-true, ltb-false, eqb-false}
 use Rattle.std.proofs.lemmas.List.Elements.{All-nil, All-cons, All-head, All-tail}
-use Rattle.std.proofs.lemmas.List.Sums.{sum_by-append, sum_by-cons}
+use Rattle.std.proofs.lemmas.List.Sums.{sum_by-cons}
 use Rattle.std.proofs.lemmas.List.Sorted.{All-permutation, IsPermutation-trans, IsPermutation-cons, IsPermutation-insert}
 use Rattle.std.proofs.Math.Bool.{or-false}
 use Rattle.board_spec.specs.Setup.{FittedCard, Rises, memory_size, memory_of_cards}

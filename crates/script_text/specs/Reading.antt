@@ -1,12 +1,12 @@
 -- What is kept of the lines so far, held against the items that they say.
-use Rattle.std.specs.Prelude.{ℕ, ◌≡◌, ◌≤◌, Bool, true, false, not, nat_lt, Vec, List, [], ◌∷◌, length, map, filter, reverse, sum_by, Option, Some, None, Result, Ok, Err}
+use Rattle.std.specs.Prelude.{ℕ, ◌≡◌, ◌≤◌, Bool, true, false, not, nat_lt, Vec, List, ◌∷◌, length, map, filter, reverse, sum_by, Option, Some, None, Result, Ok, Err}
 use Rattle.std.specs.Option.{option_map}
 use Rattle.std.specs.List.{list_any, find}
 use Rattle.std.specs.List.Sorted.{IsPermutation}
 use Rattle.board_spec.specs.declared.event.Statement.{Statement}
 use Rattle.board_spec.specs.Setup.{Rises, memory_of_cards}
 use Rattle.script_spec.specs.Grammar.{Item, SetCpus, SetMemory, SetRom, SetDisk}
-use Rattle.script_spec.specs.Reasons.{is_phase, is_statement, is_setup, is_cpus, is_memory, is_rom, is_disk, is_cpus_above, cards_of, has_setup, pulses_of, least_reason}
+use Rattle.script_spec.specs.Reasons.{is_phase, is_statement, is_setup, is_cpus, is_memory, is_rom, is_disk, is_cpus_above, cards_of, has_setup, pulses_of, is_misplaced, is_repeated, least_reason}
 use Rattle.script_spec.specs.ScriptText.{phase_items}
 use Rattle.script_text.specs.declared.fault.Reason.{Reason}
 use Rattle.script_text.specs.declared.reading.Reading.{Reading}
@@ -49,6 +49,11 @@ pub record IsReadingOf (items : List Item) (reading : Reading) : Type 0 where
 abbrev pub Judges : {X : Type 0} → (X → Item) → (items : List Item) → Item → Result X Reason → Type 0
 Judges said items item (Ok x) = (least_reason items item ≡ None) × (said x ≡ item)
 Judges said items item (Err reason) = least_reason items item ≡ Some (number_of reason)
+
+-- a line of the setup stands before the first phase and is the first of its kind, or is refused
+abbrev pub Stands : (items : List Item) → Item → Result (Unit {0}) Reason → Type 0
+Stands items item (Ok done) = (is_misplaced items item ≡ false) × (is_repeated items item ≡ false)
+Stands items item (Err reason) = least_reason items item ≡ Some (number_of reason)
 
 -- with an item that there is no reason to refuse, one value follows on another
 abbrev pub Takes : (old : Reading) → Item → (new : Reading) → Type 0

@@ -1,6 +1,5 @@
 -- What a script that was read says.
 use Rattle.std.specs.Prelude.{map}
-use Rattle.std.specs.Option.{option_map}
 use Rattle.script_spec.specs.ScriptText.{Script as Said}
 use Rattle.script_text.specs.declared.script.Script.{Script}
 

@@ -1,6 +1,5 @@
 -- What is taken of a line: an item with its numbers in range.
-use Rattle.std.specs.Prelude.{ℕ, ◌≤◌, Bool, if◌then◌else◌, Option, Some, None}
-use Rattle.board_spec.specs.declared.event.Statement.{Statement}
+use Rattle.std.specs.Prelude.{◌≤◌, Bool, if◌then◌else◌, Option, Some, None}
 use Rattle.board_spec.specs.Setup.{IsCard}
 use Rattle.script_spec.specs.Grammar.{Item, SetCpus, SetMemory, SetRom, SetDisk, FitCard, BeginPhase, Ask, IsName}
 use Rattle.script_spec.specs.Reasons.{pulses_of_event}

@@ -1,14 +1,14 @@
 //! Whether an item can stand behind those before it, and the least reason if not.
 
-ghost use Rattle.std.specs.Prelude.{◌≡◌, ◌≤◌, ◌<◌, ◌+◌, ◌&&◌, ◌||◌, nat_lt, is_some, ℕ, List, length, sum_by, IfOk, IsTrue};
+ghost use Rattle.std.specs.Prelude.{◌≡◌, ◌≤◌, ◌<◌, ◌+◌, ◌&&◌, ◌||◌, nat_lt, true, is_some, ℕ, List, length, sum_by, IfOk, IsTrue};
 ghost use Rattle.std.specs.List.{list_any};
 ghost use Rattle.board_spec.specs.Setup.{IsBase, IsCard, memory_size};
 ghost use Rattle.pci_bars.specs.Bases.{base_of};
 ghost use Rattle.script_spec.specs.Grammar.{Item as Said, SetCpus, SetMemory, SetRom, SetDisk, FitCard, BeginPhase, Ask, IsForm};
-ghost use Rattle.script_spec.specs.Reasons.{is_phase, has_card, is_card_there, pulses_of_event};
+ghost use Rattle.script_spec.specs.Reasons.{is_phase, is_setup, is_repeated, has_card, is_card_there, pulses_of_event};
 ghost use Rattle.script_lines.specs.Items.{card_said, asked_said, line_said};
 ghost use Rattle.script_text.specs.Valid.{item_said, IsValid};
-ghost use Rattle.script_text.specs.Reading.{is_below, IsReadingOf, IsWithinLimits, Judges};
+ghost use Rattle.script_text.specs.Reading.{is_below, IsReadingOf, IsWithinLimits, Judges, Stands};
 
 use crate::fault::Reason;
 use crate::reading::Reading;
@@ -106,60 +106,54 @@ impl Reading {
         }
     }
 
-    fn judge_cpus(&self, count: u32) -> Result<u8, Reason>
-        ensures judged { (items : List Said) → IsReadingOf items self.now → Judges SetCpus items (SetCpus count) result }
+    /// Refuses a line of the setup behind the first phase, or where one of its kind came before.
+    fn judge_setup(&self, came: bool) -> Result<(), Reason>
+        ensures judged { (items : List Said) (item : Said) → IsReadingOf items self.now → is_setup item ≡ true
+            → is_repeated items item ≡ came → Stands items item result }
     {
         if self.has_phase() {
             return Err(Reason::Misplaced);
         }
-        if self.cpus.is_some() {
+        if came {
             return Err(Reason::Repeated);
         }
-        if !is_within(1, MOST_CPUS, count) {
-            return Err(Reason::OutOfRange);
+        Ok(())
+    }
+
+    fn judge_cpus(&self, count: u32) -> Result<u8, Reason>
+        ensures judged { (items : List Said) → IsReadingOf items self.now → Judges SetCpus items (SetCpus count) result }
+    {
+        self.judge_setup(self.cpus.is_some())?;
+        if is_within(1, MOST_CPUS, count) {
+            Ok(count as u8)
+        } else {
+            Err(Reason::OutOfRange)
         }
-        Ok(count as u8)
     }
 
     fn judge_memory(&self, mib: u32) -> Result<u8, Reason>
         ensures judged { (items : List Said) → IsReadingOf items self.now → Judges SetMemory items (SetMemory mib) result }
     {
-        if self.has_phase() {
-            return Err(Reason::Misplaced);
+        self.judge_setup(self.mib.is_some())?;
+        if is_within(1, MOST_MIB, mib) {
+            Ok(mib as u8)
+        } else {
+            Err(Reason::OutOfRange)
         }
-        if self.mib.is_some() {
-            return Err(Reason::Repeated);
-        }
-        if !is_within(1, MOST_MIB, mib) {
-            return Err(Reason::OutOfRange);
-        }
-        Ok(mib as u8)
     }
 
     fn judge_rom(&self) -> Result<(), Reason>
         ensures judged { (items : List Said) (name : List ℕ) → IsReadingOf items self.now
             → Judges (λ done. SetRom name) items (SetRom name) result }
     {
-        if self.has_phase() {
-            return Err(Reason::Misplaced);
-        }
-        if self.rom.is_some() {
-            return Err(Reason::Repeated);
-        }
-        Ok(())
+        self.judge_setup(self.rom.is_some())
     }
 
     fn judge_disk(&self) -> Result<(), Reason>
         ensures judged { (items : List Said) (name : List ℕ) → IsReadingOf items self.now
             → Judges (λ done. SetDisk name) items (SetDisk name) result }
     {
-        if self.has_phase() {
-            return Err(Reason::Misplaced);
-        }
-        if self.disk.is_some() {
-            return Err(Reason::Repeated);
-        }
-        Ok(())
+        self.judge_setup(self.disk.is_some())
     }
 
     fn judge_card(&self, fields: &CardFields) -> Result<CardSpec, Reason>
@@ -169,12 +163,7 @@ impl Reading {
             → Judges FitCard items (FitCard (card_said fields.now)) result }
         ensures fits { IfOk result IsCard }
     {
-        if self.has_phase() {
-            return Err(Reason::Misplaced);
-        }
-        if self.has_card(fields.dev) {
-            return Err(Reason::Repeated);
-        }
+        self.judge_setup(self.has_card(fields.dev))?;
         let Some(card) = card_of(fields) else {
             return Err(Reason::OutOfRange);
         };

@@ -12,7 +12,7 @@ type Row<'a> = (&'a [u8], u32, u8);
 
 /// The line at which a text is refused, and the reason; 0, 0 where it is a script.
 fn refused_at(alloc: Global, text: &[u8]) -> Option<(u32, u8)> {
-    if text.len() > 100_000_000 {
+    if text.len() > 50_000_000 {
         return None;
     }
     match read_script(alloc, text) {

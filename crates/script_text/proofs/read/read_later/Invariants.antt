@@ -1,4 +1,4 @@
-use Rattle.std.proofs.Common.{◌≡◌, ℕ, ◌+◌, ◌≤◌, length}
+use Rattle.std.proofs.Common.{◌+◌, ◌≤◌, length}
 use Rattle.script_spec.specs.Lines.{lines_of}
 use Rattle.script_text.proofs.Runs.{IsRun}
 use Rattle.script_text.proofs.read.read_later.Given as goal

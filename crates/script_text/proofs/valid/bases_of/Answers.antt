@@ -1,6 +1,4 @@
-use Rattle.std.proofs.Common.{◌∙◌, Some, None, ap, sym, arith}
-use Rattle.std.specs.Option.{option_map}
-use Rattle.pci_bars.specs.Bases.{base_of}
+use Rattle.std.proofs.Common.{arith}
 use Rattle.script_text.proofs.BaseRuns.{base_read, base_added, base_refused}
 use Rattle.script_text.proofs.valid.bases_of.Goals as goal
 
