@@ -1,10 +1,14 @@
 -- The script that is made, and its images.
 use Rattle.std.proofs.Common.{◌≡◌, ℕ, zero, suc, ◌+◌, ◌*◌, ◌<◌, ◌≤◌, List, [], ◌∷◌, ◌++◌, length, refl, sym, ap, ◌∙◌, subst, length-append, arith}
-use Rattle.std.specs.Prelude.{Some}
-use Rattle.board_spec.specs.Setup.{IsRomSize, IsDisk, IsSetup}
+use Rattle.std.specs.Prelude.{Some, String, string_bytes, Result, Ok, Err, IfOk}
+use Rattle.std.specs.Global.{Global}
+use Rattle.board_spec.specs.declared.event.Entry.{Entry}
+use Rattle.board_spec.specs.Orders.{IsReplayOf}
+use Rattle.script_spec.specs.ScriptRange.{statements_in}
+use Rattle.board_spec.specs.Setup.{Setup, IsRomSize, IsDisk, IsSetup}
 use Rattle.board_spec.specs.Text.{line_feed}
 use Rattle.script_spec.specs.Lines.{text_of_lines}
-use Rattle.script_spec.specs.ScriptText.{IsScriptText, IsScriptBad}
+use Rattle.script_spec.specs.ScriptText.{Script as Said, IsScriptText}
 use Rattle.script_spec.specs.Laws.{NotBoth}
 use Rattle.script_text.specs.declared.fault.ScriptFault.{ScriptFault}
 use Rattle.script_text.specs.declared.fault.ScriptFault.TheVariants.{Bad}
@@ -14,6 +18,7 @@ use Rattle.make_script.specs.Images.{rom_image, disk_image}
 use Rattle.make_script.specs.MadeScript.{made_setup}
 use Rattle.board_core.specs.declared.setup.BoardOpen.{BoardOpen}
 use Rattle.board_core.specs.declared.setup.BoardOpen.TheVariants.{BadRom, BadDisk}
+use Rattle.board_run.specs.Texts.{HasSummary, IsMakeText, made_setup_of}
 use Rattle.board_run.specs.Statuses.{IsNotOpened}
 
 -- ---- how long the text is
@@ -87,3 +92,25 @@ pub disk_opens :
     (disk : List ℕ) (fault : BoardOpen) → IsSetup made_setup → disk ≡ disk_image → IsNotOpened (Some disk) fault → fault ≡ BadDisk → ⊥
 disk_opens disk fault fits same refused is =
     subst (IsNotOpened (Some disk)) is refused (subst (λ (bytes : List ℕ). IsDisk (Some bytes)) (sym same) fits.disk)
+
+-- ---- the summary
+
+pub made_text :
+    (rounds : ℕ) (script : Said) (setup : Setup) (history : List Entry) (text : List ℕ) → IsScriptText (make_text rounds) script →
+    setup ≡ made_setup_of script → IsReplayOf setup (statements_in script) history → HasSummary setup history text →
+    IsMakeText rounds text
+made_text rounds script setup history text says same replay summary = record {
+  script = script;
+  history = history;
+  says = says;
+  replay = subst (λ (setup' : Setup). IsReplayOf setup' (statements_in script) history) same replay;
+  summary = subst (λ (setup' : Setup). HasSummary setup' history text) same summary;
+}
+
+pub made_result :
+    {E : Type 0} (rounds : ℕ) (script : Said) (setup : Setup) (history : List Entry) (result : Result (String Global) E) →
+    IsScriptText (make_text rounds) script → setup ≡ made_setup_of script → IsReplayOf setup (statements_in script) history →
+    IfOk result (λ text. HasSummary setup history (string_bytes text)) → IfOk result (λ text. IsMakeText rounds (string_bytes text))
+made_result rounds script setup history (Ok text) says same replay summary =
+    made_text rounds script setup history (string_bytes text) says same replay summary
+made_result rounds script setup history (Err fault) says same replay summary = tt

@@ -41,6 +41,12 @@ abbrev pub status_of : {T : Type 0} → Result T Status → Status
 status_of (Ok value) = Done
 status_of (Err status) = status
 
+-- such a command ended early
+abbrev pub IsRefusal : Status → Type 0
+IsRefusal Done = ⊥
+IsRefusal Usage = ⊥
+IsRefusal _ = Unit {0}
+
 -- why a file of this name was not taken
 abbrev pub IsNotTaken : Which → (name : List ℕ) → ShelfCall → Status → Type 0
 IsNotTaken which name shelf (ReadFault other) =

@@ -1,10 +1,11 @@
 //! The commands, from their words to what is put.
 
-ghost use Rattle.std.specs.Prelude.{◌≡◌, ◌↔◌, Some, None};
+ghost use Rattle.std.specs.Prelude.{◌≡◌, ◌↔◌, Some, None, IfErr};
 ghost use Rattle.board_base.specs.Outside.{Rose};
+ghost use Rattle.board_run.specs.declared.status.Status.{Status};
 ghost use Rattle.board_run.specs.Words.{asked};
 ghost use Rattle.board_run.specs.Commands.{said_by, IsCalled};
-ghost use Rattle.board_run.specs.Statuses.{status_of};
+ghost use Rattle.board_run.specs.Statuses.{status_of, IsRefusal};
 ghost use Rattle.board_run.specs.Outcomes.{IsCaused, IsExact};
 
 use crate::output::put_all;
@@ -27,6 +28,7 @@ fn run_command<S: Shelf, K: Sink>(
     ensures caused { IsCaused (status_of result) (Some (said_by command.entry))
         (record { files = S.files shelf.old; faults_before = S.faults shelf.old; faults_now = S.faults shelf.new; failed_name = S.failed_name shelf.new })
         (record { faults_before = K.faults out.old; faults_now = K.faults out.new; taken_before = K.taken out.old; taken_now = K.taken out.new }) }
+    ensures only { IfErr result IsRefusal }
     ensures same_files { S.files shelf.new ≡ S.files shelf.old }
 {
     let text = command_text(alloc, command, shelf)?;
@@ -36,6 +38,7 @@ fn run_command<S: Shelf, K: Sink>(
 
 /// Does what the words ask for. Each status comes only where its cause holds.
 fn run_words<S: Shelf, K: Sink>(alloc: Global, words: &[String], shelf: &mut S, out: &mut K) -> Status
+    ensures usage { (result ≡ Status.Usage) ↔ (asked words.now ≡ None) }
     ensures caused { IsCaused result (asked words.now)
         (record { files = S.files shelf.old; faults_before = S.faults shelf.old; faults_now = S.faults shelf.new; failed_name = S.failed_name shelf.new })
         (record { faults_before = K.faults out.old; faults_now = K.faults out.new; taken_before = K.taken out.old; taken_now = K.taken out.new }) }

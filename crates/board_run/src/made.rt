@@ -1,13 +1,11 @@
 //! The command `make`: a script of many rounds, replayed and summed up.
 
-ghost use Rattle.std.specs.Prelude.{◌≡◌, ◌≤◌, [], Some, string_bytes, IfOk};
+ghost use Rattle.std.specs.Prelude.{◌≡◌, ◌≤◌, [], string_bytes, IfOk};
 ghost use Rattle.script_spec.specs.ScriptText.{IsScriptText};
 ghost use Rattle.script_spec.specs.ScriptRange.{IsInRangeScript};
 ghost use Rattle.script_text.specs.Script.{said_of};
 ghost use Rattle.make_script.specs.MakeText.{make_text};
-ghost use Rattle.make_script.specs.Images.{rom_image, disk_image};
-ghost use Rattle.board_run.specs.Asked.{fitted};
-ghost use Rattle.board_run.specs.Texts.{IsMakeText};
+ghost use Rattle.board_run.specs.Texts.{HasSummary, IsMakeText, made_setup_of};
 
 use crate::prepare::open;
 use crate::replay::replay_script;
@@ -38,7 +36,7 @@ fn made_script(alloc: Global, rounds: u32) -> Result<Script, NoMemory>
 fn made_board(alloc: Global, script: &Script) -> Result<Board, NoMemory>
     requires in_range { IsInRangeScript (said_of script.now) }
     ensures fresh { IfOk result (λ board. board ≡ record {
-        setup = fitted (said_of script.now) rom_image (Some disk_image); entries = []; spare = 0 }) }
+        setup = made_setup_of (said_of script.now); entries = []; spare = 0 }) }
 {
     law_made_script();
     let rom = make_rom(alloc)?;
@@ -51,6 +49,16 @@ fn made_board(alloc: Global, script: &Script) -> Result<Board, NoMemory>
     }
 }
 
+/// The summary of what a board was asked, and of its address map.
+fn summary_of(alloc: Global, board: &Board) -> Result<String, NoMemory>
+    ensures summary { IfOk result (λ text. HasSummary board.now.setup board.now.entries (string_bytes text)) }
+{
+    let mut text = String::new(alloc);
+    let map = board.map();
+    push_summary(&mut text, board.history().entries(), map.version(), map.ranges().len())?;
+    Ok(text)
+}
+
 /// The summary of the replay of the script of so many rounds, 1 to 20,000. No file is read.
 pub fn summary_of_made(alloc: Global, rounds: u32) -> Result<String, NoMemory>
     requires some { 1 ≤ rounds }
@@ -60,12 +68,5 @@ pub fn summary_of_made(alloc: Global, rounds: u32) -> Result<String, NoMemory>
     let script = made_script(alloc, rounds)?;
     let mut board = made_board(alloc, &script)?;
     replay_script(&mut board, &script)?;
-    let mut text = String::new(alloc);
-    push_summary(
-        &mut text,
-        board.history().entries(),
-        board.map().version(),
-        board.map().ranges().len(),
-    )?;
-    Ok(text)
+    summary_of(alloc, &board)
 }

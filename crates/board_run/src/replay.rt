@@ -10,6 +10,8 @@ ghost use Rattle.script_spec.specs.Checks.{DiffersAt};
 ghost use Rattle.script_text.specs.Script.{said_of};
 ghost use Rattle.log_check.specs.declared.fault.CheckFault.{CheckFault};
 ghost use Rattle.log_check.specs.Checked.{IsCheckedLog};
+ghost use Rattle.board_run.specs.declared.status.Which.{Which};
+ghost use Rattle.board_run.specs.Asked.{limit_of};
 ghost use Rattle.board_run.specs.Texts.{IsReplayText, IsMapText, IsLegalText};
 
 use board_base::NoMemory;
@@ -119,6 +121,7 @@ pub fn verdict_on_log(
     requires in_range { IsInRangeScript (said_of script.now) }
     requires cards { board.old.setup.cards ≡ (said_of script.now).cards }
     requires fresh { board.old.entries ≡ [] }
+    requires fits { length log.now ≤ limit_of Which.Log }
     ensures text { IfOk result (λ text. IsLegalText board.old.setup (said_of script.now) log.now (string_bytes text)) }
     ensures differs { (line : ℕ) → result ≡ Err (CheckFault.Differs line)
         → DiffersAt board.old.setup (said_of script.now).version (said_of script.now).phases log.now line }

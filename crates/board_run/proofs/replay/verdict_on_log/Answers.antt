@@ -5,6 +5,7 @@ use Rattle.board_run.proofs.replay.verdict_on_log.Goals as goal
 
 pub returns-clause-text : goal.returns-clause-text
 returns-clause-text c = record {
+  fits = c.requires.fits;
   legal = c.in_ok-count.ensures.log.log;
   said =
       c.in_ok-text.ensures.text
