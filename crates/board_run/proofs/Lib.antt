@@ -4,3 +4,4 @@ pub mod MapLemmas
 pub mod Statements
 pub mod Refusals
 pub mod MadeScripts
+pub mod OneStatus
