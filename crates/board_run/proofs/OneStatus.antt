@@ -109,10 +109,10 @@ module _ (files : Files) (log : Option (List ℕ)) where
   one_log (Some log) script =
       one_of_stage Log (files log) (DiffersWith log script) (IsLegalWith log script)
       (λ status other one two.
-        one.2
-        ∙ ap (λ (line : ℕ). Differs line)
-        (one_difference (setup_of files script) script.version script.phases (files log) one.0 two.0 one.1 two.1)
-        ∙ sym two.2)
+      one.2
+      ∙ ap (λ (line : ℕ). Differs line)
+      (one_difference (setup_of files script) script.version script.phases (files log) one.0 two.0 one.1 two.1)
+      ∙ sym two.2)
       (λ status other one two. one.1 ∙ sym two.1)
       (λ status other one two. one.1.other two.0)
 
