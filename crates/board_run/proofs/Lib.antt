@@ -5,3 +5,4 @@ pub mod Statements
 pub mod Refusals
 pub mod MadeScripts
 pub mod Causes
+pub mod OneStatus
