@@ -3,19 +3,24 @@
 //! new words may stand after it.
 #![tactic(auto)]
 
+mod fault;
 mod hex;
+pub mod laws;
 mod line;
 mod log;
 mod map;
+mod read;
 mod reply;
 mod statement;
 mod target;
 mod words;
 
 pub use board_spec::{Entry, Event, Look, Reply, Statement};
+pub use fault::LogFault;
 pub use line::Line;
 pub use log::{log_line, push_log};
 pub use map::push_range;
+pub use read::{Log, read_log};
 
 #[cfg(test)]
 mod tests;
