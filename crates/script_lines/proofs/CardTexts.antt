@@ -140,7 +140,7 @@ tail_read version before (field ∷ fields) tail few e =
           }
     ]
 
-abbrev kind_word : Bool → List ℕ
+abbrev pub kind_word : Bool → List ℕ
 kind_word vga = codes (if vga then "vga" else "plain")
 
 vga_read : (field : List ℕ) (vga : Bool) → vga_of field ≡ Some vga → field ≡ kind_word vga
@@ -151,7 +151,7 @@ vga_read field vga e = elim (cases_Bool (bytes_eq field (codes "vga"))) [
       subst (λ (b : Bool). field ≡ kind_word b) (some_is false vga p.1) (word_is field (codes "plain") p.0)
 ]
 
-card_parts : (dev : ℕ) (vga : Bool) (bases : List Base) (rom : Option ℕ)
+pub card_parts : (dev : ℕ) (vga : Bool) (bases : List Base) (rom : Option ℕ)
     → decimal dev ++ (space ∷ (kind_word vga ++ (flat_map base_text bases ++ rom_text rom)))
     ≡ card_text (record { dev = dev; vga = vga; bases = bases; rom = rom })
 card_parts dev true bases rom =

@@ -12,6 +12,7 @@ use Rattle.board_spec.specs.declared.event.Event.TheVariants.{Time, Wire, Line}
 use Rattle.board_spec.specs.Text.{space}
 use Rattle.board_spec.specs.LogText.{event_text, moment_text}
 use Rattle.script_spec.specs.Grammar.{Item, SetCpus, SetMemory, SetRom, SetDisk, FitCard, BeginPhase, AskLevel, IsDecimal, IsName, HasForm, item_text, is_name_start, is_name_byte}
+use Rattle.script_spec.proofs.Digits.{own}
 use Rattle.script_lines.specs.Fields.{fields_of}
 use Rattle.script_lines.specs.Numbers.{decimal_of}
 use Rattle.script_lines.specs.Events.{event_of, number_in}
@@ -19,7 +20,7 @@ use Rattle.script_lines.specs.Cards.{card_of}
 use Rattle.script_lines.specs.Moments.{moment_in}
 use Rattle.script_lines.specs.Items.{ask, wire_item, line_item, two_numbers_in, only_moment, moment_asked, wire_asked, line_asked, event_asked, asked_with, asked_of, is_name, name_in, phase_of, statement_of, item_with, item_of}
 use Rattle.script_lines.proofs.Chains.{some_is, guarded, then_said, mapped, both}
-use Rattle.script_lines.proofs.NumberTexts.{own, decimal_read}
+use Rattle.script_lines.proofs.NumberTexts.{decimal_read}
 use Rattle.script_lines.proofs.Joins.{Spells, same, same_as, joined, zipped, word_is}
 use Rattle.script_lines.proofs.EventTexts.{IsRead, event_read, number_read}
 use Rattle.script_lines.proofs.MomentTexts.{moment_read}
@@ -85,6 +86,13 @@ two_read (first ∷ second ∷ []) p e =
     ((λ i. first_is.0 i ∷ second_is.0 i ∷ []), (first_is.1, second_is.1))
 two_read (_ ∷ _ ∷ _ ∷ _) p e = absurd cc
 
+-- a number and a level
+pub level_joined : (n verb number level : List ℕ) → line (n ∷ verb ∷ number ∷ level ∷ [])
+    ≡ n ++ space ∷ verb ++ space ∷ number ++ space ∷ level
+level_joined n verb number level =
+    sym (append_assoc (n ++ space ∷ verb) (space ∷ number) (space ∷ level)
+    ∙ append_assoc n (space ∷ verb) (space ∷ (number ++ (space ∷ level))))
+
 -- a level that is neither 0 nor 1
 high_read : (version n number level : ℕ) (actor verb : List ℕ) → decimal_of actor ≡ Some n
     → (verb ≡ codes "wire") ⊎ (verb ≡ codes "irq") → IsDecimal number → IsDecimal level → 2 ≤ level
@@ -95,14 +103,13 @@ high_read version n number level actor verb e known small few high =
     record {
       form = record { who = d.1; what = known; which = small; few = few; high = high };
       says = ap (λ (a : List ℕ). a ++ (space ∷ (verb ++ (space ∷ (decimal number ++ (space ∷ decimal level)))))) d.0
-          ∙ sym (append_assoc (decimal n ++ space ∷ verb) (space ∷ decimal number) (space ∷ decimal level)
-          ∙ append_assoc (decimal n) (space ∷ verb) (space ∷ (decimal number ++ (space ∷ decimal level))));
+          ∙ level_joined (decimal n) verb (decimal number) (decimal level);
     }
 
-zero_text : decimal 0 ≡ codes "0"
+pub zero_text : decimal 0 ≡ codes "0"
 zero_text = decimal-digits_value own (48 ∷ []) (lit< tt, tt) (lit< tt) (λ _. refl) (lit< tt)
 
-one_text : decimal 1 ≡ codes "1"
+pub one_text : decimal 1 ≡ codes "1"
 one_text = decimal-digits_value own (49 ∷ []) (lit< tt, tt) (lit< tt) (λ _. refl) (lit< tt)
 
 wire_read : (version dev : ℕ) (on : Bool) → IsDecimal dev

@@ -14,3 +14,7 @@ pub mod NumberBack
 pub mod EventBack
 pub mod MomentBack
 pub mod CardBack
+pub mod FieldTexts
+pub mod EventForms
+pub mod SetupBack
+pub mod ItemBack

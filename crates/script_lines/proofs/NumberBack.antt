@@ -8,12 +8,14 @@ use Rattle.std.proofs.lemmas.Bool.{cases_Bool, cases_lt, leb-true, lt-ltb, le-lt
 use Rattle.std.proofs.lemmas.Str.Parse.{digit_from_value}
 use Rattle.std.proofs.lemmas.Str.{digit_value_digit}
 use Rattle.std.proofs.lemmas.Fmt.{digits_decimal, digits_value-decimal, length-decimal-le, first_decimal, decimal_nonempty, decimal_digit}
+use Rattle.std.proofs.lemmas.List.Elements.{length_all_zip}
 use Rattle.std.proofs.Math.Nat.{div-eq_of_lt}
 use Rattle.board_spec.specs.Bits.{byte, is_within}
 use Rattle.board_spec.specs.Text.{hex_digit, hex_number}
 use Rattle.script_spec.specs.Grammar.{IsDecimal, StandsFor}
+use Rattle.script_spec.proofs.Digits.{own, digits_of_decimal}
 use Rattle.script_lines.specs.Numbers.{digit_of, number_after, number_of, hex_of, has_leading_zero, decimal_of}
-use Rattle.script_lines.proofs.NumberTexts.{own, quotient, digit_again}
+use Rattle.script_lines.proofs.NumberTexts.{quotient, digit_again}
 use Rattle.script_lines.proofs.Joins.{Spells}
 
 -- ---- texts without capitals A to F stand for themselves alone
@@ -53,9 +55,6 @@ unfolding number_after
 digits_read high [] digits = refl
 digits_read high (c ∷ cs) digits =
     rw (digit_read c digits.0) (digits_read (high * 10 + value_of_digit c) cs digits.1)
-
-pub digits_of_decimal : (n : ℕ) → IsDecimal n → AllDigits 10 (decimal n)
-digits_of_decimal n small = digits_decimal own n (omega arith)
 
 no_leading : (field : List ℕ) → (2 ≤ length field → 48 < get_or field 0 0) → has_leading_zero field ≡ false
 no_leading field first = elim (cases_Bool (has_leading_zero field)) [
@@ -150,17 +149,11 @@ hex_after (suc k) high n (c ∷ d ∷ cs) is spells =
     rw (first, second)
     (hex_after k ((high * 16 + b / 16) * 16 + b % 16) n cs (next_value (n / 256 ^ k) high b above refl) spells.1.1)
 
-spelled_length : (field text : List ℕ) → Spells field text → length field ≡ length text
-spelled_length [] [] spells = refl
-spelled_length [] (t ∷ ts) spells = absurd spells
-spelled_length (c ∷ cs) [] spells = absurd spells
-spelled_length (c ∷ cs) (t ∷ ts) spells = ap suc (spelled_length cs ts spells.1)
-
 hex_length : (k n : ℕ) → length (hex_number k n) ≡ 2 * k
 hex_length zero n = refl
 hex_length (suc k) n = omega (arith, hex_length k n)
 
 pub hex_back : (k n : ℕ) (field : List ℕ) → n < 256 ^ k → Spells field (hex_number k n) → hex_of (2 * k) field ≡ Some n
 hex_back k n field small spells =
-    let long : length field ≡ 2 * k = spelled_length field (hex_number k n) spells ∙ hex_length k n in
+    let long : length field ≡ 2 * k = length_all_zip StandsFor field (hex_number k n) spells ∙ hex_length k n in
     rw (eq-eqb (length field) (2 * k) long) (hex_after k 0 n field (sym (div-eq_of_lt small)) spells)

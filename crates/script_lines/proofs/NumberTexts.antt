@@ -13,6 +13,7 @@ use Rattle.std.proofs.Math.Nat.{pow-le-pow_right}
 use Rattle.board_spec.specs.Bits.{byte, is_within}
 use Rattle.board_spec.specs.Text.{hex_digit, hex_number}
 use Rattle.script_spec.specs.Grammar.{IsDecimal, StandsFor}
+use Rattle.script_spec.proofs.Digits.{own}
 use Rattle.script_lines.specs.Numbers.{digit_value, digit_of, number_after, number_of, hex_of, has_leading_zero, decimal_of}
 use Rattle.script_lines.proofs.Chains.{some_is, guarded, then_said, both, is_within_is}
 
@@ -84,9 +85,6 @@ digits high n (c ∷ cs) e =
     let t = ten c s.0 s.1 in
     let later = digits (high * 10 + s.0) n cs s.2 in
     ((t.0, later.0), ap (λ (d : ℕ). digits_value_after 10 (high * 10 + d) cs) (sym t.1) ∙ later.1)
-
-pub own : IsNumeralModel (AllDigits 10) (digits_value 10)
-own = record { to = λ ds d. d; from = λ ds d. d; same = λ ds d. refl }
 
 no_zero : (field : List ℕ) → has_leading_zero field ≡ false → 1 ≤ length field → get_or field 0 0 ≡ 48 → length field ≡ 1
 no_zero [] e some first = absurd (omega (arith, some))

@@ -6,19 +6,11 @@ use Rattle.std.proofs.lemmas.List.Elements.{All-nil, All-cons}
 use Rattle.std.proofs.lemmas.List.Splits.{slice_split_none, slice_split_at}
 use Rattle.board_spec.specs.Text.{space}
 use Rattle.script_spec.specs.Grammar.{StandsFor}
+use Rattle.script_spec.proofs.Digits.{lacks}
+use Rattle.script_spec.proofs.Fields.{lacks-first, lacks-later}
 use Rattle.script_lines.specs.Fields.{fields_of}
 use Rattle.script_lines.proofs.FieldLemmas.{is_space}
 use Rattle.script_lines.proofs.Joins.{Spells, Reads}
-
--- a byte does not stand in a list
-abbrev pub lacks : ℕ → List ℕ → Bool
-lacks byte bytes = list_all (λ b. not (eqb b byte)) bytes
-
-lacks-first : (byte c : ℕ) (cs : List ℕ) → lacks byte (c ∷ cs) ≡ true → eqb c byte ≡ false
-lacks-first byte c cs lack = not-true (eqb c byte) ((and_parts (not (eqb c byte)) (lacks byte cs) lack).0)
-
-lacks-later : (byte c : ℕ) (cs : List ℕ) → lacks byte (c ∷ cs) ≡ true → lacks byte cs ≡ true
-lacks-later byte c cs lack = (and_parts (not (eqb c byte)) (lacks byte cs) lack).1
 
 no_space : (written byte : ℕ) → StandsFor written byte → is_space byte ≡ false → is_space written ≡ false
 no_space written byte (inl is) other = rw is other
@@ -79,3 +71,17 @@ split line text [] lack spells =
 split line text (next ∷ texts) lack spells =
     let k = cut line text (space ∷ join_with_byte space (next ∷ texts)) spells in
     split_at line k.front k.rest text next texts lack.0 (λ later spells. split later next texts lack.1 spells) k.is k.spells k.later
+
+-- ---- a line that is fields joined
+
+own_bytes : (field : List ℕ) → lacks space field ≡ true → All (λ byte. is_space byte ≡ false) field
+own_bytes [] lack = All-nil (λ byte. is_space byte ≡ false)
+own_bytes (c ∷ cs) lack =
+    All-cons (λ byte. is_space byte ≡ false) c cs (lacks-first space c cs lack) (own_bytes cs (lacks-later space c cs lack))
+
+pub split_exact : (field : List ℕ) (fields : List (List ℕ)) → Lack (field ∷ fields)
+    → fields_of (join_with_byte space (field ∷ fields)) ≡ field ∷ fields
+split_exact field [] lack = slice_split_none is_space field (own_bytes field lack.0)
+split_exact field (next ∷ fields) lack =
+    slice_split_at is_space field 32 (join_with_byte space (next ∷ fields)) (own_bytes field lack.0) refl
+    ∙ ap (λ (later : List (List ℕ)). field ∷ later) (split_exact next fields lack.1)

@@ -6,7 +6,7 @@ use Rattle.board_base.specs.Calendar.{moment_of}
 use Rattle.board_spec.specs.declared.event.Event.{Event}
 use Rattle.board_spec.specs.declared.event.Event.TheVariants.{Time, Wire as SetWire, Line as SetLine}
 use Rattle.board_spec.specs.Setup.{Base, MemoryBase, IoBase, FittedCard}
-use Rattle.script_spec.specs.Grammar.{Item, SetCpus, SetMemory, SetRom, SetDisk, FitCard, BeginPhase, Ask, AskLevel, is_name_start, is_name_byte}
+use Rattle.script_spec.specs.Grammar.{Item, SetCpus, SetMemory, SetRom, SetDisk, FitCard, BeginPhase, Ask, AskLevel, HasForm, is_name_start, is_name_byte}
 use Rattle.script_lines.specs.declared.item.Item.{Item as Line}
 use Rattle.script_lines.specs.declared.item.Item.TheVariants.{Cpus, Memory, Rom, Disk, Card, Phase, Statement as Asks}
 use Rattle.script_lines.specs.declared.item.Asked.{Asked}
@@ -64,6 +64,10 @@ line_said (Disk name) = SetDisk name.now
 line_said (Card card) = FitCard (card_said card)
 line_said Phase = BeginPhase
 line_said (Asks actor asked) = asked_said actor asked
+
+-- a line has no form of the version
+abbrev pub HasNoForm : (version : ℕ) → (line : List ℕ) → Type 0
+HasNoForm version line = (item : Item) → ¬ HasForm version line item
 
 -- ---- statements
 

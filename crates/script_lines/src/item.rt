@@ -1,11 +1,12 @@
 //! What a line of a script says.
 
 ghost use Rattle.std.specs.Prelude.{◌≡◌, map, option_map, bytes_eq, IfSome};
+ghost use Rattle.std.specs.Option.{IfNone};
 ghost use Rattle.std.specs.List.{list_all};
 ghost use Rattle.script_spec.specs.Grammar.{SetCpus, SetMemory, SetRom, SetDisk, FitCard, HasForm, is_name_start, is_name_byte};
 ghost use Rattle.script_lines.specs.Events.{number_in};
 ghost use Rattle.script_lines.specs.Cards.{card_of};
-ghost use Rattle.script_lines.specs.Items.{moment_said, line_said, two_numbers_in, only_moment, moment_asked, wire_asked, line_asked, event_asked, asked_with, asked_of, is_name, name_in, phase_of, statement_of, item_with, item_of};
+ghost use Rattle.script_lines.specs.Items.{moment_said, line_said, HasNoForm, two_numbers_in, only_moment, moment_asked, wire_asked, line_asked, event_asked, asked_with, asked_of, is_name, name_in, phase_of, statement_of, item_with, item_of};
 
 use crate::card::{CardFields, card_of};
 use crate::event::{event_of, number_in};
@@ -273,9 +274,11 @@ fn item_in<'a>(version: u8, fields: &[&'a [u8]]) -> Option<Item<'a>>
     item_with(version, key, words)
 }
 
-/// What a line of a script of this version, 1 or 2, says after the first line. An item is only what the line says.
+/// What a line of a script of this version, 1 or 2, says after the first line. None exactly where the line has no form of
+/// the version; an item's numbers may be out of range.
 pub fn item_of(version: u8, line: &[u8]) -> Option<Item<'_>>
     ensures says { IfSome result (λ item. HasForm version line.now (line_said item)) }
+    ensures none { IfNone result (HasNoForm version line.now) }
 {
     let fields = fields_of(line)?;
     item_in(version, &fields)
