@@ -27,16 +27,19 @@ abbrev cut_to : (place : ℕ) → List ℕ → Option (List ℕ × List ℕ)
 cut_to place text = cond (ltb place (length text)) (Some (take place text, drop (place + 1) text)) None
 
 cut_later : (c place : ℕ) (cs : List ℕ) → option_map (λ p. (c ∷ p.0, p.1)) (cut_to place cs) ≡ cut_to (1 + place) (c ∷ cs)
-cut_later c place cs = elim (cases_lt place (length cs)) [
-  | inl lt ↦ rw (lt-ltb place (length cs) lt, lt-ltb (1 + place) (length (c ∷ cs)) (omega (arith, lt))) refl
-  | inr le ↦ rw (le-ltb place (length cs) le, le-ltb (1 + place) (length (c ∷ cs)) (omega (arith, le))) refl
-]
+cut_later c place cs =
+    let e : 1 + place ≡ suc place = omega arith in
+    let f : suc place + 1 ≡ suc (place + 1) = omega arith in
+    elim (cases_lt place (length cs)) [
+      | inl lt ↦ rw (e, f, lt-ltb place (length cs) lt, lt-ltb (suc place) (suc (length cs)) (omega (arith, lt))) refl
+      | inr le ↦ rw (e, le-ltb place (length cs) le, le-ltb (suc place) (suc (length cs)) (omega (arith, le))) refl
+    ]
 
 cut_is : (mark : ℕ) (text : List ℕ) → cut mark text ≡ cut_to (place_of mark text) text
 unfolding cut
 cut_is mark [] = refl
 cut_is mark (c ∷ cs) = elim (cases_Bool (eqb c mark)) [
-  | inl here ↦ rw here refl
+  | inl here ↦ rw (here, lt-ltb 0 (suc (length cs)) (omega arith)) refl
   | inr other ↦ rw other (ap (option_map (λ p. (c ∷ p.0, p.1))) (cut_is mark cs) ∙ cut_later c (place_of mark cs) cs)
 ]
 

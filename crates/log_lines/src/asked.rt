@@ -77,14 +77,16 @@ fn is_within(access: &WideAccess) -> bool
 }
 
 /// Whether an access is aligned, or ends within the addresses, and a moment is one of the calendar.
-fn is_placed(event: &Event) -> bool
-    ensures placed { IsTrue result ↔ IsPlaced event.now }
+fn is_placed(event: Event) -> bool
+    ensures placed { IsTrue result ↔ IsPlaced event }
 {
-    match *event {
+    match event {
         Event::Memory(access) => access.width.is_aligned(access.addr),
         Event::Wide(access) => is_within(&access),
         Event::Port(access) => access.width.is_aligned(u32::from(access.port)),
         Event::Time(moment) => is_moment(moment),
+        Event::Wire { .. } => true,
+        Event::Line { .. } => true,
         _ => true,
     }
 }
@@ -94,7 +96,7 @@ fn placed(event: Event) -> Option<Event>
     ensures event { MatchOption result ((other : Event) → ¬ IsEventOf (Asked.Event event) other)
         (IsEventOf (Asked.Event event)) }
 {
-    if is_placed(&event) { Some(event) } else { None }
+    if is_placed(event) { Some(event) } else { None }
 }
 
 /// The event that is asked, where its numbers are in range.
@@ -109,14 +111,22 @@ fn event_of(asked: Asked) -> Option<Event>
     }
 }
 
+/// The number with its event, where that is in range.
+fn numbered(seq: u32, asked: Asked) -> Option<(u32, Event)>
+    ensures asked { MatchOption result ((event : Event) → ¬ IsEventOf asked event)
+        (λ p. (p.0 ≡ seq) × IsEventOf asked p.1) }
+{
+    let event = event_of(asked)?;
+    Some((seq, event))
+}
+
 /// The number of a processor's entry and the event of `S STATEMENT`, which a script reads as processor and statement.
 pub(crate) fn asked_of(version: u8, text: &[u8]) -> Option<(u32, Event)>
     ensures asked { MatchOption result ((seq : ℕ) (event : Event) → ¬ IsAsked version text.now seq event)
         (λ p. IsAsked version text.now p.0 p.1) }
 {
-    let Some(Item::Statement { actor: seq, asked }) = item_of(version, text) else {
-        return None;
-    };
-    let event = event_of(asked)?;
-    Some((seq, event))
+    match item_of(version, text)? {
+        Item::Statement { actor, asked } => numbered(actor, asked),
+        _ => None,
+    }
 }

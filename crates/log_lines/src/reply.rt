@@ -8,8 +8,9 @@ ghost use Rattle.board_spec.specs.WideParts.{parts_of};
 ghost use Rattle.board_spec.specs.Answer.{outside_answer};
 ghost use Rattle.board_spec.specs.Text.{space};
 ghost use Rattle.board_spec.specs.LogText.{value_bytes, reply_text};
-ghost use Rattle.script_spec.specs.Grammar.{IsEventForm};
+ghost use Rattle.script_spec.specs.Grammar.{IsDecimal, IsEventForm};
 ghost use Rattle.script_spec.specs.WellFormed.{IsReplyValue, IsBusReply, IsWideReply, IsLookReply, HasShape};
+ghost use Rattle.script_lines.specs.Numbers.{decimal_of};
 ghost use Rattle.log_lines.specs.Replies.{no_value, value_of, bus_of, parts_with, wide_of, look_of, reply_of, reply_in, IsNarrow};
 
 use crate::target::{area_of, denial_of, target_of};
@@ -122,6 +123,14 @@ fn wide_of(access: &WideAccess, words: &[&[u8]]) -> Option<Reply>
     parts_with(access, value, parts)
 }
 
+/// A number of map writes, a decimal.
+fn version_in(field: &[u8]) -> Option<u32>
+    ensures version { result ≡ decimal_of field.now }
+    ensures below { IfSome result IsDecimal }
+{
+    decimal_of(field)
+}
+
 /// `VERSION LO HI AREA`.
 #[tactic(auto, unfolding(crate::specs::Replies::look_of))]
 fn look_of(words: &[&[u8]]) -> Option<Reply>
@@ -131,7 +140,7 @@ fn look_of(words: &[&[u8]]) -> Option<Reply>
     let [version, lo, hi, area] = words else {
         return None;
     };
-    let version = decimal_of(version)?;
+    let version = version_in(version)?;
     let lo = hex_of(8, lo)?;
     let hi = hex_of(8, hi)?;
     let area = area_of(area)?;
