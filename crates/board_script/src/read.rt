@@ -80,7 +80,7 @@ fn read_entries(alloc: Global, version: u8, lines: &[u8]) -> Result<Vec<Entry>, 
     requires known { IsVersion version }
     requires few { length lines.now < 2 ^ 32 - 1 }
     ensures entries { IfOk result (λ entries. (lines.now ≡ lines_text (reverse entries.items))
-        × All (IsWellFormed version) entries.items) }
+        × All (IsWellFormed version) (reverse entries.items)) }
     ensures bad { IfErr result (NamesBad (IsBadAfter version lines.now)) }
 {
     let mut entries = Vec::new(alloc);

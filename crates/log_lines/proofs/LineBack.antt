@@ -18,6 +18,7 @@ use Rattle.script_spec.proofs.LineReading.{one_item}
 use Rattle.script_spec.proofs.LogLaws.{seven_parts}
 use Rattle.script_lines.specs.Numbers.{decimal_of}
 use Rattle.script_lines.specs.Items.{ask}
+use Rattle.script_lines.proofs.Chains.{some_is}
 use Rattle.script_lines.proofs.Joins.{same}
 use Rattle.script_lines.proofs.NumberBack.{decimal_back}
 use Rattle.log_lines.specs.Cuts.{cut, byte_in}
@@ -97,9 +98,6 @@ asked_said version entry formed = record {
 pub pieces_are : (version n : ℕ) (entry : Entry) (line : List ℕ) (found : Option Pieces) → IsWellFormed version entry → line ≡ line_text n entry
     → found ≡ pieces_of line → found ≡ Some (pieces entry)
 pieces_are version n entry line found formed is read = read ∙ ap pieces_of is ∙ line_pieces version n entry formed
-
-pub some_is : {A : Type 0} (x y : A) → ◌≡◌ {A = Option A} (Some x) (Some y) → x ≡ y
-some_is x y e = cc
 
 pub actor_read : (version : ℕ) (entry : Entry) (actor asked replied : List ℕ) → IsWellFormed version entry
     → Some (record { actor = actor; asked = asked; replied = replied }) ≡ Some (pieces entry) → actor_of actor ≡ Some entry.actor
