@@ -74,12 +74,11 @@ line_at P (entry ∷ before) k each lt = elim (cases_lt k (length before)) [
       (r.0, r.1, get_or_append_left (log_lines before) (line_text (length before + 1) entry ∷ []) [] k inside ∙ r.2)
   | inr last ↦
       let at_end : k ≡ length before = omega (arith, lt, last) in
-      let place : k ≡ length (log_lines before) = omega (arith, at_end, lines_length before) in
-      (
+      let place : k ≡ length (log_lines before) = omega (arith, at_end, lines_length before) in (
         entry,
         All-head P entry before each,
         get_at (log_lines before) (line_text (length before + 1) entry) [] k place
-        ∙ ap (λ (n : ℕ). line_text (n + 1) entry) (sym at_end),
+            ∙ ap (λ (n : ℕ). line_text (n + 1) entry) (sym at_end),
       )
 ]
 

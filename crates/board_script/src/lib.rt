@@ -23,4 +23,6 @@ pub use map::push_range;
 pub use read::{Log, read_log};
 
 #[cfg(test)]
+mod read_tests;
+#[cfg(test)]
 mod tests;

@@ -38,7 +38,12 @@ fn version_of(line: &[u8]) -> Option<u8>
 
 /// The entry whose line `n` this is. None where it is that of no entry of this version. The text is for the line as
 /// the log would have it.
-fn read_entry(text: &mut String, version: u8, n: u32, line: &[u8]) -> Result<Option<Entry>, NoMemory>
+fn read_entry(
+    text: &mut String,
+    version: u8,
+    n: u32,
+    line: &[u8],
+) -> Result<Option<Entry>, NoMemory>
     ensures exact { IfOk result (λ read. MatchOption read
         ((entry : Entry) → IsWellFormed version entry → line.now ≢ line_text n entry)
         (λ entry. IsWellFormed version entry × (line.now ≡ line_text n entry))) }

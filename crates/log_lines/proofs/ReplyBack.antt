@@ -224,7 +224,7 @@ wide_shape access value parts fits each =
             fits,
             each,
             eqb-true (length (parts_list parts)) (part_count 4 access.addr access.bytes) same
-            ∙ sym (counted access 4 access.addr access.bytes),
+                ∙ sym (counted access 4 access.addr access.bytes),
           )
       | inr other ↦ rw other tt
     ]

@@ -96,11 +96,7 @@ fn parts_with(access: &WideAccess, value: Option<u64>, parts: Parts) -> Option<R
     requires bytes { access.now.bytes ≤ 8 }
     ensures reply { result ≡ parts_with access.now value parts }
 {
-    let count = part_count(
-        MOST_PARTS,
-        u64::from(access.addr),
-        u64::from(access.bytes),
-    );
+    let count = part_count(MOST_PARTS, u64::from(access.addr), u64::from(access.bytes));
     if count_of(&parts) == count {
         Some(Reply::Parts { value, parts })
     } else {
