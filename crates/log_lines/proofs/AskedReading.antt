@@ -1,7 +1,7 @@
 -- What a statement that was read asks.
-use Rattle.std.proofs.Common.{◌≡◌, ◌≢◌, ℕ, ◌+◌, ◌<◌, ◌≤◌, ◌↔◌, Bool, true, false, cond, eqb, ltb, Option, Some, None, List, refl, sym, ap, subst, ◌∙◌, inl, inr, arith}
-use Rattle.std.specs.Prelude.{MatchOption, IsTrue, IfSome, codes}
-use Rattle.std.specs.Option.{option_and_then, option_map}
+use Rattle.std.proofs.Common.{◌≡◌, ◌≢◌, ℕ, ◌<◌, ◌≤◌, Bool, true, false, cond, eqb, Option, Some, None, List, refl, sym, ap, subst, ◌∙◌, inl, inr, arith}
+use Rattle.std.specs.Prelude.{MatchOption, codes}
+use Rattle.std.specs.Option.{option_and_then}
 use Rattle.std.proofs.lemmas.Bool.{cases_Bool, cases_lt, lt-ltb, le-ltb, true≢false}
 use Rattle.board_base.specs.declared.access.Access.{Access}
 use Rattle.board_base.specs.declared.access.WideAccess.{WideAccess}
@@ -11,7 +11,6 @@ use Rattle.board_base.specs.Calendar.{IsMoment}
 use Rattle.board_spec.specs.declared.event.Event.{Event}
 use Rattle.board_spec.specs.declared.event.Event.TheVariants.{Memory, Wide, Port, Look as LookAt, Ack, Pulses, Time, Wire as SetWire, Line as SetLine, BadSector}
 use Rattle.script_spec.specs.Grammar.{Item, Ask, AskLevel, HasForm}
-use Rattle.script_spec.specs.Reasons.{is_event_placed}
 use Rattle.script_spec.specs.WellFormed.{IsNamed}
 use Rattle.script_spec.proofs.LineReading.{one_item}
 use Rattle.script_lines.specs.declared.item.Asked.{Asked}

@@ -1,5 +1,5 @@
 -- The line of an entry is taken apart into its pieces.
-use Rattle.std.proofs.Common.{◌≡◌, ℕ, ◌+◌, ◌-◌, ◌<◌, true, Option, Some, None, List, [], ◌∷◌, ◌++◌, length, take, refl, sym, ap, subst, ◌∙◌, inl, inr, append_assoc, arith}
+use Rattle.std.proofs.Common.{◌≡◌, ℕ, ◌<◌, true, Option, Some, None, List, [], ◌∷◌, ◌++◌, refl, sym, ap, subst, ◌∙◌, inl, inr, append_assoc, arith}
 use Rattle.std.specs.Prelude.{codes, decimal}
 use Rattle.std.proofs.lemmas.Bool.{lt-ltb}
 use Rattle.std.proofs.lemmas.Grind.{common_steps}
@@ -16,12 +16,11 @@ use Rattle.script_spec.proofs.PlainText.{lacks-word, lacks-plain, decimal_word}
 use Rattle.script_spec.proofs.PlainLines.{event_plain}
 use Rattle.script_spec.proofs.LineReading.{one_item}
 use Rattle.script_spec.proofs.LogLaws.{seven_parts}
-use Rattle.script_lines.specs.Numbers.{decimal_of}
 use Rattle.script_lines.specs.Items.{ask}
 use Rattle.script_lines.proofs.Chains.{some_is}
 use Rattle.script_lines.proofs.Joins.{same}
 use Rattle.script_lines.proofs.NumberBack.{decimal_back}
-use Rattle.log_lines.specs.Cuts.{cut, byte_in}
+use Rattle.log_lines.specs.Cuts.{cut}
 use Rattle.log_lines.specs.Asked.{IsAsked}
 use Rattle.log_lines.specs.Entries.{Pieces, but_last, pieces_of, actor_of}
 use Rattle.log_lines.proofs.CutLemmas.{cut_field}

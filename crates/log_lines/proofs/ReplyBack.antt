@@ -1,5 +1,5 @@
 -- A reply is read back from its words, and what is read has the shape of its event.
-use Rattle.std.proofs.Common.{◌≡◌, ◌≢◌, ℕ, zero, suc, ◌+◌, ◌-◌, ◌^◌, ◌<◌, ◌≤◌, ◌↔◌, Bool, true, false, cond, eqb, Option, Some, None, List, [], ◌∷◌, ◌++◌, length, map, All, flat_map, refl, sym, ap, subst, ◌∙◌, inl, inr, append_assoc, append-nil, arith, lit<}
+use Rattle.std.proofs.Common.{◌≡◌, ℕ, zero, suc, ◌+◌, ◌-◌, ◌^◌, ◌<◌, ◌≤◌, ◌↔◌, Bool, true, false, eqb, Option, Some, None, List, [], ◌∷◌, ◌++◌, length, All, flat_map, refl, sym, ap, subst, ◌∙◌, inl, inr, append-nil, arith, lit<}
 use Rattle.std.specs.Prelude.{decimal, IfSome, IsTrue}
 use Rattle.std.specs.Option.{option_map}
 use Rattle.std.proofs.Math.Nat.{pow-le-pow_right}
@@ -8,7 +8,6 @@ use Rattle.std.proofs.lemmas.List.Elements.{All-nil, All-cons, All-head, All-tai
 use Rattle.board_base.specs.declared.access.Kind.{Kind}
 use Rattle.board_base.specs.declared.access.Kind.TheVariants.{Fetch, Read, Write}
 use Rattle.board_base.specs.declared.access.WideAccess.{WideAccess}
-use Rattle.board_base.specs.declared.target.Dev.TheVariants.{Pit, Clock, Wires, Ata}
 use Rattle.board_base.specs.declared.target.Target.{Target}
 use Rattle.board_base.specs.declared.target.Denial.{Denial}
 use Rattle.board_base.specs.Access.{bytes_of}
@@ -21,10 +20,9 @@ use Rattle.board_spec.specs.declared.event.Parts.TheVariants.{Two, Three, Four}
 use Rattle.board_spec.specs.declared.event.Reply.{Reply}
 use Rattle.board_spec.specs.declared.event.Reply.TheVariants.{Bus, Parts as InParts, Saw}
 use Rattle.board_spec.specs.Stored.{is_write}
-use Rattle.board_spec.specs.WideParts.{longest_at, part_at, parts_from, parts_of, parts_list}
-use Rattle.board_spec.specs.Answer.{outside_answer}
+use Rattle.board_spec.specs.WideParts.{longest_at, parts_from, parts_of, parts_list}
 use Rattle.board_spec.specs.Text.{space, hex_long, area_text, target_text, denial_text}
-use Rattle.board_spec.specs.LogText.{value_bytes, value_text, answered_text, reply_text}
+use Rattle.board_spec.specs.LogText.{value_bytes, value_text, reply_text}
 use Rattle.script_spec.specs.Grammar.{IsDecimal}
 use Rattle.script_spec.specs.WellFormed.{FitsPart, IsReplyValue, IsBusReply, IsWideReply, IsLookReply, HasShape}
 use Rattle.script_spec.proofs.PlainText.{lacks-word, hex_number_word, decimal_word, area_word, target_word, denial_word}

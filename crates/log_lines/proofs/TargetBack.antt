@@ -1,5 +1,5 @@
 -- A word of a reply is read as what it names.
-use Rattle.std.proofs.Common.{◌≡◌, ℕ, zero, suc, ◌+◌, ◌*◌, ◌/◌, ◌%◌, ◌^◌, ◌<◌, ◌⊎◌, true, Option, Some, None, List, [], ◌∷◌, ◌++◌, length, refl, sym, ap, ◌∙◌, inl, inr, append_assoc, arith}
+use Rattle.std.proofs.Common.{◌≡◌, ℕ, zero, suc, ◌+◌, ◌*◌, ◌/◌, ◌%◌, ◌^◌, ◌<◌, ◌⊎◌, true, Option, Some, None, List, [], ◌∷◌, ◌++◌, refl, sym, ap, ◌∙◌, inl, inr, append_assoc, arith}
 use Rattle.std.specs.Prelude.{codes, decimal}
 use Rattle.std.specs.Fmt.{digits}
 use Rattle.std.specs.Option.{option_map}
@@ -14,17 +14,17 @@ use Rattle.board_base.specs.declared.target.Target.TheVariants as targets
 use Rattle.board_base.specs.declared.target.Denial.{Denial}
 use Rattle.board_base.specs.declared.target.Denial.TheVariants.{Register, Confadd, NoRegister}
 use Rattle.board_spec.specs.Bits.{byte}
-use Rattle.board_spec.specs.Text.{hex_digit, hex_byte, hex_number, hex_long, hex_offset, register_text, base_text, area_text, device_text, target_text, denial_text}
+use Rattle.board_spec.specs.Text.{hex_digit, hex_byte, hex_number, hex_long, hex_offset, register_text, area_text, device_text, target_text, denial_text}
 use Rattle.script_spec.specs.WellFormed.{FitsReg, FitsArea, FitsDevice, FitsTarget, FitsDenial}
 use Rattle.script_spec.proofs.Digits.{lacks}
 use Rattle.script_spec.proofs.Fields.{lacks-append, lacks-decimal}
 use Rattle.script_spec.proofs.ReplyReading.{digit_not}
-use Rattle.script_lines.specs.Numbers.{digit_of, number_after, number_of, hex_of}
+use Rattle.script_lines.specs.Numbers.{digit_of, number_after, hex_of}
 use Rattle.script_lines.proofs.Joins.{same}
 use Rattle.script_lines.proofs.NumberTexts.{digit_again}
 use Rattle.script_lines.proofs.NumberBack.{digit_so, hex_digit_read, hex_after, hex_back}
 use Rattle.log_lines.specs.Cuts.{cut, digit_in}
-use Rattle.log_lines.specs.Targets.{register_of, denial_with, denial_of, base_of, area_with, placed_area, area_of, card_of, target_with, placed_target, device_of, target_from, target_of}
+use Rattle.log_lines.specs.Targets.{register_of, denial_with, denial_of, base_of, placed_area, area_of, card_of, placed_target, device_of, target_of}
 use Rattle.log_lines.proofs.CutLemmas.{cut_field}
 
 -- ---- numbers

@@ -1,4 +1,4 @@
-use Rattle.std.proofs.Common.{sym, ap, ◌∙◌, subst}
+use Rattle.std.proofs.Common.{subst}
 use Rattle.script_spec.specs.Grammar.{HasForm}
 use Rattle.script_lines.specs.Items.{line_said}
 use Rattle.log_lines.proofs.AskedReading.{none_asked, not_asked, asked_exact}

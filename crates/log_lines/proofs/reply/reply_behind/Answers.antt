@@ -1,4 +1,4 @@
-use Rattle.std.proofs.Common.{◌≡◌, ◌∙◌, map, sym, ap, arith}
+use Rattle.std.proofs.Common.{◌≡◌, ◌∙◌, map, ap, arith}
 use Rattle.script_lines.specs.Fields.{fields_of}
 use Rattle.log_lines.specs.Replies.{reply_in}
 use Rattle.log_lines.proofs.ReplyBack.{reply_read, few_fields}
