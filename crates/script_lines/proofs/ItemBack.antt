@@ -1,7 +1,6 @@
 -- Each line of a form is read as what it says.
-use Rattle.std.proofs.Common.{◌≡◌, ℕ, ◌+◌, ◌≤◌, ◌⊎◌, inl, inr, true, Some, List, [], ◌∷◌, ◌++◌, length, refl, sym, ap, subst, ◌∙◌, append_assoc, arith}
+use Rattle.std.proofs.Common.{◌≡◌, ℕ, ◌≤◌, ◌⊎◌, inl, inr, true, Some, List, [], ◌∷◌, ◌++◌, refl, sym, ap, subst, ◌∙◌, arith}
 use Rattle.std.specs.Prelude.{codes, decimal}
-use Rattle.std.specs.List.{join_with_byte}
 use Rattle.std.specs.Option.{option_map}
 use Rattle.std.proofs.lemmas.Bool.{ne_eqb}
 use Rattle.std.proofs.lemmas.List.Elements.{length_all_zip}
@@ -14,7 +13,7 @@ use Rattle.script_lines.specs.Fields.{fields_of}
 use Rattle.script_lines.specs.Items.{ask, wire_item, line_item, wire_asked, line_asked, asked_with, asked_of, statement_of, item_with, item_of}
 use Rattle.script_lines.proofs.Joins.{Spells, Reads}
 use Rattle.script_lines.proofs.ItemTexts.{level_joined}
-use Rattle.script_lines.proofs.Splits.{Lack, split}
+use Rattle.script_lines.proofs.Splits.{split}
 use Rattle.script_lines.proofs.NumberBack.{decimal_back}
 use Rattle.script_lines.proofs.FieldTexts.{lacks_decimal, no_word}
 use Rattle.script_lines.proofs.EventForms.{IsReadBack, event_back, number_is, two_back}

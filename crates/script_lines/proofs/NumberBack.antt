@@ -7,7 +7,7 @@ use Rattle.std.specs.Str.Parse.{AllDigits, digits_value_after}
 use Rattle.std.proofs.lemmas.Bool.{cases_Bool, cases_lt, leb-true, lt-ltb, le-ltb, le-leb, lt-leb, eq-eqb, eqb-true, and_parts, true≢false, not-true}
 use Rattle.std.proofs.lemmas.Str.Parse.{digit_from_value}
 use Rattle.std.proofs.lemmas.Str.{digit_value_digit}
-use Rattle.std.proofs.lemmas.Fmt.{digits_decimal, digits_value-decimal, length-decimal-le, first_decimal, decimal_nonempty, decimal_digit}
+use Rattle.std.proofs.lemmas.Fmt.{digits_value-decimal, length-decimal-le, first_decimal, decimal_nonempty, decimal_digit}
 use Rattle.std.proofs.lemmas.List.Elements.{length_all_zip}
 use Rattle.std.proofs.Math.Nat.{div-eq_of_lt}
 use Rattle.board_spec.specs.Bits.{byte, is_within}

@@ -6,7 +6,6 @@ use Rattle.std.specs.Char.{digit_value as value_of_digit}
 use Rattle.std.specs.Str.Parse.{AllDigits, digits_value, digits_value_after}
 use native.Mathlib.Nat.{div-div-eq-div-mul}
 use Rattle.std.proofs.lemmas.Bool.{true≢false, cases_Bool, leb-true, ltb-true, cases_lt, lt-ltb, le-ltb, le-leb, eqb-true}
-use Rattle.std.proofs.lemmas.Str.Parse.{IsNumeralModel}
 use Rattle.std.proofs.lemmas.Fmt.{decimal-digits_value}
 use Rattle.std.proofs.lemmas.Int.Digits.{digits_value-lt}
 use Rattle.std.proofs.Math.Nat.{pow-le-pow_right}

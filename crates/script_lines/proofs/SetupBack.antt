@@ -1,5 +1,5 @@
 -- Each line of a form that asks nothing is read again from its fields.
-use Rattle.std.proofs.Common.{◌≡◌, ℕ, ◌+◌, ◌≤◌, Bool, true, false, Option, Some, None, List, [], ◌∷◌, ◌++◌, length, flat_map, map, leb, ◌&&◌, refl, sym, ap, ◌∙◌, append_assoc, append-nil, arith, inl}
+use Rattle.std.proofs.Common.{◌≡◌, ℕ, ◌≤◌, Bool, true, false, Option, Some, None, List, [], ◌∷◌, ◌++◌, length, flat_map, map, leb, ◌&&◌, refl, sym, ap, ◌∙◌, append_assoc, append-nil, arith}
 use Rattle.std.specs.Prelude.{codes, decimal}
 use Rattle.std.specs.List.{join_with_byte, list_all}
 use Rattle.std.specs.Option.{option_map}
@@ -10,7 +10,7 @@ use Rattle.board_spec.specs.Text.{space}
 use Rattle.script_spec.specs.Grammar.{Item, SetCpus, SetMemory, SetRom, SetDisk, FitCard, BeginPhase, IsDecimal, IsName, IsCardForm, base_text, rom_text, item_text, is_name_start, is_name_byte}
 use Rattle.script_spec.proofs.Digits.{lacks}
 use Rattle.script_lines.specs.Events.{number_in}
-use Rattle.script_lines.specs.Cards.{no_tail, card_of}
+use Rattle.script_lines.specs.Cards.{card_of}
 use Rattle.script_lines.specs.Fields.{fields_of}
 use Rattle.script_lines.specs.Items.{is_name, name_in, phase_of, item_with, item_of}
 use Rattle.script_lines.proofs.Splits.{Lack, split_exact}
@@ -136,7 +136,7 @@ unfolding item_text item_of item_with
 card_back version card line form is =
     let words : List (List ℕ) = tail_words card.bases card.rom in
     let joined : join_with_byte space (decimal card.dev ∷ kind_word card.vga ∷ words)
-        ≡ decimal card.dev ++ (space ∷ (kind_word card.vga ++ (flat_map base_text card.bases ++ rom_text card.rom))) =
+    ≡ decimal card.dev ++ (space ∷ (kind_word card.vga ++ (flat_map base_text card.bases ++ rom_text card.rom))) =
     ap (λ (rest : List ℕ). decimal card.dev ++ (space ∷ rest)) (line_spaced (kind_word card.vga) words
     ∙ ap (λ (rest : List ℕ). kind_word card.vga ++ rest) (spaced_tail card.bases card.rom)) in
     exact_back version line (codes "card") (decimal card.dev ∷ kind_word card.vga ∷ words) (FitCard card)

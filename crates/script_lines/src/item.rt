@@ -274,8 +274,8 @@ fn item_in<'a>(version: u8, fields: &[&'a [u8]]) -> Option<Item<'a>>
     item_with(version, key, words)
 }
 
-/// What a line of a script of this version, 1 or 2, says after the first line. None exactly where the line has no form of
-/// the version; an item's numbers may be out of range.
+/// What a line of a script of this version, 1 or 2, says after the first line. None exactly where the line has no form
+/// of the version; an item's numbers may be out of range.
 pub fn item_of(version: u8, line: &[u8]) -> Option<Item<'_>>
     ensures says { IfSome result (λ item. HasForm version line.now (line_said item)) }
     ensures none { IfNone result (HasNoForm version line.now) }

@@ -3,11 +3,12 @@
 use super::*;
 
 /// Lines of version 2 that say something, in range or not.
-const FORMS: [&str; 24] = [
+const FORMS: [&str; 25] = [
     "cpus 8",
     "memory 999999999",
     "rom bios-1.bin",
     "disk _d",
+    "disk abcdefghijklmnopqrstuvwxyzABCDEFGHIJKLMNOPQRSTUVWXYZ0123456789_.",
     "card 2 vga m24 i2 m4",
     "card 12 plain m1 m2 m3 m4 m5 m6 x11",
     "phase",
@@ -31,7 +32,7 @@ const FORMS: [&str; 24] = [
 ];
 
 /// Lines that have no form in version 2.
-const FORMLESS: [&str; 24] = [
+const FORMLESS: [&str; 25] = [
     "",
     "board 2",
     "cpus  1",
@@ -40,6 +41,7 @@ const FORMLESS: [&str; 24] = [
     "memory 1000000000",
     "rom -a",
     "rom a b",
+    "rom abcdefghijklmnopqrstuvwxyzABCDEFGHIJKLMNOPQRSTUVWXYZ0123456789_.-",
     "card 2 vga m4 m4 m4 m4 m4 m4 m4",
     "card 2 plain x16 m4",
     "card 2 VGA",
