@@ -37,15 +37,18 @@ log_is version history =
 
 heading_lacks : (version : ℕ) → lacks line_feed (heading version) ≡ true
 heading_lacks version =
-    lacks-append line_feed (codes "access log ") (decimal version) refl (lacks-word line_feed (decimal version) refl (decimal_word version))
+    lacks-append line_feed (codes "access log ") (decimal version) refl
+    (lacks-word line_feed (decimal version) refl (decimal_word version))
 
 each_line : (version : ℕ) (history : List Entry) → All IsOneLine (whole version history)
 each_line version history =
-    All-cons IsOneLine (heading version) (log_lines history) (one_line (heading version) (heading_lacks version)) (lines_whole history)
+    All-cons IsOneLine (heading version) (log_lines history) (one_line (heading version) (heading_lacks version))
+    (lines_whole history)
 
 -- lines that begin a log are its first
 begins : (lines : List (List ℕ)) (later : List ℕ) (version : ℕ) (history : List Entry) → All IsOneLine lines
-    → text_of_lines lines ++ later ≡ log_text version history → (more : List (List ℕ)) × (whole version history ≡ lines ++ more)
+    → text_of_lines lines ++ later ≡ log_text version history → (more : List (List ℕ)) ×
+    (whole version history ≡ lines ++ more)
 begins lines later version history each same =
     elim (compared lines later (whole version history) [] each (each_line version history)
     (same ∙ log_is version history ∙ sym (append-nil (text_of_lines (whole version history))))) [
@@ -59,7 +62,8 @@ lines_length [] = refl
 lines_length (entry ∷ before) =
     length-append (log_lines before) (line_text (length before + 1) entry ∷ []) ∙ omega (arith, lines_length before)
 
-get_at : (lines : List (List ℕ)) (this : List ℕ) (more : List (List ℕ)) (k : ℕ) → k ≡ length lines → get_or (lines ++ this ∷ more) k [] ≡ this
+get_at : (lines : List (List ℕ)) (this : List ℕ) (more : List (List ℕ)) (k : ℕ) → k ≡ length lines
+    → get_or (lines ++ this ∷ more) k [] ≡ this
 get_at [] this more k is = rw is refl
 get_at (line ∷ lines) this more k is = rw is (get_at lines this more (length lines) refl)
 
@@ -84,11 +88,13 @@ line_at P (entry ∷ before) k each lt = elim (cases_lt k (length before)) [
 
 -- no log goes on where no entry's line does
 clash : (version other : ℕ) (history entries : List Entry) (this : List ℕ) (more : List (List ℕ)) (rest after : List ℕ)
-    → IsVersion version → IsVersion other → All (IsWellFormed other) entries → whole other entries ≡ whole version history ++ this ∷ more
+    → IsVersion version → IsVersion other → All (IsWellFormed other) entries
+    → whole other entries ≡ whole version history ++ this ∷ more
     → HasNoEntry version (length history + 1) rest → rest ≡ this ++ line_feed ∷ after → ⊥
 clash version other history entries this more rest after known its each same none is =
     let first : heading other ≡ heading version = ap (λ (lines : List (List ℕ)). get_or lines 0 []) same in
-    let later : log_lines entries ≡ log_lines history ++ this ∷ more = ap (λ (lines : List (List ℕ)). drop 1 lines) same in
+    let later : log_lines entries ≡ log_lines history ++ this ∷ more = ap (λ (lines : List (List ℕ)). drop 1 lines)
+    same in
     let versions : other ≡ version =
     some_is other version (sym (version_known other its) ∙ ap version_of first ∙ version_known version known) in
     let count = ap length later ∙ length-append (log_lines history) (this ∷ more) in
@@ -109,7 +115,15 @@ abbrev HasNoHeading : List ℕ → Type 0
 HasNoHeading bytes = (version : ℕ) (after : List ℕ) → IsVersion version → bytes ≢ heading version ++ line_feed ∷ after
 
 empty_log : IsSomeLog (log_text 1 [])
-empty_log = record { version = 1; entries = []; log = record { known = inl refl; each = All-nil (IsWellFormed 1); text = refl } }
+empty_log = record {
+  version = 1;
+  entries = [];
+  log = record {
+    known = inl refl;
+    each = All-nil (IsWellFormed 1);
+    text = refl;
+  };
+}
 
 bad_heading : (bytes : List ℕ) → HasNoHeading bytes → IsBadLog bytes 1
 bad_heading bytes none = record {
@@ -121,7 +135,8 @@ bad_heading bytes none = record {
   begun = record { later = log_text 1 []; text = empty_log };
   leaves = λ this after one is begun.
       let log = begun.text.log in
-      let on = begins (this ∷ []) begun.later begun.text.version begun.text.entries (All-cons IsOneLine this [] one (All-nil IsOneLine)) log.text in
+      let on = begins (this ∷ []) begun.later begun.text.version begun.text.entries
+      (All-cons IsOneLine this [] one (All-nil IsOneLine)) log.text in
       let first : heading begun.text.version ≡ this = ap (λ (lines : List (List ℕ)). get_or lines 0 []) on.1 in
       none begun.text.version after log.known (is ∙ ap (λ (text : List ℕ). text ++ line_feed ∷ after) (sym first));
   other = λ some. none some.version (lines_text some.entries) some.log.known some.log.text;
@@ -133,7 +148,8 @@ bad_uncut bytes uncut = bad_heading bytes (λ version after known is.
     uncut ∙ ap (cut line_feed) is ∙ cut_field line_feed (heading version) after (heading_lacks version) in
     absurd cc)
 
-pub bad_version : (bytes line after : List ℕ) → Some (line, after) ≡ cut line_feed bytes → None ≡ version_of line → IsBadLog bytes 1
+pub bad_version : (bytes line after : List ℕ) → Some (line, after) ≡ cut line_feed bytes → None ≡ version_of line
+    → IsBadLog bytes 1
 bad_version bytes line after parts none = bad_heading bytes (λ version later known is.
     let same = some_is (line, after) (heading version, later)
     (parts ∙ ap (cut line_feed) is ∙ cut_field line_feed (heading version) later (heading_lacks version)) in
@@ -141,9 +157,10 @@ bad_version bytes line after parts none = bad_heading bytes (λ version later kn
     none ∙ ap version_of (ap (λ (p : List ℕ × List ℕ). p.0) same) ∙ version_known version known in
     absurd cc)
 
--- ---- bad lines behind the heading
+-- ---- bad lines after the heading
 
-pub bad_after : (bytes heading_line lines : List ℕ) (version line : ℕ) → Some (heading_line, lines) ≡ cut line_feed bytes
+pub bad_after : (bytes heading_line lines : List ℕ) (version line : ℕ)
+    → Some (heading_line, lines) ≡ cut line_feed bytes
     → Some version ≡ version_of heading_line → IsBadAfter version lines line → IsBadLog bytes line
 bad_after bytes heading_line lines version line parts named bad =
     let said = version_said heading_line version (sym named) in
@@ -154,7 +171,8 @@ bad_after bytes heading_line lines version line parts named bad =
     ∙ ap (λ (text : List ℕ). text ++ line_feed ∷ lines) said.1
     ∙ ap (λ (text : List ℕ). heading version ++ line_feed ∷ text) bad.cut
     ∙ sym (append_assoc (heading version) (line_feed ∷ lines_text bad.history) bad.rest) in
-    let cut : bytes ≡ text_of_lines before ++ bad.rest = front ∙ ap (λ (text : List ℕ). text ++ bad.rest) (log_is version bad.history) in
+    let cut : bytes ≡ text_of_lines before ++ bad.rest = front ∙ ap (λ (text : List ℕ). text ++ bad.rest)
+    (log_is version bad.history) in
     record {
       before = before;
       each = each;
@@ -175,17 +193,22 @@ bad_after bytes heading_line lines version line parts named bad =
       };
       leaves = λ this after one is begun.
           let log = begun.text.log in
-          let on = begins (before ++ this ∷ []) begun.later begun.text.version begun.text.entries (All-push IsOneLine before this each one) log.text in
-          clash version begun.text.version bad.history begun.text.entries this on.0 bad.rest after said.0 log.known log.each
+          let on = begins (before ++ this ∷ []) begun.later begun.text.version begun.text.entries
+          (All-push IsOneLine before this each one) log.text in
+          clash version begun.text.version bad.history begun.text.entries this on.0 bad.rest after said.0 log.known
+          log.each
           (on.1 ∙ append_assoc before (this ∷ []) on.0) bad.none is;
       other = λ some.
           elim (compared before bad.rest (whole some.version some.entries) [] each (each_line some.version some.entries)
-          (sym cut ∙ some.log.text ∙ log_is some.version some.entries ∙ sym (append-nil (text_of_lines (whole some.version some.entries))))) [
+          (sym cut ∙ some.log.text ∙ log_is some.version some.entries ∙ sym
+          (append-nil (text_of_lines (whole some.version some.entries))))) [
             | inl all ↦
                 bad.some (append_cancel_left (text_of_lines before) bad.rest []
-                (sym cut ∙ some.log.text ∙ log_is some.version some.entries ∙ ap text_of_lines (sym all) ∙ sym (append-nil (text_of_lines before))))
+                (sym cut ∙ some.log.text ∙ log_is some.version some.entries ∙ ap text_of_lines (sym all)
+                ∙ sym (append-nil (text_of_lines before))))
             | inr (inl on) ↦
-                clash version some.version bad.history some.entries on.this on.more bad.rest (text_of_lines on.more ++ []) said.0 some.log.known
+                clash version some.version bad.history some.entries on.this on.more bad.rest
+                (text_of_lines on.more ++ []) said.0 some.log.known
                 some.log.each on.is bad.none on.whole
             | inr (inr on) ↦ nothing_more on.this (text_of_lines on.more ++ bad.rest) on.whole
           ];
@@ -193,8 +216,10 @@ bad_after bytes heading_line lines version line parts named bad =
 
 -- ---- whole logs
 
-pub good_log : (bytes heading_line lines : List ℕ) (version : ℕ) (entries : List Entry) → Some (heading_line, lines) ≡ cut line_feed bytes
-    → Some version ≡ version_of heading_line → lines ≡ lines_text (reverse entries) → All (IsWellFormed version) (reverse entries)
+pub good_log : (bytes heading_line lines : List ℕ) (version : ℕ) (entries : List Entry)
+    → Some (heading_line, lines) ≡ cut line_feed bytes
+    → Some version ≡ version_of heading_line → lines ≡ lines_text (reverse entries)
+    → All (IsWellFormed version) (reverse entries)
     → IsLogText version (reverse entries) bytes
 good_log bytes heading_line lines version entries parts named is each =
     let said = version_said heading_line version (sym named) in
@@ -207,45 +232,65 @@ good_log bytes heading_line lines version entries parts named is each =
           ∙ ap (λ (text : List ℕ). heading version ++ line_feed ∷ text) is;
     }
 
-pub names_bad : (bytes heading_line lines : List ℕ) (version : ℕ) (fault : LogFault) → Some (heading_line, lines) ≡ cut line_feed bytes
-    → Some version ≡ version_of heading_line → NamesBad (IsBadAfter version lines) fault → NamesBad (IsBadLog bytes) fault
-names_bad bytes heading_line lines version (Bad line) parts named bad = bad_after bytes heading_line lines version line parts named bad
+pub names_bad : (bytes heading_line lines : List ℕ) (version : ℕ) (fault : LogFault)
+    → Some (heading_line, lines) ≡ cut line_feed bytes
+    → Some version ≡ version_of heading_line → NamesBad (IsBadAfter version lines) fault
+    → NamesBad (IsBadLog bytes) fault
+names_bad bytes heading_line lines version (Bad line) parts named bad = bad_after bytes heading_line lines version
+    line parts named bad
 names_bad bytes heading_line lines version NoMemory parts named bad = tt
 
 -- ---- a log that was written
 
-pub written_back : (version other : ℕ) (entries others : List Entry) (bytes : List ℕ) → IsVersion version → All (IsWellFormed version) (reverse entries)
-    → bytes ≡ log_text version (reverse entries) → IsLogText other (reverse others) bytes → (other ≡ version) × (others ≡ entries)
+pub written_back : (version other : ℕ) (entries others : List Entry) (bytes : List ℕ) → IsVersion version
+    → All (IsWellFormed version) (reverse entries)
+    → bytes ≡ log_text version (reverse entries) → IsLogText other (reverse others) bytes
+    → (other ≡ version) × (others ≡ entries)
 written_back version other entries others bytes known each is log =
-    let same = log_says_all bytes other version (reverse others) (reverse entries) log (record { known = known; each = each; text = is }) in
+    let same = log_says_all bytes other version (reverse others) (reverse entries) log
+    (record { known = known; each = each; text = is }) in
     (same.0, sym (reverse-reverse others) ∙ ap reverse same.1 ∙ reverse-reverse entries)
 
-pub not_bad : (version : ℕ) (entries : List Entry) (bytes : List ℕ) (fault : LogFault) → IsVersion version → All (IsWellFormed version) (reverse entries)
+pub not_bad : (version : ℕ) (entries : List Entry) (bytes : List ℕ) (fault : LogFault) → IsVersion version
+    → All (IsWellFormed version) (reverse entries)
     → bytes ≡ log_text version (reverse entries) → NamesBad (IsBadLog bytes) fault → fault ≡ NoMemory
 not_bad version entries bytes (Bad line) known each is bad =
-    absurd (bad.other (record { version = version; entries = reverse entries; log = record { known = known; each = each; text = is } }))
+    absurd (bad.other (record {
+      version = version;
+      entries = reverse entries;
+      log = record
+          { known = known; each = each; text = is };
+    }))
 not_bad version entries bytes NoMemory known each is bad = refl
 
-pub passed_on : {T : Type 0} (result : Result T LogFault) (fault : LogFault) (Named : LogFault → Type 0) → IsErrAnd result (λ given. given ≡ fault)
+pub passed_on : {T : Type 0} (result : Result T LogFault) (fault : LogFault) (Named : LogFault → Type 0)
+    → IsErrAnd result (λ given. given ≡ fault)
     → Named fault → IfErr result Named
 passed_on (Ok value) fault Named is named = tt
 passed_on (Err given) fault Named is named = subst Named (sym is) named
 
-pub version_back : (version : ℕ) (entries : List Entry) (bytes : List ℕ) (result : Result Log LogFault) → IsVersion version
+pub version_back : (version : ℕ) (entries : List Entry) (bytes : List ℕ) (result : Result Log LogFault)
+    → IsVersion version
     → All (IsWellFormed version) entries → bytes ≡ log_text version (reverse entries)
-    → IfOk result (λ log. IsLogText log.version (reverse log.entries.items) bytes) → IfOk result (λ log. log.version ≡ version)
+    → IfOk result (λ log. IsLogText log.version (reverse log.entries.items) bytes)
+    → IfOk result (λ log. log.version ≡ version)
 version_back version entries bytes (Ok log) known each is read =
-    (written_back version log.version entries log.entries.items bytes known (all_reverse (IsWellFormed version) entries each) is read).0
+    (written_back version log.version entries log.entries.items bytes known
+    (all_reverse (IsWellFormed version) entries each) is read).0
 version_back version entries bytes (Err fault) known each is read = tt
 
-pub entries_back : (version : ℕ) (entries : List Entry) (bytes : List ℕ) (result : Result Log LogFault) → IsVersion version
+pub entries_back : (version : ℕ) (entries : List Entry) (bytes : List ℕ) (result : Result Log LogFault)
+    → IsVersion version
     → All (IsWellFormed version) entries → bytes ≡ log_text version (reverse entries)
-    → IfOk result (λ log. IsLogText log.version (reverse log.entries.items) bytes) → IfOk result (λ log. log.entries.items ≡ entries)
+    → IfOk result (λ log. IsLogText log.version (reverse log.entries.items) bytes)
+    → IfOk result (λ log. log.entries.items ≡ entries)
 entries_back version entries bytes (Ok log) known each is read =
-    (written_back version log.version entries log.entries.items bytes known (all_reverse (IsWellFormed version) entries each) is read).1
+    (written_back version log.version entries log.entries.items bytes known
+    (all_reverse (IsWellFormed version) entries each) is read).1
 entries_back version entries bytes (Err fault) known each is read = tt
 
-pub memory_back : (version : ℕ) (entries : List Entry) (bytes : List ℕ) (result : Result Log LogFault) → IsVersion version
+pub memory_back : (version : ℕ) (entries : List Entry) (bytes : List ℕ) (result : Result Log LogFault)
+    → IsVersion version
     → All (IsWellFormed version) entries → bytes ≡ log_text version (reverse entries)
     → IfErr result (NamesBad (IsBadLog bytes)) → IfErr result (λ fault. fault ≡ NoMemory)
 memory_back version entries bytes (Ok log) known each is bad = tt

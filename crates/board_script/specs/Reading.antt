@@ -28,7 +28,7 @@ pub record HasEntry (version n : ℕ) (rest : List ℕ) (entry : Entry) (after :
 abbrev pub HasNoEntry : (version n : ℕ) → (rest : List ℕ) → Type 0
 HasNoEntry version n rest = (entry : Entry) (after : List ℕ) → ¬ HasEntry version n rest entry after
 
--- behind the heading the lines of a history stand, and then none of the next entry
+-- after the heading the lines of a history stand, and then none of the next entry
 pub record IsBadAfter (version : ℕ) (lines : List ℕ) (line : ℕ) : Type 0 where
   pub history : List Entry
   pub each : All (IsWellFormed version) history

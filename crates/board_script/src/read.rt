@@ -60,7 +60,7 @@ fn read_entry(
     }
 }
 
-/// The entry of line `n`, and what stands behind its line feed. None where the line is none of the log, or has no end.
+/// The entry of line `n`, and what stands after its line feed. None where the line is none of the log, or has no end.
 fn next_entry<'a>(
     text: &mut String,
     version: u8,
@@ -103,8 +103,8 @@ fn read_entries(alloc: Global, version: u8, lines: &[u8]) -> Result<Vec<Entry>, 
     Ok(entries)
 }
 
-/// Reads a log. It is `Ok` exactly for the text of a log of well-formed entries, and says those. Otherwise, where there is
-/// memory, it names the first line that, with those before it, begins no such text; a line without its line feed is one.
+/// Reads a log. `Ok` exactly for the text of a log of well-formed entries, which it says. Otherwise, where there is
+/// memory, it names the first line that, with those before it, begins no such text, as one without its line feed.
 pub fn read_log(alloc: Global, bytes: &[u8]) -> Result<Log, LogFault>
     requires { length bytes.now < 2 ^ 32 - 1 }
     ensures log { IfOk result (λ log. IsLogText log.version (reverse log.entries.items) bytes.now) }

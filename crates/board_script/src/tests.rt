@@ -149,10 +149,11 @@ pub(crate) fn read_short(rt: &impl Abort, alloc: Global, text: &str) -> Result<L
     read_log(alloc, text.as_bytes())
 }
 
-/// A log of version 2 with one line, of the first entry of processor 0.
-fn log_of(alloc: Global, statement_and_reply: &str) -> Result<String, Fail> {
+/// A log with one line, of the first entry of processor 0.
+fn log_of(alloc: Global, heading: &str, statement_and_reply: &str) -> Result<String, Fail> {
     let mut text = String::new(alloc);
-    text.push_str("access log 2\n1 0.1 ")?;
+    text.push_str(heading)?;
+    text.push_str("\n1 0.1 ")?;
     text.push_str(statement_and_reply)?;
     text.push('\n')?;
     Ok(text)
@@ -162,6 +163,7 @@ fn log_of(alloc: Global, statement_and_reply: &str) -> Result<String, Fail> {
 fn expect_lines(
     rt: &impl Abort,
     alloc: Global,
+    heading: &str,
     lines: &[(Event, Reply, &str)],
 ) -> Result<(), Fail> {
     for (event, reply, expected) in lines {
@@ -169,7 +171,7 @@ fn expect_lines(
         let line = log_line(alloc, 1, &first)?;
         let statement_and_reply = line.as_str().strip_prefix("1 0.1 ");
         assert_eq!(rt; statement_and_reply, Some(*expected));
-        let text = log_of(alloc, expected)?;
+        let text = log_of(alloc, heading, expected)?;
         let log = read_short(rt, alloc, text.as_str())?;
         assert_eq!(rt; log.entries.as_slice(), [first].as_slice(), "{expected}");
     }
@@ -276,7 +278,8 @@ fn entries_have_their_lines(rt: HostRuntime) -> Result<(), Fail> {
             "bad 3 = - ata -",
         ),
     ];
-    expect_lines(&rt, rt.alloc(), &lines)
+    expect_lines(&rt, rt.alloc(), "access log 1", &lines)?;
+    expect_lines(&rt, rt.alloc(), "access log 2", &lines)
 }
 
 #[test]
@@ -313,7 +316,7 @@ fn a_wide_access_has_what_answered_each_part(rt: HostRuntime) -> Result<(), Fail
             "r w 0009FFFF smm = 0000 dram:0 - smram -",
         ),
     ];
-    expect_lines(&rt, rt.alloc(), &lines)
+    expect_lines(&rt, rt.alloc(), "access log 2", &lines)
 }
 
 #[test]

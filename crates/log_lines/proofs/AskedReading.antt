@@ -68,17 +68,20 @@ IsLevelEvent make verb number level event =
 
 abbrev IsExact : (make : ℕ → Bool → Event) → (verb : List ℕ) → (number level : ℕ) → Option Event → Type 0
 IsExact make verb number level found =
-    MatchOption found ((event : Event) → ¬ IsLevelEvent make verb number level event) (IsLevelEvent make verb number level)
+    MatchOption found ((event : Event) → ¬ IsLevelEvent make verb number level event)
+    (IsLevelEvent make verb number level)
 
 level_low : (make : ℕ → Bool → Event) (verb : List ℕ) (actor number level : ℕ) → eqb level 0 ≡ true
     → level_item make verb actor number level ≡ ask actor (make number false)
 level_low make verb actor number level off = rw off refl
 
-level_high : (make : ℕ → Bool → Event) (verb : List ℕ) (actor number level : ℕ) → eqb level 0 ≡ false → eqb level 1 ≡ true
+level_high : (make : ℕ → Bool → Event) (verb : List ℕ) (actor number level : ℕ) → eqb level 0 ≡ false
+    → eqb level 1 ≡ true
     → level_item make verb actor number level ≡ ask actor (make number true)
 level_high make verb actor number level other on = rw (other, on) refl
 
-level_none : (make : ℕ → Bool → Event) (verb : List ℕ) (number level : ℕ) (event : Event) → eqb level 0 ≡ false → eqb level 1 ≡ false
+level_none : (make : ℕ → Bool → Event) (verb : List ℕ) (number level : ℕ) (event : Event) → eqb level 0 ≡ false
+    → eqb level 1 ≡ false
     → ¬ IsLevelEvent make verb number level event
 level_none make verb number level event other neither is =
     let item : level_item make verb 0 number level ≡ AskLevel 0 verb number level = rw (other, neither) refl in
@@ -101,7 +104,8 @@ low make verb number level fits = elim (cases_Bool (eqb level 0)) [
 ]
 
 -- no level makes a number that is no byte one
-too_high : (make : ℕ → Bool → Event) (verb : List ℕ) (number level : ℕ) → ((on : Bool) → IsPlaced (make number on) → number < 0x100)
+too_high : (make : ℕ → Bool → Event) (verb : List ℕ) (number level : ℕ) → ((on : Bool) → IsPlaced (make number on)
+    → number < 0x100)
     → 0x100 ≤ number → (event : Event) → ¬ IsLevelEvent make verb number level event
 too_high make verb number level named high event is = elim (cases_Bool (eqb level 0)) [
   | inl off ↦
@@ -109,7 +113,8 @@ too_high make verb number level named high event is = elim (cases_Bool (eqb leve
       omega (arith, high, named false (subst IsPlaced (sym same) is.1))
   | inr other ↦ elim (cases_Bool (eqb level 1)) [
     | inl on ↦
-        let same : make number true ≡ event = ap event_in (sym (level_high make verb 0 number level other on) ∙ is.0 0) in
+        let same : make number true ≡ event = ap event_in (sym (level_high make verb 0 number level other on)
+        ∙ is.0 0) in
         omega (arith, high, named true (subst IsPlaced (sym same) is.1))
     | inr neither ↦ level_none make verb number level event other neither is
   ]
@@ -128,32 +133,42 @@ as_event : (asked : Asked) (make : ℕ → Bool → Event) (verb : List ℕ) (nu
     → ((actor : ℕ) → asked_said actor asked ≡ level_item make verb actor number level)
     → IsExact make verb number level found
     → MatchOption found ((event : Event) → ¬ IsEventOf asked event) (IsEventOf asked)
-as_event asked make verb number level None said exact = λ event is. exact event (λ actor. sym (said actor) ∙ is.said actor, is.fits)
+as_event asked make verb number level None said exact = λ event is. exact event (
+  λ actor. sym (said actor)
+      ∙ is.said actor,
+  is.fits,
+)
 as_event asked make verb number level (Some event) said exact =
     record { said = λ actor. said actor ∙ exact.0 actor; fits = exact.1 }
 
-pub wire_exact : (dev level : ℕ) → MatchOption (wire_of dev level) ((event : Event) → ¬ IsEventOf (Wire dev level) event) (IsEventOf (Wire dev level))
+pub wire_exact : (dev level : ℕ) → MatchOption (wire_of dev level) ((event : Event)
+    → ¬ IsEventOf (Wire dev level) event) (IsEventOf (Wire dev level))
 unfolding wire_of
 wire_exact dev level =
     as_event (Wire dev level) SetWire (codes "wire") dev level (level_event SetWire dev level) (λ actor. refl)
-    (level_exact SetWire (codes "wire") dev level (λ on small. record { named = small; placed = refl }) (λ on is. is.named))
+    (level_exact SetWire (codes "wire") dev level (λ on small. record { named = small; placed = refl })
+    (λ on is. is.named))
 
-pub line_exact : (irq level : ℕ) → MatchOption (line_of irq level) ((event : Event) → ¬ IsEventOf (Line irq level) event) (IsEventOf (Line irq level))
+pub line_exact : (irq level : ℕ) → MatchOption (line_of irq level) ((event : Event)
+    → ¬ IsEventOf (Line irq level) event) (IsEventOf (Line irq level))
 unfolding line_of
 line_exact irq level =
     as_event (Line irq level) SetLine (codes "irq") irq level (level_event SetLine irq level) (λ actor. refl)
-    (level_exact SetLine (codes "irq") irq level (λ on small. record { named = small; placed = refl }) (λ on is. is.named))
+    (level_exact SetLine (codes "irq") irq level (λ on small. record { named = small; placed = refl })
+    (λ on is. is.named))
 
 -- ---- whole statements
 
-pub none_asked : (version seq : ℕ) (text : List ℕ) (event : Event) → ((item : Item) → ¬ HasForm version text item) → ¬ IsAsked version text seq event
+pub none_asked : (version seq : ℕ) (text : List ℕ) (event : Event) → ((item : Item) → ¬ HasForm version text item)
+    → ¬ IsAsked version text seq event
 none_asked version seq text event none is = none (ask seq event) is.has
 
 -- a line that says another item asks nothing
 pub not_asked : (version seq : ℕ) (text : List ℕ) (item : Read) (event : Event) → HasForm version text (line_said item)
     → ((actor : ℕ) (asked : Asked) → item ≢ Asks actor asked) → ¬ IsAsked version text seq event
 not_asked version seq text (Cpus count) event has other is = true≢false (ap asks (one_item version text _ _ is.has has))
-not_asked version seq text (SetMemory mib) event has other is = true≢false (ap asks (one_item version text _ _ is.has has))
+not_asked version seq text (SetMemory mib) event has other is = true≢false
+    (ap asks (one_item version text _ _ is.has has))
 not_asked version seq text (Rom name) event has other is = true≢false (ap asks (one_item version text _ _ is.has has))
 not_asked version seq text (Disk name) event has other is = true≢false (ap asks (one_item version text _ _ is.has has))
 not_asked version seq text (Card card) event has other is = true≢false (ap asks (one_item version text _ _ is.has has))
@@ -161,12 +176,15 @@ not_asked version seq text Phase event has other is = true≢false (ap asks (one
 not_asked version seq text (Asks actor asked) event has other is = other actor asked refl
 
 -- one that says a statement asks what is read of it
-asked_same : (version actor seq : ℕ) (text : List ℕ) (asked : Asked) (event : Event) → HasForm version text (asked_said actor asked)
+asked_same : (version actor seq : ℕ) (text : List ℕ) (asked : Asked) (event : Event)
+    → HasForm version text (asked_said actor asked)
     → IsAsked version text seq event → asked_said actor asked ≡ ask seq event
-asked_same version actor seq text asked event has is = one_item version text (asked_said actor asked) (ask seq event) has is.has
+asked_same version actor seq text asked event has is = one_item version text (asked_said actor asked) (ask seq event)
+    has is.has
 
 level_again : (make : ℕ → Bool → Event) (verb : List ℕ) (number level actor seq other : ℕ) (event : Event)
-    → level_item make verb actor number level ≡ ask seq event → level_item make verb other number level ≡ ask other event
+    → level_item make verb actor number level ≡ ask seq event → level_item make verb other number level ≡ ask other
+    event
 level_again make verb number level actor seq other event same = elim (cases_Bool (eqb level 0)) [
   | inl off ↦
       level_low make verb other number level off
@@ -176,21 +194,27 @@ level_again make verb number level actor seq other event same = elim (cases_Bool
         level_high make verb other number level more on
         ∙ ap (ask other) (ap event_in (sym (level_high make verb actor number level more on) ∙ same))
     | inr neither ↦
-        let item : level_item make verb actor number level ≡ AskLevel actor verb number level = rw (more, neither) refl in
+        let item : level_item make verb actor number level ≡ AskLevel actor verb number level = rw (more, neither)
+        refl in
         absurd (true≢false (sym (ap asks (sym item ∙ same))))
   ]
 ]
 
 -- whatever the processor is
-said_again : (asked : Asked) (actor seq other : ℕ) (event : Event) → asked_said actor asked ≡ ask seq event → asked_said other asked ≡ ask other event
+said_again : (asked : Asked) (actor seq other : ℕ) (event : Event) → asked_said actor asked ≡ ask seq event
+    → asked_said other asked ≡ ask other event
 said_again (AnEvent e) actor seq other event same = ap (ask other) (ap event_in same)
 said_again (AMoment m) actor seq other event same = ap (ask other) (ap event_in same)
-said_again (Wire dev level) actor seq other event same = level_again SetWire (codes "wire") dev level actor seq other event same
-said_again (Line irq level) actor seq other event same = level_again SetLine (codes "irq") irq level actor seq other event same
+said_again (Wire dev level) actor seq other event same = level_again SetWire (codes "wire") dev level actor seq other
+    event same
+said_again (Line irq level) actor seq other event same = level_again SetLine (codes "irq") irq level actor seq other
+    event same
 
-pub asked_exact : (version actor : ℕ) (text : List ℕ) (asked : Asked) (found : Option (ℕ × Event)) → HasForm version text (asked_said actor asked)
+pub asked_exact : (version actor : ℕ) (text : List ℕ) (asked : Asked) (found : Option (ℕ × Event))
+    → HasForm version text (asked_said actor asked)
     → MatchOption found ((event : Event) → ¬ IsEventOf asked event) (λ p. (p.0 ≡ actor) × IsEventOf asked p.1)
-    → MatchOption found ((seq : ℕ) (event : Event) → ¬ IsAsked version text seq event) (λ p. IsAsked version text p.0 p.1)
+    → MatchOption found ((seq : ℕ) (event : Event) → ¬ IsAsked version text seq event)
+    (λ p. IsAsked version text p.0 p.1)
 asked_exact version actor text asked None has exact = λ seq event is.
     exact event (record {
       said = λ other. said_again asked actor seq other event (asked_same version actor seq text asked event has is);
@@ -203,8 +227,10 @@ asked_exact version actor text asked (Some p) has exact = record {
 
 -- ---- events in their places
 
-pub named_is : (event : Event) → ((access : Access) → event ≢ Memory access) → ((access : WideAccess) → event ≢ Wide access)
-    → ((access : PortAccess) → event ≢ Port access) → ((moment : Moment) → event ≢ Time moment) → IsNamed event → IsPlaced event
+pub named_is : (event : Event) → ((access : Access) → event ≢ Memory access) → ((access : WideAccess)
+    → event ≢ Wide access)
+    → ((access : PortAccess) → event ≢ Port access) → ((moment : Moment) → event ≢ Time moment) → IsNamed event
+    → IsPlaced event
 named_is (Memory access) one two three four named = absurd (one access refl)
 named_is (Wide access) one two three four named = absurd (two access refl)
 named_is (Port access) one two three four named = absurd (three access refl)

@@ -10,8 +10,9 @@ use Rattle.script_spec.proofs.Fields.{lacks-first, lacks-later}
 use Rattle.script_lines.proofs.Chains.{some_is, mapped}
 use Rattle.log_lines.specs.Cuts.{cut}
 
--- behind a text without the mark
-pub cut_field : (mark : ℕ) (field rest : List ℕ) → lacks mark field ≡ true → cut mark (field ++ mark ∷ rest) ≡ Some (field, rest)
+-- after a text without the mark
+pub cut_field : (mark : ℕ) (field rest : List ℕ) → lacks mark field ≡ true
+    → cut mark (field ++ mark ∷ rest) ≡ Some (field, rest)
 unfolding cut
 cut_field mark [] rest lack = rw (eq-eqb mark mark refl) refl
 cut_field mark (c ∷ cs) rest lack =
@@ -27,7 +28,8 @@ place_of mark text = position_or_len (is_mark mark) text
 abbrev cut_to : (place : ℕ) → List ℕ → Option (List ℕ × List ℕ)
 cut_to place text = cond (ltb place (length text)) (Some (take place text, drop (place + 1) text)) None
 
-cut_later : (c place : ℕ) (cs : List ℕ) → option_map (λ p. (c ∷ p.0, p.1)) (cut_to place cs) ≡ cut_to (1 + place) (c ∷ cs)
+cut_later : (c place : ℕ) (cs : List ℕ) → option_map (λ p. (c ∷ p.0, p.1)) (cut_to place cs) ≡ cut_to (1 + place)
+    (c ∷ cs)
 cut_later c place cs =
     let e : 1 + place ≡ suc place = omega arith in
     let f : suc place + 1 ≡ suc (place + 1) = omega arith in
@@ -62,14 +64,16 @@ uncut mark text none =
     sym (cut_is mark text ∙ rw (nowhere (ltb (place_of mark text) (length text)) (place_of mark text) none) refl)
 
 -- the two parts and the mark between them are the text
-pub cut_joined : (mark : ℕ) (text front rest : List ℕ) → cut mark text ≡ Some (front, rest) → text ≡ front ++ mark ∷ rest
+pub cut_joined : (mark : ℕ) (text front rest : List ℕ) → cut mark text ≡ Some (front, rest)
+    → text ≡ front ++ mark ∷ rest
 unfolding cut
 cut_joined mark [] front rest e = absurd cc
 cut_joined mark (c ∷ cs) front rest e = elim (cases_Bool (eqb c mark)) [
   | inl here ↦
       let first = ap (λ (p : List ℕ × List ℕ). p.0) (some_is ([], cs) (front, rest) (rw here at e)) in
       let later = ap (λ (p : List ℕ × List ℕ). p.1) (some_is ([], cs) (front, rest) (rw here at e)) in
-      ap (λ (b : ℕ). b ∷ cs) (eqb-true c mark here) ∙ ap (λ (text : List ℕ). mark ∷ text) later ∙ ap (λ (text : List ℕ). text ++ mark ∷ rest) first
+      ap (λ (b : ℕ). b ∷ cs) (eqb-true c mark here) ∙ ap (λ (text : List ℕ). mark ∷ text) later
+      ∙ ap (λ (text : List ℕ). text ++ mark ∷ rest) first
   | inr other ↦
       let m = mapped (cut mark cs) (λ p. (c ∷ p.0, p.1)) (front, rest) (rw other at e) in
       let first = ap (λ (p : List ℕ × List ℕ). p.0) m.2 in

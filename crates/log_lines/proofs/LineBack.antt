@@ -48,9 +48,10 @@ pieces_said : (line number rest actor later asked replied : List ℕ) → cut sp
     → pieces_of line ≡ Some (record { actor = actor; asked = asked; replied = replied })
 unfolding pieces_of
 pieces_said line number rest actor later asked replied one two three =
-    rw (one, two, three) (ap (λ (text : List ℕ). Some (record { actor = actor; asked = text; replied = replied })) (but_last_push asked space))
+    rw (one, two, three) (ap (λ (text : List ℕ). Some (record { actor = actor; asked = text; replied = replied }))
+    (but_last_push asked space))
 
--- what stands behind the point, cut before its `=`
+-- what stands after the point, cut before its `=`
 later_parts : (seq event reply : List ℕ)
     → seq ++ (space ∷ event ++ (codes " = " ++ reply)) ≡ (seq ++ space ∷ event ++ space ∷ []) ++ 0x3D ∷ (space ∷ reply)
 later_parts seq event reply =
@@ -58,7 +59,8 @@ later_parts seq event reply =
     ∙ sym (append_assoc seq (space ∷ event ++ space ∷ []) (0x3D ∷ space ∷ reply))
     ∙ ap (λ (text : List ℕ). text ++ 0x3D ∷ space ∷ reply) (sym (append_assoc seq (space ∷ event) (space ∷ [])))
 
-pub line_pieces : (version n : ℕ) (entry : Entry) → IsWellFormed version entry → pieces_of (line_text n entry) ≡ Some (pieces entry)
+pub line_pieces : (version n : ℕ) (entry : Entry) → IsWellFormed version entry
+    → pieces_of (line_text n entry) ≡ Some (pieces entry)
 unfolding line_text
 line_pieces version n entry formed =
     let event : List ℕ = event_text entry.event in
@@ -73,11 +75,14 @@ line_pieces version n entry formed =
     refl
     in
     ap pieces_of
-    (seven_parts (decimal n) (space ∷ decimal entry.actor) (codes ".") (decimal entry.seq) (space ∷ event) (codes " = ") reply)
+    (seven_parts (decimal n) (space ∷ decimal entry.actor) (codes ".") (decimal entry.seq) (space ∷ event)
+    (codes " = ") reply)
     ∙ pieces_said (decimal n ++ space ∷ rest) (decimal n) rest (decimal entry.actor) later asked (space ∷ reply)
     (cut_field space (decimal n) rest (lacks-word space (decimal n) refl (decimal_word n)))
-    (cut_field 0x2E (decimal entry.actor) later (lacks-decimal 0x2E entry.actor (inl (omega arith)) (omega (arith, formed.actor))))
-    (ap (cut 0x3D) (later_parts (decimal entry.seq) event reply) ∙ cut_field 0x3D (asked ++ space ∷ []) (space ∷ reply) lack)
+    (cut_field 0x2E (decimal entry.actor) later (lacks-decimal 0x2E entry.actor (inl (omega arith))
+    (omega (arith, formed.actor))))
+    (ap (cut 0x3D) (later_parts (decimal entry.seq) event reply) ∙ cut_field 0x3D (asked ++ space ∷ [])
+    (space ∷ reply) lack)
 
 actor_said : (actor : ℕ) → actor < 0x100 → actor_of (decimal actor) ≡ Some actor
 unfolding actor_of
@@ -94,37 +99,45 @@ asked_said version entry formed = record {
 -- ---- the pieces of a line that was read
 
 -- the pieces are those of an entry
-pub pieces_are : (version n : ℕ) (entry : Entry) (line : List ℕ) (found : Option Pieces) → IsWellFormed version entry → line ≡ line_text n entry
+pub pieces_are : (version n : ℕ) (entry : Entry) (line : List ℕ) (found : Option Pieces)
+    → IsWellFormed version entry → line ≡ line_text n entry
     → found ≡ pieces_of line → found ≡ Some (pieces entry)
 pieces_are version n entry line found formed is read = read ∙ ap pieces_of is ∙ line_pieces version n entry formed
 
 pub actor_read : (version : ℕ) (entry : Entry) (actor asked replied : List ℕ) → IsWellFormed version entry
-    → Some (record { actor = actor; asked = asked; replied = replied }) ≡ Some (pieces entry) → actor_of actor ≡ Some entry.actor
+    → Some (record { actor = actor; asked = asked; replied = replied }) ≡ Some (pieces entry)
+    → actor_of actor ≡ Some entry.actor
 actor_read version entry actor asked replied formed are =
     ap (λ (p : Pieces). actor_of p.actor) (some_is _ (pieces entry) are) ∙ actor_said entry.actor formed.actor
 
 pub asked_read : (version : ℕ) (entry : Entry) (actor asked replied : List ℕ) → IsWellFormed version entry
-    → Some (record { actor = actor; asked = asked; replied = replied }) ≡ Some (pieces entry) → IsAsked version asked entry.seq entry.event
+    → Some (record { actor = actor; asked = asked; replied = replied }) ≡ Some (pieces entry)
+    → IsAsked version asked entry.seq entry.event
 asked_read version entry actor asked replied formed are =
-    subst (λ (p : Pieces). IsAsked version p.asked entry.seq entry.event) (sym (some_is _ (pieces entry) are)) (asked_said version entry formed)
+    subst (λ (p : Pieces). IsAsked version p.asked entry.seq entry.event) (sym (some_is _ (pieces entry) are))
+    (asked_said version entry formed)
 
 pub replied_is : (entry : Entry) (actor asked replied : List ℕ)
-    → Some (record { actor = actor; asked = asked; replied = replied }) ≡ Some (pieces entry) → replied ≡ replied_text entry
+    → Some (record { actor = actor; asked = asked; replied = replied }) ≡ Some (pieces entry)
+    → replied ≡ replied_text entry
 replied_is entry actor asked replied are = ap (λ (p : Pieces). p.replied) (some_is _ (pieces entry) are)
 
 -- a statement asks one thing
-pub asked_event : (version seq other : ℕ) (text : List ℕ) (event asked : Event) → IsAsked version text seq event → IsAsked version text other asked
+pub asked_event : (version seq other : ℕ) (text : List ℕ) (event asked : Event) → IsAsked version text seq event
+    → IsAsked version text other asked
     → event ≡ asked
 asked_event version seq other text event asked one two =
     event_is seq other event asked (one_item version text (ask seq event) (ask other asked) one.has two.has)
 
-pub asked_seq : (version seq other : ℕ) (text : List ℕ) (event asked : Event) → IsAsked version text seq event → IsAsked version text other asked
+pub asked_seq : (version seq other : ℕ) (text : List ℕ) (event asked : Event) → IsAsked version text seq event
+    → IsAsked version text other asked
     → seq ≡ other
 asked_seq version seq other text event asked one two =
     actor_is seq other event asked (one_item version text (ask seq event) (ask other asked) one.has two.has)
 
 pub reply_found : (version : ℕ) (entry : Entry) (event : Event) (text : List ℕ) (found : Option Reply)
-    → ((version : ℕ) (reply : Reply) → IsEventForm version event → HasShape event reply → text ≡ space ∷ reply_text (value_bytes event) reply
+    → ((version : ℕ) (reply : Reply) → IsEventForm version event → HasShape event reply
+    → text ≡ space ∷ reply_text (value_bytes event) reply
     → found ≡ Some reply)
     → IsWellFormed version entry → event ≡ entry.event → text ≡ replied_text entry → found ≡ Some entry.reply
 reply_found version entry event text found reads formed same is =
@@ -132,7 +145,8 @@ reply_found version entry event text found reads formed same is =
     (subst (λ (e : Event). HasShape e entry.reply) (sym same) formed.shape)
     (is ∙ ap (λ (e : Event). space ∷ reply_text (value_bytes e) entry.reply) (sym same))
 
-pub entry_is : (entry : Entry) (actor seq : ℕ) (event : Event) (reply : Reply) → actor ≡ entry.actor → seq ≡ entry.seq → event ≡ entry.event
+pub entry_is : (entry : Entry) (actor seq : ℕ) (event : Event) (reply : Reply) → actor ≡ entry.actor
+    → seq ≡ entry.seq → event ≡ entry.event
     → reply ≡ entry.reply → Some (record { actor = actor; seq = seq; event = event; reply = reply }) ≡ Some entry
 entry_is entry actor seq event reply one two three four = rw (one, two, three, four) refl
 

@@ -53,27 +53,37 @@ reply_spaced bytes (InParts value parts) =
     ap (λ (rest : List ℕ). (space ∷ value_text bytes value) ++ rest) (parts_spaced (parts_list parts))
 reply_spaced bytes (Saw look) =
     ap (λ (text : List ℕ). space ∷ text)
-    (four_parts (decimal look.version) (space ∷ hex_long look.lo) (space ∷ hex_long look.hi) (space ∷ area_text look.area))
-    ∙ ap (λ (rest : List ℕ). (space ∷ decimal look.version) ++ ((space ∷ hex_long look.lo) ++ ((space ∷ hex_long look.hi) ++ rest)))
+    (four_parts (decimal look.version) (space ∷ hex_long look.lo) (space ∷ hex_long look.hi)
+    (space ∷ area_text look.area))
+    ∙ ap (λ (rest : List ℕ). (space ∷ decimal look.version) ++
+    ((space ∷ hex_long look.lo) ++ ((space ∷ hex_long look.hi) ++ rest)))
     (sym (append-nil (space ∷ area_text look.area)))
 
 reply_words : (bytes : ℕ) (reply : Reply) → All IsWord (words_in bytes reply)
 reply_words bytes (Bus value target denial) =
-    All-cons IsWord (value_text bytes value) (target_text target ∷ denial_text denial ∷ []) (lacks-word space (value_text bytes value) refl (value_word bytes value))
-    (All-cons IsWord (target_text target) (denial_text denial ∷ []) (lacks-word space (target_text target) refl (target_word target))
-    (All-cons IsWord (denial_text denial) [] (lacks-word space (denial_text denial) refl (denial_word denial)) (All-nil IsWord)))
+    All-cons IsWord (value_text bytes value) (target_text target ∷ denial_text denial ∷ [])
+    (lacks-word space (value_text bytes value) refl (value_word bytes value))
+    (All-cons IsWord (target_text target) (denial_text denial ∷ [])
+    (lacks-word space (target_text target) refl (target_word target))
+    (All-cons IsWord (denial_text denial) [] (lacks-word space (denial_text denial) refl (denial_word denial))
+    (All-nil IsWord)))
 reply_words bytes (InParts value parts) =
-    All-cons IsWord (value_text bytes value) (words_of (parts_list parts)) (lacks-word space (value_text bytes value) refl (value_word bytes value))
+    All-cons IsWord (value_text bytes value) (words_of (parts_list parts))
+    (lacks-word space (value_text bytes value) refl (value_word bytes value))
     (words_lack (parts_list parts))
 reply_words bytes (Saw look) =
     let last : List (List ℕ) = area_text look.area ∷ [] in
-    All-cons IsWord (decimal look.version) (hex_long look.lo ∷ hex_long look.hi ∷ last) (lacks-word space (decimal look.version) refl (decimal_word look.version))
-    (All-cons IsWord (hex_long look.lo) (hex_long look.hi ∷ last) (lacks-word space (hex_long look.lo) refl (hex_number_word 4 look.lo))
+    All-cons IsWord (decimal look.version) (hex_long look.lo ∷ hex_long look.hi ∷ last)
+    (lacks-word space (decimal look.version) refl (decimal_word look.version))
+    (All-cons IsWord (hex_long look.lo) (hex_long look.hi ∷ last)
+    (lacks-word space (hex_long look.lo) refl (hex_number_word 4 look.lo))
     (All-cons IsWord (hex_long look.hi) last (lacks-word space (hex_long look.hi) refl (hex_number_word 4 look.hi))
-    (All-cons IsWord (area_text look.area) [] (lacks-word space (area_text look.area) refl (area_word look.area)) (All-nil IsWord))))
+    (All-cons IsWord (area_text look.area) [] (lacks-word space (area_text look.area) refl (area_word look.area))
+    (All-nil IsWord))))
 
 reply_fields : (bytes : ℕ) (reply : Reply) → fields_of (space ∷ reply_text bytes reply) ≡ [] ∷ words_in bytes reply
-reply_fields bytes reply = ap fields_of (reply_spaced bytes reply) ∙ split_words (words_in bytes reply) (reply_words bytes reply)
+reply_fields bytes reply = ap fields_of (reply_spaced bytes reply) ∙ split_words (words_in bytes reply)
+    (reply_words bytes reply)
 
 few_words : (bytes : ℕ) (reply : Reply) → length ([] ∷ words_in bytes reply) ≤ 10
 few_words bytes (Bus value target denial) = omega arith
@@ -104,7 +114,8 @@ bus_back writes bytes (Bus value target denial) fits =
 bus_back writes bytes (InParts value parts) fits = absurd fits
 bus_back writes bytes (Saw look) fits = absurd fits
 
-part_said : (t d : List ℕ) (target : Target) (denial : Option Denial) → target_of t ≡ Some target → denial_of d ≡ Some denial
+part_said : (t d : List ℕ) (target : Target) (denial : Option Denial) → target_of t ≡ Some target
+    → denial_of d ≡ Some denial
     → part_of t d ≡ Some (record { target = target; denial = denial })
 unfolding part_of
 part_said t d target denial one two = rw (one, two) refl
@@ -138,7 +149,8 @@ parts_back (Four a b c d) fits =
       part_back d (All-head FitsPart d [] fourth),
     ) refl
 
-counted : (access : WideAccess) (most addr left : ℕ) → length (parts_from access most addr left) ≡ part_count most addr left
+counted : (access : WideAccess) (most addr left : ℕ) → length (parts_from access most addr left) ≡ part_count most
+    addr left
 unfolding parts_from part_count
 counted access zero addr left = refl
 counted access (suc most) addr left = elim (cases_Bool (eqb left 0)) [
@@ -151,12 +163,14 @@ counted access (suc most) addr left = elim (cases_Bool (eqb left 0)) [
 
 wide_said : (access : WideAccess) (v : List ℕ) (words : List (List ℕ)) (value : Option ℕ) (parts : Parts)
     → value_of (is_write access.kind) access.bytes v ≡ Some value → parts_in words ≡ Some parts
-    → length (parts_list parts) ≡ part_count 4 access.addr access.bytes → wide_of access (v ∷ words) ≡ Some (InParts value parts)
+    → length (parts_list parts) ≡ part_count 4 access.addr access.bytes
+    → wide_of access (v ∷ words) ≡ Some (InParts value parts)
 unfolding wide_of
 wide_said access v words value parts one two three =
     rw (one, two, eq-eqb (length (parts_list parts)) (part_count 4 access.addr access.bytes) three) refl
 
-wide_back : (access : WideAccess) (reply : Reply) → IsWideReply (is_write access.kind) access.bytes (length (parts_of access)) reply
+wide_back : (access : WideAccess) (reply : Reply) → IsWideReply (is_write access.kind) access.bytes
+    (length (parts_of access)) reply
     → wide_of access (words_in access.bytes reply) ≡ Some reply
 wide_back access (Bus value target denial) fits = absurd fits
 wide_back access (InParts value parts) fits =
@@ -175,10 +189,12 @@ look_back bytes (Bus value target denial) fits = absurd fits
 look_back bytes (InParts value parts) fits = absurd fits
 look_back bytes (Saw look) fits =
     look_said (decimal look.version) (hex_long look.lo) (hex_long look.hi) (area_text look.area) look
-    (decimal_back look.version fits.0) (hex_read 4 look.lo (omega (arith, fits.1))) (hex_read 4 look.hi (omega (arith, fits.2)))
+    (decimal_back look.version fits.0) (hex_read 4 look.lo (omega (arith, fits.1)))
+    (hex_read 4 look.hi (omega (arith, fits.2)))
     (area_back look.area fits.3)
 
-reply_back : (event : Event) (reply : Reply) → HasShape event reply → reply_of event (words_in (value_bytes event) reply) ≡ Some reply
+reply_back : (event : Event) (reply : Reply) → HasShape event reply → reply_of event
+    (words_in (value_bytes event) reply) ≡ Some reply
 unfolding reply_of
 reply_back (Memory access) reply shape = bus_back (is_write access.kind) (bytes_of access.width) reply shape
 reply_back (Wide access) reply shape = wide_back access reply shape
@@ -212,9 +228,11 @@ narrow_value true bytes value few fits = rw fits tt
 narrow_value false bytes None few fits = tt
 narrow_value false bytes (Some n) few fits = omega (arith, fits, pow-le-pow_right {n = 256} (lit< tt) few)
 
-pub wide_shape : (access : WideAccess) (value : Option ℕ) (parts : Parts) → IsReplyValue (is_write access.kind) access.bytes value
+pub wide_shape : (access : WideAccess) (value : Option ℕ) (parts : Parts)
+    → IsReplyValue (is_write access.kind) access.bytes value
     → All FitsPart (parts_list parts)
-    → IfSome (parts_with access value parts) (IsWideReply (is_write access.kind) access.bytes (length (parts_of access)))
+    → IfSome (parts_with access value parts) (IsWideReply (is_write access.kind) access.bytes
+    (length (parts_of access)))
 wide_shape access value parts fits each =
     elim (cases_Bool (eqb (length (parts_list parts)) (part_count 4 access.addr access.bytes))) [
       | inl same ↦

@@ -78,7 +78,8 @@ register_said field dev fun off rest d f o one two three four five = rw (one, tw
 register_back : (reg : Reg) → FitsReg reg → register_of (register_text reg) ≡ Some reg
 register_back reg fits =
     let rest : List ℕ = hex_digit reg.fun ∷ 0x2E ∷ hex_byte reg.off in
-    register_said (register_text reg) (hex_byte reg.dev) (hex_digit reg.fun ∷ []) (hex_byte reg.off) rest reg.dev reg.fun reg.off
+    register_said (register_text reg) (hex_byte reg.dev) (hex_digit reg.fun ∷ []) (hex_byte reg.off) rest reg.dev
+    reg.fun reg.off
     (cut_field 0x2E (hex_byte reg.dev) rest (byte_lacks 0x2E reg.dev (inl (omega arith))))
     (cut_field 0x2E (hex_digit reg.fun ∷ []) (hex_byte reg.off) (hex_lacks 0x2E reg.fun (inl (omega arith))))
     (byte_back reg.dev fits.0) (nibble_back reg.fun fits.1) (byte_back reg.off fits.2)
@@ -86,13 +87,15 @@ register_back reg fits =
 pub denial_back : (denial : Option Denial) → FitsDenial denial → denial_of (denial_text denial) ≡ Some denial
 unfolding denial_of register_of cut
 denial_back None fits = refl
-denial_back (Some (Register reg)) fits = ap (λ (r : Option Reg). denial_with r (register_text reg)) (register_back reg fits)
+denial_back (Some (Register reg)) fits = ap (λ (r : Option Reg). denial_with r (register_text reg))
+    (register_back reg fits)
 denial_back (Some Confadd) fits = refl
 denial_back (Some NoRegister) fits = refl
 
 -- ---- areas
 
-base_said : (field dev base : List ℕ) (d b : ℕ) → cut 0x2E field ≡ Some (dev, base) → digit_in dev ≡ Some d → digit_in base ≡ Some b
+base_said : (field dev base : List ℕ) (d b : ℕ) → cut 0x2E field ≡ Some (dev, base) → digit_in dev ≡ Some d
+    → digit_in base ≡ Some b
     → base_of field ≡ Some (d, b)
 unfolding base_of
 base_said field dev base d b one two three = rw (one, two, three) refl
@@ -103,8 +106,10 @@ base_back dev base one two =
     (cut_field 0x2E (decimal dev) (decimal base) (lacks-decimal 0x2E dev (inl (omega arith)) (omega (arith, one))))
     (digit_back dev one) (digit_back base two)
 
-base_parts : (dev base : ℕ) → dev < 10 → base < 10 → base_of (decimal dev ++ codes "." ++ decimal base) ≡ Some (dev, base)
-base_parts dev base one two = ap base_of (append_assoc (decimal dev) (codes ".") (decimal base)) ∙ base_back dev base one two
+base_parts : (dev base : ℕ) → dev < 10 → base < 10 → base_of (decimal dev ++ codes "." ++ decimal base) ≡ Some
+    (dev, base)
+base_parts dev base one two = ap base_of (append_assoc (decimal dev) (codes ".") (decimal base))
+    ∙ base_back dev base one two
 
 pub area_back : (area : Area) → FitsArea area → area_of (area_text area) ≡ Some area
 unfolding area_of placed_area cut
@@ -117,7 +122,8 @@ area_back areas.Abort fits = refl
 
 -- ---- targets
 
-card_said : (field place off : List ℕ) (dev base n : ℕ) → cut 0x3A field ≡ Some (place, off) → base_of place ≡ Some (dev, base)
+card_said : (field place off : List ℕ) (dev base n : ℕ) → cut 0x3A field ≡ Some (place, off)
+    → base_of place ≡ Some (dev, base)
     → hex_of 8 off ≡ Some n → card_of field ≡ Some (targets.Card dev base n)
 unfolding card_of
 card_said field place off dev base n one two three = rw (one, two, three) refl
@@ -126,13 +132,16 @@ card_back : (dev base off : ℕ) → dev < 10 → base < 10 → off < 2 ^ 32
     → card_of (decimal dev ++ codes "." ++ decimal base ++ codes ":" ++ hex_long off) ≡ Some (targets.Card dev base off)
 card_back dev base off one two three =
     let place : List ℕ = decimal dev ++ codes "." ++ decimal base in
-    let parts : place ++ codes ":" ++ hex_long off ≡ place ++ 0x3A ∷ hex_long off = append_assoc place (codes ":") (hex_long off) in
+    let parts : place ++ codes ":" ++ hex_long off ≡ place ++ 0x3A ∷ hex_long off = append_assoc place (codes ":")
+    (hex_long off) in
     let first : lacks 0x3A (decimal dev) ≡ true = lacks-decimal 0x3A dev (inr (omega arith)) (omega (arith, one)) in
     let second : lacks 0x3A (decimal base) ≡ true = lacks-decimal 0x3A base (inr (omega arith)) (omega (arith, two)) in
     let lack : lacks 0x3A place ≡ true =
-    lacks-append 0x3A (decimal dev ++ codes ".") (decimal base) (lacks-append 0x3A (decimal dev) (codes ".") first refl) second in
+    lacks-append 0x3A (decimal dev ++ codes ".") (decimal base)
+    (lacks-append 0x3A (decimal dev) (codes ".") first refl) second in
     ap card_of parts
-    ∙ card_said (place ++ 0x3A ∷ hex_long off) place (hex_long off) dev base off (cut_field 0x3A place (hex_long off) lack)
+    ∙ card_said (place ++ 0x3A ∷ hex_long off) place (hex_long off) dev base off
+    (cut_field 0x3A place (hex_long off) lack)
     (base_parts dev base one two) (hex_read 4 off (omega (arith, three)))
 
 device_back : (dev : Dev) → FitsDevice dev → target_of (device_text dev) ≡ Some (targets.Device dev)

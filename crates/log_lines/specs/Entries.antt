@@ -4,7 +4,7 @@ use Rattle.board_spec.specs.Text.{space}
 use Rattle.script_lines.specs.Numbers.{decimal_of, ◌>>=◌}
 use Rattle.log_lines.specs.Cuts.{cut, byte_in}
 
--- `n A.S STATEMENT = REPLY`: what stands before the point, between it and the space before `=`, and behind `=`
+-- `n A.S STATEMENT = REPLY`: what stands before the point, between it and the space before `=`, and after `=`
 pub record Pieces : Type 0 where
   pub actor : List ℕ
   pub asked : List ℕ

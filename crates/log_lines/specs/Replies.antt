@@ -43,14 +43,14 @@ part_of target denial = do
   denial ← denial_of denial
   Some (record { target = target; denial = denial })
 
--- behind three parts
+-- after three parts
 unfoldable pub last_parts : Part → Part → Part → List (List ℕ) → Option Parts
 last_parts a b c [] = Some (Three a b c)
 last_parts a b c (_ ∷ []) = None
 last_parts a b c (target ∷ denial ∷ []) = option_map (Four a b c) (part_of target denial)
 last_parts a b c (_ ∷ _ ∷ _ ∷ _) = None
 
--- behind two parts
+-- after two parts
 unfoldable pub more_parts : Part → Part → List (List ℕ) → Option Parts
 more_parts a b [] = Some (Two a b)
 more_parts a b (_ ∷ []) = None
@@ -124,7 +124,7 @@ reply_of (Wire dev on) words = Some (outside_answer Wires)
 reply_of (Line irq on) words = Some (outside_answer Wires)
 reply_of (BadSector sector) words = Some (outside_answer Ata)
 
--- behind the `=` a space stands before the first word
+-- after the `=` a space stands before the first word
 unfoldable pub reply_in : Event → List (List ℕ) → Option Reply
 reply_in event [] = None
 reply_in event (_ ∷ words) = reply_of event words

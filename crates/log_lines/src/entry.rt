@@ -8,7 +8,7 @@ ghost use Rattle.log_lines.specs.Entries.{but_last, pieces_of, actor_of};
 
 use crate::asked::asked_of;
 use crate::cuts::{byte_in, cut};
-use crate::reply::reply_behind;
+use crate::reply::read_reply;
 use board_spec::Entry;
 use script_lines::decimal_of;
 
@@ -53,7 +53,7 @@ pub fn entry_of(version: u8, line: &[u8]) -> Option<Entry>
     let (actor, asked, replied) = pieces_of(line)?;
     let actor = actor_of(actor)?;
     let (seq, event) = asked_of(version, asked)?;
-    let reply = reply_behind(&event, replied)?;
+    let reply = read_reply(&event, replied)?;
     Some(Entry {
         actor,
         seq,

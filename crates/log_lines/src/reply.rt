@@ -109,7 +109,8 @@ fn parts_with(access: &WideAccess, value: Option<u64>, parts: Parts) -> Option<R
 fn wide_of(access: &WideAccess, words: &[&[u8]]) -> Option<Reply>
     requires bytes { access.now.bytes ≤ 8 }
     ensures reply { result ≡ wide_of access.now (map (λ word. word.now) words.now) }
-    ensures shape { IfSome result (IsWideReply (is_write access.now.kind) access.now.bytes (length (parts_of access.now))) }
+    ensures shape { IfSome result
+        (IsWideReply (is_write access.now.kind) access.now.bytes (length (parts_of access.now))) }
 {
     let [value, words @ ..] = words else {
         return None;
@@ -192,8 +193,8 @@ fn reply_in(event: &Event, fields: &[&[u8]]) -> Option<Reply>
     reply_of(event, words)
 }
 
-/// The reply to an event, by the text behind `=`. Any reply that the event can have is read from its text.
-pub(crate) fn reply_behind(event: &Event, text: &[u8]) -> Option<Reply>
+/// The reply to an event, by the text after `=`. Any reply that the event can have is read from its text.
+pub(crate) fn read_reply(event: &Event, text: &[u8]) -> Option<Reply>
     requires bytes { IsNarrow event.now }
     ensures shape { IfSome result (HasShape event.now) }
     ensures found { (version : ℕ) (reply : Reply) → IsEventForm version event.now → HasShape event.now reply

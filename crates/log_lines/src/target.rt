@@ -97,7 +97,7 @@ fn shadow_area(place: &[u8]) -> Option<Area>
     Some(Area::Shadow(row))
 }
 
-/// An area with a place behind its word.
+/// An area with a place after its word, like `dram:0`.
 fn area_with(kind: &[u8], place: &[u8]) -> Option<Area>
     ensures area { result ≡ area_with kind.now place.now }
     ensures fits { IfSome result FitsArea }
@@ -184,7 +184,7 @@ fn config_target(place: &[u8]) -> Option<Target>
     Some(Target::Config(reg))
 }
 
-/// A target with a place behind its word.
+/// A target with a place after its word, like `rom:00012`.
 fn target_with(kind: &[u8], place: &[u8]) -> Option<Target>
     ensures target { result ≡ target_with kind.now place.now }
     ensures fits { IfSome result FitsTarget }

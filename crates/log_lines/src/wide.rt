@@ -31,7 +31,7 @@ fn four_parts(a: Part, b: Part, c: Part, target: &[u8], denial: &[u8]) -> Option
     Some(Parts::Four(a, b, c, last))
 }
 
-/// The parts by the words behind those of three.
+/// The parts by the words after those of three.
 #[tactic(auto, unfolding(crate::specs::Replies::last_parts))]
 fn last_parts(a: Part, b: Part, c: Part, words: &[&[u8]]) -> Option<Parts>
     requires first { FitsPart a }
@@ -47,7 +47,7 @@ fn last_parts(a: Part, b: Part, c: Part, words: &[&[u8]]) -> Option<Parts>
     }
 }
 
-/// The parts by the words behind those of two.
+/// The parts by the words after those of two.
 #[tactic(auto, unfolding(crate::specs::Replies::more_parts))]
 fn more_parts(a: Part, b: Part, words: &[&[u8]]) -> Option<Parts>
     requires first { FitsPart a }

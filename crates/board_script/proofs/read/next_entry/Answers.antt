@@ -6,7 +6,8 @@ returns-in_default-clause-exact c = none_uncut c.args.version c.args.n c.args.re
 
 pub returns-in-Some-2-clause-exact : goal.returns-in-Some-2-clause-exact
 returns-in-Some-2-clause-exact c =
-    has_entry c.args.version c.args.n c.args.rest.now c.in-Some.line.now c.in-Some.after.now c.in_ok-entry.field-0 c.in-Some-2.entry
+    has_entry c.args.version c.args.n c.args.rest.now c.in-Some.line.now c.in-Some.after.now c.in_ok-entry.field-0
+    c.in-Some-2.entry
     c.in-Some.ensures.parts c.in_ok-entry.ensures.exact c.in-Some-2.is
 
 pub returns-in-None-clause-exact : goal.returns-in-None-clause-exact

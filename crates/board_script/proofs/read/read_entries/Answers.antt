@@ -21,10 +21,19 @@ loop-rest-preserved c =
     let entries = c.loop-rest.entries.items in
     let entry = c.in-Some.entry in
     let after = c.in-Some.after.now in
-    let has = subst (λ read. MatchOption read (HasNoEntry version n rest) (λ p. HasEntry version n rest p.0 p.1.now)) c.in-Some.is c.in_ok-entry.ensures.exact in
+    let has = subst (λ read. MatchOption read (HasNoEntry version n rest) (λ p. HasEntry version n rest p.0 p.1.now))
+    c.in-Some.is c.in_ok-entry.ensures.exact in
     record {
-      cut = rw c.in_ok-push.ensures.items (lines_more version n c.args.lines.now rest after entries entry c.loop-rest.invariant.place c.loop-rest.invariant.cut has);
-      each = rw c.in_ok-push.ensures.items (each_more version n rest after entries entry has c.loop-rest.invariant.each);
-      place = rw c.in_ok-push.ensures.items (omega (arith, c.loop-rest.invariant.place, length-append entries (entry ∷ [])));
-      room = rw c.in_ok-push.ensures.items (room_left version n rest entry after entries (length c.args.lines.now) has c.loop-rest.invariant.room);
+      cut = rw c.in_ok-push.ensures.items (lines_more version n c.args.lines.now rest after entries entry
+          c.loop-rest.invariant.place c.loop-rest.invariant.cut has);
+      each = rw c.in_ok-push.ensures.items (each_more version n rest after entries entry has
+          c.loop-rest.invariant.each);
+      place = rw c.in_ok-push.ensures.items (omega (
+        arith,
+        c.loop-rest.invariant.place,
+        length-append entries
+            (entry ∷ []),
+      ));
+      room = rw c.in_ok-push.ensures.items (room_left version n rest entry after entries (length c.args.lines.now)
+          has c.loop-rest.invariant.room);
     }

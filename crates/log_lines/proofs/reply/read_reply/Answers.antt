@@ -2,7 +2,7 @@ use Rattle.std.proofs.Common.{◌≡◌, ◌∙◌, map, ap, arith}
 use Rattle.script_lines.specs.Fields.{fields_of}
 use Rattle.log_lines.specs.Replies.{reply_in}
 use Rattle.log_lines.proofs.ReplyBack.{reply_read, few_fields}
-use Rattle.log_lines.proofs.reply.reply_behind.Goals as goal
+use Rattle.log_lines.proofs.reply.read_reply.Goals as goal
 
 pub returns-in_err-fields-clause-found : goal.returns-in_err-fields-clause-found
 returns-in_err-fields-clause-found c = λ version reply form shape is.
