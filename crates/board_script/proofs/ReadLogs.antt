@@ -1,5 +1,5 @@
 -- Where the bytes of a log stop being one.
-use Rattle.std.proofs.Common.{◌≡◌, ◌≢◌, ℕ, ◌+◌, ◌<◌, ◌≤◌, true, Option, Some, None, List, [], ◌∷◌, ◌++◌, length, reverse, get_or, drop, All, refl, sym, ap, subst, ◌∙◌, inl, inr, append_assoc, append-nil, arith}
+use Rattle.std.proofs.Common.{◌≡◌, ◌≢◌, ℕ, ◌+◌, ◌<◌, true, Option, Some, None, List, [], ◌∷◌, ◌++◌, length, reverse, get_or, drop, All, refl, sym, ap, subst, ◌∙◌, inl, inr, append_assoc, append-nil, arith}
 use Rattle.std.specs.Prelude.{Result, Ok, Err, IfOk, IfErr, IsErrAnd, codes, decimal}
 use Rattle.std.proofs.lemmas.Bool.{cases_lt}
 use Rattle.std.proofs.lemmas.List.{get_or_append_left, append_cancel_left, length-append, reverse-reverse}
@@ -10,7 +10,7 @@ use Rattle.board_spec.specs.LogText.{line_text, lines_text, log_text}
 use Rattle.script_spec.specs.Lines.{text_of_lines, IsOneLine}
 use Rattle.script_spec.specs.ScriptText.{IsVersion}
 use Rattle.script_spec.specs.WellFormed.{IsWellFormed}
-use Rattle.script_spec.specs.Checks.{AreBegun, LeavesAt, IsLogText, IsSomeLog, IsBadLog}
+use Rattle.script_spec.specs.Checks.{IsLogText, IsSomeLog, IsBadLog}
 use Rattle.script_spec.proofs.Digits.{lacks}
 use Rattle.script_spec.proofs.Fields.{lacks-append}
 use Rattle.script_spec.proofs.PlainText.{lacks-word, decimal_word}
@@ -22,7 +22,7 @@ use Rattle.log_lines.proofs.CutLemmas.{cut_field, cut_joined}
 use Rattle.board_script.specs.declared.read.Log.{Log}
 use Rattle.board_script.specs.declared.fault.LogFault.{LogFault}
 use Rattle.board_script.specs.declared.fault.LogFault.TheVariants.{Bad, NoMemory}
-use Rattle.board_script.specs.Reading.{NamesBad, heading, version_of, HasEntry, HasNoEntry, IsBadAfter}
+use Rattle.board_script.specs.Reading.{NamesBad, heading, version_of, HasNoEntry, IsBadAfter}
 use Rattle.board_script.proofs.ReadLines.{version_said, version_known, all_reverse}
 
 -- ---- the lines of a whole log
