@@ -30,7 +30,7 @@ fn push_place(text: &mut String, n: u64, actor: u8, seq: u32) -> Result<(), NoMe
 
 /// Appends line `n`, without its line feed.
 #[tactic(auto, unfolding(board_spec::specs::LogText::line_text))]
-fn push_entry(text: &mut String, n: u64, entry: &Entry) -> Result<(), NoMemory>
+pub(crate) fn push_entry(text: &mut String, n: u64, entry: &Entry) -> Result<(), NoMemory>
     ensures appended { OnOk result (Adds text.old text.new (line_text n entry.now)) }
     ensures front { OnErr result (KeepsFront text.old text.new) }
 {

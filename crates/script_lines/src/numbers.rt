@@ -25,7 +25,7 @@ fn digit_value(byte: u8) -> Option<u64>
 }
 
 /// A digit of a base.
-fn digit_of(base: u64, byte: u8) -> Option<u64>
+pub fn digit_of(base: u64, byte: u8) -> Option<u64>
     ensures digit { result ≡ digit_of base byte }
     ensures below { IfSome result (λ digit. digit < base) }
 {
@@ -48,7 +48,7 @@ fn number_of(base: u64, field: &[u8]) -> Option<u64>
 }
 
 /// The number of exactly so many hexadecimal digits, at most sixteen.
-pub(crate) fn hex_of(digits: usize, field: &[u8]) -> Option<u64>
+pub fn hex_of(digits: usize, field: &[u8]) -> Option<u64>
     requires { digits ≤ 16 }
     ensures number { result ≡ hex_of digits field.now }
     ensures below { IfSome result (λ number. number < 16 ^ digits) }
