@@ -6,3 +6,4 @@ pub mod Refusals
 pub mod MadeScripts
 pub mod Causes
 pub mod OneStatus
+pub mod Exact

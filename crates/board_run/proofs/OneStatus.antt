@@ -292,15 +292,14 @@ one_status command files status other one two =
 -- where the log that it reads is within its limit
 pub done_of_text :
     (command : Command) (files : Files) (text : List ℕ) →
-    ((log : List ℕ) → log_name command ≡ Some log → length (files log) ≤ limit_of Log) →
     IsCommandText command files text → AsksFor command files Done
-done_of_text (Replay name) files text fits is =
+done_of_text (Replay name) files text is =
     record { name = name; named = refl; script = is.script; holds = is.good }
-done_of_text (Map name) files text fits is = record { name = name; named = refl; script = is.script; holds = is.good }
-done_of_text (Make rounds) files text fits is = tt
-done_of_text (Check name log) files text fits is = record {
+done_of_text (Map name) files text is = record { name = name; named = refl; script = is.script; holds = is.good }
+done_of_text (Make rounds) files text is = tt
+done_of_text (Check name log) files text is = record {
   name = name;
   named = refl;
   script = is.script;
-  holds = record { good = is.good; fits = fits log refl; legal = is.says.legal };
+  holds = record { good = is.good; fits = is.says.fits; legal = is.says.legal };
 }

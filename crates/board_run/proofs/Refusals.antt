@@ -87,9 +87,9 @@ module _ (told : Option Files) (before now : ℕ) (kept : List ℕ) where
         subst (λ (which' : Which). OfFiles told (λ files. AsksFor command files (BadImage which'))) (sym is.0)
         (reads (Fits which (λ bytes. ¬ IsLength which (length bytes))) at
         (λ files same.
-          let holds =
-          at_file told files name (λ file. (length file ≤ limit_of which) × ¬ IsLength which (length file)) same is.1 in
-          record { fits = holds.0; holds = holds.1 }))
+        let holds =
+        at_file told files name (λ file. (length file ≤ limit_of which) × ¬ IsLength which (length file)) same is.1 in
+        record { fits = holds.0; holds = holds.1 }))
     taken (BadScript line why) at is = absurd is
     taken (Differs line) at is = absurd is
     taken NoMemory at is = tt
@@ -114,11 +114,11 @@ pub says_script :
 says_script told name bytes given script whole fits same says =
     of_files told (λ files. SaysScript files name script)
     (λ files is.
-      let read : bytes ≡ files name = at_file told files name (λ file. bytes ≡ file) is whole in
-      record {
-        fits = subst (λ (file : List ℕ). length file ≤ limit_of Script) read fits;
-        says = subst (λ (file : List ℕ). IsScriptText file script) (same ∙ read) says;
-      })
+    let read : bytes ≡ files name = at_file told files name (λ file. bytes ≡ file) is whole in
+    record {
+      fits = subst (λ (file : List ℕ). length file ≤ limit_of Script) read fits;
+      says = subst (λ (file : List ℕ). IsScriptText file script) (same ∙ read) says;
+    })
 
 pub rom_size :
     (told : Option Files) (name rom : List ℕ) → OfFile told name (λ file. rom ≡ file) → IsRomSize (length rom) →
@@ -142,11 +142,11 @@ module _ (told : Option Files) (before now : ℕ) (kept : List ℕ) (command : C
       reads told before now kept command Script name (λ name' bytes'. Fits Script (λ file. IsScriptBad file line why) name' bytes')
       (comes_to_script named)
       (λ files is.
-        let read : bytes ≡ files name = at_file told files name (λ file. bytes ≡ file) is whole in
-        record {
-          fits = subst (λ (file : List ℕ). length file ≤ limit_of Script) read fits;
-          holds = subst (λ (file : List ℕ). IsScriptBad file line why) (same ∙ read) bad;
-        })
+      let read : bytes ≡ files name = at_file told files name (λ file. bytes ≡ file) is whole in
+      record {
+        fits = subst (λ (file : List ℕ). length file ≤ limit_of Script) read fits;
+        holds = subst (λ (file : List ℕ). IsScriptBad file line why) (same ∙ read) bad;
+      })
   script_refused NoMemoryForScript bytes given named whole fits same bad = tt
 
   module _ (script : Said) (named : script_name command ≡ Some name) (says : OfFiles told (λ files. SaysScript files name script)) where
@@ -216,8 +216,8 @@ module _ (told : Option Files) (before now : ℕ) (kept : List ℕ) (command : C
     board_refused BadDisk disk size read fits bad =
         of_files told (λ files. AsksFor command files (BadImage Disk))
         (λ files is.
-          bad_disk disk script.disk files is size refl (at_files told files (λ files'. disk ≡ option_map files' script.disk) is read)
-          fits bad)
+        bad_disk disk script.disk files is size refl (at_files told files (λ files'. disk ≡ option_map files' script.disk) is read)
+        fits bad)
     board_refused NoMemoryForBoard disk size read fits bad = tt
 
 -- ---- a whole text
@@ -262,20 +262,20 @@ module _ (told : Option Files) (name log : List ℕ) (script : Said) (setup : Se
     log_differs line differs =
         of_files told (λ files. AsksFor Checks files (Differs line))
         (λ files is.
-          let read : bytes ≡ files log = at_file told files log (λ file. bytes ≡ file) is whole in
-          let fitted = at_files told files (λ files'. IsReady files' name script setup) is ready in
-          record {
-            name = name;
-            named = refl;
-            script = script;
-            holds = record {
-              good = fitted.good;
-              fits = subst (λ (file : List ℕ). length file ≤ limit_of Log) read fits;
-              differs =
-                  subst (λ (setup' : Setup). DiffersAt setup' script.version script.phases (files log) line) fitted.fits
-                  (subst (λ (file : List ℕ). DiffersAt setup script.version script.phases file line) (same ∙ read) differs);
-            };
-          })
+        let read : bytes ≡ files log = at_file told files log (λ file. bytes ≡ file) is whole in
+        let fitted = at_files told files (λ files'. IsReady files' name script setup) is ready in
+        record {
+          name = name;
+          named = refl;
+          script = script;
+          holds = record {
+            good = fitted.good;
+            fits = subst (λ (file : List ℕ). length file ≤ limit_of Log) read fits;
+            differs =
+                subst (λ (setup' : Setup). DiffersAt setup' script.version script.phases (files log) line) fitted.fits
+                (subst (λ (file : List ℕ). DiffersAt setup script.version script.phases file line) (same ∙ read) differs);
+          };
+        })
 
     pub check_refused :
         (call : ShelfCall) (fault : CheckFault) → call.files ≡ told →
@@ -290,12 +290,12 @@ module _ (told : Option Files) (name log : List ℕ) (script : Said) (setup : Se
     legal_text text says =
         of_files told (λ files. IsCommandText Checks files text)
         (λ files is.
-          let read : bytes ≡ files log = at_file told files log (λ file. bytes ≡ file) is whole in
-          let fitted = at_files told files (λ files'. IsReady files' name script setup) is ready in
-          record {
-            script = script;
-            good = fitted.good;
-            says =
-                subst (λ (setup' : Setup). IsLegalText setup' script (files log) text) fitted.fits
-                (subst (λ (file : List ℕ). IsLegalText setup script file text) (same ∙ read) says);
-          })
+        let read : bytes ≡ files log = at_file told files log (λ file. bytes ≡ file) is whole in
+        let fitted = at_files told files (λ files'. IsReady files' name script setup) is ready in
+        record {
+          script = script;
+          good = fitted.good;
+          says =
+              subst (λ (setup' : Setup). IsLegalText setup' script (files log) text) fitted.fits
+              (subst (λ (file : List ℕ). IsLegalText setup script file text) (same ∙ read) says);
+        })

@@ -37,7 +37,12 @@ fn run_command<S: Shelf, K: Sink>(
 }
 
 /// Does what the words ask for. Each status comes only where its cause holds.
-fn run_words<S: Shelf, K: Sink>(alloc: Global, words: &[String], shelf: &mut S, out: &mut K) -> Status
+fn run_words<S: Shelf, K: Sink>(
+    alloc: Global,
+    words: &[String],
+    shelf: &mut S,
+    out: &mut K,
+) -> Status
     ensures usage { (result ≡ Status.Usage) ↔ (asked words.now ≡ None) }
     ensures caused { IsCaused result (asked words.now)
         (record { files = S.files shelf.old; faults_before = S.faults shelf.old; faults_now = S.faults shelf.new; failed_name = S.failed_name shelf.new })

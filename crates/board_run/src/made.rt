@@ -36,7 +36,10 @@ fn made_script(alloc: Global, rounds: u32) -> Result<Script, NoMemory>
 fn made_board(alloc: Global, script: &Script) -> Result<Board, NoMemory>
     requires in_range { IsInRangeScript (said_of script.now) }
     ensures fresh { IfOk result (λ board. board ≡ record {
-        setup = made_setup_of (said_of script.now); entries = []; spare = 0 }) }
+      setup = made_setup_of (said_of script.now);
+      entries = [];
+      spare = 0;
+    }) }
 {
     law_made_script();
     let rom = make_rom(alloc)?;
@@ -55,7 +58,12 @@ fn summary_of(alloc: Global, board: &Board) -> Result<String, NoMemory>
 {
     let mut text = String::new(alloc);
     let map = board.map();
-    push_summary(&mut text, board.history().entries(), map.version(), map.ranges().len())?;
+    push_summary(
+        &mut text,
+        board.history().entries(),
+        map.version(),
+        map.ranges().len(),
+    )?;
     Ok(text)
 }
 

@@ -24,7 +24,10 @@ fn text_of(alloc: Global, status: &Status) -> Result<String, AllocError>
 {
     match status {
         Status::Done => Ok(String::new(alloc)),
-        Status::Usage => String::from_str(alloc, "usage: board replay FILE, map FILE, check FILE LOG, make N"),
+        Status::Usage => String::from_str(
+            alloc,
+            "usage: board replay FILE, map FILE, check FILE LOG, make N",
+        ),
         Status::ReadFault(which) => format!(in alloc; "read fault: {}", name_of(*which)),
         Status::WriteFault => String::from_str(alloc, "write fault"),
         Status::TooLong(which) => format!(in alloc; "too long: {}", name_of(*which)),

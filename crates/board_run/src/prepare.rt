@@ -71,7 +71,10 @@ pub fn open(
     requires in_range { IsInRangeScript (said_of script.now) }
     requires size { IsRomSize (length rom.items) }
     ensures fresh { IfOk result (λ board. board ≡ record {
-        setup = fitted (said_of script.now) rom.items (option_map (λ bytes. bytes.items) disk); entries = []; spare = 0 }) }
+      setup = fitted (said_of script.now) rom.items (option_map (λ bytes. bytes.items) disk);
+      entries = [];
+      spare = 0;
+    }) }
     ensures refused { IfErr result (IsNotOpened (option_map (λ bytes. bytes.items) disk)) }
     ensures disk { OnOk result (IsDisk (option_map (λ bytes. bytes.items) disk)) }
 {
@@ -86,11 +89,7 @@ pub fn open(
 
 /// Reads the script of a command and its images, and opens the board that it asks for: first the script, then its ROM,
 /// then its disk. The first that is not there or refused is the answer.
-pub fn prepare<S: Shelf>(
-    alloc: Global,
-    shelf: &mut S,
-    name: &str,
-) -> Result<Prepared, Status>
+pub fn prepare<S: Shelf>(alloc: Global, shelf: &mut S, name: &str) -> Result<Prepared, Status>
     ensures ready { IfOk result (λ prepared. OfFiles (S.files shelf.old) (λ files.
         IsReady files name.now (said_of prepared.script) prepared.board.setup)) }
     ensures in_range { IfOk result (λ prepared. IsInRangeScript (said_of prepared.script)) }

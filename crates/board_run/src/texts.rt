@@ -12,9 +12,9 @@ ghost use Rattle.board_run.specs.Outcomes.{OfFiles};
 ghost use Rattle.board_run.specs.Statuses.{IsRefused, IsReady};
 
 use crate::fetch::fetch;
+use crate::made::summary_of_made;
 use crate::prepare::{Prepared, prepare};
 use crate::replay::{log_of_replay, map_after_replay, verdict_on_log};
-use crate::made::summary_of_made;
 use crate::status::{Status, Which};
 use crate::words::Command;
 use board_base::Shelf;
@@ -64,7 +64,7 @@ fn verdict<S: Shelf>(
     ensures refused { (name : List ℕ)
         → OfFiles (S.files shelf.old) (λ files. IsReady files name (said_of prepared.old.script) prepared.old.board.setup)
         → IfErr result (IsRefused (Check name log.now)
-          (record { files = S.files shelf.old; faults_before = S.faults shelf.old; faults_now = S.faults shelf.new; failed_name = S.failed_name shelf.new })) }
+        (record { files = S.files shelf.old; faults_before = S.faults shelf.old; faults_now = S.faults shelf.new; failed_name = S.failed_name shelf.new })) }
     ensures quiet { OnOk result (S.faults shelf.new ≡ S.faults shelf.old) }
     ensures no_fault { IfErr result (λ status. ((of : Which) → status ≢ Status.ReadFault of) → S.faults shelf.new ≡ S.faults shelf.old) }
     ensures same_files { S.files shelf.new ≡ S.files shelf.old }

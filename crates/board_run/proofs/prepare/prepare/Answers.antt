@@ -18,8 +18,8 @@ pub returns-in_err-script-clause-refused : goal.returns-in_err-script-clause-ref
 returns-in_err-script-clause-refused g c =
     refuses _ _ _ (status_of_script_fault c.in_err-script.field-0.0) (search rules)
     (λ command named.
-      script_refused _ _ _ _ command _ c.in_err-script.field-0.0 _ _ named c.in_ok-bytes.ensures.whole (search rules)
-      c.deref.ensures.value c.in_err-script.ensures.bad)
+    script_refused _ _ _ _ command _ c.in_err-script.field-0.0 _ _ named c.in_ok-bytes.ensures.whole (search rules)
+    c.deref.ensures.value c.in_err-script.ensures.bad)
 
 pub returns-in_err-rom-clause-refused : goal.returns-in_err-rom-clause-refused
 returns-in_err-rom-clause-refused g c =
@@ -28,9 +28,9 @@ returns-in_err-rom-clause-refused g c =
     c.in_ok-script.ensures.said in
     refuses _ _ _ c.in_err-rom.field-0.0 (search rules)
     (λ command named.
-      not_taken _ _ _ _ _ command _ _ _ c.in_ok-bytes.ensures.quiet
-      (comes_to_rom _ _ _ _ command _ (said_of c.in_ok-script.script) named says)
-      (rw (c.as_str.ensures.text, c.fetch.ensures.same_files) at c.in_err-rom.ensures.refused))
+    not_taken _ _ _ _ _ command _ _ _ c.in_ok-bytes.ensures.quiet
+    (comes_to_rom _ _ _ _ command _ (said_of c.in_ok-script.script) named says)
+    (rw (c.as_str.ensures.text, c.fetch.ensures.same_files) at c.in_err-rom.ensures.refused))
 
 pub returns-in_err-disk-clause-refused : goal.returns-in_err-disk-clause-refused
 returns-in_err-disk-clause-refused g c =
@@ -41,9 +41,9 @@ returns-in_err-disk-clause-refused g c =
     rom_size _ _ _ (rw (c.as_str.ensures.text, c.fetch.ensures.same_files) at c.in_ok-rom.ensures.whole) c.in_ok-rom.ensures.size in
     refuses _ _ _ c.in_err-disk.field-0.0 (search rules)
     (λ command named.
-      disk_refused _ _ _ _ command _ (said_of c.in_ok-script.script) named says _ _ _
-      (c.in_ok-rom.ensures.quiet ∙ c.in_ok-bytes.ensures.quiet) size refl
-      (rw (c.fetch_rom.ensures.same_files, c.fetch.ensures.same_files) at c.in_err-disk.ensures.refused))
+    disk_refused _ _ _ _ command _ (said_of c.in_ok-script.script) named says _ _ _
+    (c.in_ok-rom.ensures.quiet ∙ c.in_ok-bytes.ensures.quiet) size refl
+    (rw (c.fetch_rom.ensures.same_files, c.fetch.ensures.same_files) at c.in_err-disk.ensures.refused))
 
 pub returns-in_err-board-clause-refused : goal.returns-in_err-board-clause-refused
 returns-in_err-board-clause-refused g c =
@@ -54,6 +54,6 @@ returns-in_err-board-clause-refused g c =
     rom_size _ _ _ (rw (c.as_str.ensures.text, c.fetch.ensures.same_files) at c.in_ok-rom.ensures.whole) c.in_ok-rom.ensures.size in
     refuses _ _ _ (status_of_board_fault c.in_err-board.field-0.0) (search rules)
     (λ command named.
-      board_refused _ _ _ _ command _ (said_of c.in_ok-script.script) named says c.in_err-board.field-0.0 _ size
-      (rw (c.fetch_rom.ensures.same_files, c.fetch.ensures.same_files) at c.in_ok-disk.ensures.whole) c.in_ok-disk.ensures.fits
-      c.in_err-board.ensures.refused)
+    board_refused _ _ _ _ command _ (said_of c.in_ok-script.script) named says c.in_err-board.field-0.0 _ size
+    (rw (c.fetch_rom.ensures.same_files, c.fetch.ensures.same_files) at c.in_ok-disk.ensures.whole) c.in_ok-disk.ensures.fits
+    c.in_err-board.ensures.refused)
