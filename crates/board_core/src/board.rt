@@ -56,8 +56,8 @@ impl Model for Board {
         IsKept board.setup board.history.entries board.history.spare board.chipset board.counts };
 }
 
-/// Whether a ROM can have this many bytes.
-fn is_rom_size(size: usize) -> bool
+/// Whether a BIOS ROM can have this many bytes: 64, 128, 256 or 512 KiB.
+pub fn is_rom_size(size: usize) -> bool
     ensures size { IsTrue result ↔ IsRomSize size }
 {
     ROM_SIZES.contains(&size)
@@ -154,6 +154,8 @@ impl Board {
         requires in_range { AreInRange self.old.setup statements.now }
         requires spare { length statements.now ≤ self.old.spare }
         ensures setup { self.new.setup ≡ self.old.setup }
+        ensures spare { self.new.spare ≡ self.old.spare - length statements.now }
+        ensures legal { IsLegal self.old.setup self.old.entries → IsLegal self.new.setup self.new.entries }
         ensures same { statements_of self.new.entries ≡ statements_of self.old.entries ++ statements.now }
         ensures replay { self.old.entries ≡ [] → IsReplayOf self.old.setup statements.now self.new.entries }
     {

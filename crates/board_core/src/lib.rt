@@ -13,7 +13,7 @@ mod reset_control;
 mod setup;
 mod wide;
 
-pub use board::Board;
+pub use board::{Board, is_rom_size};
 pub use setup::{BoardOpen, Setup};
 
 #[cfg(test)]

@@ -1,7 +1,9 @@
-mod FrontLemmas
-mod SentLemmas
-mod CauseLemmas
-mod ExactLemmas
-mod TakenLemmas
-mod ReplayLemmas
-mod MapLemmas
+pub mod FrontLemmas
+pub mod SentLemmas
+pub mod MapLemmas
+pub mod Statements
+pub mod Refusals
+pub mod MadeScripts
+pub mod Causes
+pub mod OneStatus
+pub mod Exact

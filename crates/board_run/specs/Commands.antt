@@ -1,8 +1,16 @@
 -- The command that a value of the program stands for.
+use Rattle.std.specs.Prelude.{ℕ, ◌≤◌}
 use Rattle.board_run.specs.declared.words.Command.{Command as Called}
-use Rattle.board_run.specs.declared.words.Command.TheVariants.{Replay as CallsReplay, Map as CallsMap}
-use Rattle.board_run.specs.Words.{Command, Replay, Map}
+use Rattle.board_run.specs.declared.words.Command.TheVariants.{Replay as CallsReplay, Map as CallsMap, Check as CallsCheck, Make as CallsMake}
+use Rattle.board_run.specs.Words.{Command, Replay, Map, Check, Make}
 
 abbrev pub said_by : Called → Command
 said_by (CallsReplay script) = Replay script.now
 said_by (CallsMap script) = Map script.now
+said_by (CallsCheck script log) = Check script.now log.now
+said_by (CallsMake rounds) = Make rounds
+
+-- a command that words can call: of 1 to 20,000 rounds
+abbrev pub IsCalled : Called → Type 0
+IsCalled (CallsMake rounds) = (1 ≤ rounds) × (rounds ≤ 20_000)
+IsCalled _ = Unit {0}

@@ -2,8 +2,9 @@ pub mod Status
 pub mod FaultText
 pub mod Words
 pub mod Commands
+pub mod Asked
+pub mod Texts
 pub mod Files
 pub mod Output
-pub mod Replays
 pub mod Outcomes
 pub mod Statuses

@@ -1,7 +1,7 @@
 -- The exit code of each status.
 use Rattle.std.specs.Prelude.{ℕ}
 use Rattle.board_run.specs.declared.status.Status.{Status}
-use Rattle.board_run.specs.declared.status.Status.TheVariants.{Done, Usage, ReadFault, WriteFault, TooLong, BadScript, BadImage, NoMemory}
+use Rattle.board_run.specs.declared.status.Status.TheVariants.{Done, Usage, ReadFault, WriteFault, TooLong, BadScript, BadImage, Differs, NoMemory}
 
 abbrev pub code_of : Status → ℕ
 code_of Done = 0
@@ -11,4 +11,5 @@ code_of WriteFault = 3
 code_of (TooLong which) = 4
 code_of (BadScript line why) = 5
 code_of (BadImage which) = 6
+code_of (Differs line) = 7
 code_of NoMemory = 8

@@ -1,26 +1,51 @@
 -- The words of the command line, and the command that they are.
-use Rattle.std.specs.Prelude.{ℕ, List, [], ◌∷◌, map, string_bytes, String, Option, Some, None, codes, bytes_eq, if◌then◌else◌}
+use Rattle.std.specs.Prelude.{ℕ, Bool, List, [], ◌∷◌, map, string_bytes, String, Option, Some, None, codes, bytes_eq, if◌then◌else◌, ◌&&◌, nat_le}
 use Rattle.std.specs.Global.{Global}
+use Rattle.script_lines.specs.Numbers.{decimal_of, ◌>>=◌}
 
 -- a command, with the names of the files that it reads
 pub data Command : Type 0 where
   Replay : (script : List ℕ) → Command
   Map : (script : List ℕ) → Command
+  Check : (script log : List ℕ) → Command
+  Make : (rounds : ℕ) → Command
 
 -- the name of the script that a command reads
-abbrev pub script_of : Command → List ℕ
-script_of (Replay script) = script
-script_of (Map script) = script
+abbrev pub script_name : Command → Option (List ℕ)
+script_name (Replay script) = Some script
+script_name (Map script) = Some script
+script_name (Check script log) = Some script
+script_name (Make rounds) = None
 
--- the command of a verb with the name of a file
-unfoldable pub command_with : (verb file : List ℕ) → Option Command
-command_with verb file =
-    if bytes_eq verb (codes "replay") then Some (Replay file) else
-    if bytes_eq verb (codes "map") then Some (Map file) else None
+-- the name of the log that a command reads
+abbrev pub log_name : Command → Option (List ℕ)
+log_name (Check script log) = Some log
+log_name _ = None
 
--- `replay FILE` and `map FILE`
+-- `make` makes 1 to 20,000 rounds
+abbrev pub is_round_count : ℕ → Bool
+is_round_count count = nat_le 1 count && nat_le count 20_000
+
+unfoldable pub make_of : List ℕ → Option Command
+make_of word = do
+  count ← decimal_of word
+  if is_round_count count then Some (Make count) else None
+
+-- the command of a verb with one word
+unfoldable pub command_with : (verb word : List ℕ) → Option Command
+command_with verb word =
+    if bytes_eq verb (codes "replay") then Some (Replay word) else
+    if bytes_eq verb (codes "map") then Some (Map word) else
+    if bytes_eq verb (codes "make") then make_of word else None
+
+-- and with two words
+unfoldable pub command_with_two : (verb word other : List ℕ) → Option Command
+command_with_two verb word other = if bytes_eq verb (codes "check") then Some (Check word other) else None
+
+-- `replay FILE`, `map FILE`, `check FILE LOG` and `make N`
 abbrev pub command_of : List (List ℕ) → Option Command
-command_of (verb ∷ file ∷ []) = command_with verb file
+command_of (verb ∷ word ∷ []) = command_with verb word
+command_of (verb ∷ word ∷ other ∷ []) = command_with_two verb word other
 command_of _ = None
 
 -- the command that the words ask for

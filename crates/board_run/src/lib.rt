@@ -2,20 +2,21 @@
 #![tactic(auto)]
 
 mod command;
+mod fetch;
 mod files;
-mod map;
+mod made;
 mod memory;
 mod message;
 mod output;
+mod prepare;
 mod replay;
 mod status;
+mod texts;
 mod words;
 
 pub use board_script::Line;
 pub use command::board;
 pub use memory::board_in_memory;
 pub use message::fault_text;
+pub use replay::{check_log, replay_script};
 pub use status::{Status, Which, exit_code};
-
-#[cfg(test)]
-mod tests;

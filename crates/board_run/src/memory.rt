@@ -4,7 +4,7 @@ ghost use Rattle.std.specs.Prelude.{◌≡◌, ◌≢◌, ◌↔◌, [], Some, N
 ghost use Rattle.board_base.specs.Files.{file_named};
 ghost use Rattle.board_run.specs.declared.status.Which.{Which};
 ghost use Rattle.board_run.specs.Words.{asked};
-ghost use Rattle.board_run.specs.Outcomes.{OfCommand, PutsText, IsCaused, IsExact};
+ghost use Rattle.board_run.specs.Outcomes.{IsCaused, IsExact};
 
 use crate::command::board;
 use crate::status::Status;
@@ -23,8 +23,6 @@ pub fn board_in_memory<R: Threads + Wait + Sync, G: Gate>(
     gate: &G,
 ) -> Status
     ensures usage { (result ≡ Status.Usage) ↔ (asked words.now ≡ None) }
-    ensures done { result ≡ Status.Done → OfCommand (asked words.now) (Some (file_named shelf.old.files.items))
-        (PutsText (Some out.old.bytes.items) (Some out.new.bytes.items)) }
     ensures caused { IsCaused result (asked words.now)
         (record { files = Some (file_named shelf.old.files.items); faults_before = 0; faults_now = 0; failed_name = [] })
         (record { faults_before = 0; faults_now = 0; taken_before = Some out.old.bytes.items; taken_now = Some out.new.bytes.items }) }

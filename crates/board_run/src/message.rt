@@ -14,6 +14,8 @@ fn name_of(which: Which) -> &'static str
     match which {
         Which::Script => "script",
         Which::Rom => "rom",
+        Which::Disk => "disk",
+        Which::Log => "log",
     }
 }
 
@@ -22,7 +24,10 @@ fn text_of(alloc: Global, status: &Status) -> Result<String, AllocError>
 {
     match status {
         Status::Done => Ok(String::new(alloc)),
-        Status::Usage => String::from_str(alloc, "usage: board replay FILE, map FILE"),
+        Status::Usage => String::from_str(
+            alloc,
+            "usage: board replay FILE, map FILE, check FILE LOG, make N",
+        ),
         Status::ReadFault(which) => format!(in alloc; "read fault: {}", name_of(*which)),
         Status::WriteFault => String::from_str(alloc, "write fault"),
         Status::TooLong(which) => format!(in alloc; "too long: {}", name_of(*which)),
@@ -30,6 +35,7 @@ fn text_of(alloc: Global, status: &Status) -> Result<String, AllocError>
             "bad script: line {line}: reason {why}"
         ),
         Status::BadImage(which) => format!(in alloc; "bad image: {}", name_of(*which)),
+        Status::Differs { line } => format!(in alloc; "differs: line {line}"),
         Status::NoMemory => String::from_str(alloc, "no memory"),
     }
 }

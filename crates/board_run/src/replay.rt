@@ -1,130 +1,132 @@
-//! What a command tells of a board behind the replay of a script.
+//! What the commands do on the board of a script, and the texts that come of it.
 
-ghost use Rattle.std.specs.Prelude.{◌≡◌, ◌↔◌, ◌≤◌, [], All, Err, length, string_bytes, IfOk, OnOk};
-ghost use Rattle.board_spec.specs.Setup.{IsRomSize};
+ghost use Rattle.std.specs.Prelude.{◌≡◌, ◌∷◌, ◌++◌, ◌≤◌, ℕ, [], Err, length, map, flat_map, string_bytes, codes, decimal, IfOk, OnOk, OnErr};
 ghost use Rattle.board_spec.specs.Orders.{IsReplayOf};
-ghost use Rattle.board_spec.specs.LogText.{log_text};
-ghost use Rattle.script_text.specs.Reading.{said_of};
-ghost use Rattle.script_text.specs.ScriptText.{most_statements};
-ghost use Rattle.script_text.specs.Taken.{IsTaken, IsTakenScript};
-ghost use Rattle.board_run.specs.declared.replay.ReplayFault.{ReplayFault};
-ghost use Rattle.board_run.specs.Commands.{said_by};
-ghost use Rattle.board_run.specs.Replays.{setup_of, IsMapBehind, IsTold, IsTextOf};
+ghost use Rattle.board_spec.specs.Text.{line_feed};
+ghost use Rattle.board_spec.specs.MapText.{map_text};
+ghost use Rattle.map_builder.specs.Map.{range_of};
+ghost use Rattle.script_spec.specs.ScriptRange.{IsInRangeScript, statements_in};
+ghost use Rattle.script_spec.specs.Checks.{DiffersAt};
+ghost use Rattle.script_text.specs.Script.{said_of};
+ghost use Rattle.log_check.specs.declared.fault.CheckFault.{CheckFault};
+ghost use Rattle.log_check.specs.Checked.{IsCheckedLog};
+ghost use Rattle.board_run.specs.declared.status.Which.{Which};
+ghost use Rattle.board_run.specs.Asked.{limit_of};
+ghost use Rattle.board_run.specs.Texts.{IsReplayText, IsMapText, IsLegalText};
 
-use crate::map::push_map;
-use crate::words::Command;
 use board_base::NoMemory;
-use board_core::{Board, BoardOpen, Setup};
-use board_script::push_log;
-use board_spec::Statement;
+use board_core::Board;
+use board_script::{push_decimal, push_log, push_range, push_words};
 use board_spec::laws::law_lock;
+use log_check::{CheckFault, statement_count};
+use map_builder::Range;
 use script_text::Script;
 use std::alloc::Global;
 
-/// The version of the logs.
-const LOG_VERSION: u8 = 1;
-
-/// Why a script was not replayed.
-#[derive(Clone, Copy, PartialEq, Eq, Debug)]
-pub enum ReplayFault {
-    /// The ROM is not of 64, 128, 256 or 512 KiB.
-    BadRom,
-    /// There was no memory.
-    NoMemory,
-}
-
-impl From<NoMemory> for ReplayFault {
-    ghost use Rattle.std.specs.Prelude.{◌≡◌};
-    ghost use Rattle.board_run.specs.declared.replay.ReplayFault.{ReplayFault};
-
-    ghost from_gives = { λ _ fault. fault ≡ ReplayFault.NoMemory };
-
-    fn from(_: NoMemory) -> ReplayFault {
-        ReplayFault::NoMemory
-    }
-}
-
-/// Does statements on a fresh board, one after another.
-fn replay_statements(board: &mut Board, statements: &[Statement]) -> Result<(), NoMemory>
-    requires taken { All IsTaken statements.now }
-    requires count { length statements.now ≤ most_statements }
+/// Does the statements of a script in the order of its file, on a fresh board with its cards. One thread does it, and
+/// nobody is waited for. Where there is no memory the board is as before.
+pub fn replay_script(board: &mut Board, script: &Script) -> Result<(), NoMemory>
+    requires in_range { IsInRangeScript (said_of script.now) }
+    requires cards { board.old.setup.cards ≡ (said_of script.now).cards }
     requires fresh { board.old.entries ≡ [] }
-    ensures replay { OnOk result (IsReplayOf board.old.setup statements.now board.new.entries) }
-    ensures setup { OnOk result (board.new.setup ≡ board.old.setup) }
+    ensures replay { OnOk result (IsReplayOf board.old.setup (statements_in (said_of script.now)) board.new.entries) }
+    ensures setup { board.new.setup ≡ board.old.setup }
+    ensures err { OnErr result (board.new ≡ board.old) }
 {
-    board.reserve(statements.len() as u32)?;
-    for statement in statements {
-        board.step(statement.actor, &statement.event);
+    board.reserve(statement_count(&script.phases))?;
+    for phase in &script.phases {
+        board.steps(phase);
     }
     Ok(())
 }
 
-/// The board of a script with this ROM, behind the script's statements. BadRom exactly where the ROM is not of 64, 128,
-/// 256 or 512 KiB.
-fn replayed(alloc: Global, script: Script, rom: Vec<u8>) -> Result<Board, ReplayFault>
-    requires taken { IsTakenScript (said_of script) }
-    ensures replay { IfOk result (λ board.
-        IsReplayOf (setup_of (said_of script) rom.items) (said_of script).statements board.entries) }
-    ensures setup { IfOk result (λ board. board.setup ≡ setup_of (said_of script) rom.items) }
-    ensures bad_rom { (result ≡ Err ReplayFault.BadRom) ↔ ¬ IsRomSize (length rom.items) }
+/// Checks whether bytes are the log of a legal and complete history of a script, on a fresh board with its setup: line by
+/// line, so that the first line is named which no such log has after the same lines.
+pub fn check_log(
+    alloc: Global,
+    board: &mut Board,
+    script: &Script,
+    bytes: &[u8],
+) -> Result<u32, CheckFault>
+    requires in_range { IsInRangeScript (said_of script.now) }
+    requires cards { board.old.setup.cards ≡ (said_of script.now).cards }
+    requires fresh { board.old.entries ≡ [] }
+    ensures log { IfOk result (λ count. IsCheckedLog board.old.setup (said_of script.now).version (said_of script.now).phases
+        bytes.now board.new.entries count) }
+    ensures differs { (line : ℕ) → result ≡ Err (CheckFault.Differs line)
+        → DiffersAt board.old.setup (said_of script.now).version (said_of script.now).phases bytes.now line }
 {
-    let setup = Setup {
-        mib: u32::from(script.mib),
-        cards: script.cards,
-        rom,
-        disk: None,
-    };
-    let mut board = match Board::open(alloc, setup) {
-        Ok(board) => board,
-        Err(BoardOpen::BadRom) => return Err(ReplayFault::BadRom),
-        Err(_) => return Err(ReplayFault::NoMemory),
-    };
-    replay_statements(&mut board, &script.statements)?;
-    Ok(board)
+    log_check::check_log(alloc, board, script.version, &script.phases, bytes)
 }
 
-/// The log of what a board was asked.
-fn log_text(alloc: Global, board: &Board) -> Result<String, NoMemory>
-    ensures log { IfOk result (λ text. string_bytes text ≡ log_text 1 board.now.entries) }
+/// The log of a script's replay on its board.
+pub fn log_of_replay(alloc: Global, board: &mut Board, script: &Script) -> Result<String, NoMemory>
+    requires in_range { IsInRangeScript (said_of script.now) }
+    requires cards { board.old.setup.cards ≡ (said_of script.now).cards }
+    requires fresh { board.old.entries ≡ [] }
+    ensures text { IfOk result (λ text. IsReplayText board.old.setup (said_of script.now) (string_bytes text)) }
 {
+    replay_script(board, script)?;
     let mut text = String::new(alloc);
-    push_log(&mut text, LOG_VERSION, board.history().entries())?;
+    push_log(&mut text, script.version, board.history().entries())?;
+    law_lock();
     Ok(text)
 }
 
-/// The address map of a board as it stands.
-fn map_text(alloc: Global, board: &Board) -> Result<String, NoMemory>
-    ensures map { IfOk result (λ text. IsMapBehind board.now.setup board.now.entries (string_bytes text)) }
+/// Appends the lines of the ranges of a map.
+fn push_map(text: &mut String, ranges: &[Range]) -> Result<(), NoMemory>
+    ensures appended { OnOk result (string_bytes text.new ≡ string_bytes text.old ++ map_text (map range_of ranges.now)) }
 {
+    for range in ranges {
+        push_range(text, range.lo, range.hi, &range.row.areas)?;
+    }
+    Ok(())
+}
+
+/// The address map after a script's replay on its board.
+pub fn map_after_replay(
+    alloc: Global,
+    board: &mut Board,
+    script: &Script,
+) -> Result<String, NoMemory>
+    requires in_range { IsInRangeScript (said_of script.now) }
+    requires cards { board.old.setup.cards ≡ (said_of script.now).cards }
+    requires fresh { board.old.entries ≡ [] }
+    ensures text { IfOk result (λ text. IsMapText board.old.setup (said_of script.now) (string_bytes text)) }
+{
+    replay_script(board, script)?;
     let mut text = String::new(alloc);
     push_map(&mut text, board.map().ranges())?;
     Ok(text)
 }
 
-/// What a command tells of a board.
-fn told(alloc: Global, command: Command, board: &Board) -> Result<String, NoMemory>
-    ensures told { IfOk result (λ text. IsTold (said_by command.entry) board.now.setup board.now.entries (string_bytes text)) }
+/// `legal` and a number of entries.
+fn legal_text(alloc: Global, count: u32) -> Result<String, NoMemory>
+    ensures text { IfOk result (λ text. string_bytes text ≡ codes "legal " ++ decimal count ++ line_feed ∷ []) }
 {
-    match command {
-        Command::Replay(_) => log_text(alloc, board),
-        Command::Map(_) => map_text(alloc, board),
-    }
+    let mut text = String::new(alloc);
+    push_words(&mut text, "legal ")?;
+    push_decimal(&mut text, u64::from(count))?;
+    push_words(&mut text, "\n")?;
+    Ok(text)
 }
 
-/// What a command tells behind the replay of a script on a board with this ROM. BadRom exactly where the ROM is not of 64,
-/// 128, 256 or 512 KiB.
-pub fn command_text(
+/// `legal` and the number of entries of a log, where it is that of a legal and complete history of a script.
+pub fn verdict_on_log(
     alloc: Global,
-    command: Command,
-    script: Script,
-    rom: Vec<u8>,
-) -> Result<String, ReplayFault>
-    requires taken { IsTakenScript (said_of script) }
-    ensures text { IfOk result (λ text. IsTextOf (said_by command.entry) (said_of script) rom.items (string_bytes text)) }
-    ensures bad_rom { (result ≡ Err ReplayFault.BadRom) ↔ ¬ IsRomSize (length rom.items) }
+    board: &mut Board,
+    script: &Script,
+    log: &[u8],
+) -> Result<String, CheckFault>
+    requires in_range { IsInRangeScript (said_of script.now) }
+    requires cards { board.old.setup.cards ≡ (said_of script.now).cards }
+    requires fresh { board.old.entries ≡ [] }
+    requires fits { length log.now ≤ limit_of Which.Log }
+    ensures text { IfOk result (λ text. IsLegalText board.old.setup (said_of script.now) log.now (string_bytes text)) }
+    ensures differs { (line : ℕ) → result ≡ Err (CheckFault.Differs line)
+        → DiffersAt board.old.setup (said_of script.now).version (said_of script.now).phases log.now line }
 {
-    let board = replayed(alloc, script, rom)?;
-    let text = told(alloc, command, &board)?;
-    law_lock();
+    let count = check_log(alloc, board, script, log)?;
+    let text = legal_text(alloc, count)?;
     Ok(text)
 }

@@ -3,12 +3,21 @@
 ghost use Rattle.std.specs.Prelude.{◌≡◌};
 ghost use Rattle.board_run.specs.Status.{code_of};
 
+use board_base::{NoMemory, PutFault};
+use board_core::BoardOpen;
+use log_check::CheckFault;
+use script_text::ScriptFault;
+
 /// A file that a command reads.
 #[derive(Clone, Copy, PartialEq, Eq, Debug)]
 pub enum Which {
     Script,
     /// The BIOS ROM, whose name the script says.
     Rom,
+    /// The disk, whose name the script says where one is fitted.
+    Disk,
+    /// The log that is checked.
+    Log,
 }
 
 /// How a command ended.
@@ -28,8 +37,78 @@ pub enum Status {
     BadScript { line: u32, why: u8 },
     /// An image has another length than one of its kind.
     BadImage(Which),
+    /// The log that is checked has a line, counted from 1, which no log of the script has after the same lines.
+    Differs { line: u32 },
     /// There was no memory.
     NoMemory,
+}
+
+impl From<NoMemory> for Status {
+    ghost use Rattle.std.specs.Prelude.{◌≡◌};
+    ghost use Rattle.board_run.specs.declared.status.Status.{Status};
+
+    ghost from_gives = { λ _ status. status ≡ Status.NoMemory };
+
+    fn from(_: NoMemory) -> Status {
+        Status::NoMemory
+    }
+}
+
+impl From<ScriptFault> for Status {
+    ghost use Rattle.std.specs.Prelude.{◌≡◌};
+    ghost use Rattle.board_run.specs.Statuses.{status_of_script_fault};
+
+    ghost from_gives = { λ fault status. status ≡ status_of_script_fault fault };
+
+    fn from(fault: ScriptFault) -> Status {
+        match fault {
+            ScriptFault::Bad { line, why } => Status::BadScript { line, why },
+            ScriptFault::NoMemory => Status::NoMemory,
+        }
+    }
+}
+
+impl From<BoardOpen> for Status {
+    ghost use Rattle.std.specs.Prelude.{◌≡◌};
+    ghost use Rattle.board_run.specs.Statuses.{status_of_board_fault};
+
+    ghost from_gives = { λ fault status. status ≡ status_of_board_fault fault };
+
+    fn from(fault: BoardOpen) -> Status {
+        match fault {
+            BoardOpen::BadRom => Status::BadImage(Which::Rom),
+            BoardOpen::BadDisk => Status::BadImage(Which::Disk),
+            BoardOpen::NoMemory => Status::NoMemory,
+        }
+    }
+}
+
+impl From<CheckFault> for Status {
+    ghost use Rattle.std.specs.Prelude.{◌≡◌};
+    ghost use Rattle.board_run.specs.Statuses.{status_of_check_fault};
+
+    ghost from_gives = { λ fault status. status ≡ status_of_check_fault fault };
+
+    fn from(fault: CheckFault) -> Status {
+        match fault {
+            CheckFault::Differs { line } => Status::Differs { line },
+            CheckFault::NoMemory => Status::NoMemory,
+        }
+    }
+}
+
+impl From<PutFault> for Status {
+    ghost use Rattle.std.specs.Prelude.{◌≡◌};
+    ghost use Rattle.board_run.specs.Statuses.{status_of_put_fault};
+
+    ghost from_gives = { λ fault status. status ≡ status_of_put_fault fault };
+
+    fn from(fault: PutFault) -> Status {
+        match fault {
+            PutFault::Failed => Status::WriteFault,
+            PutFault::NoMemory => Status::NoMemory,
+        }
+    }
 }
 
 /// The exit code of the program for a status.
@@ -44,6 +123,7 @@ pub fn exit_code(status: &Status) -> u8
         Status::TooLong(_) => 4,
         Status::BadScript { .. } => 5,
         Status::BadImage(_) => 6,
+        Status::Differs { .. } => 7,
         Status::NoMemory => 8,
     }
 }

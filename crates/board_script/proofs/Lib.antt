@@ -1,3 +1,5 @@
 pub mod Joined
 pub mod Digits
 pub mod Lines
+pub mod ReadLines
+pub mod ReadLogs

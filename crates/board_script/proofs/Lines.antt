@@ -16,7 +16,7 @@ reverse-take_more entries i default inside =
 length-reverse_take : (entries : List Entry) (i : ℕ) → i < length entries → length (reverse (take i entries)) ≡ i
 length-reverse_take entries i inside = grind (arith, common_steps)
 
-lines_text-newest :
+pub lines_text-newest :
     (before : List Entry) (entry : Entry) (i : ℕ) → length before ≡ i
     → lines_text (entry ∷ before) ≡ lines_text before ++ (line_text (i + 1) entry ++ line_feed ∷ [])
 unfolding lines_text

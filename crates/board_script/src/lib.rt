@@ -3,10 +3,13 @@
 //! new words may stand after it.
 #![tactic(auto)]
 
+mod fault;
 mod hex;
+pub mod laws;
 mod line;
 mod log;
 mod map;
+mod read;
 mod reply;
 mod statement;
 mod target;
@@ -14,10 +17,14 @@ mod words;
 
 pub use board_spec::{Entry, Event, Look, Reply, Statement};
 pub use hex::push_hex_long;
+pub use fault::LogFault;
 pub use line::Line;
-pub use log::{log_line, push_log};
+pub use log::{log_line, push_line, push_log};
 pub use map::push_range;
 pub use words::{push_decimal, push_words};
+pub use read::{Log, read_log};
 
+#[cfg(test)]
+mod read_tests;
 #[cfg(test)]
 mod tests;

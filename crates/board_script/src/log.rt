@@ -30,7 +30,7 @@ fn push_place(text: &mut String, n: u64, actor: u8, seq: u32) -> Result<(), NoMe
 
 /// Appends line `n`, without its line feed.
 #[tactic(auto, unfolding(board_spec::specs::LogText::line_text))]
-fn push_entry(text: &mut String, n: u64, entry: &Entry) -> Result<(), NoMemory>
+pub(crate) fn push_entry(text: &mut String, n: u64, entry: &Entry) -> Result<(), NoMemory>
     ensures appended { OnOk result (Adds text.old text.new (line_text n entry.now)) }
     ensures front { OnErr result (KeepsFront text.old text.new) }
 {
@@ -41,8 +41,8 @@ fn push_entry(text: &mut String, n: u64, entry: &Entry) -> Result<(), NoMemory>
     Ok(())
 }
 
-/// Appends line `n` with its line feed.
-fn push_line(text: &mut String, n: u64, entry: &Entry) -> Result<(), NoMemory>
+/// Appends line `n` with its line feed. Lines count from 1.
+pub fn push_line(text: &mut String, n: u64, entry: &Entry) -> Result<(), NoMemory>
     ensures appended { OnOk result (Adds text.old text.new
         (line_text n entry.now ++ line_feed ∷ [])) }
     ensures front { OnErr result (KeepsFront text.old text.new) }

@@ -143,15 +143,37 @@ fn entry(seq: u32, event: Event, reply: Reply) -> Entry {
     }
 }
 
+/// What a log of at most a MiB says.
+pub(crate) fn read_short(rt: &impl Abort, alloc: Global, text: &str) -> Result<Log, LogFault> {
+    assert!(rt; text.len() <= 1 << 20);
+    read_log(alloc, text.as_bytes())
+}
+
+/// A log with one line, of the first entry of processor 0.
+fn log_of(alloc: Global, heading: &str, statement_and_reply: &str) -> Result<String, Fail> {
+    let mut text = String::new(alloc);
+    text.push_str(heading)?;
+    text.push_str("\n1 0.1 ")?;
+    text.push_str(statement_and_reply)?;
+    text.push('\n')?;
+    Ok(text)
+}
+
+/// Each entry has its line, and each line says its entry.
 fn expect_lines(
     rt: &impl Abort,
     alloc: Global,
+    heading: &str,
     lines: &[(Event, Reply, &str)],
 ) -> Result<(), Fail> {
     for (event, reply, expected) in lines {
-        let line = log_line(alloc, 1, &entry(1, *event, *reply))?;
+        let first = entry(1, *event, *reply);
+        let line = log_line(alloc, 1, &first)?;
         let statement_and_reply = line.as_str().strip_prefix("1 0.1 ");
         assert_eq!(rt; statement_and_reply, Some(*expected));
+        let text = log_of(alloc, heading, expected)?;
+        let log = read_short(rt, alloc, text.as_str())?;
+        assert_eq!(rt; log.entries.as_slice(), [first].as_slice(), "{expected}");
     }
     Ok(())
 }
@@ -256,7 +278,8 @@ fn entries_have_their_lines(rt: HostRuntime) -> Result<(), Fail> {
             "bad 3 = - ata -",
         ),
     ];
-    expect_lines(&rt, rt.alloc(), &lines)
+    expect_lines(&rt, rt.alloc(), "access log 1", &lines)?;
+    expect_lines(&rt, rt.alloc(), "access log 2", &lines)
 }
 
 #[test]
@@ -293,7 +316,7 @@ fn a_wide_access_has_what_answered_each_part(rt: HostRuntime) -> Result<(), Fail
             "r w 0009FFFF smm = 0000 dram:0 - smram -",
         ),
     ];
-    expect_lines(&rt, rt.alloc(), &lines)
+    expect_lines(&rt, rt.alloc(), "access log 2", &lines)
 }
 
 #[test]

@@ -74,12 +74,12 @@ fn push_counts(text: &mut String, count: u64, counts: Counts) -> Result<(), NoMe
 
 /// Appends the lines of the map.
 #[tactic(auto, unfolding(crate::specs::Summary::map_lines))]
-fn push_map(text: &mut String, writes: u32, ranges: u32) -> Result<(), NoMemory>
+fn push_map(text: &mut String, writes: u32, ranges: usize) -> Result<(), NoMemory>
     ensures appended { OnOk result (Adds text.old text.new (text_of_lines (map_lines writes ranges))) }
     ensures front { OnErr result (KeepsFront text.old text.new) }
 {
     push_row(text, "mapwrites ", u64::from(writes))?;
-    push_row(text, "ranges ", u64::from(ranges))
+    push_row(text, "ranges ", ranges as u64)
 }
 
 /// Appends the summary of a history whose oldest entry comes first, with the number of its map writes and that of
@@ -88,7 +88,7 @@ pub fn push_summary(
     text: &mut String,
     entries: &[Entry],
     map_writes: u32,
-    ranges: u32,
+    ranges: usize,
 ) -> Result<(), NoMemory>
     ensures appended { (setup : Setup) → map_writes ≡ version_of setup (reverse entries.now)
         → OnOk result (Adds text.old text.new (summary_of setup (reverse entries.now) ranges)) }

@@ -85,7 +85,7 @@ decimal_back n small =
 -- ---- hexadecimal numbers
 
 -- what stands for a digit of so much is read as so much
-hex_digit_read : (c d : ℕ) → d < 16 → StandsFor c (hex_digit d) → digit_of 16 c ≡ Some d
+pub hex_digit_read : (c d : ℕ) → d < 16 → StandsFor c (hex_digit d) → digit_of 16 c ≡ Some d
 hex_digit_read c d small stands = elim (cases_lt d 10) [
   | inl low ↦
       let e : d % 16 ≡ d = omega (arith, small) in
@@ -134,7 +134,7 @@ next_value : (q high b : ℕ) → high ≡ q / 256 → b ≡ q % 256 → (high *
 next_value q high b one two = omega (arith, one, two)
 
 -- behind the digits that made what stands above so many bytes
-hex_after : (k high n : ℕ) (field : List ℕ) → high ≡ n / 256 ^ k → Spells field (hex_number k n) → number_after 16 high field ≡ Some n
+pub hex_after : (k high n : ℕ) (field : List ℕ) → high ≡ n / 256 ^ k → Spells field (hex_number k n) → number_after 16 high field ≡ Some n
 unfolding number_after
 hex_after zero high n [] is spells = let same : high ≡ n = omega (arith, is) in ap (λ (x : ℕ). Some x) same
 hex_after zero high n (c ∷ cs) is spells = absurd spells

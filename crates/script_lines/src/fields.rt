@@ -6,7 +6,7 @@ ghost use Rattle.script_lines.specs.Fields.{fields_of};
 use arrayvec::ArrayVec;
 
 /// No form has more fields: a card with six bases and an expansion ROM has ten.
-pub(crate) const MOST_FIELDS: usize = 10;
+pub const MOST_FIELDS: usize = 10;
 
 /// The first field, and what stands behind the space that ends it. None where the text is one field.
 fn split_field(text: &[u8]) -> Option<(&[u8], &[u8])>
@@ -20,7 +20,7 @@ fn split_field(text: &[u8]) -> Option<(&[u8], &[u8])>
 }
 
 /// The fields of a line, between which one space stands. None where they are more than ten.
-pub(crate) fn fields_of(line: &[u8]) -> Option<ArrayVec<&[u8], MOST_FIELDS>>
+pub fn fields_of(line: &[u8]) -> Option<ArrayVec<&[u8], MOST_FIELDS>>
     ensures fields { MatchOption result (10 < length (fields_of line.now))
         (λ fields. map (λ field. field.now) fields.items ≡ fields_of line.now) }
 {

@@ -42,7 +42,7 @@ pub enum Item<'a> {
 }
 
 /// Whether a field is this word.
-fn is_word(field: &[u8], word: &str) -> bool
+pub fn is_word(field: &[u8], word: &str) -> bool
     ensures same { result ≡ bytes_eq field.now word.now }
 {
     field == word.as_bytes()

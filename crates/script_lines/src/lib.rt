@@ -9,8 +9,10 @@ mod moment;
 mod numbers;
 
 pub use card::{BaseField, CardFields};
-pub use item::{Asked, Item, item_of};
+pub use fields::{MOST_FIELDS, fields_of};
+pub use item::{Asked, Item, is_word, item_of};
 pub use moment::MomentFields;
+pub use numbers::{decimal_of, digit_of, hex_of};
 
 #[cfg(test)]
 mod tests;

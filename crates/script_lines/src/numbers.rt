@@ -25,7 +25,7 @@ fn digit_value(byte: u8) -> Option<u64>
 }
 
 /// A digit of a base.
-fn digit_of(base: u64, byte: u8) -> Option<u64>
+pub fn digit_of(base: u64, byte: u8) -> Option<u64>
     ensures digit { result ≡ digit_of base byte }
     ensures below { IfSome result (λ digit. digit < base) }
 {
@@ -48,7 +48,7 @@ fn number_of(base: u64, field: &[u8]) -> Option<u64>
 }
 
 /// The number of exactly so many hexadecimal digits, at most sixteen.
-pub(crate) fn hex_of(digits: usize, field: &[u8]) -> Option<u64>
+pub fn hex_of(digits: usize, field: &[u8]) -> Option<u64>
     requires { digits ≤ 16 }
     ensures number { result ≡ hex_of digits field.now }
     ensures below { IfSome result (λ number. number < 16 ^ digits) }
@@ -68,7 +68,7 @@ fn has_leading_zero(field: &[u8]) -> bool
 }
 
 /// The number of 1 to 9 decimal digits, with no leading zero but in `0` itself.
-pub(crate) fn decimal_of(field: &[u8]) -> Option<u32>
+pub fn decimal_of(field: &[u8]) -> Option<u32>
     ensures number { result ≡ decimal_of field.now }
 {
     if field.is_empty() || field.len() > MOST_DIGITS || has_leading_zero(field) {

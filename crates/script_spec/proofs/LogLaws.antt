@@ -112,7 +112,7 @@ actor_of version text = seq_of version (digits_value 10 (front 0x2E text)) (back
 abbrev entry_of : (version : ℕ) → List ℕ → Entry
 entry_of version line = actor_of version (back space line)
 
-seven_parts : (a b c d e f g : List ℕ) → a ++ b ++ c ++ d ++ e ++ f ++ g ≡ a ++ (b ++ (c ++ (d ++ (e ++ (f ++ g)))))
+pub seven_parts : (a b c d e f g : List ℕ) → a ++ b ++ c ++ d ++ e ++ f ++ g ≡ a ++ (b ++ (c ++ (d ++ (e ++ (f ++ g)))))
 seven_parts a b c d e f g =
     append_assoc (a ++ b ++ c ++ d ++ e) f g
     ∙ append_assoc (a ++ b ++ c ++ d) e (f ++ g)
@@ -201,11 +201,11 @@ line_says_entry version n m entry other formed others same =
 -- ---- whole logs
 
 -- the lines of a history, the oldest first
-abbrev log_lines : List Entry → List (List ℕ)
+abbrev pub log_lines : List Entry → List (List ℕ)
 log_lines [] = []
 log_lines (entry ∷ before) = log_lines before ++ line_text (length before + 1) entry ∷ []
 
-lines_joined : (history : List Entry) → lines_text history ≡ text_of_lines (log_lines history)
+pub lines_joined : (history : List Entry) → lines_text history ≡ text_of_lines (log_lines history)
 unfolding lines_text
 lines_joined [] = refl
 lines_joined (entry ∷ before) =
@@ -238,13 +238,13 @@ line_whole n entry =
     refl)
     (lacks-plain line_feed reply refl (reply_plain (value_bytes entry.event) entry.reply)))
 
-lines_whole : (history : List Entry) → All IsOneLine (log_lines history)
+pub lines_whole : (history : List Entry) → All IsOneLine (log_lines history)
 lines_whole [] = All-nil IsOneLine
 lines_whole (entry ∷ before) =
     All-push IsOneLine (log_lines before) (line_text (length before + 1) entry) (lines_whole before) (line_whole
     (length before + 1) entry)
 
-nothing_more : (this after : List ℕ) → [] ≡ this ++ line_feed ∷ after → ⊥
+pub nothing_more : (this after : List ℕ) → [] ≡ this ++ line_feed ∷ after → ⊥
 nothing_more [] after e = not_nil line_feed after e
 nothing_more (c ∷ cs) after e = not_nil c (cs ++ line_feed ∷ after) e
 

@@ -66,7 +66,7 @@ digit_is_not d mark small outside =
       | inr letter ↦ rw (le-ltb d 10 letter) (λ same. grind (arith, outside, same))
     ]
 
-digit_not : (n mark : ℕ) → (mark < 0x30) ⊎ (0x46 < mark) → eqb (hex_digit n) mark ≡ false
+pub digit_not : (n mark : ℕ) → (mark < 0x30) ⊎ (0x46 < mark) → eqb (hex_digit n) mark ≡ false
 digit_not n mark outside = ne_eqb (hex_digit n) mark (digit_is_not (n % 0x10) mark (omega arith) outside)
 
 abbrev denial_by : ℕ → List ℕ → Option Denial
@@ -323,11 +323,11 @@ look_read bytes (Saw look) fits =
 
 -- ---- the parts of a wide access
 
-abbrev words_of : List Part → List (List ℕ)
+abbrev pub words_of : List Part → List (List ℕ)
 words_of [] = []
 words_of (part ∷ later) = target_text part.target ∷ denial_text part.denial ∷ words_of later
 
-parts_spaced : (parts : List Part) →
+pub parts_spaced : (parts : List Part) →
     flat_map (λ part. answered_text part.target part.denial) parts ≡ flat_map spaced (words_of parts)
 parts_spaced [] = refl
 parts_spaced (part ∷ later) =
@@ -336,7 +336,7 @@ parts_spaced (part ∷ later) =
     ∙ ap (λ (rest : List ℕ). (space ∷ target_text part.target) ++ ((space ∷ denial_text part.denial) ++ rest))
     (parts_spaced later)
 
-words_lack : (parts : List Part) → All IsWord (words_of parts)
+pub words_lack : (parts : List Part) → All IsWord (words_of parts)
 words_lack [] = All-nil IsWord
 words_lack (part ∷ later) =
     All-cons IsWord (target_text part.target) (denial_text part.denial ∷ words_of later)

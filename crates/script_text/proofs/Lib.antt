@@ -1,10 +1,8 @@
 pub mod LineLemmas
-pub mod NumberLemmas
-pub mod StatementRuns
-pub mod ChainLemmas
-pub mod CardLemmas
-pub mod CardRuns
-pub mod CardTaken
 pub mod NameLemmas
-pub mod ReadingLaws
-pub mod TakenLemmas
+pub mod CardLemmas
+pub mod BaseRuns
+pub mod Reasons
+pub mod TakenSetup
+pub mod TakenPhases
+pub mod Runs

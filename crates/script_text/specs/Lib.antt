@@ -1,9 +1,4 @@
-pub mod Lines
-pub mod Numbers
-pub mod StatementText
-pub mod CardText
-pub mod Forms
-pub mod ScriptText
+pub mod Faults
+pub mod Valid
 pub mod Reading
-pub mod Taken
-pub mod Laws
+pub mod Script

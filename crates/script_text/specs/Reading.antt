@@ -1,20 +1,61 @@
--- What a reader returns, held against what the text says.
-use Rattle.std.specs.Prelude.{◌≡◌, ℕ, Result, Ok, Err}
-use Rattle.script_text.specs.declared.fault.ScriptFault.{ScriptFault}
-use Rattle.script_text.specs.declared.fault.ScriptFault.TheVariants.{Bad, NoMemory}
-use Rattle.script_text.specs.declared.script.Script.{Script}
-use Rattle.script_text.specs.ScriptText.{Said, Refusal}
+-- What is kept of the lines so far, held against the items that they say.
+use Rattle.std.specs.Prelude.{ℕ, ◌≡◌, ◌≤◌, Bool, true, false, not, nat_lt, Vec, List, ◌∷◌, length, map, filter, reverse, sum_by, Option, Some, None, Result, Ok, Err}
+use Rattle.std.specs.Option.{option_map}
+use Rattle.std.specs.List.{list_any, find}
+use Rattle.std.specs.List.Sorted.{IsPermutation}
+use Rattle.board_spec.specs.declared.event.Statement.{Statement}
+use Rattle.board_spec.specs.Setup.{Rises, memory_of_cards}
+use Rattle.script_spec.specs.Grammar.{Item, SetCpus, SetMemory, SetRom, SetDisk}
+use Rattle.script_spec.specs.Reasons.{is_phase, is_statement, is_setup, is_cpus, is_memory, is_rom, is_disk, is_cpus_above, cards_of, has_setup, pulses_of, is_misplaced, is_repeated, least_reason}
+use Rattle.script_spec.specs.ScriptText.{phase_items}
+use Rattle.script_text.specs.declared.fault.Reason.{Reason}
+use Rattle.script_text.specs.declared.reading.Reading.{Reading}
+use Rattle.script_text.specs.Faults.{number_of}
 
--- where a fault names a line and a reason, they are such; want of memory says nothing of the text
-abbrev pub OnBad : ScriptFault → (ℕ → ℕ → Type 0) → Type 0
-OnBad (Bad line why) P = P line why
-OnBad NoMemory P = Unit {0}
+-- no limit is passed
+pub record IsWithinLimits (reading : Reading) : Type 0 where
+  pub statements : reading.statements ≤ 250_000
+  pub phases : length reading.phases.items ≤ 1_000
+  pub pulses : reading.pulses ≤ 100_000_000
+  pub memory : reading.memory ≤ 0x400_0000
 
--- a result, seen by `view`, is what the text says, unless memory ran out
-abbrev pub Gives : {X Y : Type 0} → (X → Y) → Result X ScriptFault → Result Y Refusal → Type 0
-Gives view (Ok x) read = read ≡ Ok (view x)
-Gives view (Err fault) read = OnBad fault (λ line why. read ≡ Err (record { line = line; why = why }))
+-- vectors as the lists of their items
+abbrev pub lists_of : {Z : Type 0} → List (Vec Statement Z) → List (List Statement)
+lists_of phases = map (λ phase. phase.items) phases
 
--- what a script says, without where it lies in memory
-abbrev pub said_of : Script → Said
-said_of script = record { mib = script.mib; cards = script.cards.items; rom = script.rom; statements = script.statements.items }
+abbrev pub is_below : (actor : ℕ) → Option ℕ → Bool
+is_below actor None = false
+is_below actor (Some cpus) = nat_lt actor cpus
+
+-- the lines so far say these items, the newest first, and this is what is kept of them
+pub record IsReadingOf (items : List Item) (reading : Reading) : Type 0 where
+  pub cpus : find is_cpus items ≡ option_map SetCpus reading.cpus
+  pub actors : (actor : ℕ) → list_any (is_cpus_above actor) items ≡ is_below actor reading.cpus
+  pub mib : find is_memory items ≡ option_map SetMemory reading.mib
+  pub rom : find is_rom items ≡ option_map SetRom reading.rom
+  pub disk : find is_disk items ≡ option_map SetDisk reading.disk
+  pub cards : IsPermutation (cards_of items) reading.cards.items
+  pub rises : Rises reading.cards.items
+  pub memory : memory_of_cards (cards_of items) ≡ reading.memory
+  pub statements : length (filter is_statement items) ≡ reading.statements
+  pub pulses : sum_by pulses_of items ≡ reading.pulses
+  pub count : length (filter is_phase items) ≡ length reading.phases.items
+  pub phases : reverse (filter (λ item. not (is_setup item)) items) ≡ phase_items (lists_of reading.phases.items)
+  -- the setup is whole by the first phase
+  pub whole : list_any is_phase items ≡ true → has_setup items ≡ true
+  pub limits : IsWithinLimits reading
+
+-- an item is taken where there is no reason to refuse it, and refused for the least
+abbrev pub Judges : {X : Type 0} → (X → Item) → (items : List Item) → Item → Result X Reason → Type 0
+Judges said items item (Ok x) = (least_reason items item ≡ None) × (said x ≡ item)
+Judges said items item (Err reason) = least_reason items item ≡ Some (number_of reason)
+
+-- a line of the setup stands before the first phase and is the first of its kind, or is refused
+abbrev pub Stands : (items : List Item) → Item → Result (Unit {0}) Reason → Type 0
+Stands items item (Ok done) = (is_misplaced items item ≡ false) × (is_repeated items item ≡ false)
+Stands items item (Err reason) = least_reason items item ≡ Some (number_of reason)
+
+-- with an item that there is no reason to refuse, one value follows on another
+abbrev pub Takes : (old : Reading) → Item → (new : Reading) → Type 0
+Takes old item new =
+    (items : List Item) → IsReadingOf items old → least_reason items item ≡ None → IsReadingOf (item ∷ items) new

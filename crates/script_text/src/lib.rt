@@ -1,22 +1,20 @@
-//! The reader of scripts: from bytes to a setup and its statements, or to the first line that is bad.
+//! The reader of scripts of version 1 and 2: from bytes to what the script says, or to the first line that is bad
+//! and the least reason for it.
 #![tactic(auto)]
 
-mod card;
-mod cards;
-mod event;
 mod fault;
-mod forms;
-pub mod laws;
 mod lines;
 mod name;
-mod numbers;
+mod read;
 mod reading;
+mod reason;
 mod script;
-mod setup;
+mod take;
+mod valid;
 
 pub use fault::ScriptFault;
 pub use name::Name;
-pub use reading::read_script;
+pub use read::read_script;
 pub use script::Script;
 
 #[cfg(test)]

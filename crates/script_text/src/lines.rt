@@ -1,17 +1,15 @@
-//! Lines of a file, and fields of a line.
+//! The lines of a text.
 
-ghost use Rattle.std.specs.Prelude.{◌≡◌, ◌<◌, [], ◌∷◌, length, map, IfOk, IfSome, MatchOption};
+ghost use Rattle.std.specs.Prelude.{◌≡◌, ◌<◌, [], ◌∷◌, length, bytes_eq, IfSome, MatchOption};
 ghost use Rattle.script_spec.specs.Lines.{lines_of};
-ghost use Rattle.script_text.specs.Lines.{fields_of};
-
-use std::alloc::{AllocError, Global};
+ghost use Rattle.script_spec.specs.ScriptText.{IsVersion, first_line, BeginsBadly, is_skipped};
 
 /// What ends a line.
 const LINE_FEED: u8 = b'\n';
 
 /// The first line of these bytes, without its line feed, and the bytes after it. Where there are no
 /// bytes there is no line.
-pub fn split_line(bytes: &[u8]) -> Option<(&[u8], &[u8])>
+pub(crate) fn split_line(bytes: &[u8]) -> Option<(&[u8], &[u8])>
     ensures cases { MatchOption result (lines_of bytes.now ≡ []) (λ p. lines_of bytes.now ≡ p.0.now ∷ lines_of p.1.now) }
     ensures shorter { IfSome result (λ p. length p.1.now < length bytes.now) }
 {
@@ -24,9 +22,35 @@ pub fn split_line(bytes: &[u8]) -> Option<(&[u8], &[u8])>
     }
 }
 
-/// The fields of a line, between which one space stands.
-pub fn fields_of(alloc: Global, line: &[u8]) -> Result<Vec<&[u8]>, AllocError>
-    ensures fields { IfOk result (λ v. map (λ field. field.now) v.items ≡ fields_of line.now) }
+/// Whether a line is this text.
+fn is_text(line: &[u8], text: &str) -> bool
+    ensures same { result ≡ bytes_eq line.now text.now }
 {
-    line.split(|byte| *byte == b' ').collect(alloc)
+    line == text.as_bytes()
+}
+
+/// The version that line 1 names, and the bytes after that line. None where it names none, or there is no line.
+pub(crate) fn version_of(bytes: &[u8]) -> Option<(u8, &[u8])>
+    ensures cases { MatchOption result (BeginsBadly (lines_of bytes.now))
+        (λ p. IsVersion p.0 × (lines_of bytes.now ≡ first_line p.0 ∷ lines_of p.1.now)) }
+    ensures shorter { IfSome result (λ p. length p.1.now < length bytes.now) }
+{
+    let (line, rest) = split_line(bytes)?;
+    if is_text(line, "board 1") {
+        return Some((1, rest));
+    }
+    if is_text(line, "board 2") {
+        return Some((2, rest));
+    }
+    None
+}
+
+/// Whether a line says nothing: it is empty or a comment.
+pub(crate) fn is_skipped(line: &[u8]) -> bool
+    ensures skipped { result ≡ is_skipped line.now }
+{
+    match line {
+        [] => true,
+        [first, ..] => *first == b'#',
+    }
 }

@@ -1,108 +1,88 @@
-//! Whole scripts.
+//! What is kept of the lines of a script so far.
 
-ghost use Rattle.std.specs.Prelude.{◌≡◌, ◌≤◌, ◌<◌, ◌^◌, ◌-◌, length, map, IfOk, IfErr, OnOk};
-ghost use Rattle.script_spec.specs.Lines.{lines_of};
-ghost use Rattle.script_text.specs.ScriptText.{most_statements, statement_of, next_statement, statements_from, script_from, IsScript, IsBadScript};
-ghost use Rattle.script_text.specs.Taken.{IsTakenScript};
-ghost use Rattle.script_text.specs.Reading.{Gives, OnBad, said_of};
+ghost use Rattle.std.specs.Prelude.{◌≡◌, [], List, true, false, IfOk, IfErr};
+ghost use Rattle.script_spec.specs.Grammar.{Item};
+ghost use Rattle.script_spec.specs.Reasons.{lacks_setup};
+ghost use Rattle.script_spec.specs.ScriptText.{IsSaidBy};
+ghost use Rattle.script_text.specs.Faults.{number_of};
+ghost use Rattle.script_text.specs.Reading.{IsReadingOf};
+ghost use Rattle.script_text.specs.Script.{said_of};
+ghost use Rattle.script_text.specs.declared.fault.Reason.{Reason};
 
-use crate::cards::cards_from;
-use crate::event::event_of;
-use crate::fault::ScriptFault;
-use crate::forms::is_taken;
-use crate::lines::{fields_of, split_line};
+use crate::fault::Reason;
+use crate::name::Name;
 use crate::script::Script;
-use crate::setup::{fixed_line, memory_line, rom_line};
 use board_spec::Statement;
+use pci_bars::CardSpec;
 use std::alloc::Global;
 
-/// A script has no more statements than this.
-const MOST_STATEMENTS: usize = 250_000;
-
-/// The line of the first statement, where there are no cards.
-const FIRST_STATEMENT: u32 = 6;
-
-/// A statement of the one processor, where it is one that this stage takes.
-#[tactic(auto, unfolding(crate::specs::ScriptText::statement_of))]
-fn statement_of(fields: &[&[u8]]) -> Option<Statement>
-    ensures statement { result ≡ statement_of (map (λ field. field.now) fields.now) }
-{
-    let [b"0", words @ ..] = fields else {
-        return None;
-    };
-    let event = event_of(words)?;
-    if is_taken(&event) {
-        Some(Statement { actor: 0, event })
-    } else {
-        None
-    }
+/// What is kept of the lines so far: the setup, with the cards in rising order of device and the bytes of memory
+/// behind their bases, how many statements and pulses there were, and the phases.
+#[derive(Drop)]
+pub(crate) struct Reading {
+    pub cpus: Option<u8>,
+    pub mib: Option<u8>,
+    pub rom: Option<Name>,
+    pub disk: Option<Name>,
+    pub cards: Vec<CardSpec>,
+    pub memory: u32,
+    pub statements: u32,
+    pub pulses: u32,
+    pub phases: Vec<Vec<Statement>>,
 }
 
-/// The statement on a line, where so many stand before it, the first of them on line `first`.
-#[tactic(auto, unfolding(crate::specs::ScriptText::next_statement))]
-fn next_statement(
-    alloc: Global,
-    first: u32,
-    before: usize,
-    line: &[u8],
-) -> Result<Statement, ScriptFault>
-    requires first { first ≤ 14 }
-    requires before { before ≤ most_statements }
-    ensures said { Gives (λ statement. statement) result (next_statement first before line.now) }
-    ensures room { OnOk result (before < most_statements) }
-{
-    let number = first + before as u32;
-    if before == MOST_STATEMENTS {
-        return Err(ScriptFault::other_form(number));
+impl Reading {
+    /// No line was read.
+    pub(crate) fn new(alloc: Global) -> Reading
+        ensures empty { IsReadingOf [] result }
+    {
+        Reading {
+            cpus: None,
+            mib: None,
+            rom: None,
+            disk: None,
+            cards: Vec::new(alloc),
+            memory: 0,
+            statements: 0,
+            pulses: 0,
+            phases: Vec::new(alloc),
+        }
     }
-    let fields = fields_of(alloc, line)?;
-    match statement_of(&fields) {
-        Some(statement) => Ok(statement),
-        None => Err(ScriptFault::other_form(number)),
+
+    /// What all lines say together. Refused where the setup is not whole.
+    pub(crate) fn finish(self, version: u8) -> Result<Script, Reason>
+        ensures said { IfOk result (λ script. (said_of script).version ≡ version) }
+        ensures whole { IfOk result (λ script. (items : List Item) → IsReadingOf items self →
+            (lacks_setup items ≡ false) × IsSaidBy (said_of script) items) }
+        ensures reason { IfErr result (λ reason. reason ≡ Reason.NoSetup) }
+        ensures lacks { IfErr result (λ reason. (items : List Item) → IsReadingOf items self → lacks_setup items ≡ true) }
+    {
+        let Reading {
+            cpus,
+            mib,
+            rom,
+            disk,
+            cards,
+            phases,
+            ..
+        } = self;
+        let Some(cpus) = cpus else {
+            return Err(Reason::NoSetup);
+        };
+        let Some(mib) = mib else {
+            return Err(Reason::NoSetup);
+        };
+        let Some(rom) = rom else {
+            return Err(Reason::NoSetup);
+        };
+        Ok(Script {
+            version,
+            cpus,
+            mib: u32::from(mib),
+            rom,
+            disk,
+            cards,
+            phases,
+        })
     }
-}
-
-/// The statements of the phase, the first of them on line `first`.
-fn statements_from(alloc: Global, first: u32, bytes: &[u8]) -> Result<Vec<Statement>, ScriptFault>
-    requires first { first ≤ 14 }
-    ensures said { Gives (λ v. v.items) result (statements_from first 0 (lines_of bytes.now)) }
-{
-    let mut statements = Vec::new(alloc);
-    let mut rest = bytes;
-    while let Some((line, after)) = split_line(rest) {
-        let statement = next_statement(alloc, first, statements.len(), line)?;
-        statements.push(statement)?;
-        rest = after;
-    }
-    Ok(statements)
-}
-
-/// The script, line by line.
-#[tactic(auto, unfolding(crate::specs::ScriptText::script_from))]
-fn script_from(alloc: Global, bytes: &[u8]) -> Result<Script, ScriptFault>
-    ensures said { Gives (λ script. said_of script) result (script_from (lines_of bytes.now)) }
-{
-    let rest = fixed_line(1, b"board 1", bytes)?;
-    let rest = fixed_line(2, b"cpus 1", rest)?;
-    let (mib, rest) = memory_line(alloc, rest)?;
-    let (rom, rest) = rom_line(alloc, rest)?;
-    let (cards, rest) = cards_from(alloc, rest)?;
-    let statements = statements_from(alloc, cards.len() as u32 + FIRST_STATEMENT, rest)?;
-    Ok(Script {
-        mib,
-        cards,
-        rom,
-        statements,
-    })
-}
-
-/// Reads a script. Bad where a line is the first that is not as it must be; the end of the file counts
-/// as the line behind the last one. The line numbers fit, since there are fewer than 2^32 - 1 bytes.
-pub fn read_script(alloc: Global, bytes: &[u8]) -> Result<Script, ScriptFault>
-    requires { length bytes.now < 2 ^ 32 - 1 }
-    ensures said { IfOk result (λ script. IsScript bytes.now (said_of script)) }
-    ensures taken { IfOk result (λ script. IsTakenScript (said_of script)) }
-    ensures bad { IfErr result (λ fault. OnBad fault (IsBadScript bytes.now)) }
-{
-    script_from(alloc, bytes)
 }

@@ -4,12 +4,15 @@ use crate::name::Name;
 use board_spec::Statement;
 use pci_bars::CardSpec;
 
-/// What a script says: the installed memory in MiB, 1 to 64, the cards in rising order of device, the
-/// name of the file with the BIOS ROM, and the statements in their order.
+/// What a script says: its version, 1 or 2, the processors, 1 to 8, the installed memory in MiB, 1 to 64, the names
+/// of the files with the BIOS ROM and the disk, the cards in rising order of device, and the statements of each phase.
 #[derive(Debug, Drop)]
 pub struct Script {
-    pub mib: u8,
-    pub cards: Vec<CardSpec>,
+    pub version: u8,
+    pub cpus: u8,
+    pub mib: u32,
     pub rom: Name,
-    pub statements: Vec<Statement>,
+    pub disk: Option<Name>,
+    pub cards: Vec<CardSpec>,
+    pub phases: Vec<Vec<Statement>>,
 }

@@ -1,414 +1,331 @@
+//! Whole texts and where they are refused, a table a test.
+
 use super::*;
-use crate::event::event_of;
-use board_base::{Access, Kind, PortAccess, Width};
+use board_base::{Access, Kind, Moment, WideAccess, Width};
 use board_spec::{Event, Statement};
-use pci_bars::{BaseSpec, CardSpec};
+use pci_bars::BaseSpec;
 use std::alloc::Global;
 use std::test::Fail;
 
-// A setup with its phase, and four statements that open a shadow window for writes.
-const SHADOW: &[u8] =
-    b"board 1\ncpus 1\nmemory 8\nrom r64\nphase\n0 out d 0CF8 80000058\n0 out b 0CFF 20\n0 w b 000CC000 02\n0 r b 000CC000\n";
+/// A text, and the line at which it is refused with the reason; 0, 0 where it is a script.
+type Row<'a> = (&'a [u8], u32, u8);
 
-// Four lines of setup.
-const SETUP: &[u8] = b"board 1\ncpus 1\nmemory 8\nrom r64\n";
-
-fn out(width: Width, port: u16, value: u32) -> Event {
-    Event::Port(PortAccess {
-        write: true,
-        port,
-        width,
-        value,
-    })
-}
-
-fn memory(kind: Kind, width: Width, addr: u32, value: u32, smm: bool) -> Event {
-    Event::Memory(Access {
-        kind,
-        addr,
-        width,
-        smm,
-        value,
-    })
-}
-
-#[test]
-fn a_script_says_its_setup_and_its_statements(rt: HostRuntime) -> Result<(), Fail> {
-    let script = read_script(rt.alloc(), SHADOW)
-        .ok()
-        .ok_or("it is a script")?;
-    assert_eq!(rt; script.mib, 8);
-    assert_eq!(rt; script.rom.as_str(), "r64");
-    let events = [
-        out(Width::Four, 0xCF8, 0x8000_0058),
-        out(Width::One, 0xCFF, 0x20),
-        memory(Kind::Write, Width::One, 0xC_C000, 0x02, false),
-        memory(Kind::Read, Width::One, 0xC_C000, 0, false),
-    ];
-    let want = events.map(|event| Statement { actor: 0, event });
-    assert_eq!(rt; script.statements.as_slice(), want.as_slice());
-    Ok(())
-}
-
-// What a text of at most 10,000 bytes says.
-fn read_short(alloc: Global, text: &[u8]) -> Option<Script> {
-    if text.len() > 10_000 {
-        return None;
-    }
-    read_script(alloc, text).ok()
-}
-
-// The line at which a text is refused, 0 where it is a script.
-fn refused_at(alloc: Global, text: &[u8]) -> Option<u32> {
-    if text.len() > 10_000 {
+/// The line at which a text is refused, and the reason; 0, 0 where it is a script.
+fn refused_at(alloc: Global, text: &[u8]) -> Option<(u32, u8)> {
+    if text.len() > 50_000_000 {
         return None;
     }
     match read_script(alloc, text) {
-        Ok(_) => Some(0),
-        Err(ScriptFault::Bad { line, why: 11 }) => Some(line),
-        Err(_) => None,
+        Ok(_) => Some((0, 0)),
+        Err(ScriptFault::Bad { line, why }) => Some((line, why)),
+        Err(ScriptFault::NoMemory) => None,
     }
 }
 
-// A text, and the line at which it is refused, or 0.
-const TEXTS: [(&[u8], u32); 24] = [
-    (b"", 1),
-    (b"\n", 1),
-    (b"board 2\n", 1),
-    (b"board 1\r\n", 1),
-    (b"board 1\n", 2),
-    (b"board 1\ncpus 2\n", 2),
-    (b"board 1\ncpus 1", 3),
-    (b"board 1\ncpus 1\nmemory 0\n", 3),
-    (b"board 1\ncpus 1\nmemory 65\n", 3),
-    (b"board 1\ncpus 1\nmemory 08\n", 3),
-    (b"board 1\ncpus 1\nmemory 8 \n", 3),
-    (b"board 1\ncpus 1\nrom r64\n", 3),
-    (b"board 1\ncpus 1\nmemory 8\n", 4),
-    (b"board 1\ncpus 1\nmemory 8\nrom .r64\n", 4),
-    (b"board 1\ncpus 1\nmemory 8\nrom r 64\n", 4),
-    (b"board 1\ncpus 1\nmemory 8\nrom r64", 0),
-    (b"board 1\ncpus 1\nmemory 64\nrom _r.6-4\n", 0),
-    (b"board 1\ncpus 1\nmemory 8\nrom r64\n\n", 5),
-    (b"board 1\ncpus 1\nmemory 8\nrom r64\n0 r b 00001000\n", 5),
-    (b"board 1\ncpus 1\nmemory 8\nrom r64\nphase", 0),
+/// Texts by their first lines and the end.
+const TEXTS: [Row; 27] = [
+    (b"", 1, 1),
+    (b"\n", 1, 1),
+    (b"board 3\n", 1, 1),
+    (b"board 1\r\n", 1, 1),
+    (b"board 1 \n", 1, 1),
+    (b"# a comment\nboard 1\n", 1, 1),
+    (b"board 1", 2, 6),
+    (b"board 2\n\n", 3, 6),
+    (b"board 2\nboard 2\n", 2, 3),
+    (b"board 1\ncpus 1\nphase\n", 3, 6),
+    (b"board 1\ncpus 1\ncpus 1\n", 3, 5),
+    (b"board 1\ncpus 1\n", 3, 6),
+    (b"board 1\ncpus 1\n# a comment\n", 4, 6),
+    (b"board 1\ncpus 1\n0 ack\n", 3, 4),
     (
-        b"board 1\ncpus 1\nmemory 8\nrom r64\nphase\n0 r w 00001001\n",
-        6,
+        b"board 1\n\n# a comment\r\n#\ncpus 1\nmemory 1\nrom r\nphase\n",
+        0,
+        0,
     ),
     (
-        b"board 1\ncpus 1\nmemory 8\nrom r64\nphase\n0 r b 00001000\n\n",
+        b"board 1\nrom r\nmemory 1\ncpus 8\nphase\n7 ack\n8 ack\n",
         7,
-    ),
-    (
-        b"board 1\ncpus 1\nmemory 8\nrom r64\nphase\n0 r b 00001000\nphase\n",
-        7,
-    ),
-    (
-        b"board 1\ncpus 1\nmemory 8\nrom r64\nphase\n0 r b 00001000\n1 r b 00001000\n",
-        7,
-    ),
-];
-
-#[test]
-fn a_text_is_refused_at_its_first_bad_line(rt: HostRuntime) {
-    for (text, line) in TEXTS {
-        assert_eq!(rt; refused_at(rt.alloc(), text), Some(line));
-    }
-}
-
-// The fields of a card as a script gives them: its device, whether it is a VGA adapter, and its bases.
-type Card<'a> = (u8, bool, &'a [BaseSpec]);
-
-// Card lines behind four lines of setup, and the cards that they say.
-const CARDS: [(&[u8], &[Card]); 9] = [
-    (b"", &[]),
-    (b"card 2 vga\n", &[(2, true, &[])]),
-    (b"card 9 plain", &[(9, false, &[])]),
-    (
-        b"card 5 plain m4 i8 m24 i2\n",
-        &[(
-            5,
-            false,
-            &[
-                BaseSpec::Memory(4),
-                BaseSpec::Io(8),
-                BaseSpec::Memory(24),
-                BaseSpec::Io(2),
-            ],
-        )],
-    ),
-    (
-        b"card 3 vga m12 m12 m12 i4 i4 i4\nphase\n",
-        &[(
-            3,
-            true,
-            &[
-                BaseSpec::Memory(12),
-                BaseSpec::Memory(12),
-                BaseSpec::Memory(12),
-                BaseSpec::Io(4),
-                BaseSpec::Io(4),
-                BaseSpec::Io(4),
-            ],
-        )],
-    ),
-    (
-        b"card 4 plain i2\ncard 2 vga m20\ncard 9 plain\ncard 3 plain m12 i4\n",
-        &[
-            (2, true, &[BaseSpec::Memory(20)]),
-            (3, false, &[BaseSpec::Memory(12), BaseSpec::Io(4)]),
-            (4, false, &[BaseSpec::Io(2)]),
-            (9, false, &[]),
-        ],
-    ),
-    (
-        b"card 9 plain\ncard 8 plain\ncard 7 plain\ncard 6 plain\ncard 5 plain\ncard 4 plain\ncard 3 plain\ncard 2 vga\n",
-        &[
-            (2, true, &[]),
-            (3, false, &[]),
-            (4, false, &[]),
-            (5, false, &[]),
-            (6, false, &[]),
-            (7, false, &[]),
-            (8, false, &[]),
-            (9, false, &[]),
-        ],
-    ),
-    (
-        b"card 6 plain m24 m24 m24 m24\n",
-        &[(
-            6,
-            false,
-            &[
-                BaseSpec::Memory(24),
-                BaseSpec::Memory(24),
-                BaseSpec::Memory(24),
-                BaseSpec::Memory(24),
-            ],
-        )],
-    ),
-    (
-        b"card 3 vga m24 m24\ncard 2 plain m24 i8\ncard 4 plain m24\n",
-        &[
-            (2, false, &[BaseSpec::Memory(24), BaseSpec::Io(8)]),
-            (3, true, &[BaseSpec::Memory(24), BaseSpec::Memory(24)]),
-            (4, false, &[BaseSpec::Memory(24)]),
-        ],
-    ),
-];
-
-fn are_cards(cards: &[CardSpec], want: &[Card]) -> bool {
-    cards.len() == want.len()
-        && cards.iter().zip(want).all(|(card, (dev, vga, bases))| {
-            card.dev == *dev && card.vga == *vga && card.bases.as_slice() == *bases
-        })
-}
-
-#[test]
-fn cards_stand_in_rising_order(rt: HostRuntime) -> Result<(), Fail> {
-    for (lines, want) in CARDS {
-        let mut text = Vec::from_slice(rt.alloc(), SETUP)?;
-        text.extend_from_slice(lines)?;
-        let script = read_short(rt.alloc(), &text).ok_or("it is a script")?;
-        assert!(rt; are_cards(&script.cards, want));
-    }
-    Ok(())
-}
-
-// Lines behind four lines of setup, and the line at which the script is refused, or 0.
-const LINES: [(&[u8], u32); 38] = [
-    (b"card\n", 5),
-    (b"card 2\n", 5),
-    (b"card 2 ega\n", 5),
-    (b"card 2 VGA\n", 5),
-    (b"Card 2 vga\n", 5),
-    (b"cards 2 vga\n", 5),
-    (b"card 2 vga \n", 5),
-    (b"card  2 vga\n", 5),
-    (b"card 2 vga\r\n", 5),
-    (b"card 02 vga\n", 5),
-    (b"card vga 2\n", 5),
-    (b"card 2 vga m\n", 5),
-    (b"card 2 vga m04\n", 5),
-    (b"card 2 vga M12\n", 5),
-    (b"card 2 vga x12\n", 5),
-    (b"card 2 vga 12\n", 5),
-    (b"card 2 vga m-4\n", 5),
-    (b"card 2 vga m1A\n", 5),
-    (b"card 0 vga\n", 5),
-    (b"card 1 vga\n", 5),
-    (b"card 10 plain\n", 5),
-    (b"card 2 plain m3\n", 5),
-    (b"card 2 plain m25\n", 5),
-    (b"card 2 plain i1\n", 5),
-    (b"card 2 plain i9\n", 5),
-    (b"card 2 plain m4 i2 m999999999\n", 5),
-    (b"card 2 plain i2 i2 i2 i2 i2 i2 i2\n", 5),
-    (b"card 2 vga\ncard 2 plain\n", 6),
-    (b"card 4 vga\ncard 3 plain\ncard 4 vga\n", 7),
-    (b"card 2 plain m24 m24 m24 m24 m4\n", 5),
-    (b"card 2 plain m24 m24 m24 m24\ncard 3 plain m4\n", 6),
-    (
-        b"card 9 plain m24 m24 m24\ncard 3 vga m24\ncard 4 plain i8\ncard 2 plain m4\n",
-        8,
-    ),
-    (b"card 2 vga\n\n", 6),
-    (b"card 2 vga\nrom r64\n", 6),
-    (b"phase\ncard 2 vga\n", 6),
-    (b"card 3 vga\ncard 2 plain\nphase\n0 r b 00001000\n", 0),
-    (b"card 3 vga\ncard 2 plain\nphase\n0 ack\n", 8),
-    (
-        b"card 3 vga\ncard 2 plain\nphase\n0 r b 00001000\n1 r b 00001000\n",
         9,
     ),
+    (b"board 1\nrom r\nmemory 1\n 0 ack\n", 4, 3),
+    (b"board 1\ncpus 0\n", 2, 7),
+    (b"board 1\ncpus 9\n", 2, 7),
+    (b"board 1\ncpus 8\nmemory 64\nrom r64", 0, 0),
+    (b"board 1\ncpus 1\nmemory 0\n", 3, 7),
+    (b"board 1\ncpus 1\nmemory 65\n", 3, 7),
+    (b"board 1\ncpus 1\nmemory 08\n", 3, 3),
+    (b"board 1\ncpus  1\n", 2, 3),
+    (b"board 1\ncpus 1 \n", 2, 3),
+    (b"board 1\ncpus 1\r\n", 2, 3),
+    (b"board 1\ncpus\t1\n", 2, 3),
 ];
 
 #[test]
-fn a_card_line_is_refused(rt: HostRuntime) -> Result<(), Fail> {
-    for (lines, line) in LINES {
-        let mut text = Vec::from_slice(rt.alloc(), SETUP)?;
-        text.extend_from_slice(lines)?;
-        assert_eq!(rt; refused_at(rt.alloc(), &text), Some(line));
+fn texts_are_refused_at_their_first_bad_line(rt: HostRuntime) {
+    for (text, line, why) in TEXTS {
+        assert_eq!(rt; refused_at(rt.alloc(), text), Some((line, why)));
+    }
+}
+
+/// Five lines that make a script.
+const SETUP: &str = "board 1\ncpus 1\nmemory 8\nrom r64\nphase\n";
+
+/// The same in version 2.
+const SETUP_2: &str = "board 2\ncpus 1\nmemory 8\nrom r64\nphase\n";
+
+/// Line 6 behind the setup, and the reason for which it is refused; 0 where it is not.
+const SIXTH_LINES: [(&str, u8); 30] = [
+    ("0 r b 0000000", 3),
+    ("memory 8", 4),
+    ("card 2 vga", 4),
+    ("0 moment 2023-02-29T00:00:00", 7),
+    ("0 moment 2024-02-29T23:59:59", 0),
+    ("0 moment 1979-12-31T00:00:00", 7),
+    ("0 moment 2024-01-01T24:00:00", 7),
+    ("0 r w 00000001", 8),
+    ("0 in d 0CFA", 8),
+    ("0 r q 00001000", 3),
+    ("1 ack", 9),
+    ("999999999 ack", 9),
+    ("1000000000 ack", 3),
+    ("01 ack", 3),
+    ("0 pulse 0", 7),
+    ("0 pulse 1000000", 0),
+    ("0 pulse 1000001", 7),
+    ("0 wire 1 1", 7),
+    ("0 wire 10 1", 7),
+    ("0 wire 2 1", 9),
+    ("0 wire 2 2", 7),
+    ("0 irq 2 1", 7),
+    ("0 irq 8 0", 7),
+    ("0 irq 11 1", 0),
+    ("0 irq 11 2", 7),
+    ("0 bad 65535", 0),
+    ("0 bad 65536", 7),
+    ("1 r w 00000001", 8),
+    ("1 pulse 0", 7),
+    ("phase", 0),
+];
+
+#[test]
+fn the_sixth_line_is_refused_for_the_least_reason(rt: HostRuntime) -> Result<(), Fail> {
+    for (line, why) in SIXTH_LINES {
+        let text = format!(in rt.alloc(); "{SETUP}{line}")?;
+        let want = if why == 0 { (0, 0) } else { (6, why) };
+        assert_eq!(rt;
+            refused_at(rt.alloc(), text.as_bytes()),
+            Some(want),
+            "{line}"
+        );
     }
     Ok(())
 }
 
-// A statement behind the setup, and whether it is taken.
-const STATEMENTS: [(&[u8], bool); 86] = [
-    (b"0 r b 00001000", true),
-    (b"0 r b 0000abCD", true),
-    (b"0 w b 00001000 fF", true),
-    (b"0 r b 000EFFFF", true),
-    (b"0 r b 000F0000", true),
-    (b"0 f d 000FFFFC", true),
-    (b"0 r b 00100000", true),
-    (b"0 r b FFF80000", true),
-    (b"0 r d FFFFFFFC", true),
-    (b"0 f d FFFFFFF0 smm", true),
-    (b"0 r b 0001000", false),
-    (b"0 r b 000010000", false),
-    (b"0 r b 0000100G", false),
-    (b"0 r b 00001000 ", false),
-    (b"0 r b 00001000 smm", true),
-    (b"0 r b 00001000 smm smm", false),
-    (b"0 f b 00001001", true),
-    (b"0 r w 00001002", true),
-    (b"0 r w 00000001", false),
-    (b"0 f d 00001002", false),
-    (b"0 r d FFFFFFFE", false),
-    (b"0 r  b 00001000", false),
-    (b"0 w b 00001000", false),
-    (b"0 w b 00001000 1", false),
-    (b"0 w b 00001000 0001", false),
-    (b"0 w w 00001000 0001", true),
-    (b"0 w d 00001004 01234567 smm", true),
-    (b"0 w d 00001006 01234567", false),
-    (b"0 look r F0000000", true),
-    (b"0 look f 00001000", true),
-    (b"0 look w 00000001 smm", true),
-    (b"0 look x 00000000", false),
-    (b"0 look r 0000000", false),
-    (b"0 look r b 00000000", false),
-    (b"0 look r 00000000 00", false),
-    (b"0 look r", false),
-    (b"0 ack", false),
-    (b"0 out d 0CF8 80000058", true),
-    (b"0 out d 0CF8 80000860", false),
-    (b"0 out d 0CF8 80000863", false),
-    (b"0 out d 0CF8 FF000860", false),
-    (b"0 out d 0CF8 00000860", true),
-    (b"0 out d 0CF8 80000864", true),
-    (b"0 out d 0CF8 80000760", true),
-    (b"0 out d 0CF8 80001060", true),
-    (b"0 out d 0CF8 FFFFFFFF", true),
-    (b"0 out w 0CF8 0860", true),
-    (b"0 out d 0CFC 80000860", true),
-    (b"0 in d 0CF8", true),
-    (b"0 in b 0CF9", true),
-    (b"0 in w 0CF9", false),
-    (b"0 out d 0CF9 00000006", false),
-    (b"0 in b 0CFA", true),
-    (b"0 out w 0CFE 8000", true),
-    (b"0 in d 0CFE", false),
-    (b"0 out b 0CFC 0", false),
-    (b"0 in b 001F", true),
-    (b"0 in b 0020", false),
-    (b"0 in w 0020", false),
-    (b"0 out b 0021 00", false),
-    (b"0 in b 0022", true),
-    (b"0 in b 003F", true),
-    (b"0 in b 0040", false),
-    (b"0 out d 0040 00000000", false),
-    (b"0 in b 0043", false),
-    (b"0 in d 0044", true),
-    (b"0 in b 0060", true),
-    (b"0 in b 0061", false),
-    (b"0 out b 0064 00", true),
-    (b"0 out b 0070 00", false),
-    (b"0 in b 0071", false),
-    (b"0 in b 0072", true),
-    (b"0 in b 00A0", false),
-    (b"0 in b 00A1", false),
-    (b"0 in w 00A2", true),
-    (b"0 in w 01EE", true),
-    (b"0 in w 01F0", false),
-    (b"0 in d 01F4", false),
-    (b"0 in b 01F7", false),
-    (b"0 in b 01F8", true),
-    (b"0 out b 03F6 00", false),
-    (b"0 in b 03F7", true),
-    (b"0 in b 04D0", false),
-    (b"0 in b 04D1", false),
-    (b"0 in b 04D2", true),
-    (b"0 in d FFFC", true),
+/// Line 6 of version 2.
+const WIDE_LINES: [(&str, u8); 8] = [
+    ("0 r q 00001000", 0),
+    ("0 r w 00000001", 0),
+    ("0 w d 00001001 0a0B0c0D smm", 0),
+    ("0 r q FFFFFFF8", 0),
+    ("0 r q FFFFFFF9", 8),
+    ("0 r d FFFFFFFD", 8),
+    ("0 r w FFFFFFFF", 8),
+    ("0 in w 0CF9", 8),
 ];
 
 #[test]
-fn a_statement_is_taken_or_refused(rt: HostRuntime) -> Result<(), Fail> {
-    for (statement, taken) in STATEMENTS {
-        let mut text = Vec::from_slice(rt.alloc(), SETUP)?;
-        text.extend_from_slice(b"phase\n")?;
-        text.extend_from_slice(statement)?;
-        let line = if taken { 0 } else { 6 };
-        assert_eq!(rt; refused_at(rt.alloc(), &text), Some(line));
+fn version_two_has_wide_accesses(rt: HostRuntime) -> Result<(), Fail> {
+    for (line, why) in WIDE_LINES {
+        let text = format!(in rt.alloc(); "{SETUP_2}{line}\n")?;
+        let want = if why == 0 { (0, 0) } else { (6, why) };
+        assert_eq!(rt;
+            refused_at(rt.alloc(), text.as_bytes()),
+            Some(want),
+            "{line}"
+        );
+    }
+    Ok(())
+}
+
+/// Lines 5 and on, behind `board 2`, `cpus 1`, `memory 8` and `rom r64`.
+const CARD_LINES: [(&str, u32, u8); 24] = [
+    ("card 2 vga", 0, 0),
+    ("card 1 plain", 5, 7),
+    ("card 10 plain", 5, 7),
+    ("card 9 plain m4 m4 m4 i2 i2 i2 x11", 0, 0),
+    ("card 9 plain m4 m4 m4 i2 i2 i2 i2", 5, 3),
+    ("card 9 plain x11 m4", 5, 3),
+    ("card 2 plain m3", 5, 7),
+    ("card 2 plain m24", 0, 0),
+    ("card 2 plain m25", 5, 7),
+    ("card 2 plain i1", 5, 7),
+    ("card 2 plain i9", 5, 7),
+    ("card 2 plain x10", 5, 7),
+    ("card 2 plain x24", 0, 0),
+    ("card 2 plain x25", 5, 7),
+    ("card 2 plain\ncard 2 plain m99", 6, 5),
+    ("card 3 plain\ncard 2 vga", 0, 0),
+    ("card 2 plain m24 m24\ncard 3 vga m24 m24", 0, 0),
+    ("card 2 plain m24 m24\ncard 3 vga m24 m24 i8 x24", 0, 0),
+    (
+        "card 2 plain m24 m24\ncard 3 vga m24 m24\ncard 4 plain m4",
+        7,
+        10,
+    ),
+    ("card 2 plain m24 m24 m24 m24 m4", 5, 10),
+    ("disk d\ndisk d", 6, 5),
+    ("rom r64", 5, 5),
+    ("phase\ncard 2 vga", 6, 4),
+    ("card 2 vga\nphase\n0 wire 2 1\n0 wire 3 0", 8, 9),
+];
+
+#[test]
+fn cards_and_disks_stand_beside_the_others(rt: HostRuntime) -> Result<(), Fail> {
+    for (lines, line, why) in CARD_LINES {
+        let text = format!(in rt.alloc(); "board 2\ncpus 1\nmemory 8\nrom r64\n{lines}\n")?;
+        assert_eq!(rt;
+            refused_at(rt.alloc(), text.as_bytes()),
+            Some((line, why)),
+            "{lines}"
+        );
     }
     Ok(())
 }
 
 #[test]
-fn events_by_their_fields(rt: HostRuntime) {
-    let cases: [(&[&[u8]], Option<Event>); 9] = [
-        (
-            &[b"f", b"d", b"000f0010"],
-            Some(memory(Kind::Fetch, Width::Four, 0xF_0010, 0, false)),
-        ),
-        (
-            &[b"w", b"w", b"000F0000", b"5AA5"],
-            Some(memory(Kind::Write, Width::Two, 0xF_0000, 0x5AA5, false)),
-        ),
-        (
-            &[b"w", b"b", b"000A0000", b"77", b"smm"],
-            Some(memory(Kind::Write, Width::One, 0xA_0000, 0x77, true)),
-        ),
-        (
-            &[b"out", b"w", b"0CFC", b"8000"],
-            Some(out(Width::Two, 0xCFC, 0x8000)),
-        ),
-        (
-            &[b"look", b"r", b"FFFE0000", b"smm"],
-            Some(Event::Look {
-                kind: Kind::Read,
-                addr: 0xFFFE_0000,
-                smm: true,
-            }),
-        ),
-        (&[b"look", b"b", b"FFFE0000"], None),
-        (&[b"r", b"b", b"00001000", b"smm", b"smm"], None),
-        (&[b"in", b"b", b"0CFC", b"smm"], None),
-        (&[b"ack", b"ack"], None),
-    ];
-    for (fields, event) in cases {
-        assert!(rt; event_of(fields) == event);
+fn version_one_has_no_expansion_roms(rt: HostRuntime) {
+    let text = b"board 1\ncpus 1\nmemory 8\nrom r64\ncard 2 plain x16\n";
+    assert_eq!(rt; refused_at(rt.alloc(), text), Some((5, 3)));
+}
+
+/// A text of a head, a line so many times, and a tail.
+fn repeated(alloc: Global, head: &str, line: &str, count: u32, tail: &str) -> Result<String, Fail> {
+    let mut text = String::from_str(alloc, head)?;
+    for _ in 0..count {
+        text.push_str(line)?;
     }
+    text.push_str(tail)?;
+    Ok(text)
+}
+
+/// A head, what is repeated how often, a tail, and the line at which the text is refused with the reason.
+const LONG_TEXTS: [(&str, &str, u32, &str, u32, u8); 14] = [
+    (SETUP, "x", 120, "\n", 6, 3),
+    (SETUP, "x", 121, "\n", 6, 2),
+    (SETUP, "x", 120, "\r\n", 6, 2),
+    ("board 1\n#", "x", 119, "\n", 3, 6),
+    ("board 1\n#", "x", 120, "\n", 2, 2),
+    ("board 1", "x", 121, "\n", 1, 1),
+    ("board 1\nrom ", "r", 64, "\n", 3, 6),
+    ("board 1\nrom ", "r", 65, "\n", 2, 3),
+    ("board 1\nrom ", "r", 63, ".\n", 3, 6),
+    ("board 1\n", "\n", 5, "cpus 1", 8, 6),
+    (SETUP, "phase\n", 999, "", 0, 0),
+    (SETUP, "phase\n", 1000, "", 1005, 10),
+    (SETUP, "0 pulse 1000000\n", 100, "", 0, 0),
+    (SETUP, "0 pulse 1000000\n", 100, "0 pulse 1\n", 106, 10),
+];
+
+#[test]
+fn long_texts_are_refused_past_the_limits(rt: HostRuntime) -> Result<(), Fail> {
+    for (head, line, count, tail, place, why) in LONG_TEXTS {
+        let text = repeated(rt.alloc(), head, line, count, tail)?;
+        assert_eq!(rt;
+            refused_at(rt.alloc(), text.as_bytes()),
+            Some((place, why)),
+            "{line}"
+        );
+    }
+    Ok(())
+}
+
+#[test]
+fn a_script_has_at_most_250000_statements(rt: HostRuntime) -> Result<(), Fail> {
+    let text = repeated(rt.alloc(), SETUP, "0 ack\n", 250_000, "")?;
+    assert_eq!(rt; refused_at(rt.alloc(), text.as_bytes()), Some((0, 0)));
+    let text = repeated(rt.alloc(), SETUP, "0 ack\n", 250_001, "phase\n")?;
+    assert_eq!(rt;
+        refused_at(rt.alloc(), text.as_bytes()),
+        Some((250_006, 10))
+    );
+    Ok(())
+}
+
+/// The setup in another order, comments between, and two phases.
+const SCRIPT: &[u8] =
+    b"board 2\n# a script\ncard 5 plain m4 i8 x16\n\ndisk d.img\nrom r64\nmemory 8\ncard 3 vga\ncpus 2\n\
+    phase\n1 r b 000CC000\n0 w w 00001001 beEF smm\nphase\nphase\n0 moment 2024-02-29T23:59:58\n0 wire 5 1";
+
+/// The statements of its first phase.
+const FIRST: [Statement; 2] = [
+    Statement {
+        actor: 1,
+        event: Event::Memory(Access {
+            kind: Kind::Read,
+            addr: 0xC_C000,
+            width: Width::One,
+            smm: false,
+            value: 0,
+        }),
+    },
+    Statement {
+        actor: 0,
+        event: Event::Wide(WideAccess {
+            kind: Kind::Write,
+            addr: 0x1001,
+            bytes: 2,
+            smm: true,
+            value: 0xBEEF,
+        }),
+    },
+];
+
+/// The statements of its last phase.
+const LAST: [Statement; 2] = [
+    Statement {
+        actor: 0,
+        event: Event::Time(Moment {
+            year: 2024,
+            month: 2,
+            day: 29,
+            weekday: 5,
+            hour: 23,
+            minute: 59,
+            second: 58,
+        }),
+    },
+    Statement {
+        actor: 0,
+        event: Event::Wire { dev: 5, on: true },
+    },
+];
+
+#[test]
+fn a_script_says_its_setup_and_its_phases(rt: HostRuntime) -> Result<(), Fail> {
+    let script = read_script(rt.alloc(), SCRIPT)
+        .ok()
+        .ok_or("it is a script")?;
+    assert_eq!(rt; script.version, 2);
+    assert_eq!(rt; script.cpus, 2);
+    assert_eq!(rt; script.mib, 8);
+    assert_eq!(rt; script.rom.as_str(), "r64");
+    let disk = script.disk.as_ref().ok_or("it has a disk")?;
+    assert_eq!(rt; disk.as_str(), "d.img");
+    let [vga, plain] = script.cards.as_slice() else {
+        return Err(Fail::from("it has two cards"));
+    };
+    assert_eq!(rt; (vga.dev, vga.vga, vga.rom), (3, true, None));
+    assert_eq!(rt; (plain.dev, plain.vga, plain.rom), (5, false, Some(16)));
+    assert_eq!(rt;
+        plain.bases.as_slice(),
+        [BaseSpec::Memory(4), BaseSpec::Io(8)].as_slice()
+    );
+    let [first, second, last] = script.phases.as_slice() else {
+        return Err(Fail::from("it has three phases"));
+    };
+    assert_eq!(rt; first.as_slice(), FIRST.as_slice());
+    assert!(rt; second.is_empty());
+    assert_eq!(rt; last.as_slice(), LAST.as_slice());
+    Ok(())
 }

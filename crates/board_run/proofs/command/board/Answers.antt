@@ -1,4 +1,4 @@
-use Rattle.board_run.proofs.ExactLemmas.{exact}
+use Rattle.board_run.proofs.Exact.{exact}
 use Rattle.board_run.specs.Words.{asked}
 use Rattle.board_run.proofs.command.board.Goals as goal
 
@@ -8,13 +8,13 @@ returns-clause-exact g c =
     (record {
       files = g.S.Shelf.files c.args.shelf.now;
       faults_before = g.S.Shelf.faults c.args.shelf.now;
-      faults_now = g.S.Shelf.faults c.obey.new.shelf;
-      failed_name = g.S.Shelf.failed_name c.obey.new.shelf;
+      faults_now = g.S.Shelf.faults c.run_words.new.shelf;
+      failed_name = g.S.Shelf.failed_name c.run_words.new.shelf;
     })
     (record {
       faults_before = g.K.Sink.faults c.args.out.now;
-      faults_now = g.K.Sink.faults c.obey.new.out;
+      faults_now = g.K.Sink.faults c.run_words.new.out;
       taken_before = g.K.Sink.taken c.args.out.now;
-      taken_now = g.K.Sink.taken c.obey.new.out;
+      taken_now = g.K.Sink.taken c.run_words.new.out;
     })
-    c.obey.result c.obey.ensures.usage c.obey.ensures.caused
+    c.run_words.result c.run_words.ensures.caused

@@ -1,7 +1,7 @@
 use Rattle.board_base.specs.Files.{file_named}
 use Rattle.std.specs.Prelude.{Some}
 use Rattle.board_run.specs.Words.{asked}
-use Rattle.board_run.proofs.ExactLemmas.{always_exact}
+use Rattle.board_run.proofs.Exact.{always_exact}
 use Rattle.board_run.proofs.memory.board_in_memory.Goals as goal
 
 pub returns-clause-exact : goal.returns-clause-exact

@@ -11,7 +11,7 @@ loop-statement-init c = record {
   setup = refl;
   room = search rules;
   same = grind (arith, common_steps);
-  legal = λ empty. rw empty tt;
+  legal = λ legal. legal;
 }
 
 pub loop-statement-preserved : goal.loop-statement-preserved
@@ -19,15 +19,15 @@ loop-statement-preserved c = record {
   setup = search rules;
   room = search rules;
   same = grind (arith, common_steps);
-  legal = λ empty.
+  legal = λ legal.
       subst (λ (board : Standing). IsLegal board.setup board.entries) (sym c.step.ensures.entry)
-      (record { number = refl; answer = c.step.ensures.answer }, c.loop-statement.invariant.legal empty);
+      (record { number = refl; answer = c.step.ensures.answer }, c.loop-statement.invariant.legal legal);
 }
 
 pub returns-clause-replay : goal.returns-clause-replay
 returns-clause-replay c = λ empty.
     let all : statements_of c.loop-statement.self.entries ≡ statements_of c.args.self.now.entries ++ c.args.statements.now = grind (arith, common_steps) in
     record {
-      legal = rw (← c.loop-statement.invariant.setup) (c.loop-statement.invariant.legal empty);
+      legal = rw (← c.loop-statement.invariant.setup) (c.loop-statement.invariant.legal (rw empty tt));
       same = all ∙ ap (λ (entries : List Entry). statements_of entries ++ c.args.statements.now) empty;
     }

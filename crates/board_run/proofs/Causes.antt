@@ -1,0 +1,118 @@
+-- What each way out of a command says of its cause.
+use Rattle.std.proofs.Common.{◌≡◌, ◌≢◌, ℕ, ◌⊎◌, inl, inr, List, Option, Some, None, refl, sym, subst}
+use Rattle.std.specs.Prelude.{IfErr, Result, Ok, Err}
+use Rattle.std.specs.Io.KnownBytes.{Appends, Keeps}
+use Rattle.board_base.specs.declared.fault.PutFault.{PutFault}
+use Rattle.board_base.specs.declared.fault.PutFault.TheVariants.{Failed, NoMemory as NoMemoryForPut}
+use Rattle.board_base.specs.Outside.{Rose}
+use Rattle.board_run.specs.declared.status.Which.{Which}
+use Rattle.board_run.specs.declared.status.Status.{Status}
+use Rattle.board_run.specs.declared.status.Status.TheVariants.{Done, Usage, ReadFault, WriteFault, TooLong, BadScript, BadImage, Differs, NoMemory}
+use Rattle.board_run.specs.Words.{Command}
+use Rattle.board_run.specs.Asked.{Files}
+use Rattle.board_run.specs.Texts.{IsCommandText}
+use Rattle.board_run.specs.Output.{AppendsFront}
+use Rattle.board_run.specs.Outcomes.{ShelfCall, SinkCall, OfFiles, OfCommand, PutsText, PutsTextFront, Stopped, HasCause, IsCaused}
+use Rattle.board_run.specs.Statuses.{status_of_put_fault, IsRefused, IsRefusal}
+use Rattle.board_run.proofs.Refusals.{of_files, at_files}
+
+abbrev HidesNoFault : ShelfCall → Status → Type 0
+HidesNoFault shelf status = ((which : Which) → status ≢ ReadFault which) → shelf.faults_now ≡ shelf.faults_before
+
+module _ (command : Command) (shelf : ShelfCall) (sink : SinkCall) where
+  abbrev Front : Type 0
+  Front = OfCommand (Some command) shelf.files (PutsTextFront sink.taken_before sink.taken_now)
+
+  refusal_cause : (status : Status) → IsRefused command shelf status → HasCause status (Some command) shelf sink
+  refusal_cause Done refused = absurd refused
+  refusal_cause Usage refused = absurd refused
+  refusal_cause (ReadFault which) refused = refused
+  refusal_cause WriteFault refused = absurd refused
+  refusal_cause (TooLong which) refused = refused
+  refusal_cause (BadScript line why) refused = refused
+  refusal_cause (BadImage which) refused = refused
+  refusal_cause (Differs line) refused = refused
+  refusal_cause NoMemory refused = tt
+
+  refusal_stopped :
+      (status : Status) → IsRefused command shelf status → Keeps sink.taken_before sink.taken_now →
+      Stopped status sink.taken_before sink.taken_now Front
+  refusal_stopped Done refused keeps = absurd refused
+  refusal_stopped Usage refused keeps = absurd refused
+  refusal_stopped (ReadFault which) refused keeps = keeps
+  refusal_stopped WriteFault refused keeps = absurd refused
+  refusal_stopped (TooLong which) refused keeps = keeps
+  refusal_stopped (BadScript line why) refused keeps = keeps
+  refusal_stopped (BadImage which) refused keeps = keeps
+  refusal_stopped (Differs line) refused keeps = keeps
+  refusal_stopped NoMemory refused keeps = inl keeps
+
+  -- a command was refused before it had its text, and nothing was put
+  pub caused_refusal :
+      (status : Status) → IsRefused command shelf status → HidesNoFault shelf status → Keeps sink.taken_before sink.taken_now →
+      IsCaused status (Some command) shelf sink
+  caused_refusal status refused quiet keeps = record {
+    cause = refusal_cause status refused;
+    no_fault_hidden = quiet;
+    stopped = refusal_stopped status refused keeps;
+  }
+
+  module _ (text : List ℕ) (says : OfFiles shelf.files (λ files. IsCommandText command files text)) (quiet : shelf.faults_now ≡ shelf.faults_before) where
+    front_put : AppendsFront sink.taken_before sink.taken_now text → Front
+    front_put taken =
+        of_files shelf.files (PutsTextFront sink.taken_before sink.taken_now command)
+        (λ files is. record {
+          text = text;
+          says = at_files shelf.files files (λ files'. IsCommandText command files' text) is says;
+          taken = taken;
+        })
+
+    -- the sink did not take the whole text
+    pub caused_put_fault :
+        (fault : PutFault) → AppendsFront sink.taken_before sink.taken_now text →
+        (fault ≡ Failed → Rose sink.faults_before sink.faults_now) →
+        IsCaused (status_of_put_fault fault) (Some command) shelf sink
+    caused_put_fault Failed taken rose = record {
+      cause = rose refl;
+      no_fault_hidden = λ _. quiet;
+      stopped = front_put taken;
+    }
+    caused_put_fault NoMemoryForPut taken rose = record {
+      cause = tt;
+      no_fault_hidden = λ _. quiet;
+      stopped = inr (front_put taken);
+    }
+
+    -- the sink took the whole text
+    pub caused_done : Appends sink.taken_before sink.taken_now text → IsCaused Done (Some command) shelf sink
+    caused_done taken = record {
+      cause =
+          of_files shelf.files (PutsText sink.taken_before sink.taken_now command)
+          (λ files is. record {
+            text = text;
+            says = at_files shelf.files files (λ files'. IsCommandText command files' text) is says;
+            taken = taken;
+          });
+      no_fault_hidden = λ _. quiet;
+      stopped = tt;
+    }
+
+-- words that are no command
+pub caused_usage :
+    (command : Option Command) (shelf : ShelfCall) (sink : SinkCall) → command ≡ None → shelf.faults_now ≡ shelf.faults_before →
+    Keeps sink.taken_before sink.taken_now → IsCaused Usage command shelf sink
+caused_usage command shelf sink none quiet keeps = record { cause = none; no_fault_hidden = λ _. quiet; stopped = keeps }
+
+pub refusal_of : (command : Command) (shelf : ShelfCall) (status : Status) → IsRefused command shelf status → IsRefusal status
+refusal_of command shelf Done refused = refused
+refusal_of command shelf Usage refused = refused
+refusal_of command shelf (ReadFault which) refused = tt
+refusal_of command shelf WriteFault refused = tt
+refusal_of command shelf (TooLong which) refused = tt
+refusal_of command shelf (BadScript line why) refused = tt
+refusal_of command shelf (BadImage which) refused = tt
+refusal_of command shelf (Differs line) refused = tt
+refusal_of command shelf NoMemory refused = tt
+
+pub refuses_as : {T : Type 0} (result : Result T Status) (status : Status) → result ≡ Err status → IsRefusal status → IfErr result IsRefusal
+refuses_as {T = T} result status is refused = subst (λ (result' : Result T Status). IfErr result' IsRefusal) (sym is) refused

@@ -1,0 +1,29 @@
+use Rattle.std.proofs.Common.{◌≡◌, rules, ap}
+use Rattle.std.proofs.KnownBytes.{Keeps-refl}
+use Rattle.board_run.specs.Commands.{said_by}
+use Rattle.board_run.specs.Statuses.{status_of, status_of_put_fault}
+use Rattle.board_run.proofs.Causes.{caused_refusal, caused_put_fault, caused_done, refusal_of, refuses_as}
+use Rattle.board_run.proofs.command.run_command.Goals as goal
+
+pub returns-in_err-text-clause-caused : goal.returns-in_err-text-clause-caused
+returns-in_err-text-clause-caused g c =
+    let is : status_of c.from_residual.result ≡ c.in_err-text.field-0.0 = search rules in
+    rw is
+    (caused_refusal _ _ _ c.in_err-text.field-0.0 c.in_err-text.ensures.refused c.in_err-text.ensures.no_fault
+    (Keeps-refl (g.K.Sink.taken c.args.out.now)))
+
+pub returns-in_err-text-clause-only : goal.returns-in_err-text-clause-only
+returns-in_err-text-clause-only g c =
+    refuses_as _ c.in_err-text.field-0.0 (search rules) (refusal_of _ _ c.in_err-text.field-0.0 c.in_err-text.ensures.refused)
+
+pub returns-in_err-put_all-clause-caused : goal.returns-in_err-put_all-clause-caused
+returns-in_err-put_all-clause-caused g c =
+    let is : status_of c.from_residual-in_err-put_all.result ≡ status_of_put_fault c.in_err-put_all.field-0.0 = search rules in
+    rw is
+    (caused_put_fault _ _ _ _ c.in_ok-text.ensures.text c.in_ok-text.ensures.quiet c.in_err-put_all.field-0.0
+    (rw c.as_bytes.ensures.value at c.in_err-put_all.ensures.front) c.in_err-put_all.ensures.failed)
+
+pub returns-clause-caused : goal.returns-clause-caused
+returns-clause-caused g c =
+    caused_done _ _ _ _ c.in_ok-text.ensures.text c.in_ok-text.ensures.quiet
+    (rw c.as_bytes.ensures.value at c.in_ok-put_all.ensures.whole)

@@ -1,0 +1,59 @@
+use Rattle.std.proofs.Common.{◌≡◌, Err, rules, refl, sym, ◌∙◌, subst, ℕ, List, Option}
+use Rattle.std.specs.Prelude.{IfErr, Result, Some}
+use Rattle.board_run.specs.declared.status.Status.{Status}
+use Rattle.board_run.specs.Words.{Command, script_name}
+use Rattle.board_run.specs.Asked.{Files}
+use Rattle.board_run.specs.Outcomes.{ShelfCall}
+use Rattle.board_run.specs.Statuses.{IsRefused, status_of_script_fault, status_of_board_fault}
+use Rattle.script_text.specs.Script.{said_of}
+use Rattle.board_run.proofs.Refusals.{refuses, not_taken, says_script, rom_size, comes_to_script, script_refused, comes_to_rom, disk_refused, board_refused}
+use Rattle.board_run.proofs.prepare.prepare.Goals as goal
+
+pub returns-in_err-bytes-clause-refused : goal.returns-in_err-bytes-clause-refused
+returns-in_err-bytes-clause-refused g c =
+    refuses _ _ _ c.in_err-bytes.field-0.0 (search rules)
+    (λ command named. not_taken _ _ _ _ _ command _ _ _ refl (comes_to_script _ _ _ _ command _ named) c.in_err-bytes.ensures.refused)
+
+pub returns-in_err-script-clause-refused : goal.returns-in_err-script-clause-refused
+returns-in_err-script-clause-refused g c =
+    refuses _ _ _ (status_of_script_fault c.in_err-script.field-0.0) (search rules)
+    (λ command named.
+    script_refused _ _ _ _ command _ c.in_err-script.field-0.0 _ _ named c.in_ok-bytes.ensures.whole (search rules)
+    c.deref.ensures.value c.in_err-script.ensures.bad)
+
+pub returns-in_err-rom-clause-refused : goal.returns-in_err-rom-clause-refused
+returns-in_err-rom-clause-refused g c =
+    let says =
+    says_script _ _ _ _ (said_of c.in_ok-script.script) c.in_ok-bytes.ensures.whole (search rules) c.deref.ensures.value
+    c.in_ok-script.ensures.said in
+    refuses _ _ _ c.in_err-rom.field-0.0 (search rules)
+    (λ command named.
+    not_taken _ _ _ _ _ command _ _ _ c.in_ok-bytes.ensures.quiet
+    (comes_to_rom _ _ _ _ command _ (said_of c.in_ok-script.script) named says)
+    (rw (c.as_str.ensures.text, c.fetch.ensures.same_files) at c.in_err-rom.ensures.refused))
+
+pub returns-in_err-disk-clause-refused : goal.returns-in_err-disk-clause-refused
+returns-in_err-disk-clause-refused g c =
+    let says =
+    says_script _ _ _ _ (said_of c.in_ok-script.script) c.in_ok-bytes.ensures.whole (search rules) c.deref.ensures.value
+    c.in_ok-script.ensures.said in
+    let size =
+    rom_size _ _ _ (rw (c.as_str.ensures.text, c.fetch.ensures.same_files) at c.in_ok-rom.ensures.whole) c.in_ok-rom.ensures.size in
+    refuses _ _ _ c.in_err-disk.field-0.0 (search rules)
+    (λ command named.
+    disk_refused _ _ _ _ command _ (said_of c.in_ok-script.script) named says _ _ _
+    (c.in_ok-rom.ensures.quiet ∙ c.in_ok-bytes.ensures.quiet) size refl
+    (rw (c.fetch_rom.ensures.same_files, c.fetch.ensures.same_files) at c.in_err-disk.ensures.refused))
+
+pub returns-in_err-board-clause-refused : goal.returns-in_err-board-clause-refused
+returns-in_err-board-clause-refused g c =
+    let says =
+    says_script _ _ _ _ (said_of c.in_ok-script.script) c.in_ok-bytes.ensures.whole (search rules) c.deref.ensures.value
+    c.in_ok-script.ensures.said in
+    let size =
+    rom_size _ _ _ (rw (c.as_str.ensures.text, c.fetch.ensures.same_files) at c.in_ok-rom.ensures.whole) c.in_ok-rom.ensures.size in
+    refuses _ _ _ (status_of_board_fault c.in_err-board.field-0.0) (search rules)
+    (λ command named.
+    board_refused _ _ _ _ command _ (said_of c.in_ok-script.script) named says c.in_err-board.field-0.0 _ size
+    (rw (c.fetch_rom.ensures.same_files, c.fetch.ensures.same_files) at c.in_ok-disk.ensures.whole) c.in_ok-disk.ensures.fits
+    c.in_err-board.ensures.refused)

@@ -1,0 +1,7 @@
+use Rattle.script_text.specs.Script.{said_of}
+use Rattle.board_run.proofs.Statements.{in_range}
+use Rattle.board_run.proofs.replay.check_log.Goals as goal
+
+pub check_log-requires-clause-in_range : goal.check_log-requires-clause-in_range
+check_log-requires-clause-in_range c =
+    rw c.deref.ensures.value (in_range c.args.board.now.setup (said_of c.args.script.now) c.requires.in_range c.requires.cards)

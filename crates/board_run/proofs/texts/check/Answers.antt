@@ -1,0 +1,17 @@
+use Rattle.std.proofs.Common.{rules, refl}
+use Rattle.board_run.proofs.Refusals.{refuses_with}
+use Rattle.board_run.proofs.texts.check.Goals as goal
+
+pub returns-in_err-prepared-clause-refused : goal.returns-in_err-prepared-clause-refused
+returns-in_err-prepared-clause-refused g c =
+    refuses_with _ _ _ c.in_err-prepared.field-0.0 (search rules) (c.in_err-prepared.ensures.refused _ refl)
+
+pub returns-clause-text : goal.returns-clause-text
+returns-clause-text g c =
+    rw c.prepare.ensures.same_files at
+    (c.verdict.ensures.text c.args.name.now (rw c.prepare.ensures.same_files c.in_ok-prepared.ensures.ready))
+
+pub returns-clause-refused : goal.returns-clause-refused
+returns-clause-refused g c =
+    rw (c.prepare.ensures.same_files, c.in_ok-prepared.ensures.quiet) at
+    (c.verdict.ensures.refused c.args.name.now (rw c.prepare.ensures.same_files c.in_ok-prepared.ensures.ready))

@@ -1,0 +1,78 @@
+//! The files that a command reads.
+
+ghost use Rattle.std.specs.Prelude.{◌≡◌, ◌≢◌, ◌<◌, ◌≤◌, ◌^◌, length, IfOk, IfErr, OnOk, vec_len};
+ghost use Rattle.board_base.specs.Outside.{OfFile};
+ghost use Rattle.board_spec.specs.Setup.{IsRomSize};
+ghost use Rattle.board_run.specs.declared.status.Which.{Which};
+ghost use Rattle.board_run.specs.declared.status.Status.{Status};
+ghost use Rattle.board_run.specs.Asked.{limit_of};
+ghost use Rattle.board_run.specs.Statuses.{IsNotTaken};
+
+use crate::files::{FileFault, read_file};
+use crate::status::{Status, Which};
+use board_base::Shelf;
+use board_core::is_rom_size;
+use std::alloc::Global;
+
+/// The most bytes of a script: 16 MiB.
+const SCRIPT_LIMIT: usize = 0x100_0000;
+/// The most bytes of a BIOS ROM: 512 KiB.
+const ROM_LIMIT: usize = 0x8_0000;
+/// The most bytes of a disk: 32 MiB.
+const DISK_LIMIT: usize = 0x200_0000;
+/// The most bytes of a log: 64 MiB.
+const LOG_LIMIT: usize = 0x400_0000;
+
+/// The most bytes of a file.
+fn limit_of(which: Which) -> usize
+    ensures limit { result ≡ limit_of which }
+{
+    match which {
+        Which::Script => SCRIPT_LIMIT,
+        Which::Rom => ROM_LIMIT,
+        Which::Disk => DISK_LIMIT,
+        Which::Log => LOG_LIMIT,
+    }
+}
+
+/// Reads a file whole, of at most its limit.
+pub fn fetch<S: Shelf>(
+    alloc: Global,
+    shelf: &mut S,
+    which: Which,
+    name: &str,
+) -> Result<Vec<u8>, Status>
+    ensures whole { IfOk result (λ v. OfFile (S.files shelf.old) name.now (λ file. v.items ≡ file)) }
+    ensures fits { IfOk result (λ v. vec_len v ≤ limit_of which) }
+    ensures refused { IfErr result (IsNotTaken which name.now
+        (record { files = S.files shelf.old; faults_before = S.faults shelf.old; faults_now = S.faults shelf.new; failed_name = S.failed_name shelf.new })) }
+    ensures later { S.faults shelf.old ≤ S.faults shelf.new }
+    ensures quiet { OnOk result (S.faults shelf.new ≡ S.faults shelf.old) }
+    ensures no_fault { IfErr result (λ status. ((of : Which) → status ≢ Status.ReadFault of) → S.faults shelf.new ≡ S.faults shelf.old) }
+    ensures same_files { S.files shelf.new ≡ S.files shelf.old }
+{
+    match read_file(alloc, shelf, name, limit_of(which)) {
+        Ok(bytes) => Ok(bytes),
+        Err(FileFault::Failed) => Err(Status::ReadFault(which)),
+        Err(FileFault::TooLong) => Err(Status::TooLong(which)),
+        Err(FileFault::NoMemory) => Err(Status::NoMemory),
+    }
+}
+
+/// Reads a BIOS ROM, which has 64, 128, 256 or 512 KiB.
+pub fn fetch_rom<S: Shelf>(alloc: Global, shelf: &mut S, name: &str) -> Result<Vec<u8>, Status>
+    ensures whole { IfOk result (λ v. OfFile (S.files shelf.old) name.now (λ file. v.items ≡ file)) }
+    ensures size { IfOk result (λ v. IsRomSize (length v.items)) }
+    ensures refused { IfErr result (IsNotTaken Which.Rom name.now
+        (record { files = S.files shelf.old; faults_before = S.faults shelf.old; faults_now = S.faults shelf.new; failed_name = S.failed_name shelf.new })) }
+    ensures quiet { OnOk result (S.faults shelf.new ≡ S.faults shelf.old) }
+    ensures no_fault { IfErr result (λ status. ((of : Which) → status ≢ Status.ReadFault of) → S.faults shelf.new ≡ S.faults shelf.old) }
+    ensures same_files { S.files shelf.new ≡ S.files shelf.old }
+{
+    let rom = fetch(alloc, shelf, Which::Rom, name)?;
+    if is_rom_size(rom.len()) {
+        Ok(rom)
+    } else {
+        Err(Status::BadImage(Which::Rom))
+    }
+}

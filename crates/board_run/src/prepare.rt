@@ -1,0 +1,110 @@
+//! The script of a command, and the board that it asks for.
+
+ghost use Rattle.std.specs.Prelude.{◌≡◌, ◌≢◌, ◌≤◌, [], List, Some, length, option_map, is_some, IfOk, IfErr, OnOk};
+ghost use Rattle.board_spec.specs.Setup.{IsRomSize, IsDisk, IsCardList};
+ghost use Rattle.script_spec.specs.ScriptRange.{IsInRangeScript};
+ghost use Rattle.script_text.specs.Script.{said_of};
+ghost use Rattle.board_run.specs.declared.status.Which.{Which};
+ghost use Rattle.board_run.specs.declared.status.Status.{Status};
+ghost use Rattle.board_run.specs.Words.{Command, script_name};
+ghost use Rattle.board_run.specs.Asked.{fitted};
+ghost use Rattle.board_run.specs.Outcomes.{OfFiles};
+ghost use Rattle.board_run.specs.Statuses.{IsRefused, FitsDisk, IsDiskNotTaken, IsNotOpened, IsReady};
+
+use crate::fetch::{fetch, fetch_rom};
+use crate::status::{Status, Which};
+use board_base::{NoMemory, Shelf};
+use board_core::{Board, BoardOpen, Setup};
+use pci_bars::CardSpec;
+use script_text::{Name, Script, read_script};
+use std::alloc::Global;
+
+/// A script that was read, and the board that it asks for, as after power-on.
+#[derive(Drop)]
+pub struct Prepared {
+    pub script: Script,
+    pub board: Board,
+}
+
+/// Reads the disk of a script, where it names one.
+fn fetch_disk<S: Shelf>(
+    alloc: Global,
+    shelf: &mut S,
+    name: &Option<Name>,
+) -> Result<Option<Vec<u8>>, Status>
+    ensures whole { IfOk result (λ disk. OfFiles (S.files shelf.old) (λ files.
+        option_map (λ bytes. bytes.items) disk ≡ option_map files name.now)) }
+    ensures fits { IfOk result (λ disk. FitsDisk (option_map (λ bytes. bytes.items) disk)) }
+    ensures named { IfOk result (λ disk. is_some disk ≡ is_some name.now) }
+    ensures refused { IfErr result (IsDiskNotTaken name.now
+        (record { files = S.files shelf.old; faults_before = S.faults shelf.old; faults_now = S.faults shelf.new; failed_name = S.failed_name shelf.new })) }
+    ensures quiet { OnOk result (S.faults shelf.new ≡ S.faults shelf.old) }
+    ensures no_fault { IfErr result (λ status. ((of : Which) → status ≢ Status.ReadFault of) → S.faults shelf.new ≡ S.faults shelf.old) }
+    ensures same_files { S.files shelf.new ≡ S.files shelf.old }
+{
+    let Some(name) = name else {
+        return Ok(None);
+    };
+    let disk = fetch(alloc, shelf, Which::Disk, name.as_str())?;
+    Ok(Some(disk))
+}
+
+/// Equal cards.
+fn copies(alloc: Global, cards: &[CardSpec]) -> Result<Vec<CardSpec>, NoMemory>
+    requires listed { IsCardList cards.now }
+    ensures equal { IfOk result (λ copies. copies.items ≡ cards.now) }
+{
+    let mut copies = Vec::new(alloc);
+    for card in cards {
+        copies.push(card.copy())?;
+    }
+    Ok(copies)
+}
+
+/// The board of a script with these images, of which the ROM has one of its sizes.
+pub fn open(
+    alloc: Global,
+    script: &Script,
+    rom: Vec<u8>,
+    disk: Option<Vec<u8>>,
+) -> Result<Board, BoardOpen>
+    requires in_range { IsInRangeScript (said_of script.now) }
+    requires size { IsRomSize (length rom.items) }
+    ensures fresh { IfOk result (λ board. board ≡ record {
+      setup = fitted (said_of script.now) rom.items (option_map (λ bytes. bytes.items) disk);
+      entries = [];
+      spare = 0;
+    }) }
+    ensures refused { IfErr result (IsNotOpened (option_map (λ bytes. bytes.items) disk)) }
+    ensures disk { OnOk result (IsDisk (option_map (λ bytes. bytes.items) disk)) }
+{
+    let setup = Setup {
+        mib: script.mib,
+        cards: copies(alloc, &script.cards)?,
+        rom,
+        disk,
+    };
+    Board::open(alloc, setup)
+}
+
+/// Reads the script of a command and its images, and opens the board that it asks for: first the script, then its ROM,
+/// then its disk. The first that is not there or refused is the answer.
+pub fn prepare<S: Shelf>(alloc: Global, shelf: &mut S, name: &str) -> Result<Prepared, Status>
+    ensures ready { IfOk result (λ prepared. OfFiles (S.files shelf.old) (λ files.
+        IsReady files name.now (said_of prepared.script) prepared.board.setup)) }
+    ensures in_range { IfOk result (λ prepared. IsInRangeScript (said_of prepared.script)) }
+    ensures cards { IfOk result (λ prepared. prepared.board.setup.cards ≡ (said_of prepared.script).cards) }
+    ensures fresh { IfOk result (λ prepared. prepared.board.entries ≡ []) }
+    ensures refused { IfErr result (λ status. (command : Command) → script_name command ≡ Some name.now → IsRefused command
+        (record { files = S.files shelf.old; faults_before = S.faults shelf.old; faults_now = S.faults shelf.new; failed_name = S.failed_name shelf.new }) status) }
+    ensures quiet { OnOk result (S.faults shelf.new ≡ S.faults shelf.old) }
+    ensures no_fault { IfErr result (λ status. ((of : Which) → status ≢ Status.ReadFault of) → S.faults shelf.new ≡ S.faults shelf.old) }
+    ensures same_files { S.files shelf.new ≡ S.files shelf.old }
+{
+    let bytes = fetch(alloc, shelf, Which::Script, name)?;
+    let script = read_script(alloc, &bytes)?;
+    let rom = fetch_rom(alloc, shelf, script.rom.as_str())?;
+    let disk = fetch_disk(alloc, shelf, &script.disk)?;
+    let board = open(alloc, &script, rom, disk)?;
+    Ok(Prepared { script, board })
+}

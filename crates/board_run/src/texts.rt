@@ -1,0 +1,110 @@
+//! The text of each command, from its files.
+
+ghost use Rattle.std.specs.Prelude.{◌≡◌, ◌≢◌, ◌≤◌, ℕ, List, [], string_bytes, IfOk, IfErr, OnOk};
+ghost use Rattle.script_spec.specs.ScriptRange.{IsInRangeScript};
+ghost use Rattle.script_text.specs.Script.{said_of};
+ghost use Rattle.board_run.specs.declared.status.Which.{Which};
+ghost use Rattle.board_run.specs.declared.status.Status.{Status};
+ghost use Rattle.board_run.specs.Words.{Replay, Map, Check};
+ghost use Rattle.board_run.specs.Commands.{said_by, IsCalled};
+ghost use Rattle.board_run.specs.Texts.{IsCommandText};
+ghost use Rattle.board_run.specs.Outcomes.{OfFiles};
+ghost use Rattle.board_run.specs.Statuses.{IsRefused, IsReady};
+
+use crate::fetch::fetch;
+use crate::made::summary_of_made;
+use crate::prepare::{Prepared, prepare};
+use crate::replay::{log_of_replay, map_after_replay, verdict_on_log};
+use crate::status::{Status, Which};
+use crate::words::Command;
+use board_base::Shelf;
+use std::alloc::Global;
+
+/// The log of the replay of a script.
+fn replay<S: Shelf>(alloc: Global, shelf: &mut S, name: &str) -> Result<String, Status>
+    ensures text { IfOk result (λ text. OfFiles (S.files shelf.old) (λ files. IsCommandText (Replay name.now) files (string_bytes text))) }
+    ensures refused { IfErr result (IsRefused (Replay name.now)
+        (record { files = S.files shelf.old; faults_before = S.faults shelf.old; faults_now = S.faults shelf.new; failed_name = S.failed_name shelf.new })) }
+    ensures quiet { OnOk result (S.faults shelf.new ≡ S.faults shelf.old) }
+    ensures no_fault { IfErr result (λ status. ((of : Which) → status ≢ Status.ReadFault of) → S.faults shelf.new ≡ S.faults shelf.old) }
+    ensures same_files { S.files shelf.new ≡ S.files shelf.old }
+{
+    let mut prepared = prepare(alloc, shelf, name)?;
+    let text = log_of_replay(alloc, &mut prepared.board, &prepared.script)?;
+    Ok(text)
+}
+
+/// The address map after the replay of a script.
+fn map<S: Shelf>(alloc: Global, shelf: &mut S, name: &str) -> Result<String, Status>
+    ensures text { IfOk result (λ text. OfFiles (S.files shelf.old) (λ files. IsCommandText (Map name.now) files (string_bytes text))) }
+    ensures refused { IfErr result (IsRefused (Map name.now)
+        (record { files = S.files shelf.old; faults_before = S.faults shelf.old; faults_now = S.faults shelf.new; failed_name = S.failed_name shelf.new })) }
+    ensures quiet { OnOk result (S.faults shelf.new ≡ S.faults shelf.old) }
+    ensures no_fault { IfErr result (λ status. ((of : Which) → status ≢ Status.ReadFault of) → S.faults shelf.new ≡ S.faults shelf.old) }
+    ensures same_files { S.files shelf.new ≡ S.files shelf.old }
+{
+    let mut prepared = prepare(alloc, shelf, name)?;
+    let text = map_after_replay(alloc, &mut prepared.board, &prepared.script)?;
+    Ok(text)
+}
+
+/// How many entries a log has, which is that of a legal and complete history of a script that was read.
+fn verdict<S: Shelf>(
+    alloc: Global,
+    shelf: &mut S,
+    prepared: &mut Prepared,
+    log: &str,
+) -> Result<String, Status>
+    requires in_range { IsInRangeScript (said_of prepared.old.script) }
+    requires cards { prepared.old.board.setup.cards ≡ (said_of prepared.old.script).cards }
+    requires fresh { prepared.old.board.entries ≡ [] }
+    ensures text { (name : List ℕ)
+        → OfFiles (S.files shelf.old) (λ files. IsReady files name (said_of prepared.old.script) prepared.old.board.setup)
+        → IfOk result (λ text. OfFiles (S.files shelf.old) (λ files. IsCommandText (Check name log.now) files (string_bytes text))) }
+    ensures refused { (name : List ℕ)
+        → OfFiles (S.files shelf.old) (λ files. IsReady files name (said_of prepared.old.script) prepared.old.board.setup)
+        → IfErr result (IsRefused (Check name log.now)
+        (record { files = S.files shelf.old; faults_before = S.faults shelf.old; faults_now = S.faults shelf.new; failed_name = S.failed_name shelf.new })) }
+    ensures quiet { OnOk result (S.faults shelf.new ≡ S.faults shelf.old) }
+    ensures no_fault { IfErr result (λ status. ((of : Which) → status ≢ Status.ReadFault of) → S.faults shelf.new ≡ S.faults shelf.old) }
+    ensures same_files { S.files shelf.new ≡ S.files shelf.old }
+{
+    let bytes = fetch(alloc, shelf, Which::Log, log)?;
+    let text = verdict_on_log(alloc, &mut prepared.board, &prepared.script, &bytes)?;
+    Ok(text)
+}
+
+/// How many entries a log has, which is that of a legal and complete history of a script.
+fn check<S: Shelf>(alloc: Global, shelf: &mut S, name: &str, log: &str) -> Result<String, Status>
+    ensures text { IfOk result (λ text. OfFiles (S.files shelf.old) (λ files. IsCommandText (Check name.now log.now) files (string_bytes text))) }
+    ensures refused { IfErr result (IsRefused (Check name.now log.now)
+        (record { files = S.files shelf.old; faults_before = S.faults shelf.old; faults_now = S.faults shelf.new; failed_name = S.failed_name shelf.new })) }
+    ensures quiet { OnOk result (S.faults shelf.new ≡ S.faults shelf.old) }
+    ensures no_fault { IfErr result (λ status. ((of : Which) → status ≢ Status.ReadFault of) → S.faults shelf.new ≡ S.faults shelf.old) }
+    ensures same_files { S.files shelf.new ≡ S.files shelf.old }
+{
+    let mut prepared = prepare(alloc, shelf, name)?;
+    verdict(alloc, shelf, &mut prepared, log)
+}
+
+/// The text of a command.
+pub fn command_text<S: Shelf>(
+    alloc: Global,
+    command: Command,
+    shelf: &mut S,
+) -> Result<String, Status>
+    requires called { IsCalled command }
+    ensures text { IfOk result (λ text. OfFiles (S.files shelf.old) (λ files. IsCommandText (said_by command.entry) files (string_bytes text))) }
+    ensures refused { IfErr result (IsRefused (said_by command.entry)
+        (record { files = S.files shelf.old; faults_before = S.faults shelf.old; faults_now = S.faults shelf.new; failed_name = S.failed_name shelf.new })) }
+    ensures quiet { OnOk result (S.faults shelf.new ≡ S.faults shelf.old) }
+    ensures no_fault { IfErr result (λ status. ((of : Which) → status ≢ Status.ReadFault of) → S.faults shelf.new ≡ S.faults shelf.old) }
+    ensures same_files { S.files shelf.new ≡ S.files shelf.old }
+{
+    match command {
+        Command::Replay(name) => replay(alloc, shelf, name),
+        Command::Map(name) => map(alloc, shelf, name),
+        Command::Check { script, log } => check(alloc, shelf, script, log),
+        Command::Make(rounds) => Ok(summary_of_made(alloc, rounds)?),
+    }
+}

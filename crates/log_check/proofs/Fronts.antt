@@ -1,0 +1,26 @@
+-- The next statement of a processor in a phase.
+use Rattle.std.proofs.Common.{ℕ, suc, ◌≡◌, ◌≢◌, ◌+◌, ◌<◌, List, [], ◌∷◌, length, drop, get_or, All, Some, sym, ap, ◌∙◌, subst, add-one}
+use Rattle.std.specs.Prelude.{slice_get}
+use Rattle.std.proofs.Math.Seq.{drop-cons}
+use Rattle.std.proofs.lemmas.Option.{slice_get-get_or}
+use Rattle.board_spec.specs.declared.event.Event.{Event}
+use Rattle.board_spec.specs.declared.event.Statement.{Statement}
+use Rattle.board_spec.specs.Orders.{events_by}
+use Rattle.log_check.specs.Fronts.{IsNextOf}
+use Rattle.log_check.proofs.NextStatements.{events-own}
+
+pub found :
+    (phase : List Statement) (start actor place : ℕ) (other : Statement) → place < length phase →
+    (get_or phase place other).actor ≡ actor →
+    events_by actor (drop start phase) ≡ events_by actor (drop place phase) → IsNextOf phase start actor place
+found phase start actor place other within own passed =
+    let statement : Statement = get_or phase place other in
+    let rest : drop place phase ≡ statement ∷ drop (place + 1) phase =
+    drop-cons phase place other within ∙ ap (λ (n : ℕ). statement ∷ drop n phase) (sym (add-one place)) in
+    record {
+      within = within;
+      statement = statement;
+      here = slice_get-get_or phase place other within;
+      own = own;
+      left = passed ∙ ap (events_by actor) rest ∙ events-own actor statement (drop (place + 1) phase) own;
+    }

@@ -1,0 +1,151 @@
+-- A history that begins with the lines of another goes on from it, and a begun history can be completed.
+use Rattle.std.proofs.Common.{ℕ, zero, suc, ◌≡◌, ◌+◌, ◌-◌, ◌<◌, ◌≤◌, List, [], ◌∷◌, ◌++◌, length, reverse, All, refl, sym, ap, ◌∙◌, subst, inl, inr, append-nil, add-one, arith}
+use Rattle.std.specs.Prelude.{decimal}
+use Rattle.std.proofs.lemmas.List.{reverse-reverse}
+use Rattle.board_spec.specs.declared.event.Entry.{Entry}
+use Rattle.board_spec.specs.declared.event.Statement.{Statement}
+use Rattle.board_spec.specs.Setup.{Setup}
+use Rattle.board_spec.specs.Legal.{IsNext, IsLegal}
+use Rattle.board_spec.specs.Orders.{statements_of, IsBegunFor, IsCompleteFor}
+use Rattle.board_spec.specs.OrderLaws.{in_file_order}
+use Rattle.board_spec.specs.Laws.{IsAddressed, OneReplay}
+use Rattle.board_spec.specs.Text.{space, line_feed}
+use Rattle.board_spec.specs.LogText.{line_text, lines_text}
+use Rattle.board_spec.proofs.OrderLawProofs.{complete_is_begun, front_is_begun}
+use Rattle.board_spec.proofs.OrderLengths.{begun_is_bounded, whole_is_complete, complete_is_whole}
+use Rattle.board_spec.proofs.GoesOnProofs.{begun_goes_on}
+use Rattle.script_spec.proofs.Digits.{value_of_decimal}
+use Rattle.script_spec.proofs.Fields.{front, back, front-field, back-field, lacks-decimal}
+use Rattle.script_spec.proofs.PlainText.{lacks-word, decimal_word}
+use Rattle.script_spec.proofs.LogLaws.{line_whole}
+use Rattle.std.specs.Str.Parse.{digits_value}
+use Rattle.log_check.specs.Phases.{IsTyped}
+use Rattle.log_check.proofs.TextCuts.{cut_line, named}
+use Rattle.log_check.proofs.NextStatements.{same_next, known_actor}
+use Rattle.log_check.proofs.LogLines.{lines_from, newest_last, lines-newest, lines-all}
+
+-- ---- the processor of a line
+
+abbrev actor_of : List ℕ → ℕ
+actor_of line = digits_value 10 (front 0x2E (back space line))
+
+actor_read : (n : ℕ) (entry : Entry) → entry.actor < 256 → actor_of (line_text n entry) ≡ entry.actor
+actor_read n entry small =
+    let parts = named n entry [] in
+    let is : line_text n entry ≡ decimal n ++ space ∷ (decimal entry.actor ++ 0x2E ∷ parts.later) =
+    sym (append-nil (line_text n entry)) ∙ parts.is in
+    ap actor_of is
+    ∙ ap (λ (text : List ℕ). digits_value 10 (front 0x2E text))
+    (back-field space (decimal n) (decimal entry.actor ++ 0x2E ∷ parts.later)
+    (lacks-word space (decimal n) refl (decimal_word n)))
+    ∙ ap (digits_value 10)
+    (front-field 0x2E (decimal entry.actor) parts.later
+    (lacks-decimal 0x2E entry.actor (inl (omega arith)) (omega (arith, small))))
+    ∙ value_of_decimal entry.actor (omega (arith, small))
+
+same_actor :
+    (n : ℕ) (left right : Entry) → left.actor < 256 → right.actor < 256 → line_text n left ≡ line_text n right →
+    left.actor ≡ right.actor
+same_actor n left right l r same = sym (actor_read n left l) ∙ ap actor_of same ∙ actor_read n right r
+
+-- ---- fronts
+
+pub legal_front : (setup : Setup) (more history : List Entry) → IsLegal setup (more ++ history) → IsLegal setup history
+legal_front setup [] history legal = legal
+legal_front setup (entry ∷ more) history legal = legal_front setup more history legal.1
+
+pub begun_front :
+    (phases : List (List Statement)) (more history : List Entry) → IsBegunFor phases (more ++ history) →
+    IsBegunFor phases history
+begun_front phases [] history begun = begun
+begun_front phases (entry ∷ more) history begun =
+    begun_front phases more history (front_is_begun phases entry (more ++ history) begun)
+
+-- a history is another with more entries, whose lines are the rest
+pub record Extends (history whole : List Entry) (rest : List ℕ) : Type 0 where
+  pub more : List Entry
+  pub is : whole ≡ reverse more ++ history
+  pub text : rest ≡ lines_from (length history) more
+
+pub no_line : (line rest : List ℕ) → line ++ line_feed ∷ rest ≡ [] → ⊥
+no_line [] rest e = cc
+no_line (c ∷ cs) rest e = cc
+
+extends_step :
+    OneReplay → (setup : Setup) (phases : List (List Statement)) (entry : Entry) (before whole : List Entry)
+    (rest : List ℕ) (more : List Entry) → All IsTyped (in_file_order phases) → IsLegal setup (entry ∷ before) →
+    IsBegunFor phases (entry ∷ before) → IsLegal setup whole → IsBegunFor phases whole →
+    whole ≡ reverse more ++ before →
+    line_text (length before + 1) entry ++ line_feed ∷ rest ≡ lines_from (length before) more →
+    Extends (entry ∷ before) whole rest
+extends_step one setup phases entry before whole rest [] typed legal begun all wholly is text =
+    absurd (no_line (line_text (length before + 1) entry) rest text)
+extends_step one setup phases entry before whole rest (next ∷ later) typed legal begun all wholly is text =
+    let n : ℕ = length before + 1 in
+    let cut : (line_text n entry ≡ line_text n next) × (rest ≡ lines_from n later) =
+    cut_line (line_text n entry) (line_text n next) rest (lines_from n later) (line_whole n entry) (line_whole n next)
+    text in
+    let longer : whole ≡ reverse later ++ (next ∷ before) = is ∙ newest_last next later before in
+    let other : IsLegal setup (next ∷ before) =
+    legal_front setup (reverse later) (next ∷ before) (subst (IsLegal setup) longer all) in
+    let others : IsBegunFor phases (next ∷ before) =
+    begun_front phases (reverse later) (next ∷ before) (subst (IsBegunFor phases) longer wholly) in
+    let actor : entry.actor ≡ next.actor =
+    same_actor n entry next (known_actor phases before entry typed begun) (known_actor phases before next typed others)
+    cut.0 in
+    let same : entry ≡ next =
+    same_next one setup phases before entry next legal.1 legal.0 other.0 begun others actor in
+    record {
+      more = later;
+      is = longer ∙ ap (λ (e : Entry). reverse later ++ (e ∷ before)) (sym same);
+      text = cut.1 ∙ ap (λ (m : ℕ). lines_from m later) (add-one (length before));
+    }
+
+-- a history whose log begins with that of a begun one goes on from it
+pub extends :
+    OneReplay → (setup : Setup) (phases : List (List Statement)) (history whole : List Entry) (rest : List ℕ) →
+    All IsTyped (in_file_order phases) → IsLegal setup history → IsBegunFor phases history → IsLegal setup whole →
+    IsBegunFor phases whole → lines_text whole ≡ lines_text history ++ rest → Extends history whole rest
+unfolding lines_text
+extends one setup phases [] whole rest typed legal begun all wholly text = record {
+  more = reverse whole;
+  is = sym (reverse-reverse whole) ∙ sym (append-nil (reverse (reverse whole)));
+  text = sym text ∙ lines-all whole;
+}
+extends one setup phases (entry ∷ before) whole rest typed legal begun all wholly text =
+    let first =
+    extends one setup phases before whole (line_text (length before + 1) entry ++ line_feed ∷ rest) typed legal.1
+    (front_is_begun phases entry before begun) all wholly (text ∙ lines-newest entry before rest) in
+    extends_step one setup phases entry before whole rest first.more typed legal begun all wholly first.is first.text
+
+-- ---- how a begun history is completed
+
+pub record Completed (setup : Setup) (phases : List (List Statement)) (history : List Entry) : Type 0 where
+  pub more : List Entry
+  pub legal : IsLegal setup (reverse more ++ history)
+  pub complete : IsCompleteFor phases (reverse more ++ history)
+
+completed_in :
+    (left : ℕ) (setup : Setup) (phases : List (List Statement)) (history : List Entry) →
+    All (λ statement. IsAddressed statement.event) (in_file_order phases) → IsLegal setup history →
+    IsBegunFor phases history → length history + left ≡ length (in_file_order phases) → Completed setup phases history
+completed_in zero setup phases history addressed legal begun count =
+    record { more = []; legal = legal; complete = whole_is_complete phases history begun (omega (arith, count)) }
+completed_in (suc left) setup phases history addressed legal begun count =
+    let next = begun_goes_on setup phases history addressed legal begun
+    (λ complete. omega (arith, count, complete_is_whole phases history complete)) in
+    let rest = completed_in left setup phases (next.entry ∷ history) addressed (next.next, legal) next.begun
+    (omega (arith, count)) in
+    record {
+      more = next.entry ∷ rest.more;
+      legal = subst (IsLegal setup) (sym (newest_last next.entry rest.more history)) rest.legal;
+      complete = subst (IsCompleteFor phases) (sym (newest_last next.entry rest.more history)) rest.complete;
+    }
+
+pub completed :
+    (setup : Setup) (phases : List (List Statement)) (history : List Entry) →
+    All (λ statement. IsAddressed statement.event) (in_file_order phases) → IsLegal setup history →
+    IsBegunFor phases history → Completed setup phases history
+completed setup phases history addressed legal begun =
+    completed_in (length (in_file_order phases) - length history) setup phases history addressed legal begun
+    (omega (arith, begun_is_bounded phases history begun))

@@ -1,0 +1,222 @@
+-- A whole check: passed, or where it fails.
+use Rattle.std.proofs.Common.{ℕ, ◌≡◌, ◌≢◌, ◌+◌, ◌<◌, ◌≤◌, ◌⊎◌, List, [], ◌∷◌, ◌++◌, length, All, refl, sym, ap, ◌∙◌, subst, inl, inr, append-nil, arith}
+use Rattle.std.proofs.lemmas.Bool.{eq-eqb, eqb-true, true≢false}
+use Rattle.std.specs.Prelude.{◌==◌, true, false, Result, Ok, Err, MatchResult, IfOk, IfErr}
+use Rattle.std.proofs.lemmas.List.Elements.{All-nil, All-cons, All-head, All-tail}
+use Rattle.board_spec.specs.declared.event.Event.{Event}
+use Rattle.board_spec.specs.declared.event.Event.TheVariants.{Memory, Wide, Port, Look as LookAt, Ack, Pulses, Time, Wire, Line, BadSector}
+use Rattle.board_spec.specs.declared.event.Entry.{Entry}
+use Rattle.board_spec.specs.declared.event.Statement.{Statement}
+use Rattle.board_spec.specs.Setup.{Setup}
+use Rattle.board_spec.specs.InRange.{IsInRange}
+use Rattle.board_spec.specs.Legal.{IsLegal}
+use Rattle.board_spec.specs.Orders.{statements_of, HasPhasesSoFar, IsBegunFor, IsCompleteFor}
+use Rattle.board_spec.specs.OrderLaws.{in_file_order}
+use Rattle.board_spec.specs.Laws.{IsAddressed, OneReplay}
+use Rattle.board_spec.specs.LogText.{log_text}
+use Rattle.board_spec.proofs.OrderLawProofs.{complete_is_begun}
+use Rattle.board_spec.proofs.OrderLengths.{begun_is_bounded, complete_is_whole}
+use Rattle.board_spec.proofs.GoesOnProofs.{none_so_far}
+use Rattle.board_core.specs.Steps.{AreInRange}
+use Rattle.script_spec.specs.Checks.{IsLogOf, DiffersAt}
+use Rattle.log_check.specs.declared.fault.CheckFault.{CheckFault}
+use Rattle.log_check.specs.declared.fault.CheckFault.TheVariants.{Differs, NoMemory}
+use Rattle.log_check.specs.Phases.{FitsLook, IsTyped}
+use Rattle.log_check.specs.Checked.{IsCheckedLog, StandsAfter}
+use Rattle.log_check.specs.Walks.{StopsAt, Stopped, Failed}
+use Rattle.log_check.proofs.Differences.{Known, differs, differs_at_once}
+
+-- ---- what is known of the script
+
+addressed : (setup : Setup) (event : Event) → FitsLook event → IsInRange setup event → IsAddressed event
+addressed setup (Memory access) fits range = tt
+addressed setup (Wide access) fits range = range
+addressed setup (Port access) fits range = tt
+addressed setup (LookAt kind addr smm) fits range = fits
+addressed setup Ack fits range = tt
+addressed setup (Pulses count) fits range = tt
+addressed setup (Time moment) fits range = tt
+addressed setup (Wire dev on) fits range = tt
+addressed setup (Line irq on) fits range = tt
+addressed setup (BadSector sector) fits range = tt
+
+all_addressed :
+    (setup : Setup) (statements : List Statement) → All IsTyped statements → AreInRange setup statements →
+    All (λ statement. IsAddressed statement.event) statements
+all_addressed setup [] typed range = All-nil (λ (statement : Statement). IsAddressed statement.event)
+all_addressed setup (first ∷ later) typed range =
+    let InRange : Statement → Type 0 = λ statement. IsInRange setup statement.event in
+    All-cons (λ (statement : Statement). IsAddressed statement.event) first later
+    (addressed setup first.event (All-head IsTyped first later typed).look (All-head InRange first later range))
+    (all_addressed setup later (All-tail IsTyped first later typed) (All-tail InRange first later range))
+
+pub known :
+    (setup : Setup) (phases : List (List Statement)) → OneReplay → All IsTyped (in_file_order phases) →
+    AreInRange setup (in_file_order phases) → Known setup phases
+known setup phases one typed range =
+    record { one = one; typed = typed; addressed = all_addressed setup (in_file_order phases) typed range }
+
+-- ---- before the first line of an entry
+
+pub nothing_begun : (phases : List (List Statement)) (entries : List Entry) → entries ≡ [] → IsBegunFor phases entries
+nothing_begun phases entries fresh =
+    subst (λ (history : List Entry). IsBegunFor phases history) (sym fresh) (none_so_far phases)
+
+nothing_legal : (setup : Setup) (entries : List Entry) → entries ≡ [] → IsLegal setup entries
+nothing_legal setup entries fresh = subst (IsLegal setup) (sym fresh) tt
+
+pub failed_first :
+    (setup : Setup) (version : ℕ) (phases : List (List Statement)) (bytes : List ℕ) (entries : List Entry) →
+    entries ≡ [] → Failed setup version phases bytes entries NoMemory
+failed_first setup version phases bytes entries fresh = record {
+  refused = tt;
+  legal = nothing_legal setup entries fresh;
+  begun = nothing_begun phases entries fresh;
+  stands = (1, inl (refl, fresh));
+}
+
+pub failed_heading :
+    (setup : Setup) (version : ℕ) (phases : List (List Statement)) (bytes : List ℕ) (entries : List Entry) →
+    Known setup phases → entries ≡ [] → ((after : List ℕ) → bytes ≢ log_text version [] ++ after) →
+    Failed setup version phases bytes entries (Differs 1)
+failed_heading setup version phases bytes entries known fresh none = record {
+  refused = differs_at_once setup version phases bytes known none;
+  legal = nothing_legal setup entries fresh;
+  begun = nothing_begun phases entries fresh;
+  stands = inl (refl, fresh);
+}
+
+-- ---- at a line
+
+pub failed_within :
+    (setup : Setup) (version : ℕ) (phases : List (List Statement)) (bytes : List ℕ) (entries : List Entry)
+    (fault : CheckFault) → Known setup phases → Stopped setup version phases bytes entries fault →
+    Failed setup version phases bytes entries fault
+failed_within setup version phases bytes entries (Differs line) known stopped = record {
+  refused = differs setup version phases bytes entries line known stopped.by;
+  legal = stopped.legal;
+  begun = stopped.begun;
+  stands = inr stopped.by.at_line;
+}
+failed_within setup version phases bytes entries NoMemory known stopped = record {
+  refused = tt;
+  legal = stopped.legal;
+  begun = stopped.begun;
+  stands = (stopped.by.0, inr stopped.by.1);
+}
+
+-- ---- behind all lines
+
+pub nothing_left : (rest : List ℕ) → (length rest == 0) ≡ true → rest ≡ []
+nothing_left [] empty = refl
+nothing_left (c ∷ cs) empty = let e : length (c ∷ cs) ≡ 0 = eqb-true (length (c ∷ cs)) 0 empty in absurd (omega arith)
+
+pub something_left : (rest : List ℕ) → (length rest == 0) ≡ false → rest ≢ []
+something_left rest some nothing =
+    true≢false (sym (eq-eqb (length rest) 0 (ap length nothing)) ∙ some)
+
+pub passed :
+    (setup : Setup) (version : ℕ) (phases : List (List Statement)) (bytes : List ℕ) (history : List Entry)
+    (rest : List ℕ) (count : ℕ) → IsLegal setup history → IsCompleteFor phases history →
+    bytes ≡ log_text version history ++ rest → rest ≡ [] → count ≡ length history →
+    IsCheckedLog setup version phases bytes history count
+passed setup version phases bytes history rest count legal complete text nothing is = record {
+  log = record {
+    history = history;
+    legal = legal;
+    complete = complete;
+    text =
+        text ∙ ap (λ (t : List ℕ). log_text version history ++ t) nothing ∙ append-nil (log_text version history);
+  };
+  same = refl;
+  count_is = is;
+}
+
+pub failed_end :
+    (setup : Setup) (version : ℕ) (phases : List (List Statement)) (bytes : List ℕ) (history : List Entry)
+    (rest : List ℕ) (count : ℕ) → Known setup phases → IsLegal setup history → IsCompleteFor phases history →
+    bytes ≡ log_text version history ++ rest → rest ≢ [] → count ≡ length history →
+    Failed setup version phases bytes history (Differs (count + 2))
+failed_end setup version phases bytes history rest count known legal complete text some is =
+    let begun : IsBegunFor phases history = complete_is_begun phases history complete in
+    failed_within setup version phases bytes history (Differs (count + 2)) known (record {
+      by = record {
+        at_line = record {
+          before = history;
+          rest = rest;
+          text = text;
+          place = ap (λ (n : ℕ). n + 2) is;
+          stepped = inl refl;
+        };
+        legal = legal;
+        begun = begun;
+        none = λ entry after next more same.
+            let whole : length history ≡ length (in_file_order phases) = complete_is_whole phases history complete in
+            let bounded : length (entry ∷ history) ≤ length (in_file_order phases) =
+            begun_is_bounded phases (entry ∷ history) more in
+            omega arith;
+        unfinished = λ nothing whole. some nothing;
+      };
+      legal = legal;
+      begun = begun;
+    })
+
+-- ---- what a caller hears
+
+pub begun_after :
+    (setup : Setup) (version : ℕ) (phases : List (List Statement)) (bytes : List ℕ) (entries : List Entry)
+    (result : Result ℕ CheckFault) →
+    MatchResult result (IsCheckedLog setup version phases bytes entries) (Failed setup version phases bytes entries) →
+    IsBegunFor phases entries
+begun_after setup version phases bytes entries (Ok count) checked =
+    complete_is_begun phases entries (subst (IsCompleteFor phases) checked.same checked.log.complete)
+begun_after setup version phases bytes entries (Err fault) checked = checked.begun
+
+pub legal_after :
+    (setup : Setup) (version : ℕ) (phases : List (List Statement)) (bytes : List ℕ) (entries : List Entry)
+    (result : Result ℕ CheckFault) →
+    MatchResult result (IsCheckedLog setup version phases bytes entries) (Failed setup version phases bytes entries) →
+    IsLegal setup entries
+legal_after setup version phases bytes entries (Ok count) checked =
+    subst (IsLegal setup) checked.same checked.log.legal
+legal_after setup version phases bytes entries (Err fault) checked = checked.legal
+
+pub stands_after :
+    (setup : Setup) (version : ℕ) (phases : List (List Statement)) (bytes : List ℕ) (entries : List Entry)
+    (result : Result ℕ CheckFault) →
+    MatchResult result (IsCheckedLog setup version phases bytes entries) (Failed setup version phases bytes entries) →
+    IfErr result (StandsAfter version bytes entries)
+stands_after setup version phases bytes entries (Ok count) checked = tt
+stands_after setup version phases bytes entries (Err fault) checked = checked.stands
+
+pub log_after :
+    (setup : Setup) (version : ℕ) (phases : List (List Statement)) (bytes : List ℕ) (entries : List Entry)
+    (result : Result ℕ CheckFault) →
+    MatchResult result (IsCheckedLog setup version phases bytes entries) (Failed setup version phases bytes entries) →
+    IfOk result (IsCheckedLog setup version phases bytes entries)
+log_after setup version phases bytes entries (Ok count) checked = checked
+log_after setup version phases bytes entries (Err fault) checked = tt
+
+pub exactly :
+    (setup : Setup) (version : ℕ) (phases : List (List Statement)) (bytes : List ℕ) (entries : List Entry)
+    (result : Result ℕ CheckFault) →
+    MatchResult result (IsCheckedLog setup version phases bytes entries) (Failed setup version phases bytes entries) →
+    (log : IsLogOf setup version phases bytes) → (result ≡ Ok (length log.history)) ⊎ (result ≡ Err NoMemory)
+exactly setup version phases bytes entries (Ok count) checked log =
+    let own : length checked.log.history ≡ length (in_file_order phases) =
+    complete_is_whole phases checked.log.history checked.log.complete in
+    let other : length log.history ≡ length (in_file_order phases) =
+    complete_is_whole phases log.history log.complete in
+    inl (ap Ok (checked.count_is ∙ own ∙ sym other))
+exactly setup version phases bytes entries (Err (Differs line)) checked log = absurd (checked.refused.other log)
+exactly setup version phases bytes entries (Err NoMemory) checked log = inr refl
+
+pub refused_at :
+    (setup : Setup) (version : ℕ) (phases : List (List Statement)) (bytes : List ℕ) (entries : List Entry)
+    (result : Result ℕ CheckFault) →
+    MatchResult result (IsCheckedLog setup version phases bytes entries) (Failed setup version phases bytes entries) →
+    (line : ℕ) → result ≡ Err (Differs line) → DiffersAt setup version phases bytes line
+refused_at setup version phases bytes entries (Ok count) checked line is = cc
+refused_at setup version phases bytes entries (Err (Differs place)) checked line is =
+    let same : place ≡ line = cc in subst (DiffersAt setup version phases bytes) same checked.refused
+refused_at setup version phases bytes entries (Err NoMemory) checked line is = cc

@@ -1,0 +1,140 @@
+-- The lines of a log: those of a history, and those of the entries that follow it.
+use Rattle.std.proofs.Common.{ℕ, ◌≡◌, ◌+◌, List, [], ◌∷◌, ◌++◌, length, reverse, All, refl, sym, ap, ◌∙◌, append_assoc, append-nil, length-append, add-one, arith}
+use Rattle.std.specs.Prelude.{codes, decimal, flat_map}
+use Rattle.std.specs.Fmt.{digits}
+use Rattle.std.proofs.lemmas.Grind.{flat_map-append}
+use Rattle.std.proofs.lemmas.List.{reverse-append, reverse-reverse, append_cancel_left}
+use Rattle.std.proofs.lemmas.List.Elements.{All-nil, All-cons, All-push}
+use Rattle.board_spec.specs.declared.event.Entry.{Entry}
+use Rattle.board_spec.specs.Text.{space, line_feed}
+use Rattle.board_spec.specs.LogText.{line_text, lines_text, log_text}
+use Rattle.script_spec.specs.Lines.{text_of_lines, IsOneLine}
+use Rattle.script_spec.proofs.Fields.{lacks-append}
+use Rattle.script_spec.proofs.CheckLaws.{one_line}
+use Rattle.script_spec.proofs.PlainText.{lacks-word, decimal_word}
+use Rattle.script_spec.proofs.LogLaws.{line_whole}
+
+-- the heading of a log without its line feed
+abbrev pub heading : (version : ℕ) → List ℕ
+heading version = codes "access log " ++ decimal version
+
+pub heading_whole : (version : ℕ) → IsOneLine (heading version)
+heading_whole version =
+    one_line (heading version)
+    (lacks-append line_feed (codes "access log ") (decimal version) refl
+    (lacks-word line_feed (decimal version) refl (decimal_word version)))
+
+pub heading-log : (version : ℕ) → log_text version [] ≡ heading version ++ line_feed ∷ []
+unfolding lines_text
+heading-log version = refl
+
+-- a log is its heading and the lines of its entries
+pub log_parts :
+    (version : ℕ) (history : List Entry) → log_text version history ≡ log_text version [] ++ lines_text history
+unfolding lines_text
+log_parts version history = sym (append_assoc (heading version) (line_feed ∷ []) (lines_text history))
+
+-- ---- the lines of entries that follow a history, the oldest first
+
+abbrev pub lines_from : ℕ → List Entry → List ℕ
+lines_from n [] = []
+lines_from n (entry ∷ later) = line_text (n + 1) entry ++ line_feed ∷ lines_from (n + 1) later
+
+pub newest_last :
+    (entry : Entry) (later history : List Entry) →
+    reverse (entry ∷ later) ++ history ≡ reverse later ++ (entry ∷ history)
+newest_last entry later history =
+    ap (λ (entries : List Entry). entries ++ history) (reverse-append (entry ∷ []) later)
+    ∙ append_assoc (reverse later) (entry ∷ []) history
+
+pub lines-newest :
+    (entry : Entry) (history : List Entry) (rest : List ℕ) →
+    lines_text (entry ∷ history) ++ rest
+    ≡ lines_text history ++ (line_text (length history + 1) entry ++ line_feed ∷ rest)
+unfolding lines_text
+lines-newest entry history rest =
+    let line : List ℕ = line_text (length history + 1) entry in
+    append_assoc (lines_text history ++ line) (line_feed ∷ []) rest
+    ∙ append_assoc (lines_text history) line (line_feed ∷ rest)
+
+pub lines-joined :
+    (more history : List Entry) →
+    lines_text (reverse more ++ history) ≡ lines_text history ++ lines_from (length history) more
+lines-joined [] history = sym (append-nil (lines_text history))
+lines-joined (entry ∷ later) history =
+    ap lines_text (newest_last entry later history)
+    ∙ lines-joined later (entry ∷ history)
+    ∙ ap (λ (n : ℕ). lines_text (entry ∷ history) ++ lines_from n later) (sym (add-one (length history)))
+    ∙ lines-newest entry history (lines_from (length history + 1) later)
+
+pub lines-all : (history : List Entry) → lines_text history ≡ lines_from 0 (reverse history)
+unfolding lines_text
+lines-all history =
+    ap lines_text (sym (reverse-reverse history) ∙ sym (append-nil (reverse (reverse history))))
+    ∙ lines-joined (reverse history) []
+
+-- where a log goes on behind that of a history, so do the lines
+pub lines_behind :
+    (version : ℕ) (whole history : List Entry) (rest : List ℕ) →
+    log_text version whole ≡ log_text version history ++ rest → lines_text whole ≡ lines_text history ++ rest
+lines_behind version whole history rest same =
+    append_cancel_left (log_text version []) (lines_text whole) (lines_text history ++ rest)
+    (sym (log_parts version whole) ∙ same ∙ ap (λ (text : List ℕ). text ++ rest) (log_parts version history)
+    ∙ append_assoc (log_text version []) (lines_text history) rest)
+
+pub log_behind :
+    (version : ℕ) (more history : List Entry) →
+    log_text version (reverse more ++ history) ≡ log_text version history ++ lines_from (length history) more
+log_behind version more history =
+    log_parts version (reverse more ++ history)
+    ∙ ap (λ (text : List ℕ). log_text version [] ++ text) (lines-joined more history)
+    ∙ sym (append_assoc (log_text version []) (lines_text history) (lines_from (length history) more))
+    ∙ ap (λ (text : List ℕ). text ++ lines_from (length history) more) (sym (log_parts version history))
+
+pub log-newest :
+    (version : ℕ) (entry : Entry) (history : List Entry) (rest : List ℕ) →
+    log_text version (entry ∷ history) ++ rest
+    ≡ log_text version history ++ (line_text (length history + 1) entry ++ line_feed ∷ rest)
+log-newest version entry history rest =
+    let line : List ℕ = line_text (length history + 1) entry ++ line_feed ∷ rest in
+    ap (λ (text : List ℕ). text ++ rest) (log_parts version (entry ∷ history))
+    ∙ append_assoc (log_text version []) (lines_text (entry ∷ history)) rest
+    ∙ ap (λ (text : List ℕ). log_text version [] ++ text) (lines-newest entry history rest)
+    ∙ sym (append_assoc (log_text version []) (lines_text history) line)
+    ∙ ap (λ (text : List ℕ). text ++ line) (sym (log_parts version history))
+
+-- ---- a log as a list of lines
+
+pub record Lined (version : ℕ) (history : List Entry) : Type 0 where
+  pub lines : List (List ℕ)
+  pub each : All IsOneLine lines
+  pub count : length lines ≡ length history + 1
+  pub text : text_of_lines lines ≡ log_text version history
+
+pub one_line_more :
+    (lines : List (List ℕ)) (line : List ℕ) → text_of_lines (lines ++ line ∷ []) ≡ text_of_lines lines ++ (line ++ line_feed ∷ [])
+one_line_more lines line =
+    flat_map-append (λ l. l ++ line_feed ∷ []) lines (line ∷ [])
+    ∙ ap (λ (text : List ℕ). text_of_lines lines ++ text) (append-nil (line ++ line_feed ∷ []))
+
+pub lined : (version : ℕ) (history : List Entry) → Lined version history
+unfolding lines_text
+lined version [] = record {
+  lines = heading version ∷ [];
+  each = All-cons IsOneLine (heading version) [] (heading_whole version) (All-nil IsOneLine);
+  count = refl;
+  text = append-nil (heading version ++ line_feed ∷ []);
+}
+lined version (entry ∷ before) =
+    let line : List ℕ = line_text (length before + 1) entry in
+    let first : Lined version before = lined version before in
+    record {
+      lines = first.lines ++ line ∷ [];
+      each = All-push IsOneLine first.lines line first.each (line_whole (length before + 1) entry);
+      count = length-append first.lines (line ∷ []) ∙ ap (λ (n : ℕ). n + 1) (first.count ∙ add-one (length before));
+      text =
+          one_line_more first.lines line
+          ∙ ap (λ (text : List ℕ). text ++ (line ++ line_feed ∷ [])) first.text
+          ∙ sym (log-newest version entry before [])
+          ∙ append-nil (log_text version (entry ∷ before));
+    }

@@ -1,0 +1,207 @@
+-- A processor has one statement that may come next.
+use Rattle.std.proofs.Common.{ℕ, ◌≡◌, ◌≢◌, ◌+◌, ◌<◌, ◌≤◌, List, [], ◌∷◌, ◌++◌, length, take, drop, All, refl, sym, ap, ◌∙◌, subst, inl, inr, append_assoc, length-append, arith}
+use Rattle.std.specs.Prelude.{map, filter, flat_map, ◌==◌}
+use Rattle.std.proofs.lemmas.Bool.{cases_lt, cases_eq, cond-true, cond-false, eq-eqb, ne_eqb}
+use Rattle.std.proofs.lemmas.List.{append_cancel_left, map-append, append-nil}
+use Rattle.std.proofs.lemmas.List.Elements.{filter-append, All-nil, All-cons, All-head, All-tail}
+use Rattle.board_spec.specs.declared.event.Event.{Event}
+use Rattle.board_spec.specs.declared.event.Entry.{Entry}
+use Rattle.board_spec.specs.declared.event.Statement.{Statement}
+use Rattle.board_spec.specs.Setup.{Setup}
+use Rattle.board_spec.specs.Legal.{IsNext, IsLegal}
+use Rattle.board_spec.specs.Orders.{statement_of, statements_of, events_by, BeginsWith, IsFrontOfPhase, HasPhasesSoFar, IsBegunFor, IsReplayOf}
+use Rattle.board_spec.specs.OrderLaws.{in_file_order}
+use Rattle.board_spec.specs.Laws.{OneReplay}
+use Rattle.board_spec.proofs.OrderLawProofs.{statements-newest}
+use Rattle.log_check.specs.Phases.{IsTyped}
+use Rattle.log_check.proofs.PhaseCuts.{in_first_phase, past_first_phase}
+
+-- ---- the events of a processor
+
+pub events-append :
+    (actor : ℕ) (first later : List Statement) →
+    events_by actor (first ++ later) ≡ events_by actor first ++ events_by actor later
+events-append actor first later =
+    ap (map (λ (statement : Statement). statement.event))
+    (filter-append (λ (statement : Statement). statement.actor == actor) first later)
+    ∙ map-append (λ (statement : Statement). statement.event)
+    (filter (λ (statement : Statement). statement.actor == actor) first)
+    (filter (λ (statement : Statement). statement.actor == actor) later)
+
+pub events-own :
+    (actor : ℕ) (first : Statement) (later : List Statement) → first.actor ≡ actor →
+    events_by actor (first ∷ later) ≡ first.event ∷ events_by actor later
+events-own actor first later own =
+    ap (map (λ (statement : Statement). statement.event))
+    (cond-true (first.actor == actor) _ _ (eq-eqb first.actor actor own))
+
+pub events-other :
+    (actor : ℕ) (first : Statement) (later : List Statement) → first.actor ≢ actor →
+    events_by actor (first ∷ later) ≡ events_by actor later
+events-other actor first later other =
+    ap (map (λ (statement : Statement). statement.event))
+    (cond-false (first.actor == actor) _ _ (ne_eqb first.actor actor other))
+
+pub events-last :
+    (actor : ℕ) (part : List Statement) (last : Statement) → last.actor ≡ actor →
+    events_by actor (part ++ last ∷ []) ≡ events_by actor part ++ last.event ∷ []
+events-last actor part last own =
+    events-append actor part (last ∷ [])
+    ∙ ap (λ (events : List Event). events_by actor part ++ events) (events-own actor last [] own)
+
+pub events-last_other :
+    (actor : ℕ) (part : List Statement) (last : Statement) → last.actor ≢ actor →
+    events_by actor (part ++ last ∷ []) ≡ events_by actor part
+events-last_other actor part last other =
+    events-append actor part (last ∷ [])
+    ∙ ap (λ (events : List Event). events_by actor part ++ events) (events-other actor last [] other)
+    ∙ append-nil (events_by actor part)
+
+-- ---- the next statement of a front
+
+-- the last statement of a front is the next of its processor's
+pub record GoesFirst (phase part : List Statement) (last : Statement) : Type 0 where
+  pub rest : List Event
+  pub whole : events_by last.actor phase ≡ events_by last.actor part ++ (last.event ∷ rest)
+
+pub goes_first :
+    (phase part : List Statement) (last : Statement) → IsFrontOfPhase phase (part ++ last ∷ []) →
+    GoesFirst phase part last
+goes_first phase part last front =
+    let begins : BeginsWith (events_by last.actor phase) (events_by last.actor (part ++ last ∷ [])) =
+    front.each last.actor in
+    record {
+      rest = begins.rest;
+      whole =
+          begins.whole
+          ∙ ap (λ (events : List Event). events ++ begins.rest) (events-last last.actor part last refl)
+          ∙ append_assoc (events_by last.actor part) (last.event ∷ []) begins.rest;
+    }
+
+same_first :
+    (phase part : List Statement) (left right : Statement) → GoesFirst phase part left → GoesFirst phase part right →
+    left.actor ≡ right.actor → left.event ≡ right.event
+same_first phase part left right l r same =
+    let mine : events_by right.actor phase ≡ events_by right.actor part ++ (left.event ∷ l.rest) =
+    subst (λ (actor : ℕ). events_by actor phase ≡ events_by actor part ++ (left.event ∷ l.rest)) same l.whole in
+    let firsts : left.event ∷ l.rest ≡ right.event ∷ r.rest =
+    append_cancel_left (events_by right.actor part) (left.event ∷ l.rest) (right.event ∷ r.rest)
+    (sym mine ∙ r.whole) in
+    cc
+
+pub some_statement : (statements : List Statement) (last : Statement) → statements ++ last ∷ [] ≡ [] → ⊥
+some_statement [] last e = cc
+some_statement (first ∷ later) last e = cc
+
+longer : (statements : List Statement) (last : Statement) (n : ℕ) → length statements < n →
+    length (statements ++ last ∷ []) ≤ n
+longer statements last n short =
+    let e : length (statements ++ last ∷ []) ≡ length statements + 1 = length-append statements (last ∷ []) in
+    omega arith
+
+-- after the same statements a processor has one statement
+same_event :
+    (phases : List (List Statement)) (statements : List Statement) (left right : Statement) →
+    HasPhasesSoFar phases (statements ++ left ∷ []) → HasPhasesSoFar phases (statements ++ right ∷ []) →
+    left.actor ≡ right.actor → left.event ≡ right.event
+same_event [] statements left right l r same = absurd (some_statement statements left l)
+same_event (phase ∷ later) statements left right l r same =
+    elim (cases_lt (length statements) (length phase)) [
+      | inl short ↦
+          same_first phase statements left right
+          (goes_first phase statements left
+          (in_first_phase phase later (statements ++ left ∷ []) (longer statements left (length phase) short) l))
+          (goes_first phase statements right
+          (in_first_phase phase later (statements ++ right ∷ []) (longer statements right (length phase) short) r))
+          same
+      | inr long ↦
+          same_event later (drop (length phase) statements) left right
+          (past_first_phase phase later statements left long l)
+          (past_first_phase phase later statements right long r) same
+    ]
+
+said : ℕ → Event → Statement
+said actor event = record { actor = actor; event = event }
+
+same_statement : (left right : Statement) → left.actor ≡ right.actor → left.event ≡ right.event → left ≡ right
+unfolding said
+same_statement left right actor event =
+    let whole : said left.actor left.event ≡ said right.actor right.event = cc in whole
+
+-- two entries of a processor that may come next are one
+pub same_next :
+    OneReplay → (setup : Setup) (phases : List (List Statement)) (history : List Entry) (left right : Entry) →
+    IsLegal setup history → IsNext setup history left → IsNext setup history right →
+    IsBegunFor phases (left ∷ history) → IsBegunFor phases (right ∷ history) → left.actor ≡ right.actor → left ≡ right
+same_next one setup phases history left right legal l r begun others same =
+    let event : left.event ≡ right.event =
+    same_event phases (statements_of history) (statement_of left) (statement_of right)
+    (subst (HasPhasesSoFar phases) (statements-newest left history) begun)
+    (subst (HasPhasesSoFar phases) (statements-newest right history) others) same in
+    let statement : statement_of left ≡ statement_of right =
+    same_statement (statement_of left) (statement_of right) same event in
+    let lists : statements_of (right ∷ history) ≡ statements_of (left ∷ history) =
+    statements-newest right history
+    ∙ ap (λ (last : Statement). statements_of history ++ last ∷ []) (sym statement)
+    ∙ sym (statements-newest left history) in
+    let whole : left ∷ history ≡ right ∷ history =
+    one setup (statements_of (left ∷ history)) (left ∷ history) (right ∷ history)
+    (record { legal = (l, legal); same = refl }) (record { legal = (r, legal); same = lists }) in
+    cc
+
+-- ---- processors
+
+no_events :
+    (actor : ℕ) (phase : List Statement) → All IsTyped phase → 256 ≤ actor → events_by actor phase ≡ []
+no_events actor [] typed large = refl
+no_events actor (first ∷ later) typed large =
+    let small : first.actor < 256 = (All-head IsTyped first later typed).actor in
+    events-other actor first later (λ same. omega (arith, same))
+    ∙ no_events actor later (All-tail IsTyped first later typed) large
+
+no_event_more : (events : List Event) (event : Event) (rest : List Event) → [] ≡ events ++ (event ∷ rest) → ⊥
+no_event_more [] event rest e = cc
+no_event_more (first ∷ later) event rest e = cc
+
+pub known_first :
+    (phase part : List Statement) (last : Statement) → All IsTyped phase → GoesFirst phase part last →
+    last.actor < 256
+known_first phase part last typed first =
+    elim (cases_lt last.actor 256) [
+      | inl small ↦ small
+      | inr large ↦
+          absurd (no_event_more (events_by last.actor part) last.event first.rest
+          (sym (no_events last.actor phase typed large) ∙ first.whole))
+    ]
+
+pub all_left :
+    {X : Type 0} (P : X → Type 0) (first later : List X) → All P (first ++ later) → All P first × All P later
+all_left P [] later all = (All-nil P, all)
+all_left P (x ∷ xs) later all =
+    let rest : All P xs × All P later = all_left P xs later (All-tail P x (xs ++ later) all) in
+    (All-cons P x xs (All-head P x (xs ++ later) all) rest.0, rest.1)
+
+-- the processor of a statement that may come next is one of the script's
+known_statement :
+    (phases : List (List Statement)) (statements : List Statement) (last : Statement) →
+    All IsTyped (in_file_order phases) → HasPhasesSoFar phases (statements ++ last ∷ []) → last.actor < 256
+known_statement [] statements last typed begun = absurd (some_statement statements last begun)
+known_statement (phase ∷ later) statements last typed begun =
+    let parts : All IsTyped phase × All IsTyped (in_file_order later) =
+    all_left IsTyped phase (in_file_order later) typed in
+    elim (cases_lt (length statements) (length phase)) [
+      | inl short ↦
+          known_first phase statements last parts.0
+          (goes_first phase statements last
+          (in_first_phase phase later (statements ++ last ∷ []) (longer statements last (length phase) short) begun))
+      | inr long ↦
+          known_statement later (drop (length phase) statements) last parts.1
+          (past_first_phase phase later statements last long begun)
+    ]
+
+pub known_actor :
+    (phases : List (List Statement)) (history : List Entry) (entry : Entry) → All IsTyped (in_file_order phases) →
+    IsBegunFor phases (entry ∷ history) → entry.actor < 256
+known_actor phases history entry typed begun =
+    known_statement phases (statements_of history) (statement_of entry) typed
+    (subst (HasPhasesSoFar phases) (statements-newest entry history) begun)

@@ -1,0 +1,76 @@
+-- The phases of a script as lists.
+use Rattle.std.proofs.Common.{ℕ, suc, ◌≡◌, ◌+◌, ◌<◌, ◌≤◌, List, [], ◌∷◌, ◌++◌, length, take, drop, get_or, All, refl, sym, ap, ◌∙◌, subst, append-nil, length-append, add-one, arith}
+use Rattle.std.specs.Prelude.{map, flat_map}
+use Rattle.std.specs.declared.vec.Vec.{Vec}
+use Rattle.std.specs.Global.{Global}
+use Rattle.std.proofs.Math.Seq.{drop-cons}
+use Rattle.std.proofs.lemmas.Grind.{flat_map-append}
+use Rattle.std.proofs.lemmas.List.{map-append, take-append-drop, take_more}
+use Rattle.std.proofs.lemmas.List.Elements.{All-append}
+use Rattle.board_spec.specs.declared.event.Statement.{Statement}
+use Rattle.board_spec.specs.OrderLaws.{in_file_order}
+use Rattle.log_check.specs.Phases.{listed}
+use Rattle.log_check.proofs.NextStatements.{all_left}
+
+-- the phases before one, this one, and those after it
+pub phases_cut :
+    (phases : List (Vec Statement Global)) (i : ℕ) (phase : Vec Statement Global) → i < length phases →
+    phase ≡ get_or phases i phase →
+    listed phases ≡ listed (take i phases) ++ phase.items ∷ listed (drop (i + 1) phases)
+phases_cut phases i phase within is =
+    ap listed (sym (take-append-drop i phases))
+    ∙ map-append (λ (p : Vec Statement Global). p.items) (take i phases) (drop i phases)
+    ∙ ap (λ (rest : List (Vec Statement Global)). listed (take i phases) ++ listed rest)
+    (drop-cons phases i phase within
+    ∙ ap (λ (p : Vec Statement Global). p ∷ drop (suc i) phases) (sym is)
+    ∙ ap (λ (n : ℕ). phase ∷ drop n phases) (sym (add-one i)))
+
+pub phases_more :
+    (phases : List (Vec Statement Global)) (i : ℕ) (phase : Vec Statement Global) → i < length phases →
+    phase ≡ get_or phases i phase → listed (take (i + 1) phases) ≡ listed (take i phases) ++ phase.items ∷ []
+phases_more phases i phase within is =
+    ap listed (take_more phases i phase within)
+    ∙ map-append (λ (p : Vec Statement Global). p.items) (take i phases) (get_or phases i phase ∷ [])
+    ∙ ap (λ (p : Vec Statement Global). listed (take i phases) ++ p.items ∷ []) (sym is)
+
+-- the statements of the phases before one, those of this one, and those after it
+pub statements_cut :
+    (before : List (List Statement)) (phase : List Statement) (later : List (List Statement)) →
+    in_file_order (before ++ phase ∷ later) ≡ in_file_order before ++ (phase ++ in_file_order later)
+statements_cut before phase later = flat_map-append (λ (p : List Statement). p) before (phase ∷ later)
+
+pub length_cut :
+    (before : List (List Statement)) (phase : List Statement) (later : List (List Statement)) →
+    length (in_file_order (before ++ phase ∷ later))
+    ≡ length (in_file_order before) + (length phase + length (in_file_order later))
+length_cut before phase later =
+    ap length (statements_cut before phase later)
+    ∙ length-append (in_file_order before) (phase ++ in_file_order later)
+    ∙ ap (λ (n : ℕ). length (in_file_order before) + n) (length-append phase (in_file_order later))
+
+pub all_of_phase :
+    (P : Statement → Type 0) (before : List (List Statement)) (phase : List Statement)
+    (later : List (List Statement)) → All P (in_file_order (before ++ phase ∷ later)) → All P phase
+all_of_phase P before phase later all =
+    (all_left P phase (in_file_order later)
+    (all_left P (in_file_order before) (phase ++ in_file_order later)
+    (subst (All P) (statements_cut before phase later) all)).1).0
+
+pub all_more :
+    (P : Statement → Type 0) (before : List (List Statement)) (phase : List Statement) →
+    All P (in_file_order before) → All P phase → All P (in_file_order (before ++ phase ∷ []))
+all_more P before phase all more =
+    subst (All P) (sym (statements_cut before phase []))
+    (All-append P (in_file_order before) (phase ++ []) all (subst (All P) (sym (append-nil phase)) more))
+
+pub few_so_far :
+    (phases : List (Vec Statement Global)) (i : ℕ) (phase : Vec Statement Global) → i < length phases →
+    phase ≡ get_or phases i phase →
+    length (in_file_order (listed (take i phases))) + length phase.items ≤ length (in_file_order (listed phases))
+few_so_far phases i phase within is =
+    let whole : length (in_file_order (listed phases))
+    ≡ length (in_file_order (listed (take i phases)))
+    + (length phase.items + length (in_file_order (listed (drop (i + 1) phases)))) =
+    ap (λ (ps : List (List Statement)). length (in_file_order ps)) (phases_cut phases i phase within is)
+    ∙ length_cut (listed (take i phases)) phase.items (listed (drop (i + 1) phases)) in
+    omega arith

@@ -1,0 +1,153 @@
+-- A text is cut at a byte, and a line of a log names its processor.
+use Rattle.std.proofs.Common.{ℕ, zero, suc, ◌≡◌, ◌≢◌, ◌+◌, ◌-◌, ◌<◌, ◌≤◌, Bool, true, false, not, cond, eqb, ltb, List, [], ◌∷◌, ◌++◌, length, take, drop, All, Option, Some, None, Result, Ok, Err, refl, sym, ap, ◌∙◌, inl, inr, append_assoc, add-one, subst, MatchOption, length-append, length-drop, arith}
+use Rattle.std.specs.Prelude.{decimal, codes, MatchResult, ◌==◌}
+use Rattle.std.specs.List.{position, position_or_len}
+use Rattle.std.specs.Result.{result_ok}
+use Rattle.std.specs.Option.{ok_or}
+use Rattle.std.specs.Str.{IsUtf8}
+use Rattle.std.proofs.lemmas.Str.{IsUtf8-from_ascii}
+use Rattle.std.proofs.lemmas.Fmt.{IsAscii-decimal}
+use Rattle.std.proofs.Math.Seq.{take-append_seam}
+use Rattle.std.proofs.lemmas.Bool.{eq-eqb, ne_eqb, eqb-false, lt-ltb, cond-true}
+use Rattle.std.proofs.lemmas.List.{take_all}
+use Rattle.std.proofs.lemmas.List.Elements.{All-nil, All-cons, All-head, All-tail}
+use Rattle.board_spec.specs.declared.event.Entry.{Entry}
+use Rattle.board_spec.specs.Text.{space, line_feed}
+use Rattle.board_spec.specs.LogText.{event_text, value_bytes, reply_text, line_text}
+use Rattle.script_spec.specs.Lines.{IsOneLine}
+use Rattle.script_spec.proofs.Digits.{lacks, value_of_decimal}
+use Rattle.script_spec.proofs.Fields.{front, back, front-field, back-field, lacks-first, lacks-later, lacks-decimal}
+use Rattle.script_spec.proofs.PlainText.{lacks-word, decimal_word}
+use Rattle.script_spec.proofs.CheckLaws.{lacks-line}
+
+-- ---- the first byte of a kind
+
+length_before :
+    (mark : ℕ) (before after : List ℕ) → All (λ byte. byte ≢ mark) before →
+    position_or_len (λ byte. byte == mark) (before ++ mark ∷ after) ≡ length before
+length_before mark [] after apart = rw (eq-eqb mark mark refl) refl
+length_before mark (c ∷ cs) after apart =
+    rw (
+      ne_eqb c mark (All-head (λ byte. byte ≢ mark) c cs apart),
+      length_before mark cs after (All-tail (λ byte. byte ≢ mark) c cs apart),
+    ) (omega arith)
+
+pub position_behind :
+    (mark : ℕ) (before after : List ℕ) → All (λ byte. byte ≢ mark) before →
+    position (λ byte. byte == mark) (before ++ mark ∷ after) ≡ Some (length before)
+position_behind mark before after apart =
+    let here : position_or_len (λ byte. byte == mark) (before ++ mark ∷ after) ≡ length before =
+    length_before mark before after apart in
+    let whole : length (before ++ mark ∷ after) ≡ length before + length (mark ∷ after) =
+    length-append before (mark ∷ after) in
+    let within : length before < length (before ++ mark ∷ after) = omega arith in
+    ap (λ (n : ℕ). cond (ltb n (length (before ++ mark ∷ after))) (Some n) None) here
+    ∙ cond-true (ltb (length before) (length (before ++ mark ∷ after))) (Some (length before)) None
+    (lt-ltb (length before) (length (before ++ mark ∷ after)) within)
+
+drop_behind : (mark : ℕ) (before after : List ℕ) → drop (suc (length before)) (before ++ mark ∷ after) ≡ after
+drop_behind mark [] after = refl
+drop_behind mark (c ∷ cs) after = drop_behind mark cs after
+
+take_rest : (n : ℕ) (bytes : List ℕ) → take (length bytes - n) (drop n bytes) ≡ drop n bytes
+take_rest n bytes =
+    let left : length (drop n bytes) ≡ length bytes - n = length-drop n bytes in
+    take_all (length bytes - n) (drop n bytes) (omega arith)
+
+-- what stands before the mark and what stands after it
+pub cut_behind :
+    (mark at : ℕ) (bytes before after : List ℕ) → All (λ byte. byte ≢ mark) before → bytes ≡ before ++ mark ∷ after →
+    position (λ byte. byte == mark) bytes ≡ Some at →
+    (take at bytes ≡ before) × (take (length bytes - (at + 1)) (drop (at + 1) bytes) ≡ after)
+cut_behind mark at bytes before after apart is found =
+    let same : Some at ≡ Some (length before) =
+    sym found ∙ ap (position (λ byte. byte == mark)) is ∙ position_behind mark before after apart in
+    let place : at ≡ length before = cc in
+    let next : at + 1 ≡ suc (length before) = ap (λ (n : ℕ). n + 1) place ∙ add-one (length before) in (
+      ap (λ (n : ℕ). take n bytes) place ∙ ap (take (length before)) is ∙ take-append_seam before (mark ∷ after),
+      take_rest (at + 1) bytes ∙ ap (λ (n : ℕ). drop n bytes) next ∙ ap (drop (suc (length before))) is
+      ∙ drop_behind mark before after,
+    )
+
+pub not_lost :
+    (mark : ℕ) (bytes before after : List ℕ) → All (λ byte. byte ≢ mark) before → bytes ≡ before ++ mark ∷ after →
+    position (λ byte. byte == mark) bytes ≡ None → ⊥
+not_lost mark bytes before after apart is lost =
+    let same : ◌≡◌ {A = Option ℕ} None (Some (length before)) =
+    sym lost ∙ ap (position (λ byte. byte == mark)) is ∙ position_behind mark before after apart in
+    cc
+
+-- an error where none of the results is read
+pub the_error :
+    {T E : Type 0} (P : T → Type 0) (Q : E → Type 0) (result : Result T E) → MatchResult result P Q →
+    result_ok result ≡ None → (fault : E) × Q fault
+the_error P Q (Ok value) holds none = cc
+the_error P Q (Err fault) holds none = (fault, holds)
+
+-- and the value where one is read
+pub the_value :
+    {T E : Type 0} (P : T → Type 0) (Q : E → Type 0) (result : Result T E) (value : T) → MatchResult result P Q →
+    result_ok result ≡ Some value → P value
+the_value P Q (Ok other) value holds some = let same : other ≡ value = cc in subst P same holds
+the_value P Q (Err fault) value holds some = cc
+
+-- the bytes of a decimal are text
+pub digits_utf8 : (bytes : List ℕ) (number : ℕ) → number < 256 → bytes ≡ decimal number → IsUtf8 bytes
+digits_utf8 bytes number small is =
+    subst IsUtf8 (sym is) (IsUtf8-from_ascii (decimal number) (IsAscii-decimal number (omega (arith, small))))
+
+-- an option as a result
+pub ok_or_cases :
+    {T E : Type 0} (P : Type 0) (Q : T → Type 0) (result : Option T) (fault : E) → MatchOption result P Q →
+    MatchResult (ok_or result fault) Q (λ given. (given ≡ fault) × P)
+ok_or_cases P Q None fault none = (refl, none)
+ok_or_cases P Q (Some value) fault some = some
+
+-- ---- lines
+
+apart_from : (mark : ℕ) (bytes : List ℕ) → lacks mark bytes ≡ true → All (λ byte. byte ≢ mark) bytes
+apart_from mark [] lack = All-nil (λ byte. byte ≢ mark)
+apart_from mark (c ∷ cs) lack =
+    All-cons (λ byte. byte ≢ mark) c cs (eqb-false c mark (lacks-first mark c cs lack))
+    (apart_from mark cs (lacks-later mark c cs lack))
+
+-- two lines that each end in a line feed
+pub cut_line :
+    (line other after rest : List ℕ) → IsOneLine line → IsOneLine other →
+    line ++ line_feed ∷ after ≡ other ++ line_feed ∷ rest → (line ≡ other) × (after ≡ rest)
+cut_line line other after rest one two same = (
+  sym (front-field line_feed line after (lacks-line line one)) ∙ ap (front line_feed) same
+  ∙ front-field line_feed other rest (lacks-line other two),
+  sym (back-field line_feed line after (lacks-line line one)) ∙ ap (back line_feed) same
+  ∙ back-field line_feed other rest (lacks-line other two),
+)
+
+-- the processor of an entry stands behind the number of its line
+pub record Named (n : ℕ) (entry : Entry) (after : List ℕ) : Type 0 where
+  pub later : List ℕ
+  pub is : line_text n entry ++ after ≡ decimal n ++ space ∷ (decimal entry.actor ++ 0x2E ∷ later)
+
+eight_parts :
+    (a b c d e f g h : List ℕ) →
+    a ++ b ++ c ++ d ++ e ++ f ++ g ++ h ≡ a ++ (b ++ (c ++ (d ++ (e ++ (f ++ (g ++ h))))))
+eight_parts a b c d e f g h = simp append_assoc
+
+pub named : (n : ℕ) (entry : Entry) (after : List ℕ) → Named n entry after
+unfolding line_text
+named n entry after =
+    let event : List ℕ = event_text entry.event in
+    let reply : List ℕ = reply_text (value_bytes entry.event) entry.reply in
+    record {
+      later = decimal entry.seq ++ (space ∷ event ++ (codes " = " ++ (reply ++ after)));
+      is = eight_parts (decimal n) (space ∷ decimal entry.actor) (codes ".") (decimal entry.seq) (space ∷ event)
+          (codes " = ") reply after;
+    }
+
+-- no byte of a number is a space
+pub number_apart : (n : ℕ) → All (λ byte. byte ≢ space) (decimal n)
+number_apart n = apart_from space (decimal n) (lacks-word space (decimal n) refl (decimal_word n))
+
+-- nor a full stop
+pub decimal_apart : (n : ℕ) → n < 256 → All (λ byte. byte ≢ 0x2E) (decimal n)
+decimal_apart n small =
+    apart_from 0x2E (decimal n) (lacks-decimal 0x2E n (inl (omega arith)) (omega (arith, small)))

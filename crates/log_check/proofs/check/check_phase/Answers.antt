@@ -1,0 +1,80 @@
+use Rattle.std.proofs.Common.{ℕ, ◌≡◌, ◌+◌, ◌++◌, ◌∷◌, ◌<◌, List, All, length, refl, sym, ap, ◌∙◌, subst, add-zero, arith}
+use Rattle.board_spec.specs.declared.event.Statement.{Statement}
+use Rattle.board_spec.specs.Setup.{Setup}
+use Rattle.board_core.specs.Steps.{AreInRange}
+use Rattle.log_check.specs.Phases.{IsTyped}
+use Rattle.log_check.specs.Fronts.{left_of}
+use Rattle.log_check.specs.Walks.{Place, IsWithin, Stopped}
+use Rattle.log_check.proofs.Steps.{within_start, within_whole}
+use Rattle.log_check.proofs.LineSteps.{handed_on}
+use Rattle.log_check.proofs.check.check_phase.Goals as goal
+
+pub check_line-requires-clause-spare : goal.check_line-requires-clause-spare
+check_line-requires-clause-spare c =
+    omega (arith, c.loop.invariant.spare, c.requires.spare, c.loop-test.true)
+
+pub check_line-requires-clause-in_range : goal.check_line-requires-clause-in_range
+check_line-requires-clause-in_range c =
+    rw (c.loop.invariant.setup, c.loop.invariant.phase) c.requires.in_range
+
+pub check_line-requires-clause-typed : goal.check_line-requires-clause-typed
+check_line-requires-clause-typed c = subst (All IsTyped) (sym c.loop.invariant.phase) c.requires.typed
+
+pub loop-init : goal.loop-init
+loop-init c = record {
+  setup = refl;
+  phase = c.new-front.ensures.phase;
+  spare = add-zero c.args.board.now.spare;
+  walked = λ place complete past. (
+    within_start (record place { count = 0 }) c.args.phase.now (left_of c.new-front.result) c.args.board.now.entries
+        complete refl c.new-front.ensures.left,
+    past,
+  );
+}
+
+pub loop-preserved : goal.loop-preserved
+loop-preserved c = record {
+  setup = c.check_line.ensures.setup ∙ c.loop.invariant.setup;
+  phase = c.check_line.ensures.phase ∙ c.loop.invariant.phase;
+  spare = omega (arith, c.loop.invariant.spare, c.in_ok-left.ensures.spare);
+  walked = λ place complete past.
+      let before = c.loop.invariant.walked place complete past in
+      let here : Place = record place { count = c.loop.counter } in
+      let next : Place = record place { count = c.loop.counter + 1 } in
+      let after =
+      c.in_ok-left.ensures.walked here
+      (subst (λ (phase : List Statement). IsWithin here phase (left_of c.loop.front) c.loop.board.entries)
+      (sym c.loop.invariant.phase) before.0)
+      before.1
+      (subst (λ (phase : List Statement). c.loop.counter < length phase) (sym c.loop.invariant.phase) c.loop-test.true)
+      in (
+        subst (λ (phase : List Statement). IsWithin next phase (left_of c.check_line.new.front)
+            c.check_line.new.board.entries) c.loop.invariant.phase after.0,
+        after.1,
+      );
+}
+
+pub returns-in_err-left-clause-walked : goal.returns-in_err-left-clause-walked
+returns-in_err-left-clause-walked c = λ place complete past.
+    let before = c.loop.invariant.walked place complete past in
+    let here : Place = record place { count = c.loop.counter } in
+    let after =
+    c.in_err-left.ensures.walked here
+    (subst (λ (phase : List Statement). IsWithin here phase (left_of c.loop.front) c.loop.board.entries)
+    (sym c.loop.invariant.phase) before.0)
+    before.1
+    (subst (λ (phase : List Statement). c.loop.counter < length phase) (sym c.loop.invariant.phase) c.loop-test.true)
+    in
+    handed_on c.from_residual.result c.in_err-left.field-0.0 _ _ c.from_residual.ensures.1
+    (subst (λ (setup : Setup). Stopped setup place.version (place.done ++ c.args.phase.now ∷ place.later) place.bytes
+    c.check_line.new.board.entries c.in_err-left.field-0.0) c.loop.invariant.setup
+    (subst (λ (phase : List Statement). Stopped c.loop.board.setup place.version (place.done ++ phase ∷ place.later)
+    place.bytes c.check_line.new.board.entries c.in_err-left.field-0.0) c.loop.invariant.phase after))
+
+pub returns-clause-walked : goal.returns-clause-walked
+returns-clause-walked c = λ place complete past.
+    let before = c.loop.invariant.walked place complete past in (
+      within_whole (record place { count = c.loop.counter }) c.args.phase.now (left_of c.loop.front) c.loop.board.entries
+          before.0 (omega (arith, c.loop-test.false, c.loop.auto.counter-end)),
+      before.1,
+    )

@@ -1,0 +1,114 @@
+use Rattle.std.proofs.Common.{ℕ, ◌≡◌, ◌≤◌, ◌+◌, ◌++◌, [], ◌∷◌, ◌<◌, List, All, length, take, drop, refl, sym, ap, ◌∙◌, subst, arith}
+use Rattle.std.specs.Prelude.{MatchResult}
+use Rattle.std.proofs.lemmas.List.{take_all}
+use Rattle.board_spec.specs.declared.event.Statement.{Statement}
+use Rattle.board_spec.specs.Setup.{Setup}
+use Rattle.board_spec.specs.InRange.{IsInRange}
+use Rattle.board_spec.specs.LogText.{log_text}
+use Rattle.board_spec.specs.Orders.{statements_of, IsCompleteFor}
+use Rattle.board_spec.specs.OrderLaws.{in_file_order}
+use Rattle.board_core.specs.Steps.{AreInRange}
+use Rattle.log_check.specs.Phases.{IsTyped, listed}
+use Rattle.log_check.specs.Walks.{Place, Stopped}
+use Rattle.log_check.proofs.LineSteps.{handed_on}
+use Rattle.log_check.proofs.PhaseLists.{phases_cut, phases_more, length_cut, all_of_phase}
+use Rattle.log_check.proofs.check.check_phases.Goals as goal
+
+pub loop-phase-init : goal.loop-phase-init
+loop-phase-init c = record {
+  setup = refl;
+  spare = omega (arith, c.requires.spare);
+  complete = ap statements_of c.requires.fresh;
+  past = λ version bytes text.
+      text ∙ ap (λ entries. log_text version entries ++ c.args.rest.now) (sym c.requires.fresh);
+}
+
+pub check_phase-requires-clause-spare : goal.check_phase-requires-clause-spare
+check_phase-requires-clause-spare c =
+    let i : ℕ = c.loop-phase.phase-index in
+    let before : List (List Statement) = listed (take i c.args.phases.now) in
+    let later : List (List Statement) = listed (drop (i + 1) c.args.phases.now) in
+    let size : length (in_file_order (listed c.args.phases.now))
+    ≡ length (in_file_order before) + (length c.phase-item.result.items + length (in_file_order later)) =
+    ap (λ (ps : List (List Statement)). length (in_file_order ps))
+    (phases_cut c.args.phases.now i c.phase-item.result c.loop-phase-test.true c.phase-item.is)
+    ∙ length_cut before c.phase-item.result.items later in
+    let same : length c.deref.result.now ≡ length c.phase-item.result.items = ap length c.deref.ensures.value in
+    omega (arith, c.loop-phase.invariant.spare)
+
+pub check_phase-requires-clause-in_range : goal.check_phase-requires-clause-in_range
+check_phase-requires-clause-in_range c =
+    let i : ℕ = c.loop-phase.phase-index in
+    let P : Statement → Type 0 = λ statement. IsInRange c.args.board.now.setup statement.event in
+    let own : All P c.phase-item.result.items =
+    all_of_phase P (listed (take i c.args.phases.now)) c.phase-item.result.items (listed (drop (i + 1) c.args.phases.now))
+    (subst (λ (ps : List (List Statement)). All P (in_file_order ps))
+    (phases_cut c.args.phases.now i c.phase-item.result c.loop-phase-test.true c.phase-item.is) c.requires.in_range) in
+    subst (λ (setup : Setup). AreInRange setup c.deref.result.now) (sym c.loop-phase.invariant.setup)
+    (subst (AreInRange c.args.board.now.setup) (sym c.deref.ensures.value) own)
+
+pub check_phase-requires-clause-typed : goal.check_phase-requires-clause-typed
+check_phase-requires-clause-typed c =
+    let i : ℕ = c.loop-phase.phase-index in
+    subst (All IsTyped) (sym c.deref.ensures.value)
+    (all_of_phase IsTyped (listed (take i c.args.phases.now)) c.phase-item.result.items
+    (listed (drop (i + 1) c.args.phases.now))
+    (subst (λ (ps : List (List Statement)). All IsTyped (in_file_order ps))
+    (phases_cut c.args.phases.now i c.phase-item.result c.loop-phase-test.true c.phase-item.is) c.requires.typed))
+
+pub loop-phase-preserved : goal.loop-phase-preserved
+loop-phase-preserved c =
+    let i : ℕ = c.loop-phase.phase-index in
+    let before : List (List Statement) = listed (take i c.args.phases.now) in
+    let more : listed (take (i + 1) c.args.phases.now) ≡ before ++ c.phase-item.result.items ∷ [] =
+    phases_more c.args.phases.now i c.phase-item.result c.loop-phase-test.true c.phase-item.is in
+    let place : ℕ → List ℕ → Place = λ (version : ℕ) (bytes : List ℕ). record {
+      version = version;
+      bytes = bytes;
+      done = before;
+      later = [];
+      count = 0;
+    } in
+    let size : length (in_file_order (listed (take (i + 1) c.args.phases.now)))
+    ≡ length (in_file_order before) + (length c.phase-item.result.items + 0) =
+    ap (λ (ps : List (List Statement)). length (in_file_order ps)) more
+    ∙ length_cut before c.phase-item.result.items [] in
+    let same : length c.deref.result.now ≡ length c.phase-item.result.items = ap length c.deref.ensures.value in
+    record {
+      setup = c.check_phase.ensures.setup ∙ c.loop-phase.invariant.setup;
+      spare = omega (arith, c.loop-phase.invariant.spare, c.in_ok-left.ensures.spare);
+      complete =
+          let first : List ℕ = log_text 0 c.loop-phase.board.entries ++ c.loop-phase.left.now in
+          let walked = c.in_ok-left.ensures.walked (place 0 first) c.loop-phase.invariant.complete refl in
+          subst (λ (ps : List (List Statement)). IsCompleteFor ps c.check_phase.new.board.entries) (sym more)
+          (subst (λ (phase : List Statement). IsCompleteFor (before ++ phase ∷ []) c.check_phase.new.board.entries)
+          c.deref.ensures.value walked.0);
+      past = λ version bytes text.
+          (c.in_ok-left.ensures.walked (place version bytes) c.loop-phase.invariant.complete
+          (c.loop-phase.invariant.past version bytes text)).1;
+    }
+
+pub returns-in_err-left-clause-walked : goal.returns-in_err-left-clause-walked
+returns-in_err-left-clause-walked c = λ version bytes text.
+    let i : ℕ = c.loop-phase.phase-index in
+    let before : List (List Statement) = listed (take i c.args.phases.now) in
+    let later : List (List Statement) = listed (drop (i + 1) c.args.phases.now) in
+    let cut : listed c.args.phases.now ≡ before ++ c.phase-item.result.items ∷ later =
+    phases_cut c.args.phases.now i c.phase-item.result c.loop-phase-test.true c.phase-item.is in
+    let place : Place = record { version = version; bytes = bytes; done = before; later = later; count = 0 } in
+    let stopped =
+    c.in_err-left.ensures.walked place c.loop-phase.invariant.complete (c.loop-phase.invariant.past version bytes text) in
+    handed_on c.from_residual.result c.in_err-left.field-0.0 _ _ c.from_residual.ensures.1
+    (subst (λ (ps : List (List Statement)). Stopped c.args.board.now.setup version ps bytes
+    c.check_phase.new.board.entries c.in_err-left.field-0.0) (sym cut)
+    (subst (λ (setup : Setup). Stopped setup version (before ++ c.phase-item.result.items ∷ later) bytes
+    c.check_phase.new.board.entries c.in_err-left.field-0.0) c.loop-phase.invariant.setup
+    (subst (λ (phase : List Statement). Stopped c.loop-phase.board.setup version (before ++ phase ∷ later) bytes
+    c.check_phase.new.board.entries c.in_err-left.field-0.0) c.deref.ensures.value stopped)))
+
+pub returns-clause-walked : goal.returns-clause-walked
+returns-clause-walked c = λ version bytes text. (
+  subst (λ phases. IsCompleteFor (listed phases) c.loop-phase.board.entries)
+      (take_all c.loop-phase.phase-index c.args.phases.now c.loop-phase-test.false) c.loop-phase.invariant.complete,
+  c.loop-phase.invariant.past version bytes text,
+)

@@ -1,0 +1,4 @@
+pub mod Phases
+pub mod Fronts
+pub mod Checked
+pub mod Walks

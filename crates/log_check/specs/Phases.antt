@@ -1,0 +1,22 @@
+-- The phases of a script as the program keeps them.
+use Rattle.std.specs.Prelude.{ℕ, ◌<◌, List, map}
+use Rattle.std.specs.declared.vec.Vec.{Vec}
+use Rattle.std.specs.Global.{Global}
+use Rattle.board_spec.specs.declared.event.Event.{Event}
+use Rattle.board_spec.specs.declared.event.Event.TheVariants.{Look as LookAt}
+use Rattle.board_spec.specs.declared.event.Statement.{Statement}
+use Rattle.board_spec.specs.FlatMap.{address_count}
+
+-- the statements of each phase
+abbrev pub listed : List (Vec Statement Global) → List (List Statement)
+listed phases = map (λ phase. phase.items) phases
+
+-- a look is at an address
+abbrev pub FitsLook : Event → Type 0
+FitsLook (LookAt kind addr smm) = addr < address_count
+FitsLook _ = Unit {0}
+
+-- the numbers of a statement fit their types
+pub record IsTyped (statement : Statement) : Type 0 where
+  pub actor : statement.actor < 256
+  pub look : FitsLook statement.event

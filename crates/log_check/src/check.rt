@@ -1,0 +1,170 @@
+//! The walk over a log, line by line, phase by phase.
+
+ghost use Rattle.std.specs.Prelude.{◌≡◌, ◌+◌, ◌<◌, ◌≤◌, ◌++◌, ◌∷◌, ◌⊎◌, ℕ, [], List, All, length, Ok, Err, IfOk, IfErr, OnOk, MatchResult};
+ghost use Rattle.board_spec.specs.declared.event.Statement.{Statement as Said};
+ghost use Rattle.board_spec.specs.Legal.{IsLegal};
+ghost use Rattle.board_spec.specs.LogText.{log_text};
+ghost use Rattle.board_spec.specs.Orders.{IsBegunFor, IsCompleteFor};
+ghost use Rattle.board_spec.specs.OrderLaws.{in_file_order};
+ghost use Rattle.board_core.specs.Steps.{AreInRange};
+ghost use Rattle.script_spec.specs.Checks.{IsLogOf, DiffersAt};
+ghost use Rattle.log_check.specs.declared.fault.CheckFault.{CheckFault};
+ghost use Rattle.log_check.specs.Phases.{IsTyped, listed};
+ghost use Rattle.log_check.specs.Fronts.{left_of};
+ghost use Rattle.log_check.specs.Checked.{IsCheckedLog, StandsAfter};
+ghost use Rattle.log_check.specs.Walks.{Place, IsWithin, IsPast, Stopped, Failed};
+
+use crate::fault::CheckFault;
+use crate::field::processor;
+use crate::front::Front;
+use crate::line::{go_past, print_heading, print_newest};
+use crate::range::{phases_fit, statement_count};
+use board_core::Board;
+use board_spec::Statement;
+use board_spec::laws::law_one_replay;
+use std::alloc::Global;
+
+/// Does the statement that the next line must be of, and goes past the line.
+fn check_line<'a>(
+    board: &mut Board,
+    text: &mut String,
+    front: &mut Front,
+    rest: &'a [u8],
+) -> Result<&'a [u8], CheckFault>
+    requires spare { 1 ≤ board.old.spare }
+    requires in_range { AreInRange board.old.setup front.old.phase.now }
+    requires typed { All IsTyped front.old.phase.now }
+    ensures setup { board.new.setup ≡ board.old.setup }
+    ensures phase { front.new.phase.now ≡ front.old.phase.now }
+    ensures spare { OnOk result (board.new.spare + 1 ≡ board.old.spare) }
+    ensures walked { (place : Place) → IsWithin place front.old.phase.now (left_of front.old) board.old.entries
+        → IsPast place board.old.entries rest.now → place.count < length front.old.phase.now
+        → MatchResult result
+          (λ after. IsWithin (record place { count = place.count + 1 }) front.old.phase.now (left_of front.new) board.new.entries
+            × IsPast place board.new.entries after.now)
+          (λ fault. Stopped board.old.setup place.version (place.done ++ front.old.phase.now ∷ place.later) place.bytes
+            board.new.entries fault) }
+{
+    let line = board.history().len() + 2;
+    let Some(actor) = processor(rest) else {
+        return Err(CheckFault::Differs { line });
+    };
+    let Some(statement) = front.next(actor) else {
+        return Err(CheckFault::Differs { line });
+    };
+    law_one_replay();
+    board.step(statement.actor, &statement.event);
+    print_newest(text, board.history())?;
+    go_past(text, rest, line)
+}
+
+/// Goes past the lines of a phase.
+fn check_phase<'a>(
+    board: &mut Board,
+    text: &mut String,
+    phase: &[Statement],
+    rest: &'a [u8],
+) -> Result<&'a [u8], CheckFault>
+    requires spare { length phase.now ≤ board.old.spare }
+    requires in_range { AreInRange board.old.setup phase.now }
+    requires typed { All IsTyped phase.now }
+    ensures setup { board.new.setup ≡ board.old.setup }
+    ensures spare { OnOk result (board.new.spare + length phase.now ≡ board.old.spare) }
+    ensures walked { (place : Place) → IsCompleteFor place.done board.old.entries → IsPast place board.old.entries rest.now
+        → MatchResult result
+          (λ after. IsCompleteFor (place.done ++ phase.now ∷ []) board.new.entries × IsPast place board.new.entries after.now)
+          (λ fault. Stopped board.old.setup place.version (place.done ++ phase.now ∷ place.later) place.bytes
+            board.new.entries fault) }
+{
+    let mut front = Front::new(phase);
+    let mut left = rest;
+    for _ in 0..phase.len() {
+        left = check_line(board, text, &mut front, left)?;
+    }
+    Ok(left)
+}
+
+/// Goes past the lines of all phases.
+fn check_phases<'a>(
+    board: &mut Board,
+    text: &mut String,
+    phases: &[Vec<Statement>],
+    rest: &'a [u8],
+) -> Result<&'a [u8], CheckFault>
+    requires fresh { board.old.entries ≡ [] }
+    requires spare { length (in_file_order (listed phases.now)) ≤ board.old.spare }
+    requires in_range { AreInRange board.old.setup (in_file_order (listed phases.now)) }
+    requires typed { All IsTyped (in_file_order (listed phases.now)) }
+    ensures setup { board.new.setup ≡ board.old.setup }
+    ensures walked { (version : ℕ) (bytes : List ℕ) → bytes ≡ log_text version [] ++ rest.now
+        → MatchResult result
+          (λ after. IsCompleteFor (listed phases.now) board.new.entries
+            × (bytes ≡ log_text version board.new.entries ++ after.now))
+          (λ fault. Stopped board.old.setup version (listed phases.now) bytes board.new.entries fault) }
+{
+    let mut left = rest;
+    for phase in phases {
+        left = check_phase(board, text, phase, left)?;
+    }
+    Ok(left)
+}
+
+/// Goes past the heading and all lines, to the end. The board is fresh, with room for the statements.
+fn check_lines(
+    alloc: Global,
+    board: &mut Board,
+    version: u8,
+    phases: &[Vec<Statement>],
+    bytes: &[u8],
+) -> Result<u32, CheckFault>
+    requires fresh { board.old.entries ≡ [] }
+    requires spare { length (in_file_order (listed phases.now)) ≤ board.old.spare }
+    requires in_range { AreInRange board.old.setup (in_file_order (listed phases.now)) }
+    requires typed { All IsTyped (in_file_order (listed phases.now)) }
+    ensures setup { board.new.setup ≡ board.old.setup }
+    ensures checked { MatchResult result
+        (λ count. IsCheckedLog board.old.setup version (listed phases.now) bytes.now board.new.entries count)
+        (λ fault. Failed board.old.setup version (listed phases.now) bytes.now board.new.entries fault) }
+{
+    law_one_replay();
+    let mut text = String::new(alloc);
+    print_heading(&mut text, version)?;
+    let rest = go_past(&text, bytes, 1)?;
+    let rest = check_phases(board, &mut text, phases, rest)?;
+    let count = board.history().len();
+    if rest.is_empty() {
+        Ok(count)
+    } else {
+        Err(CheckFault::Differs { line: count + 2 })
+    }
+}
+
+/// Whether bytes are the log, in a version, of a legal and complete history of the phases of a script: the number of its
+/// entries, or the first line that no such log has after the same lines. The board is fresh, and there are at most
+/// 250,000 statements, each in range for the board. The board goes through the statements of the lines before the named
+/// one, and perhaps through that of the named line.
+pub fn check_log(
+    alloc: Global,
+    board: &mut Board,
+    version: u8,
+    phases: &[Vec<Statement>],
+    bytes: &[u8],
+) -> Result<u32, CheckFault>
+    requires fresh { board.old.entries ≡ [] }
+    requires in_range { AreInRange board.old.setup (in_file_order (listed phases.now)) }
+    requires few { length (in_file_order (listed phases.now)) ≤ 250_000 }
+    ensures log { IfOk result (λ count.
+        IsCheckedLog board.old.setup version (listed phases.now) bytes.now board.new.entries count) }
+    ensures differs { (line : ℕ) → result ≡ Err (CheckFault.Differs line)
+        → DiffersAt board.old.setup version (listed phases.now) bytes.now line }
+    ensures exactly { (log : IsLogOf board.old.setup version (listed phases.now) bytes.now)
+        → (result ≡ Ok (length log.history)) ⊎ (result ≡ Err CheckFault.NoMemory) }
+    ensures setup { board.new.setup ≡ board.old.setup }
+    ensures legal { IsLegal board.new.setup board.new.entries }
+    ensures begun { IsBegunFor (listed phases.now) board.new.entries }
+    ensures stands { IfErr result (λ fault. StandsAfter version bytes.now board.new.entries fault) }
+{
+    phases_fit(phases);
+    board.reserve(statement_count(phases))?;
+    check_lines(alloc, board, version, phases, bytes)
+}

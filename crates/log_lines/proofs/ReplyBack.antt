@@ -1,0 +1,258 @@
+-- A reply is read back from its words, and what is read has the shape of its event.
+use Rattle.std.proofs.Common.{◌≡◌, ℕ, zero, suc, ◌+◌, ◌-◌, ◌^◌, ◌<◌, ◌≤◌, ◌↔◌, Bool, true, false, eqb, Option, Some, None, List, [], ◌∷◌, ◌++◌, length, All, flat_map, refl, sym, ap, subst, ◌∙◌, inl, inr, append-nil, arith, lit<}
+use Rattle.std.specs.Prelude.{decimal, IfSome, IsTrue}
+use Rattle.std.specs.Option.{option_map}
+use Rattle.std.proofs.Math.Nat.{pow-le-pow_right}
+use Rattle.std.proofs.lemmas.Bool.{cases_Bool, eq-eqb, eqb-true, true≢false}
+use Rattle.std.proofs.lemmas.List.Elements.{All-nil, All-cons, All-head, All-tail}
+use Rattle.board_base.specs.declared.access.Kind.{Kind}
+use Rattle.board_base.specs.declared.access.Kind.TheVariants.{Fetch, Read, Write}
+use Rattle.board_base.specs.declared.access.WideAccess.{WideAccess}
+use Rattle.board_base.specs.declared.target.Target.{Target}
+use Rattle.board_base.specs.declared.target.Denial.{Denial}
+use Rattle.board_base.specs.Access.{bytes_of}
+use Rattle.board_spec.specs.declared.event.Event.{Event}
+use Rattle.board_spec.specs.declared.event.Event.TheVariants.{Memory, Wide, Port, Look as LookAt, Ack, Pulses, Time, Wire, Line, BadSector}
+use Rattle.board_spec.specs.declared.event.Look.{Look}
+use Rattle.board_spec.specs.declared.event.Part.{Part}
+use Rattle.board_spec.specs.declared.event.Parts.{Parts}
+use Rattle.board_spec.specs.declared.event.Parts.TheVariants.{Two, Three, Four}
+use Rattle.board_spec.specs.declared.event.Reply.{Reply}
+use Rattle.board_spec.specs.declared.event.Reply.TheVariants.{Bus, Parts as InParts, Saw}
+use Rattle.board_spec.specs.Stored.{is_write}
+use Rattle.board_spec.specs.WideParts.{longest_at, parts_from, parts_of, parts_list}
+use Rattle.board_spec.specs.Text.{space, hex_long, area_text, target_text, denial_text}
+use Rattle.board_spec.specs.LogText.{value_bytes, value_text, reply_text}
+use Rattle.script_spec.specs.Grammar.{IsDecimal}
+use Rattle.script_spec.specs.WellFormed.{FitsPart, IsReplyValue, IsBusReply, IsWideReply, IsLookReply, HasShape}
+use Rattle.script_spec.proofs.PlainText.{lacks-word, hex_number_word, decimal_word, area_word, target_word, denial_word}
+use Rattle.script_spec.proofs.PlainLines.{value_word}
+use Rattle.script_spec.proofs.LineReading.{spaced, IsWord, split_words, four_parts}
+use Rattle.script_spec.proofs.ReplyReading.{words_of, parts_spaced, words_lack}
+use Rattle.script_lines.specs.Fields.{fields_of}
+use Rattle.script_lines.specs.Numbers.{hex_of, decimal_of}
+use Rattle.script_lines.proofs.NumberTexts.{decimal_read}
+use Rattle.script_lines.proofs.NumberBack.{decimal_back}
+use Rattle.log_lines.specs.Targets.{denial_of, area_of, target_of}
+use Rattle.log_lines.specs.Replies.{value_of, bus_of, part_of, last_parts, more_parts, parts_in, part_count, parts_with, wide_of, look_of, reply_of, reply_in}
+use Rattle.log_lines.proofs.TargetBack.{hex_read, denial_back, area_back, target_back}
+
+-- ---- the words of a reply
+
+abbrev words_in : (bytes : ℕ) → Reply → List (List ℕ)
+words_in bytes (Bus value target denial) = value_text bytes value ∷ target_text target ∷ denial_text denial ∷ []
+words_in bytes (InParts value parts) = value_text bytes value ∷ words_of (parts_list parts)
+words_in bytes (Saw look) = decimal look.version ∷ hex_long look.lo ∷ hex_long look.hi ∷ area_text look.area ∷ []
+
+reply_spaced : (bytes : ℕ) (reply : Reply) → space ∷ reply_text bytes reply ≡ flat_map spaced (words_in bytes reply)
+unfolding reply_text
+reply_spaced bytes (Bus value target denial) =
+    ap (λ (rest : List ℕ). (space ∷ value_text bytes value) ++ ((space ∷ target_text target) ++ rest))
+    (sym (append-nil (space ∷ denial_text denial)))
+reply_spaced bytes (InParts value parts) =
+    ap (λ (rest : List ℕ). (space ∷ value_text bytes value) ++ rest) (parts_spaced (parts_list parts))
+reply_spaced bytes (Saw look) =
+    ap (λ (text : List ℕ). space ∷ text)
+    (four_parts (decimal look.version) (space ∷ hex_long look.lo) (space ∷ hex_long look.hi)
+    (space ∷ area_text look.area))
+    ∙ ap (λ (rest : List ℕ). (space ∷ decimal look.version) ++
+    ((space ∷ hex_long look.lo) ++ ((space ∷ hex_long look.hi) ++ rest)))
+    (sym (append-nil (space ∷ area_text look.area)))
+
+reply_words : (bytes : ℕ) (reply : Reply) → All IsWord (words_in bytes reply)
+reply_words bytes (Bus value target denial) =
+    All-cons IsWord (value_text bytes value) (target_text target ∷ denial_text denial ∷ [])
+    (lacks-word space (value_text bytes value) refl (value_word bytes value))
+    (All-cons IsWord (target_text target) (denial_text denial ∷ [])
+    (lacks-word space (target_text target) refl (target_word target))
+    (All-cons IsWord (denial_text denial) [] (lacks-word space (denial_text denial) refl (denial_word denial))
+    (All-nil IsWord)))
+reply_words bytes (InParts value parts) =
+    All-cons IsWord (value_text bytes value) (words_of (parts_list parts))
+    (lacks-word space (value_text bytes value) refl (value_word bytes value))
+    (words_lack (parts_list parts))
+reply_words bytes (Saw look) =
+    let last : List (List ℕ) = area_text look.area ∷ [] in
+    All-cons IsWord (decimal look.version) (hex_long look.lo ∷ hex_long look.hi ∷ last)
+    (lacks-word space (decimal look.version) refl (decimal_word look.version))
+    (All-cons IsWord (hex_long look.lo) (hex_long look.hi ∷ last)
+    (lacks-word space (hex_long look.lo) refl (hex_number_word 4 look.lo))
+    (All-cons IsWord (hex_long look.hi) last (lacks-word space (hex_long look.hi) refl (hex_number_word 4 look.hi))
+    (All-cons IsWord (area_text look.area) [] (lacks-word space (area_text look.area) refl (area_word look.area))
+    (All-nil IsWord))))
+
+reply_fields : (bytes : ℕ) (reply : Reply) → fields_of (space ∷ reply_text bytes reply) ≡ [] ∷ words_in bytes reply
+reply_fields bytes reply = ap fields_of (reply_spaced bytes reply) ∙ split_words (words_in bytes reply)
+    (reply_words bytes reply)
+
+few_words : (bytes : ℕ) (reply : Reply) → length ([] ∷ words_in bytes reply) ≤ 10
+few_words bytes (Bus value target denial) = omega arith
+few_words bytes (InParts value (Two a b)) = omega arith
+few_words bytes (InParts value (Three a b c)) = omega arith
+few_words bytes (InParts value (Four a b c d)) = omega arith
+few_words bytes (Saw look) = omega arith
+
+-- ---- from its words
+
+value_back : (writes : Bool) (bytes : ℕ) (value : Option ℕ) → IsReplyValue writes bytes value
+    → value_of writes bytes (value_text bytes value) ≡ Some value
+value_back true bytes value fits = rw fits refl
+value_back false bytes None fits = absurd fits
+value_back false bytes (Some n) fits = ap (option_map Some) (hex_read bytes n fits)
+
+bus_said : (writes : Bool) (bytes : ℕ) (v t d : List ℕ) (value : Option ℕ) (target : Target) (denial : Option Denial)
+    → value_of writes bytes v ≡ Some value → target_of t ≡ Some target → denial_of d ≡ Some denial
+    → bus_of writes bytes (v ∷ t ∷ d ∷ []) ≡ Some (Bus value target denial)
+unfolding bus_of
+bus_said writes bytes v t d value target denial one two three = rw (one, two, three) refl
+
+bus_back : (writes : Bool) (bytes : ℕ) (reply : Reply) → IsBusReply writes bytes reply
+    → bus_of writes bytes (words_in bytes reply) ≡ Some reply
+bus_back writes bytes (Bus value target denial) fits =
+    bus_said writes bytes (value_text bytes value) (target_text target) (denial_text denial) value target denial
+    (value_back writes bytes value fits.0) (target_back target fits.1) (denial_back denial fits.2)
+bus_back writes bytes (InParts value parts) fits = absurd fits
+bus_back writes bytes (Saw look) fits = absurd fits
+
+part_said : (t d : List ℕ) (target : Target) (denial : Option Denial) → target_of t ≡ Some target
+    → denial_of d ≡ Some denial
+    → part_of t d ≡ Some (record { target = target; denial = denial })
+unfolding part_of
+part_said t d target denial one two = rw (one, two) refl
+
+part_back : (part : Part) → FitsPart part → part_of (target_text part.target) (denial_text part.denial) ≡ Some part
+part_back part fits =
+    part_said (target_text part.target) (denial_text part.denial) part.target part.denial
+    (target_back part.target fits.0) (denial_back part.denial fits.1)
+
+parts_back : (parts : Parts) → All FitsPart (parts_list parts) → parts_in (words_of (parts_list parts)) ≡ Some parts
+unfolding parts_in more_parts last_parts
+parts_back (Two a b) fits =
+    let later = All-tail FitsPart a (b ∷ []) fits in
+    rw (part_back a (All-head FitsPart a (b ∷ []) fits), part_back b (All-head FitsPart b [] later)) refl
+parts_back (Three a b c) fits =
+    let second = All-tail FitsPart a (b ∷ c ∷ []) fits in
+    let third = All-tail FitsPart b (c ∷ []) second in
+    rw (
+      part_back a (All-head FitsPart a (b ∷ c ∷ []) fits),
+      part_back b (All-head FitsPart b (c ∷ []) second),
+      part_back c (All-head FitsPart c [] third),
+    ) refl
+parts_back (Four a b c d) fits =
+    let second = All-tail FitsPart a (b ∷ c ∷ d ∷ []) fits in
+    let third = All-tail FitsPart b (c ∷ d ∷ []) second in
+    let fourth = All-tail FitsPart c (d ∷ []) third in
+    rw (
+      part_back a (All-head FitsPart a (b ∷ c ∷ d ∷ []) fits),
+      part_back b (All-head FitsPart b (c ∷ d ∷ []) second),
+      part_back c (All-head FitsPart c (d ∷ []) third),
+      part_back d (All-head FitsPart d [] fourth),
+    ) refl
+
+counted : (access : WideAccess) (most addr left : ℕ) → length (parts_from access most addr left) ≡ part_count most
+    addr left
+unfolding parts_from part_count
+counted access zero addr left = refl
+counted access (suc most) addr left = elim (cases_Bool (eqb left 0)) [
+  | inl none ↦ rw none refl
+  | inr some ↦
+      let bytes : ℕ = bytes_of (longest_at addr left) in
+      let e = counted access most (addr + bytes) (left - bytes) in
+      rw some (omega (arith, e))
+]
+
+wide_said : (access : WideAccess) (v : List ℕ) (words : List (List ℕ)) (value : Option ℕ) (parts : Parts)
+    → value_of (is_write access.kind) access.bytes v ≡ Some value → parts_in words ≡ Some parts
+    → length (parts_list parts) ≡ part_count 4 access.addr access.bytes
+    → wide_of access (v ∷ words) ≡ Some (InParts value parts)
+unfolding wide_of
+wide_said access v words value parts one two three =
+    rw (one, two, eq-eqb (length (parts_list parts)) (part_count 4 access.addr access.bytes) three) refl
+
+wide_back : (access : WideAccess) (reply : Reply) → IsWideReply (is_write access.kind) access.bytes
+    (length (parts_of access)) reply
+    → wide_of access (words_in access.bytes reply) ≡ Some reply
+wide_back access (Bus value target denial) fits = absurd fits
+wide_back access (InParts value parts) fits =
+    wide_said access (value_text access.bytes value) (words_of (parts_list parts)) value parts
+    (value_back (is_write access.kind) access.bytes value fits.0) (parts_back parts fits.1)
+    (fits.2 ∙ counted access 4 access.addr access.bytes)
+wide_back access (Saw look) fits = absurd fits
+
+look_said : (v l h a : List ℕ) (look : Look) → decimal_of v ≡ Some look.version → hex_of 8 l ≡ Some look.lo
+    → hex_of 8 h ≡ Some look.hi → area_of a ≡ Some look.area → look_of (v ∷ l ∷ h ∷ a ∷ []) ≡ Some (Saw look)
+unfolding look_of
+look_said v l h a look one two three four = rw (one, two, three, four) refl
+
+look_back : (bytes : ℕ) (reply : Reply) → IsLookReply reply → look_of (words_in bytes reply) ≡ Some reply
+look_back bytes (Bus value target denial) fits = absurd fits
+look_back bytes (InParts value parts) fits = absurd fits
+look_back bytes (Saw look) fits =
+    look_said (decimal look.version) (hex_long look.lo) (hex_long look.hi) (area_text look.area) look
+    (decimal_back look.version fits.0) (hex_read 4 look.lo (omega (arith, fits.1)))
+    (hex_read 4 look.hi (omega (arith, fits.2)))
+    (area_back look.area fits.3)
+
+reply_back : (event : Event) (reply : Reply) → HasShape event reply → reply_of event
+    (words_in (value_bytes event) reply) ≡ Some reply
+unfolding reply_of
+reply_back (Memory access) reply shape = bus_back (is_write access.kind) (bytes_of access.width) reply shape
+reply_back (Wide access) reply shape = wide_back access reply shape
+reply_back (Port access) reply shape = bus_back access.write (bytes_of access.width) reply shape
+reply_back (LookAt kind addr smm) reply shape = look_back 1 reply shape
+reply_back Ack reply shape = bus_back false 1 reply shape
+reply_back (Pulses count) reply shape = ap Some (sym shape)
+reply_back (Time moment) reply shape = ap Some (sym shape)
+reply_back (Wire dev on) reply shape = ap Some (sym shape)
+reply_back (Line irq on) reply shape = ap Some (sym shape)
+reply_back (BadSector sector) reply shape = ap Some (sym shape)
+
+pub reply_read : (event : Event) (reply : Reply) → HasShape event reply
+    → reply_in event (fields_of (space ∷ reply_text (value_bytes event) reply)) ≡ Some reply
+unfolding reply_in
+reply_read event reply shape =
+    ap (reply_in event) (reply_fields (value_bytes event) reply) ∙ reply_back event reply shape
+
+-- there are never more than ten fields
+pub few_fields : (event : Event) (reply : Reply) (text : List ℕ) → text ≡ space ∷ reply_text (value_bytes event) reply
+    → length (fields_of text) ≤ 10
+few_fields event reply text is =
+    subst (λ (n : ℕ). n ≤ 10) (sym (ap length (ap fields_of is ∙ reply_fields (value_bytes event) reply)))
+    (few_words (value_bytes event) reply)
+
+-- ---- the shape of what was read
+
+pub narrow_value : (writes : Bool) (bytes : ℕ) (value : Option ℕ) → bytes ≤ 4 → IsReplyValue writes bytes value
+    → IfSome value (λ v. v < 2 ^ 32)
+narrow_value true bytes value few fits = rw fits tt
+narrow_value false bytes None few fits = tt
+narrow_value false bytes (Some n) few fits = omega (arith, fits, pow-le-pow_right {n = 256} (lit< tt) few)
+
+pub wide_shape : (access : WideAccess) (value : Option ℕ) (parts : Parts)
+    → IsReplyValue (is_write access.kind) access.bytes value
+    → All FitsPart (parts_list parts)
+    → IfSome (parts_with access value parts) (IsWideReply (is_write access.kind) access.bytes
+    (length (parts_of access)))
+wide_shape access value parts fits each =
+    elim (cases_Bool (eqb (length (parts_list parts)) (part_count 4 access.addr access.bytes))) [
+      | inl same ↦
+          rw same (
+            fits,
+            each,
+            eqb-true (length (parts_list parts)) (part_count 4 access.addr access.bytes) same
+                ∙ sym (counted access 4 access.addr access.bytes),
+          )
+      | inr other ↦ rw other tt
+    ]
+
+pub writes_is : (kind : Kind) (writes : Bool) → (IsTrue writes ↔ kind ≡ Write) → writes ≡ is_write kind
+writes_is Fetch true same = absurd (true≢false (sym (ap is_write (same.0 refl))))
+writes_is Fetch false same = refl
+writes_is Read true same = absurd (true≢false (sym (ap is_write (same.0 refl))))
+writes_is Read false same = refl
+writes_is Write true same = refl
+writes_is Write false same = absurd (true≢false (sym (same.1 refl)))
+
+pub decimal_below : (field : List ℕ) (found : Option ℕ) → found ≡ decimal_of field → IfSome found IsDecimal
+decimal_below field None is = tt
+decimal_below field (Some n) is = (decimal_read field n (sym is)).1

@@ -1,0 +1,19 @@
+-- A text is cut at a mark.
+use Rattle.std.specs.Prelude.{ℕ, ◌==◌, nat_lt, List, [], ◌∷◌, if◌then◌else◌, Option, Some, None, option_map}
+use Rattle.script_lines.specs.Numbers.{digit_of}
+
+-- what stands before the first mark, and after it
+unfoldable pub cut : (mark : ℕ) → List ℕ → Option (List ℕ × List ℕ)
+cut mark [] = None
+cut mark (byte ∷ rest) =
+    if byte == mark then Some ([], rest) else option_map (λ p. (byte ∷ p.0, p.1)) (cut mark rest)
+
+-- a number of one decimal digit
+unfoldable pub digit_in : List ℕ → Option ℕ
+digit_in [] = None
+digit_in (byte ∷ []) = digit_of 10 byte
+digit_in (_ ∷ _ ∷ _) = None
+
+-- a number that fits a byte
+abbrev pub byte_in : ℕ → Option ℕ
+byte_in n = if nat_lt n 0x100 then Some n else None

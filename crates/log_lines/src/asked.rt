@@ -1,0 +1,132 @@
+//! What a line asks: a statement of a script, in range.
+
+ghost use Rattle.std.specs.Prelude.{◌≡◌, ◌+◌, ◌↔◌, ℕ, IsTrue, MatchOption, nat_le};
+ghost use Rattle.board_base.specs.Calendar.{IsMoment};
+ghost use Rattle.board_spec.specs.declared.event.Event.{Event};
+ghost use Rattle.script_lines.specs.declared.item.Asked.{Asked};
+ghost use Rattle.log_lines.specs.Asked.{level_of, wire_of, line_of, IsPlaced, IsEventOf, IsAsked};
+
+use crate::cuts::byte_in;
+use board_base::{Moment, WideAccess};
+use board_spec::Event;
+use script_lines::{Asked, Item, MomentFields, item_of};
+
+/// The first address past the last.
+const END: u64 = 1 << 32;
+
+/// Whether a line goes high.
+fn level_of(level: u32) -> Option<bool>
+    ensures level { result ≡ level_of level }
+{
+    match level {
+        0 => Some(false),
+        1 => Some(true),
+        _ => None,
+    }
+}
+
+#[tactic(auto, unfolding(crate::specs::Asked::wire_of))]
+fn wire_of(dev: u32, level: u32) -> Option<Event>
+    ensures event { result ≡ wire_of dev level }
+{
+    let dev = byte_in(dev)?;
+    let on = level_of(level)?;
+    Some(Event::Wire { dev, on })
+}
+
+#[tactic(auto, unfolding(crate::specs::Asked::line_of))]
+fn line_of(irq: u32, level: u32) -> Option<Event>
+    ensures event { result ≡ line_of irq level }
+{
+    let irq = byte_in(irq)?;
+    let on = level_of(level)?;
+    Some(Event::Line { irq, on })
+}
+
+/// A moment of the calendar.
+fn time_of(moment: MomentFields) -> Option<Event>
+    ensures event { MatchOption result ((event : Event) → ¬ IsEventOf (Asked.Moment moment) event)
+        (IsEventOf (Asked.Moment moment)) }
+{
+    let moment = Moment::new(
+        moment.year,
+        moment.month,
+        moment.day,
+        moment.hour,
+        moment.minute,
+        moment.second,
+    )?;
+    Some(Event::Time(moment))
+}
+
+/// Whether the calendar has a moment, with its weekday.
+fn is_moment(m: Moment) -> bool
+    ensures moment { IsTrue result ↔ IsMoment m }
+{
+    match Moment::new(m.year, m.month, m.day, m.hour, m.minute, m.second) {
+        Some(moment) => moment.weekday == m.weekday,
+        None => false,
+    }
+}
+
+/// Whether an access does not pass the last address.
+fn is_within(access: &WideAccess) -> bool
+    ensures within { result ≡ nat_le (access.now.addr + access.now.bytes) 0x1_0000_0000 }
+{
+    u64::from(access.addr) + u64::from(access.bytes) <= END
+}
+
+/// Whether an access is aligned, or ends within the addresses, and a moment is one of the calendar.
+fn is_placed(event: Event) -> bool
+    ensures placed { IsTrue result ↔ IsPlaced event }
+{
+    match event {
+        Event::Memory(access) => access.width.is_aligned(access.addr),
+        Event::Wide(access) => is_within(&access),
+        Event::Port(access) => access.width.is_aligned(u32::from(access.port)),
+        Event::Time(moment) => is_moment(moment),
+        Event::Wire { .. } => true,
+        Event::Line { .. } => true,
+        _ => true,
+    }
+}
+
+/// The event where it is in its place.
+fn placed(event: Event) -> Option<Event>
+    ensures event { MatchOption result ((other : Event) → ¬ IsEventOf (Asked.Event event) other)
+        (IsEventOf (Asked.Event event)) }
+{
+    if is_placed(event) { Some(event) } else { None }
+}
+
+/// The event that is asked, where its numbers are in range.
+fn event_of(asked: Asked) -> Option<Event>
+    ensures event { MatchOption result ((event : Event) → ¬ IsEventOf asked event) (IsEventOf asked) }
+{
+    match asked {
+        Asked::Event(event) => placed(event),
+        Asked::Moment(moment) => time_of(moment),
+        Asked::Wire { dev, level } => wire_of(dev, level),
+        Asked::Line { irq, level } => line_of(irq, level),
+    }
+}
+
+/// The number with its event, where that is in range.
+fn numbered(seq: u32, asked: Asked) -> Option<(u32, Event)>
+    ensures asked { MatchOption result ((event : Event) → ¬ IsEventOf asked event)
+        (λ p. (p.0 ≡ seq) × IsEventOf asked p.1) }
+{
+    let event = event_of(asked)?;
+    Some((seq, event))
+}
+
+/// The number of a processor's entry and the event of `S STATEMENT`, which a script reads as processor and statement.
+pub(crate) fn asked_of(version: u8, text: &[u8]) -> Option<(u32, Event)>
+    ensures asked { MatchOption result ((seq : ℕ) (event : Event) → ¬ IsAsked version text.now seq event)
+        (λ p. IsAsked version text.now p.0 p.1) }
+{
+    match item_of(version, text)? {
+        Item::Statement { actor, asked } => numbered(actor, asked),
+        _ => None,
+    }
+}

@@ -1,0 +1,354 @@
+-- The least reason for an item, by what is kept of the lines before it.
+use Rattle.std.proofs.Common.{ℕ, ◌≡◌, ◌+◌, ◌<◌, ◌≤◌, Bool, true, false, not, ◌&&◌, ◌||◌, Option, Some, None, Result, Ok, Err, List, [], ◌∷◌, length, filter, flat_map, sum_by, refl, sym, ap, ◌∙◌, arith}
+use Rattle.std.specs.Prelude.{◌==◌, nat_le, nat_lt, is_some, if◌then◌else◌, codes}
+use Rattle.std.specs.Option.{option_map}
+use Rattle.std.specs.Result.{IsErr, IsErrAnd}
+use Rattle.std.specs.List.{find, list_any}
+use Rattle.std.proofs.lemmas.Bool.{false≢true, le-ltb, lt-ltb, leb-true, or_right, and_parts}
+use Rattle.std.proofs.lemmas.Option.{none-some}
+use Rattle.std.proofs.lemmas.List.Sorted.{list_any-IsPermutation}
+use Rattle.std.proofs.lemmas.List.Sums.{sum_by-append, sum_by-cons}
+use Rattle.board_spec.specs.declared.event.Event.{Event}
+use Rattle.board_spec.specs.declared.event.Event.TheVariants.{Memory, Wide, Port, Look as LookAt, Ack, Pulses, Time, Wire, Line, BadSector}
+use Rattle.board_spec.specs.declared.event.Statement.{Statement}
+use Rattle.board_spec.specs.Setup.{FittedCard, memory_size, memory_of_cards}
+use Rattle.script_spec.specs.Grammar.{Item, SetCpus, SetMemory, SetRom, SetDisk, FitCard, BeginPhase, Ask, AskLevel}
+use Rattle.script_spec.specs.Reasons.{reason, is_phase, is_statement, is_setup, is_cpus, is_memory, is_rom, is_disk, is_cpus_above, cards_of, has_card, has_setup, lacks_setup, is_misplaced, is_repeated, is_event_in_range, is_in_range, is_placed, is_there, pulses_of_event, pulses_of, passes_limits, least_reason}
+use Rattle.script_spec.proofs.ReadingLaws.{same_some}
+use Rattle.script_lines.specs.declared.item.Asked.{Asked}
+use Rattle.script_lines.specs.declared.item.Asked.TheVariants.{Event as AnEvent, Moment as AMoment, Wire as WireAt, Line as LineAt}
+use Rattle.script_lines.specs.Items.{ask, asked_said, moment_said}
+use Rattle.script_text.specs.declared.fault.Reason.{Reason}
+use Rattle.script_text.specs.declared.reading.Reading.{Reading}
+use Rattle.script_text.specs.Valid.{in_case}
+use Rattle.script_text.specs.Faults.{number_of}
+use Rattle.script_text.specs.Reading.{is_below, IsReadingOf, Judges, Stands}
+
+-- ---- of several reasons the least
+
+abbrev first_of : (a b c d e f g : Bool) → Option ℕ
+first_of a b c d e f g =
+    option_map (λ r. r.why) (find (λ r. r.holds)
+    (reason 4 a ∷ reason 5 b ∷ reason 6 c ∷ reason 7 d ∷ reason 8 e ∷ reason 9 f ∷ reason 10 g ∷ []))
+
+first_is :
+    (a b c d e f g : Bool) (items : List Item) (item : Item) →
+    is_misplaced items item ≡ a → is_repeated items item ≡ b → (is_phase item && lacks_setup items) ≡ c →
+    is_in_range item ≡ d → is_placed item ≡ e → is_there items item ≡ f → passes_limits (item ∷ items) ≡ g →
+    least_reason items item ≡ first_of a b c (not d) (not e) (not f) g
+unfolding least_reason
+first_is a b c d e f g items item ea eb ec ed ee ef eg i =
+    first_of (ea i) (eb i) (ec i) (not (ed i)) (not (ee i)) (not (ef i)) (eg i)
+
+pub misplaced : (items : List Item) (item : Item) → is_misplaced items item ≡ true → least_reason items item ≡ Some 4
+misplaced items item ea = first_is true _ _ _ _ _ _ items item ea refl refl refl refl refl refl
+
+pub repeated :
+    (items : List Item) (item : Item) → is_misplaced items item ≡ false → is_repeated items item ≡ true →
+    least_reason items item ≡ Some 5
+repeated items item ea eb = first_is false true _ _ _ _ _ items item ea eb refl refl refl refl refl
+
+pub no_setup :
+    (items : List Item) (item : Item) → is_misplaced items item ≡ false → is_repeated items item ≡ false →
+    (is_phase item && lacks_setup items) ≡ true → least_reason items item ≡ Some 6
+no_setup items item ea eb ec = first_is false false true _ _ _ _ items item ea eb ec refl refl refl refl
+
+pub out_of_range :
+    (items : List Item) (item : Item) → is_misplaced items item ≡ false → is_repeated items item ≡ false →
+    (is_phase item && lacks_setup items) ≡ false → is_in_range item ≡ false → least_reason items item ≡ Some 7
+out_of_range items item ea eb ec ed = first_is false false false false _ _ _ items item ea eb ec ed refl refl refl
+
+pub not_placed :
+    (items : List Item) (item : Item) → is_misplaced items item ≡ false → is_repeated items item ≡ false →
+    (is_phase item && lacks_setup items) ≡ false → is_in_range item ≡ true → is_placed item ≡ false →
+    least_reason items item ≡ Some 8
+not_placed items item ea eb ec ed ee = first_is false false false true false _ _ items item ea eb ec ed ee refl refl
+
+pub not_there :
+    (items : List Item) (item : Item) → is_misplaced items item ≡ false → is_repeated items item ≡ false →
+    (is_phase item && lacks_setup items) ≡ false → is_in_range item ≡ true → is_placed item ≡ true →
+    is_there items item ≡ false → least_reason items item ≡ Some 9
+not_there items item ea eb ec ed ee ef = first_is false false false true true false _ items item ea eb ec ed ee ef refl
+
+pub past_limit :
+    (items : List Item) (item : Item) → is_misplaced items item ≡ false → is_repeated items item ≡ false →
+    (is_phase item && lacks_setup items) ≡ false → is_in_range item ≡ true → is_placed item ≡ true →
+    is_there items item ≡ true → passes_limits (item ∷ items) ≡ true → least_reason items item ≡ Some 10
+past_limit items item ea eb ec ed ee ef eg = first_is false false false true true true true items item ea eb ec ed ee ef eg
+
+pub no_reason :
+    (items : List Item) (item : Item) → is_misplaced items item ≡ false → is_repeated items item ≡ false →
+    (is_phase item && lacks_setup items) ≡ false → is_in_range item ≡ true → is_placed item ≡ true →
+    is_there items item ≡ true → passes_limits (item ∷ items) ≡ false → least_reason items item ≡ None
+no_reason items item ea eb ec ed ee ef eg = first_is false false false true true true false items item ea eb ec ed ee ef eg
+
+-- ---- places
+
+neither : (phase statement : Bool) → not (phase || statement) ≡ true → (phase ≡ false) × (statement ≡ false)
+neither false false setup = (refl, refl)
+neither true statement setup = absurd (false≢true setup)
+neither false true setup = absurd (false≢true setup)
+
+-- a line of the setup stands before the first phase
+pub setup_place :
+    (items : List Item) (item : Item) (any : Bool) → is_setup item ≡ true → list_any is_phase items ≡ any →
+    is_misplaced items item ≡ any
+setup_place items item true setup e = rw (e, setup) refl
+setup_place items item false setup e = rw e (neither (is_phase item) (is_statement item) setup).1
+
+pub begun_setup : (items : List Item) (item : Item) → is_setup item ≡ true → (is_phase item && lacks_setup items) ≡ false
+begun_setup items item setup = rw (neither (is_phase item) (is_statement item) setup).0 refl
+
+-- a statement behind it
+pub statement_place :
+    (items : List Item) (item : Item) (any : Bool) → is_setup item ≡ false → is_statement item ≡ true →
+    list_any is_phase items ≡ any → is_misplaced items item ≡ not any
+statement_place items item true setup statement e = rw (e, setup) refl
+statement_place items item false setup statement e = rw (e, statement) refl
+
+phase_place : (items : List Item) (any : Bool) → list_any is_phase items ≡ any → is_misplaced items BeginPhase ≡ false
+phase_place items true e = rw e refl
+phase_place items false e = rw e refl
+
+pub phase_placed : (items : List Item) → is_misplaced items BeginPhase ≡ false
+phase_placed items = phase_place items (list_any is_phase items) refl
+
+lacks_of : (any has : Bool) → (any ≡ true → has ≡ true) → (not any && not has) ≡ not has
+lacks_of false has whole = refl
+lacks_of true has whole = rw (whole refl) refl
+
+-- the setup is whole by the first phase
+pub lacks_is : (items : List Item) → (list_any is_phase items ≡ true → has_setup items ≡ true) →
+    lacks_setup items ≡ not (has_setup items)
+lacks_is items whole = lacks_of (list_any is_phase items) (has_setup items) whole
+
+-- ---- what is kept
+
+any_more : {X : Type 0} (p : X → Bool) (test : Bool) (x : X) (xs : List X) → list_any p xs ≡ is_some (find p xs) →
+    (test || list_any p xs) ≡ is_some (if test then Some x else find p xs)
+any_more p true x xs later = refl
+any_more p false x xs later = later
+
+any_found : {X : Type 0} (p : X → Bool) (xs : List X) → list_any p xs ≡ is_some (find p xs)
+any_found p [] = refl
+any_found p (x ∷ xs) = any_more p (p x) x xs (any_found p xs)
+
+any_counted_more : {X : Type 0} (p : X → Bool) (test : Bool) (x : X) (xs : List X) →
+    list_any p xs ≡ nat_lt 0 (length (filter p xs)) →
+    (test || list_any p xs) ≡ nat_lt 0 (length (if test then x ∷ filter p xs else filter p xs))
+any_counted_more p true x xs later = sym (lt-ltb 0 (length (x ∷ filter p xs)) (omega arith))
+any_counted_more p false x xs later = later
+
+any_counted : {X : Type 0} (p : X → Bool) (xs : List X) → list_any p xs ≡ nat_lt 0 (length (filter p xs))
+any_counted p [] = refl
+any_counted p (x ∷ xs) = any_counted_more p (p x) x xs (any_counted p xs)
+
+some_mapped : {X Y : Type 0} (f : X → Y) (o : Option X) → is_some (option_map f o) ≡ is_some o
+some_mapped f None = refl
+some_mapped f (Some x) = refl
+
+found : {X : Type 0} (p : Item → Bool) (f : X → Item) (items : List Item) (kept : Option X) →
+    find p items ≡ option_map f kept → list_any p items ≡ is_some kept
+found p f items kept e = any_found p items ∙ ap (λ o. is_some o) e ∙ some_mapped f kept
+
+pub phase_kept : (items : List Item) (reading : Reading) → IsReadingOf items reading →
+    list_any is_phase items ≡ nat_lt 0 (length reading.phases.items)
+phase_kept items reading is = any_counted is_phase items ∙ ap (nat_lt 0) is.count
+
+pub cpus_kept : (items : List Item) (reading : Reading) → IsReadingOf items reading →
+    list_any is_cpus items ≡ is_some reading.cpus
+cpus_kept items reading is = found is_cpus SetCpus items reading.cpus is.cpus
+
+pub memory_kept : (items : List Item) (reading : Reading) → IsReadingOf items reading →
+    list_any is_memory items ≡ is_some reading.mib
+memory_kept items reading is = found is_memory SetMemory items reading.mib is.mib
+
+pub rom_kept : (items : List Item) (reading : Reading) → IsReadingOf items reading →
+    list_any is_rom items ≡ is_some reading.rom
+rom_kept items reading is = found is_rom SetRom items reading.rom is.rom
+
+pub disk_kept : (items : List Item) (reading : Reading) → IsReadingOf items reading →
+    list_any is_disk items ≡ is_some reading.disk
+disk_kept items reading is = found is_disk SetDisk items reading.disk is.disk
+
+pub setup_kept : (items : List Item) (reading : Reading) → IsReadingOf items reading →
+    has_setup items ≡ (is_some reading.cpus && is_some reading.mib && is_some reading.rom)
+setup_kept items reading is = rw (cpus_kept items reading is, memory_kept items reading is, rom_kept items reading is) refl
+
+pub actor_kept : (items : List Item) (reading : Reading) (actor : ℕ) → IsReadingOf items reading →
+    list_any (is_cpus_above actor) items ≡ is_below actor reading.cpus
+actor_kept items reading actor is = is.actors actor
+
+pub card_kept : (items : List Item) (reading : Reading) (dev : ℕ) → IsReadingOf items reading →
+    has_card items dev ≡ list_any (λ card. card.dev == dev) reading.cards.items
+card_kept items reading dev is = list_any-IsPermutation (λ card. card.dev == dev) (cards_of items) reading.cards.items is.cards
+
+-- ---- statements
+
+of_level : (P : Item → Type 0) (off on : Bool) (low high other : Item) → P low → P high → P other →
+    P (if off then low else if on then high else other)
+of_level P true on low high other p q r = p
+of_level P false true low high other p q r = q
+of_level P false false low high other p q r = r
+
+asked_all : (P : Item → Type 0) → ((statement : Statement) → P (Ask statement)) →
+    ((actor : ℕ) (verb : List ℕ) (number level : ℕ) → P (AskLevel actor verb number level)) →
+    (actor : ℕ) (asked : Asked) → P (asked_said actor asked)
+asked_all P asks levels actor (AnEvent event) = asks (record { actor = actor; event = event })
+asked_all P asks levels actor (AMoment moment) = asks (record { actor = actor; event = Time (moment_said moment) })
+asked_all P asks levels actor (WireAt dev level) =
+    of_level P (level == 0) (level == 1) (ask actor (Wire dev false)) (ask actor (Wire dev true))
+    (AskLevel actor (codes "wire") dev level) (asks (record { actor = actor; event = Wire dev false }))
+    (asks (record { actor = actor; event = Wire dev true })) (levels actor (codes "wire") dev level)
+asked_all P asks levels actor (LineAt irq level) =
+    of_level P (level == 0) (level == 1) (ask actor (Line irq false)) (ask actor (Line irq true))
+    (AskLevel actor (codes "irq") irq level) (asks (record { actor = actor; event = Line irq false }))
+    (asks (record { actor = actor; event = Line irq true })) (levels actor (codes "irq") irq level)
+
+-- of what a statement asks, in range or not
+pub asked_place : (items : List Item) (actor : ℕ) (asked : Asked) (any : Bool) → list_any is_phase items ≡ any →
+    is_misplaced items (asked_said actor asked) ≡ not any
+asked_place items actor asked any e =
+    asked_all (λ item. is_misplaced items item ≡ not any) (λ statement. statement_place items (Ask statement) any refl refl e)
+    (λ n verb number level. statement_place items (AskLevel n verb number level) any refl refl e) actor asked
+
+pub asked_repeated : (items : List Item) (actor : ℕ) (asked : Asked) → is_repeated items (asked_said actor asked) ≡ false
+asked_repeated items actor asked =
+    asked_all (λ item. is_repeated items item ≡ false) (λ statement. refl) (λ n verb number level. refl) actor asked
+
+pub asked_begun : (items : List Item) (actor : ℕ) (asked : Asked) →
+    (is_phase (asked_said actor asked) && lacks_setup items) ≡ false
+asked_begun items actor asked =
+    asked_all (λ item. (is_phase item && lacks_setup items) ≡ false) (λ statement. refl) (λ n verb number level. refl) actor asked
+
+pub few_pulses : (event : Event) → is_event_in_range event ≡ true → pulses_of_event event ≤ 1_000_000
+few_pulses (Pulses count) e = leb-true count 1_000_000 (and_parts (nat_le 1 count) (nat_le count 1_000_000) e).1
+few_pulses (Memory access) e = omega arith
+few_pulses (Wide access) e = omega arith
+few_pulses (Port access) e = omega arith
+few_pulses (LookAt kind addr smm) e = omega arith
+few_pulses Ack e = omega arith
+few_pulses (Time moment) e = omega arith
+few_pulses (Wire dev on) e = omega arith
+few_pulses (Line irq on) e = omega arith
+few_pulses (BadSector sector) e = omega arith
+
+-- ---- numbers in range
+
+pub none_in_case : {X : Type 0} (holds : Bool) (x : X) → None ≡ in_case holds x → holds ≡ false
+none_in_case true x e = absurd (none-some x e)
+none_in_case false x e = refl
+
+pub some_in_case : {X : Type 0} (holds : Bool) (x y : X) → Some y ≡ in_case holds x → (holds ≡ true) × (y ≡ x)
+some_in_case true x y e = (refl, same_some y x e)
+some_in_case false x y e = absurd (none-some y (sym e))
+
+-- ---- limits
+
+abbrev pub past : (statements phases pulses memory : ℕ) → Bool
+past statements phases pulses memory =
+    nat_lt 250_000 statements || nat_lt 1_000 phases || nat_lt 100_000_000 pulses || nat_lt 0x400_0000 memory
+
+pub within : (statements phases pulses memory : ℕ) → statements ≤ 250_000 → phases ≤ 1_000 → pulses ≤ 100_000_000 →
+    memory ≤ 0x400_0000 → past statements phases pulses memory ≡ false
+within statements phases pulses memory few_statements few_phases few_pulses little =
+    rw (
+      le-ltb 250_000 statements few_statements,
+      le-ltb 1_000 phases few_phases,
+      le-ltb 100_000_000 pulses few_pulses,
+      le-ltb 0x400_0000 memory little,
+    ) refl
+
+only_two : (a b : Bool) → (a || false || b || false) ≡ (a || b)
+only_two true b = refl
+only_two false true = refl
+only_two false false = refl
+
+pub past_two : (statements phases pulses memory : ℕ) → phases ≤ 1_000 → memory ≤ 0x400_0000 →
+    past statements phases pulses memory ≡ (nat_lt 250_000 statements || nat_lt 100_000_000 pulses)
+past_two statements phases pulses memory few little =
+    rw (le-ltb 1_000 phases few, le-ltb 0x400_0000 memory little)
+    (only_two (nat_lt 250_000 statements) (nat_lt 100_000_000 pulses))
+
+pub past_phases : (statements phases pulses memory : ℕ) → 1_000 < phases → past statements phases pulses memory ≡ true
+past_phases statements phases pulses memory more =
+    rw (lt-ltb 1_000 phases more) (rw (or_right (nat_lt 250_000 statements) true refl) refl)
+
+pub past_memory : (statements phases pulses memory : ℕ) → 0x400_0000 < memory →
+    past statements phases pulses memory ≡ true
+past_memory statements phases pulses memory more =
+    or_right (nat_lt 250_000 statements || nat_lt 1_000 phases || nat_lt 100_000_000 pulses) (nat_lt 0x400_0000 memory)
+    (lt-ltb 0x400_0000 memory more)
+
+pub memory_cons : (card : FittedCard) (cards : List FittedCard) →
+    memory_of_cards (card ∷ cards) ≡ sum_by memory_size card.bases + memory_of_cards cards
+memory_cons card cards = sum_by-append memory_size card.bases (flat_map (λ card. card.bases) cards)
+
+abbrev pub one_more : Bool → ℕ → ℕ
+one_more test n = if test then n + 1 else n
+
+count_more : {X : Type 0} (p : X → Bool) (test : Bool) (x : X) (xs : List X) →
+    length (if test then x ∷ filter p xs else filter p xs) ≡ one_more test (length (filter p xs))
+count_more p true x xs = omega arith
+count_more p false x xs = refl
+
+abbrev pub memory_with : Item → ℕ → ℕ
+memory_with (FitCard card) memory = sum_by memory_size card.bases + memory
+memory_with _ memory = memory
+
+memory_more : (item : Item) (items : List Item) →
+    memory_of_cards (cards_of (item ∷ items)) ≡ memory_with item (memory_of_cards (cards_of items))
+memory_more (FitCard card) items = memory_cons card (cards_of items)
+memory_more (SetCpus count) items = refl
+memory_more (SetMemory mib) items = refl
+memory_more (SetRom name) items = refl
+memory_more (SetDisk name) items = refl
+memory_more BeginPhase items = refl
+memory_more (Ask statement) items = refl
+memory_more (AskLevel actor verb number level) items = refl
+
+-- with one item more
+pub limits_with : (items : List Item) (reading : Reading) (item : Item) → IsReadingOf items reading →
+    passes_limits (item ∷ items)
+    ≡ past (one_more (is_statement item) reading.statements) (one_more (is_phase item) (length reading.phases.items))
+    (pulses_of item + reading.pulses) (memory_with item reading.memory)
+limits_with items reading item is =
+    rw (
+      count_more is_statement (is_statement item) item items,
+      count_more is_phase (is_phase item) item items,
+      sum_by-cons pulses_of item items,
+      memory_more item items,
+      is.statements,
+      is.count,
+      is.pulses,
+      is.memory,
+    ) refl
+
+pub setup_within : (items : List Item) (reading : Reading) (item : Item) → IsReadingOf items reading →
+    is_setup item ≡ true → pulses_of item ≡ 0 →
+    memory_with item reading.memory ≤ 0x400_0000 → passes_limits (item ∷ items) ≡ false
+setup_within items reading item is setup pulses little =
+    let kind : (is_phase item ≡ false) × (is_statement item ≡ false) = neither (is_phase item) (is_statement item) setup in
+    let few : pulses_of item + reading.pulses ≤ 100_000_000 = omega (arith, pulses, is.limits.pulses) in
+    limits_with items reading item is
+    ∙ rw (kind.0, kind.1) (within reading.statements (length reading.phases.items) (pulses_of item + reading.pulses)
+    (memory_with item reading.memory) is.limits.statements is.limits.phases few little)
+
+-- a reason that is handed on
+pub refused : {X : Type 0} (said : X → Item) (items : List Item) (item : Item) (result : Result X Reason) (least : Reason) →
+    IsErr result × IsErrAnd result (λ handed. handed ≡ least) → least_reason items item ≡ Some (number_of least) →
+    Judges said items item result
+refused said items item (Ok x) least e is = absurd (false≢true e.0)
+refused said items item (Err handed) least e is = is ∙ ap (λ (r : Reason). Some (number_of r)) (sym e.1)
+
+-- a line of the setup with a name is refused for no more reasons
+pub name_judged : (items : List Item) (reading : Reading) (item : Item) (result : Result (Unit {0}) Reason) →
+    IsReadingOf items reading → is_setup item ≡ true → is_in_range item ≡ true → is_placed item ≡ true →
+    is_there items item ≡ true → memory_with item reading.memory ≡ reading.memory → pulses_of item ≡ 0 →
+    Stands items item result → Judges (λ done. item) items item result
+name_judged items reading item (Ok done) is setup range placed there memory pulses stands = (
+  no_reason items item stands.0 stands.1 (begun_setup items item setup) range placed there
+      (setup_within items reading item is setup pulses (rw memory is.limits.memory)),
+  refl,
+)
+name_judged items reading item (Err reason) is setup range placed there memory pulses stands = stands

@@ -1,0 +1,156 @@
+-- The run over the lines.
+use Rattle.std.proofs.Common.{◌≡◌, ℕ, ◌+◌, true, false, Result, Ok, Err, List, [], ◌∷◌, ◌++◌, length, refl, sym, ap, ◌∙◌, inl, inr, append_assoc, append-nil, length-append, arith}
+use Rattle.std.specs.Prelude.{IfOk, codes, bytes_eq}
+use Rattle.std.specs.Fmt.{digits}
+use Rattle.std.proofs.lemmas.Bool.{true≢false}
+use Rattle.std.proofs.lemmas.Slice.Eq.{bytes_eq-Decides}
+use Rattle.script_spec.specs.Lines.{lines_of}
+use Rattle.script_spec.specs.Grammar.{Item}
+use Rattle.script_spec.specs.Reasons.{lacks_setup}
+use Rattle.script_spec.specs.ScriptText.{Script as Said, IsBadLine, AreRead, IsVersion, first_line, IsSaidBy, IsScriptText, BeginsBadly, IsBadLater}
+use Rattle.script_spec.specs.ScriptRange.{IsInRangeScript}
+use Rattle.script_spec.proofs.ReadingLaws.{same_head, read_more, skip_more}
+use Rattle.script_spec.proofs.RangeLaws.{scripts_are_in_range}
+use Rattle.script_text.specs.declared.fault.ScriptFault.{ScriptFault}
+use Rattle.script_text.specs.declared.fault.ScriptFault.TheVariants.{Bad, NoMemory}
+use Rattle.script_text.specs.declared.reading.Reading.{Reading}
+use Rattle.script_text.specs.declared.script.Script.{Script}
+use Rattle.script_text.specs.Faults.{OnBad}
+use Rattle.script_text.specs.Reading.{IsReadingOf}
+use Rattle.script_text.specs.Script.{said_of}
+
+-- ---- the first line
+
+first_is : first_line 1 ≡ codes "board 1"
+unfolding digits
+first_is = refl
+
+second_is : first_line 2 ≡ codes "board 2"
+unfolding digits
+second_is = refl
+
+same_text : (line text : List ℕ) → bytes_eq line text ≡ true → line ≡ text
+same_text line text e = (bytes_eq-Decides line text).0 e
+
+other_text : (line text : List ℕ) → bytes_eq line text ≡ false → line ≡ text → ⊥
+other_text line text e same = true≢false (sym ((bytes_eq-Decides line text).1 same) ∙ e)
+
+pub first_version : (lines later : List (List ℕ)) (line : List ℕ) → lines ≡ line ∷ later →
+    bytes_eq line (codes "board 1") ≡ true → lines ≡ first_line 1 ∷ later
+first_version lines later line cut e =
+    cut ∙ ap (λ (l : List ℕ). l ∷ later) (same_text line (codes "board 1") e ∙ sym first_is)
+
+pub second_version : (lines later : List (List ℕ)) (line : List ℕ) → lines ≡ line ∷ later →
+    bytes_eq line (codes "board 2") ≡ true → lines ≡ first_line 2 ∷ later
+second_version lines later line cut e =
+    cut ∙ ap (λ (l : List ℕ). l ∷ later) (same_text line (codes "board 2") e ∙ sym second_is)
+
+pub no_version : (lines later : List (List ℕ)) (line : List ℕ) → lines ≡ line ∷ later →
+    bytes_eq line (codes "board 1") ≡ false → bytes_eq line (codes "board 2") ≡ false → BeginsBadly lines
+no_version lines later line cut one two version rest (inl is) e =
+    other_text line (codes "board 1") one
+    (same_head line (first_line version) later rest (sym cut ∙ e) ∙ ap first_line is ∙ first_is)
+no_version lines later line cut one two version rest (inr is) e =
+    other_text line (codes "board 2") two
+    (same_head line (first_line version) later rest (sym cut ∙ e) ∙ ap first_line is ∙ second_is)
+
+-- ---- the lines after it
+
+-- the lines in front of the rest are good, this is kept of them, and the next line has this number
+pub record IsRun (version : ℕ) (lines rest : List (List ℕ)) (number : ℕ) (reading : Reading) : Type 0 where
+  pub good : List (List ℕ)
+  pub cut : lines ≡ good ++ rest
+  pub items : List Item
+  pub read : AreRead version [] good items
+  pub known : IsReadingOf items reading
+  pub place : number ≡ length good + 2
+
+-- one line is read after the items before it
+abbrev pub Reads : (version : ℕ) (line : List ℕ) (old new : Reading) → Type 0
+Reads version line old new =
+    (items : List Item) → IsReadingOf items old →
+    (more : List Item) × IsReadingOf more new × AreRead version items (line ∷ []) more
+
+read_then : (version : ℕ) (good : List (List ℕ)) (line : List ℕ) (items more : List Item) →
+    AreRead version [] good items → AreRead version items (line ∷ []) more → AreRead version [] (good ++ line ∷ []) more
+read_then version good line items more read (inl skipped) =
+    rw skipped.1 (skip_more version good line [] items read skipped.0)
+read_then version good line items more read (inr one) =
+    rw one.2 (read_more version good line [] items one.0 read one.1)
+
+pub run_more : (version : ℕ) (lines rest later : List (List ℕ)) (line : List ℕ) (number : ℕ) (old new : Reading) →
+    rest ≡ line ∷ later → IsRun version lines rest number old → Reads version line old new →
+    IsRun version lines later (number + 1) new
+run_more version lines rest later line number old new cut run reads =
+    let more : (more : List Item) × IsReadingOf more new × AreRead version run.items (line ∷ []) more =
+    reads run.items run.known in
+    record {
+      good = run.good ++ line ∷ [];
+      cut = run.cut ∙ ap (λ (l : List (List ℕ)). run.good ++ l) cut ∙ sym (append_assoc run.good (line ∷ []) later);
+      items = more.0;
+      read = read_then version run.good line run.items more.0 run.read more.2;
+      known = more.1;
+      place = omega (arith, run.place, length-append run.good (line ∷ []));
+    }
+
+pub bad_line : (fault : ScriptFault) (version : ℕ) (lines rest later : List (List ℕ)) (line : List ℕ) (number : ℕ)
+    (reading : Reading) →
+    IsVersion version → rest ≡ line ∷ later → IsRun version lines rest number reading →
+    OnBad fault (λ place why. (place ≡ number)
+    × ((items : List Item) → IsReadingOf items reading → IsBadLine version items line why)) →
+    OnBad fault (IsBadLater (first_line version ∷ lines))
+bad_line (Bad place why) version lines rest later line number reading known cut run bad = record {
+  version = version;
+  known = known;
+  good = run.good;
+  rest = line ∷ later;
+  cut = ap (λ (l : List (List ℕ)). first_line version ∷ l) (run.cut ∙ ap (λ (l : List (List ℕ)). run.good ++ l) cut);
+  items = run.items;
+  read = run.read;
+  bad = bad.1 run.items run.known;
+  place = bad.0 ∙ run.place;
+}
+bad_line NoMemory version lines rest later line number reading known cut run bad = tt
+
+pub bad_end : (version : ℕ) (lines rest : List (List ℕ)) (number : ℕ) (reading : Reading) →
+    IsVersion version → rest ≡ [] → IsRun version lines rest number reading →
+    ((items : List Item) → IsReadingOf items reading → lacks_setup items ≡ true) →
+    IsBadLater (first_line version ∷ lines) number 6
+bad_end version lines rest number reading known end run lacks = record {
+  version = version;
+  known = known;
+  good = run.good;
+  rest = [];
+  cut = ap (λ (l : List (List ℕ)). first_line version ∷ l) (run.cut ∙ ap (λ (l : List (List ℕ)). run.good ++ l) end);
+  items = run.items;
+  read = run.read;
+  bad = (lacks run.items run.known, refl);
+  place = run.place;
+}
+
+pub whole_end : (version : ℕ) (lines rest : List (List ℕ)) (number : ℕ) (reading : Reading) (said : Said) →
+    IsVersion version → rest ≡ [] → IsRun version lines rest number reading → said.version ≡ version →
+    ((items : List Item) → IsReadingOf items reading → (lacks_setup items ≡ false) × IsSaidBy said items) →
+    (text : List ℕ) → lines_of text ≡ first_line version ∷ lines → IsScriptText text said
+whole_end version lines rest number reading said known end run same whole text first =
+    let all : lines ≡ run.good =
+    run.cut ∙ ap (λ (l : List (List ℕ)). run.good ++ l) end ∙ append-nil run.good in
+    record {
+      version = rw same known;
+      later = run.good;
+      lines = first ∙ ap (λ (l : List (List ℕ)). first_line version ∷ l) all
+          ∙ ap (λ (v : ℕ). first_line v ∷ run.good) (sym same);
+      items = run.items;
+      read = rw same run.read;
+      whole = (whole run.items run.known).0;
+      said = (whole run.items run.known).1;
+    }
+
+-- ---- the whole
+
+pub in_range : (result : Result Script ScriptFault) (bytes : List ℕ) (version : ℕ) (later : List (List ℕ)) →
+    lines_of bytes ≡ first_line version ∷ later →
+    IfOk result (λ script. (text : List ℕ) → lines_of text ≡ first_line version ∷ later → IsScriptText text (said_of script)) →
+    IfOk result (λ script. IsInRangeScript (said_of script))
+in_range (Ok script) bytes version later first said = scripts_are_in_range bytes (said_of script) (said bytes first)
+in_range (Err fault) bytes version later first said = tt

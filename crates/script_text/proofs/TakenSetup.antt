@@ -1,0 +1,168 @@
+-- What the lines of the setup add to what is kept.
+use Rattle.std.proofs.Common.{◌≡◌, ℕ, ◌+◌, ◌<◌, ◌≤◌, ◌≢◌, true, false, Some, List, [], ◌∷◌, Vec, Global, get_or, insert, sum_by, All, refl, sym, ap, ◌∙◌, inl, inr, arith, one-add}
+use Rattle.std.specs.Prelude.{nat_lt, ◌==◌}
+use Rattle.std.specs.List.{list_any, position_or_len}
+use Rattle.std.specs.List.Sorted.{IsPermutation}
+use Rattle.std.proofs.lemmas.Bool.{true≢false, cases_Bool, or_parts, ltb-true, ltb-false, eqb-false}
+use Rattle.std.proofs.lemmas.List.Elements.{All-nil, All-cons, All-head, All-tail}
+use Rattle.std.proofs.lemmas.List.Sums.{sum_by-cons}
+use Rattle.std.proofs.lemmas.List.Sorted.{All-permutation, IsPermutation-trans, IsPermutation-cons, IsPermutation-insert}
+use Rattle.std.proofs.Math.Bool.{or-false}
+use Rattle.board_spec.specs.Setup.{FittedCard, Rises, memory_size, memory_of_cards}
+use Rattle.script_spec.specs.Grammar.{Item, SetCpus, FitCard}
+use Rattle.script_spec.specs.Reasons.{is_phase, is_setup, is_cpus, is_cpus_above, has_card, cards_of, pulses_of}
+use Rattle.script_spec.proofs.GoodItems.{NoReason, no_reason}
+use Rattle.script_spec.proofs.RangeLaws.{none_any}
+use Rattle.script_text.specs.declared.reading.Reading.{Reading}
+use Rattle.script_text.proofs.Reasons.{memory_cons}
+use Rattle.script_text.specs.Reading.{Takes}
+
+-- a line of the setup is not misplaced: no phase has begun
+no_phase : (items : List Item) (item : Item) → is_setup item ≡ true → NoReason items item →
+    list_any is_phase items ≡ false
+no_phase items item setup none =
+    elim (cases_Bool (list_any is_phase items)) [
+      | inl begun ↦ let place = rw (begun, setup) at none.place in absurd (true≢false place)
+      | inr none ↦ none
+    ]
+
+-- ---- processors
+
+no_cpus : (items : List Item) (actor : ℕ) → list_any is_cpus items ≡ false →
+    list_any (is_cpus_above actor) items ≡ false
+no_cpus [] actor none = refl
+no_cpus (SetCpus count ∷ before) actor none = absurd (true≢false none)
+no_cpus (item ∷ before) actor none = no_cpus before actor none
+
+pub cpus_taken : (old : Reading) (count : ℕ) → Takes old (SetCpus count) (record old { cpus = Some count })
+cpus_taken old count items is least =
+    let none : NoReason items (SetCpus count) = no_reason items (SetCpus count) least in
+    record {
+      cpus = refl;
+      actors = λ actor. rw (no_cpus items actor none.first) (or-false (nat_lt actor count));
+      mib = is.mib;
+      rom = is.rom;
+      disk = is.disk;
+      cards = is.cards;
+      rises = is.rises;
+      memory = is.memory;
+      statements = is.statements;
+      pulses = sum_by-cons pulses_of (SetCpus count) items ∙ omega (arith, is.pulses);
+      count = is.count;
+      phases = is.phases;
+      whole = λ begun. absurd (true≢false (sym begun ∙ no_phase items (SetCpus count) refl none));
+      limits = record {
+        statements = is.limits.statements;
+        phases = is.limits.phases;
+        pulses = is.limits.pulses;
+        memory = is.limits.memory;
+      };
+    }
+
+-- ---- cards
+
+-- the place of a card among others: in front of the first one of a higher device
+abbrev place_in : FittedCard → List FittedCard → ℕ
+place_in card cards = position_or_len (λ other. nat_lt card.dev other.dev) cards
+
+abbrev pub put : FittedCard → List FittedCard → List FittedCard
+put card cards = insert cards (place_in card cards) card
+
+pub placed :
+    (card : FittedCard) (dev place : ℕ) (read cards new : List FittedCard) → dev ≡ card.dev → read ≡ cards →
+    place ≡ position_or_len (λ other. nat_lt dev other.dev) read → new ≡ insert cards place card → new ≡ put card cards
+placed card dev place read cards new device same at_place is =
+    let here : place ≡ place_in card cards =
+    at_place ∙ ap (λ d. position_or_len (λ other. nat_lt d other.dev) read) device ∙ ap (place_in card) same in
+    is ∙ ap (λ n. insert cards n card) here
+
+put_below : (card first : FittedCard) (later : List FittedCard) → nat_lt card.dev first.dev ≡ true →
+    put card (first ∷ later) ≡ card ∷ first ∷ later
+put_below card first later below = rw below refl
+
+put_above : (card first : FittedCard) (later : List FittedCard) → nat_lt card.dev first.dev ≡ false →
+    put card (first ∷ later) ≡ first ∷ put card later
+put_above card first later above = rw (above, one-add (place_in card later)) refl
+
+put_same : (card : FittedCard) (cards : List FittedCard) → IsPermutation (card ∷ cards) (put card cards)
+put_same card cards = IsPermutation-insert cards (place_in card cards) card
+
+all_put : (P : FittedCard → Type 0) (card : FittedCard) (cards : List FittedCard) → P card → All P cards →
+    All P (put card cards)
+all_put P card cards one all =
+    All-permutation P (card ∷ cards) (put card cards) (put_same card cards) (All-cons P card cards one all)
+
+put_rises :
+    (card : FittedCard) (cards : List FittedCard) → Rises cards → All (λ other. other.dev ≢ card.dev) cards →
+    Rises (put card cards)
+put_rises card [] rises apart = (All-nil (λ other. card.dev < other.dev), tt)
+put_rises card (first ∷ later) rises apart =
+    elim (cases_Bool (nat_lt card.dev first.dev)) [
+      | inl below ↦
+          let less : card.dev < first.dev = ltb-true card.dev first.dev below in
+          rw (put_below card first later below) (
+            All-cons (λ other. card.dev < other.dev) first later less
+                (λ k d inside.
+                let more : first.dev < (get_or later k d).dev = rises.0 k d inside in
+                omega (arith, less, more)),
+            rises,
+          )
+      | inr above ↦
+          let other : first.dev ≢ card.dev = All-head (λ c. c.dev ≢ card.dev) first later apart in
+          let least : first.dev ≤ card.dev = ltb-false card.dev first.dev above in
+          rw (put_above card first later above) (
+            all_put (λ c. first.dev < c.dev) card later (omega (arith, other, least)) rises.0,
+            put_rises card later rises.1 (All-tail (λ c. c.dev ≢ card.dev) first later apart),
+          )
+    ]
+
+-- no card of a list is of the device of a new one
+apart_from :
+    (items : List Item) (cards : List FittedCard) (card : FittedCard) → IsPermutation (cards_of items) cards →
+    has_card items card.dev ≡ false → All (λ other. other.dev ≢ card.dev) cards
+apart_from items cards card same none k d inside =
+    let apart : All (λ other. (other.dev == card.dev) ≡ false) cards =
+    All-permutation (λ other. (other.dev == card.dev) ≡ false) (cards_of items) cards same
+    (none_any (λ other. other.dev == card.dev) (cards_of items) none) in
+    eqb-false (get_or cards k d).dev card.dev (apart k d inside)
+
+memory_within : (items : List Item) (card : FittedCard) → NoReason items (FitCard card) →
+    memory_of_cards (card ∷ cards_of items) ≤ 0x400_0000
+memory_within items card none =
+    let memory : ℕ = memory_of_cards (card ∷ cards_of items) in
+    ltb-false 0x400_0000 memory (or_parts _ (nat_lt 0x400_0000 memory) none.limits).1
+
+pub card_taken :
+    (old : Reading) (card : FittedCard) (cards : Vec FittedCard Global) (memory : ℕ) →
+    cards.items ≡ put card old.cards.items → memory ≡ sum_by memory_size card.bases →
+    Takes old (FitCard card) (record old { cards = cards; memory = old.memory + memory })
+card_taken old card cards memory at_place decoded items is least =
+    let none : NoReason items (FitCard card) = no_reason items (FitCard card) least in
+    let total : memory_of_cards (card ∷ cards_of items) ≡ old.memory + memory =
+    omega (arith, memory_cons card (cards_of items), is.memory, decoded) in
+    record {
+      cpus = is.cpus;
+      actors = is.actors;
+      mib = is.mib;
+      rom = is.rom;
+      disk = is.disk;
+      cards = rw at_place (
+          IsPermutation-trans (card ∷ cards_of items) (card ∷ old.cards.items) (put card old.cards.items)
+          (IsPermutation-cons card (cards_of items) old.cards.items is.cards) (put_same card old.cards.items)
+          );
+      rises = rw at_place (
+          put_rises card old.cards.items is.rises (apart_from items old.cards.items card is.cards none.first)
+          );
+      memory = total;
+      statements = is.statements;
+      pulses = sum_by-cons pulses_of (FitCard card) items ∙ omega (arith, is.pulses);
+      count = is.count;
+      phases = is.phases;
+      whole = λ begun. absurd (true≢false (sym begun ∙ no_phase items (FitCard card) refl none));
+      limits = record {
+        statements = is.limits.statements;
+        phases = is.limits.phases;
+        pulses = is.limits.pulses;
+        memory = rw (← total) (memory_within items card none);
+      };
+    }

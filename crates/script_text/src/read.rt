@@ -1,0 +1,92 @@
+//! The run over the lines of a text.
+
+ghost use Rattle.std.specs.Prelude.{◌≡◌, ◌<◌, ◌+◌, ◌^◌, ◌-◌, [], ◌∷◌, ℕ, List, length, IfOk, IfErr, OnOk};
+ghost use Rattle.script_spec.specs.Grammar.{Item as Said};
+ghost use Rattle.script_spec.specs.Lines.{lines_of};
+ghost use Rattle.script_spec.specs.ScriptText.{IsVersion, first_line, AreRead, IsBadLine, IsBadLater, IsScriptText, IsScriptBad};
+ghost use Rattle.script_spec.specs.ScriptRange.{IsInRangeScript};
+ghost use Rattle.script_text.specs.Faults.{OnBad};
+ghost use Rattle.script_text.specs.Reading.{IsReadingOf};
+ghost use Rattle.script_text.specs.Script.{said_of};
+
+use crate::fault::{Reason, ScriptFault};
+use crate::lines::{is_skipped, split_line, version_of};
+use crate::reading::Reading;
+use crate::script::Script;
+use script_lines::item_of;
+use std::alloc::Global;
+
+/// The most bytes of a line after the first.
+const MOST_BYTES: usize = 120;
+
+/// The line after the first.
+const SECOND: u32 = 2;
+
+/// Reads one line after the first, which has this number.
+fn read_line(
+    alloc: Global,
+    version: u8,
+    number: u32,
+    line: &[u8],
+    reading: &mut Reading,
+) -> Result<(), ScriptFault>
+    requires version { IsVersion version }
+    requires before { (items : List Said) × IsReadingOf items reading.old }
+    ensures read { OnOk result ((items : List Said) → IsReadingOf items reading.old
+        → (more : List Said) × IsReadingOf more reading.new × AreRead version items (line.now ∷ []) more) }
+    ensures bad { IfErr result (λ fault. OnBad fault (λ place why. (place ≡ number)
+        × ((items : List Said) → IsReadingOf items reading.old → IsBadLine version items line.now why))) }
+{
+    if line.len() > MOST_BYTES {
+        return Err(ScriptFault::at(number, Reason::TooLong));
+    }
+    if is_skipped(line) {
+        return Ok(());
+    }
+    let Some(item) = item_of(version, line) else {
+        return Err(ScriptFault::at(number, Reason::NoForm));
+    };
+    match reading.judge(version, item) {
+        Ok(item) => {
+            reading.take(alloc, item)?;
+            Ok(())
+        }
+        Err(reason) => Err(ScriptFault::at(number, reason)),
+    }
+}
+
+/// Reads the lines after the first.
+fn read_later(alloc: Global, version: u8, bytes: &[u8]) -> Result<Script, ScriptFault>
+    requires version { IsVersion version }
+    requires short { length bytes.now + 2 < 2 ^ 32 }
+    ensures said { IfOk result (λ script. (text : List ℕ) → lines_of text ≡ first_line version ∷ lines_of bytes.now
+        → IsScriptText text (said_of script)) }
+    ensures bad { IfErr result (λ fault. OnBad fault (IsBadLater (first_line version ∷ lines_of bytes.now))) }
+{
+    let mut reading = Reading::new(alloc);
+    let mut number = SECOND;
+    let mut rest = bytes;
+    while let Some((line, after)) = split_line(rest) {
+        read_line(alloc, version, number, line, &mut reading)?;
+        number += 1;
+        rest = after;
+    }
+    match reading.finish(version) {
+        Ok(script) => Ok(script),
+        Err(no_setup) => Err(ScriptFault::at(number, no_setup)),
+    }
+}
+
+/// Reads a script. Bad at the first line that is not as it must be, for the least reason that holds; the end of the
+/// text counts as the line after the last one. The line numbers fit, since there are fewer than 2^32 - 1 bytes.
+pub fn read_script(alloc: Global, bytes: &[u8]) -> Result<Script, ScriptFault>
+    requires { length bytes.now < 2 ^ 32 - 1 }
+    ensures said { IfOk result (λ script. IsScriptText bytes.now (said_of script)) }
+    ensures in_range { IfOk result (λ script. IsInRangeScript (said_of script)) }
+    ensures bad { IfErr result (λ fault. OnBad fault (IsScriptBad bytes.now)) }
+{
+    let Some((version, rest)) = version_of(bytes) else {
+        return Err(ScriptFault::at(1, Reason::NoVersion));
+    };
+    read_later(alloc, version, rest)
+}

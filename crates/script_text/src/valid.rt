@@ -1,0 +1,290 @@
+//! Items with their numbers in range.
+
+ghost use Rattle.std.specs.Prelude.{◌≡◌, ◌≤◌, ℕ, length, map, option_map, IfSome};
+ghost use Rattle.std.specs.List.{list_all};
+ghost use Rattle.board_spec.specs.InRange.{is_free_line};
+ghost use Rattle.board_spec.specs.Setup.{IsCard};
+ghost use Rattle.board_spec.specs.Bits.{is_within};
+ghost use Rattle.pci_bars.specs.Bases.{base_of};
+ghost use Rattle.script_spec.specs.Reasons.{is_base_in_range, is_rom_in_range, is_card_in_range, is_moment, is_event_in_range, is_event_placed, is_in_range, pulses_of_event};
+ghost use Rattle.script_lines.specs.Items.{base_said, card_said, moment_said, asked_said, ask};
+ghost use Rattle.script_text.specs.Valid.{in_case};
+
+use arrayvec::ArrayVec;
+use board_base::Moment;
+use board_spec::{Event, Statement};
+use pci_bars::{BASE_COUNT, BaseSpec, CardSpec};
+use script_lines::{Asked, BaseField, CardFields, MomentFields};
+
+/// The device numbers of cards.
+const FIRST_DEVICE: u32 = 2;
+
+const LAST_DEVICE: u32 = 9;
+
+/// The powers of two of memory bases: 16 bytes to 16 MiB.
+const LEAST_MEMORY: u32 = 4;
+
+const MOST_MEMORY: u32 = 24;
+
+/// The powers of two of I/O bases: 4 to 256 ports.
+const LEAST_PORTS: u32 = 2;
+
+const MOST_PORTS: u32 = 8;
+
+/// The powers of two of expansion ROMs: 2 KiB to 16 MiB.
+const LEAST_ROM: u32 = 11;
+
+const MOST_ROM: u32 = 24;
+
+/// The most pulses of one statement.
+const MOST_PULSES: u32 = 1_000_000;
+
+/// The last sector of the largest disk.
+const LAST_SECTOR: u32 = 0xFFFF;
+
+/// One more than the last address.
+const END: u64 = 0x1_0000_0000;
+
+/// What a line says, with its numbers in range.
+#[derive(Drop, Debug)]
+pub(crate) enum ValidItem<'a> {
+    Cpus(u8),
+    Memory(u8),
+    Rom(&'a [u8]),
+    Disk(&'a [u8]),
+    Card(CardSpec),
+    Phase,
+    Asked(Statement),
+}
+
+/// Whether a number lies in an interval, both ends included.
+pub(crate) fn is_within(first: u32, last: u32, number: u32) -> bool
+    ensures within { result ≡ is_within first last number }
+{
+    first <= number && number <= last
+}
+
+// ---- cards
+
+/// A base of 16 bytes to 16 MiB, or of 4 to 256 ports.
+fn base_of(field: BaseField) -> Option<BaseSpec>
+    ensures base { option_map base_of result ≡ in_case (is_base_in_range (base_said field)) (base_said field) }
+{
+    match field {
+        BaseField::Memory(bits) => memory_base(bits),
+        BaseField::Io(bits) => io_base(bits),
+    }
+}
+
+fn memory_base(bits: u32) -> Option<BaseSpec>
+    ensures base { option_map base_of result ≡ in_case (is_base_in_range (base_said (BaseField.Memory bits))) (base_said (BaseField.Memory bits)) }
+{
+    if is_within(LEAST_MEMORY, MOST_MEMORY, bits) {
+        Some(BaseSpec::Memory(bits as u8))
+    } else {
+        None
+    }
+}
+
+fn io_base(bits: u32) -> Option<BaseSpec>
+    ensures base { option_map base_of result ≡ in_case (is_base_in_range (base_said (BaseField.Io bits))) (base_said (BaseField.Io bits)) }
+{
+    if is_within(LEAST_PORTS, MOST_PORTS, bits) {
+        Some(BaseSpec::Io(bits as u8))
+    } else {
+        None
+    }
+}
+
+/// All bases of a card, where each is in range.
+fn bases_of(fields: &[BaseField]) -> Option<ArrayVec<BaseSpec, BASE_COUNT>>
+    requires few { length fields.now ≤ 6 }
+    ensures bases { option_map (λ bases. map base_of bases.items) result
+        ≡ in_case (list_all is_base_in_range (map base_said fields.now)) (map base_said fields.now) }
+{
+    let mut bases = ArrayVec::new();
+    for field in fields {
+        bases.push(base_of(*field)?);
+    }
+    Some(bases)
+}
+
+/// The expansion ROM of 2 KiB to 16 MiB, or none. None where it is out of range.
+fn rom_of(rom: Option<u32>) -> Option<Option<u8>>
+    ensures rom { result ≡ in_case (is_rom_in_range rom) rom }
+{
+    match rom {
+        None => Some(None),
+        Some(bits) => rom_bits(bits),
+    }
+}
+
+fn rom_bits(bits: u32) -> Option<Option<u8>>
+    ensures rom { result ≡ in_case (is_within 11 24 bits) (Some bits) }
+{
+    if is_within(LEAST_ROM, MOST_ROM, bits) {
+        Some(Some(bits as u8))
+    } else {
+        None
+    }
+}
+
+/// A card whose device, bases and expansion ROM are in range.
+pub(crate) fn card_of(fields: &CardFields) -> Option<CardSpec>
+    requires few { length fields.now.bases.items ≤ 6 }
+    ensures card { result ≡ in_case (is_card_in_range (card_said fields.now)) (card_said fields.now) }
+    ensures fits { IfSome result IsCard }
+{
+    if !is_within(FIRST_DEVICE, LAST_DEVICE, fields.dev) {
+        return None;
+    }
+    let bases = bases_of(&fields.bases)?;
+    let rom = rom_of(fields.rom)?;
+    Some(CardSpec {
+        dev: fields.dev as u8,
+        vga: fields.vga,
+        bases,
+        rom,
+    })
+}
+
+// ---- events
+
+/// The lines of interrupts that a statement sets: those of no part of the board.
+fn is_free_line(irq: u32) -> bool
+    ensures free { result ≡ is_free_line irq }
+{
+    matches!(irq, 1 | 3..=7 | 9..=12 | 15)
+}
+
+/// Whether the calendar and the clock have this moment.
+fn is_moment(moment: &Moment) -> bool
+    ensures moment { result ≡ is_moment moment.now }
+{
+    let Moment {
+        year,
+        month,
+        day,
+        hour,
+        minute,
+        second,
+        ..
+    } = *moment;
+    Moment::new(year, month, day, hour, minute, second).is_some()
+}
+
+/// Whether the numbers of an event are in range.
+fn is_event_in_range(event: &Event) -> bool
+    ensures in_range { result ≡ is_event_in_range event.now }
+{
+    match event {
+        Event::Pulses(count) => is_within(1, MOST_PULSES, *count),
+        Event::Time(moment) => is_moment(moment),
+        Event::Wire { dev, .. } => is_within(FIRST_DEVICE, LAST_DEVICE, u32::from(*dev)),
+        Event::Line { irq, .. } => is_free_line(u32::from(*irq)),
+        Event::BadSector(sector) => *sector <= LAST_SECTOR,
+        Event::Memory(_) | Event::Wide(_) | Event::Port(_) | Event::Look { .. } | Event::Ack =>
+            true,
+    }
+}
+
+fn event_in_range(event: Event) -> Option<Event>
+    ensures event { result ≡ in_case (is_event_in_range event) event }
+{
+    if is_event_in_range(&event) {
+        Some(event)
+    } else {
+        None
+    }
+}
+
+fn time_of(fields: MomentFields) -> Option<Event>
+    ensures event { (actor : ℕ) → option_map (ask actor) result
+        ≡ in_case (is_in_range (asked_said actor (Asked.Moment fields))) (asked_said actor (Asked.Moment fields)) }
+{
+    let moment = Moment::new(
+        fields.year,
+        fields.month,
+        fields.day,
+        fields.hour,
+        fields.minute,
+        fields.second,
+    )?;
+    Some(Event::Time(moment))
+}
+
+fn wire_of(dev: u32, level: u32) -> Option<Event>
+    ensures event { (actor : ℕ) → option_map (ask actor) result
+        ≡ in_case (is_in_range (asked_said actor (Asked.Wire dev level))) (asked_said actor (Asked.Wire dev level)) }
+{
+    if !is_within(FIRST_DEVICE, LAST_DEVICE, dev) || level > 1 {
+        return None;
+    }
+    Some(Event::Wire {
+        dev: dev as u8,
+        on: level == 1,
+    })
+}
+
+fn line_of(irq: u32, level: u32) -> Option<Event>
+    ensures event { (actor : ℕ) → option_map (ask actor) result
+        ≡ in_case (is_in_range (asked_said actor (Asked.Line irq level))) (asked_said actor (Asked.Line irq level)) }
+{
+    if !is_free_line(irq) || level > 1 {
+        return None;
+    }
+    Some(Event::Line {
+        irq: irq as u8,
+        on: level == 1,
+    })
+}
+
+/// The event that a statement asks, where its numbers are in range.
+pub(crate) fn event_of(asked: Asked) -> Option<Event>
+    ensures event { (actor : ℕ) → option_map (ask actor) result
+        ≡ in_case (is_in_range (asked_said actor asked)) (asked_said actor asked) }
+{
+    match asked {
+        Asked::Event(event) => event_in_range(event),
+        Asked::Moment(fields) => time_of(fields),
+        Asked::Wire { dev, level } => wire_of(dev, level),
+        Asked::Line { irq, level } => line_of(irq, level),
+    }
+}
+
+/// Whether the address or the port of an event is a multiple of the width, and a wide access ends at FFFFFFFFh or
+/// below.
+pub(crate) fn is_placed(event: &Event) -> bool
+    ensures placed { result ≡ is_event_placed event.now }
+{
+    match event {
+        Event::Memory(access) => access.addr % access.width.bytes() == 0,
+        Event::Wide(access) => u64::from(access.addr) + u64::from(access.bytes) <= END,
+        Event::Port(access) => u32::from(access.port) % access.width.bytes() == 0,
+        Event::Look { .. }
+        | Event::Ack
+        | Event::Pulses(_)
+        | Event::Time(_)
+        | Event::Wire { .. }
+        | Event::Line { .. }
+        | Event::BadSector(_) => true,
+    }
+}
+
+/// How many pulses an event asks.
+pub(crate) fn pulses_of(event: &Event) -> u32
+    ensures pulses { result ≡ pulses_of_event event.now }
+{
+    match event {
+        Event::Pulses(count) => *count,
+        Event::Memory(_)
+        | Event::Wide(_)
+        | Event::Port(_)
+        | Event::Look { .. }
+        | Event::Ack
+        | Event::Time(_)
+        | Event::Wire { .. }
+        | Event::Line { .. }
+        | Event::BadSector(_) => 0,
+    }
+}
