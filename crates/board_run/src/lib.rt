@@ -20,3 +20,8 @@ pub use memory::board_in_memory;
 pub use message::fault_text;
 pub use replay::{check_log, replay_script};
 pub use status::{Status, Which, exit_code};
+
+#[cfg(test)]
+mod rows;
+#[cfg(test)]
+mod tests;
