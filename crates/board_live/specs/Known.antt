@@ -1,0 +1,43 @@
+-- Histories and map writes of a shared board, the newest first.
+use Rattle.std.specs.Prelude.{ℕ, ◌≡◌, ◌-◌, ◌<◌, ◌≤◌, List, ◌++◌, length, drop, All}
+use Rattle.board_spec.specs.declared.event.Entry.{Entry}
+use Rattle.board_spec.specs.declared.map_change.MapChange.{MapChange}
+use Rattle.board_spec.specs.Setup.{Setup}
+use Rattle.board_spec.specs.Legal.{entries_by}
+use Rattle.board_spec.specs.MapWrites.{map_writes_of, version_of, registers_after}
+use Rattle.addr_decode.specs.MapRegs.{StandsFor}
+use Rattle.map_builder.specs.Map.{Mapped}
+use Rattle.map_publish.specs.declared.mark.Mark.{Mark}
+use Rattle.map_publish.specs.Lists.{changes_of}
+
+-- a list begins with another: it has more, which is newer
+abbrev pub Extends : {E : Type 0} → (shorter longer : List E) → Type 0
+Extends {E} shorter longer = (more : List E) × (longer ≡ more ++ shorter)
+
+-- the entries that a history had when there were so many
+abbrev pub oldest : ℕ → List Entry → List Entry
+oldest count history = drop (length history - count) history
+
+-- the map writes of the opened history, and those that were published since
+abbrev pub known_after : Setup → List Entry → List Mark → List MapChange
+known_after setup opened log = changes_of log ++ map_writes_of setup opened
+
+-- what was published are the map writes of the history
+abbrev pub ArePublished : Setup → ℕ → List Entry → List Mark → Type 0
+ArePublished setup opened history log = map_writes_of setup history ≡ known_after setup (oldest opened history) log
+
+-- a map is that of the opened history
+pub record Opens (setup : Setup) (opened : List Entry) (map : Mapped) : Type 0 where
+  pub stands : StandsFor setup (registers_after setup (map_writes_of setup opened)) map.regs
+  pub version : map.version ≡ version_of setup opened
+
+-- the most entries of a caller
+abbrev pub most_each : ℕ
+most_each = 250_000
+
+-- the entries are those of so many callers, 1 to 8, and of none too many
+pub record AreFew (callers : ℕ) (history : List Entry) : Type 0 where
+  pub some : 1 ≤ callers
+  pub most : callers ≤ 8
+  pub actors : All (λ entry. entry.actor < callers) history
+  pub each : (actor : ℕ) → length (entries_by actor history) ≤ most_each

@@ -1,0 +1,61 @@
+-- Maps after changes, and the changes of lists.
+use Rattle.std.proofs.Common.{◌≡◌, ℕ, ◌+◌, ◌<◌, List, [], ◌∷◌, ◌++◌, length, refl, sym, ap, ◌∙◌, arith}
+use Rattle.std.specs.Prelude.{flat_map, reverse}
+use Rattle.std.proofs.lemmas.Grind.{flat_map-append}
+use Rattle.std.proofs.lemmas.List.{reverse-append}
+use mathlib.Core.List.{IsPrefix}
+use Rattle.board_spec.specs.declared.map_change.MapChange.{MapChange}
+use Rattle.board_spec.specs.Setup.{Setup}
+use Rattle.board_spec.specs.Decode.{Bytes}
+use Rattle.board_spec.specs.MapWrites.{registers_after}
+use Rattle.pci_bars.specs.Cards.{cards_of}
+use Rattle.addr_decode.specs.MapRegs.{StandsFor}
+use Rattle.map_builder.specs.Map.{Mapped}
+use Rattle.map_builder.specs.Changed.{after}
+use Rattle.map_publish.specs.Changes.{bytes_after, IsMapAfter}
+use Rattle.map_publish.specs.declared.mark.Mark.{Mark}
+use Rattle.map_publish.specs.declared.mark.Mark.TheVariants.{Opened, Changed}
+use Rattle.map_publish.specs.Lists.{changes_in, changes_of, opened_of}
+
+-- ---- maps
+
+pub unchanged : (map : Mapped) → IsMapAfter map [] map
+unfolding bytes_after
+unchanged map = record { stands = λ setup bytes stands. stands; cards = refl; version = omega arith }
+
+-- a map after one change more
+pub changed_again :
+    (opened now next : Mapped) (changes : List MapChange) (change : MapChange) → IsMapAfter opened changes now →
+    ((setup : Setup) (bytes : Bytes) → StandsFor setup bytes now.regs → StandsFor setup (after setup change bytes) next.regs) →
+    cards_of next.regs.cards ≡ cards_of now.regs.cards → next.version ≡ now.version + 1 → IsMapAfter opened (change ∷ changes) next
+unfolding bytes_after
+changed_again opened now next changes change before stands cards version = record {
+  stands = λ setup bytes was. stands setup (bytes_after setup changes bytes) (before.stands setup bytes was);
+  cards = cards ∙ before.cards;
+  version = omega (arith, version, before.version);
+}
+
+-- the registers after changes that followed others from reset on
+pub registers_after_more : (setup : Setup) (changes earlier : List MapChange) → bytes_after setup changes (registers_after setup earlier) ≡ registers_after setup (changes ++ earlier)
+unfolding bytes_after registers_after
+registers_after_more setup [] earlier = refl
+registers_after_more setup (change ∷ changes) earlier = ap (after setup change) (registers_after_more setup changes earlier)
+
+-- ---- lists
+
+-- a list that goes on has the changes of its beginning, and more
+pub changes_extend : (front whole : List Mark) → IsPrefix front whole → (more : List MapChange) × (changes_of whole ≡ more ++ changes_of front)
+changes_extend front whole (rest, is) =
+    (changes_of rest,
+      ap changes_of (sym is) ∙ (ap reverse (flat_map-append changes_in front rest) ∙ reverse-append (flat_map changes_in front) (flat_map changes_in rest)))
+
+pub changes_added : (log : List Mark) (change : MapChange) → changes_of (log ++ Changed change ∷ []) ≡ change ∷ changes_of log
+changes_added log change = ap reverse (flat_map-append changes_in log (Changed change ∷ [])) ∙ reverse-append (flat_map changes_in log) (change ∷ [])
+
+-- a list that goes on was opened with the same map
+pub opened_same : (front whole : List Mark) → 0 < length front → IsPrefix front whole → opened_of whole ≡ opened_of front
+opened_same [] whole some prefix = absurd (omega (arith, some))
+opened_same (first ∷ later) whole some (rest, is) = ap opened_of (sym is)
+
+pub opened_added : (log : List Mark) (mark : Mark) → 0 < length log → opened_of (log ++ mark ∷ []) ≡ opened_of log
+opened_added log mark some = opened_same log (log ++ mark ∷ []) some (mark ∷ [], refl)

@@ -1,0 +1,18 @@
+use Rattle.std.proofs.Common.{rules, ◌≡◌, [], ◌∷◌, ◌++◌, All, List, sym, ◌∙◌, subst}
+use Rattle.std.proofs.lemmas.List.Elements.{All-append}
+use Rattle.map_publish.specs.declared.front.Front.{Front}
+use Rattle.map_publish.specs.declared.viewer.Viewer.{Viewer}
+use Rattle.map_publish.proofs.publisher.viewers.Goals as goal
+
+pub loop-number-preserved : goal.loop-number-preserved
+loop-number-preserved c =
+    let before = c.loop-number.viewers.items in
+    let front : c.viewer.new.self.front ≡ c.args.publisher.now.front = c.viewer.ensures.same ∙ c.loop-number.invariant.front in
+    let added : c.push.new.self.items ≡ before ++ c.viewer.result ∷ [] = search rules in
+    let P : Viewer → Type 0 = λ viewer. viewer.front ≡ c.args.publisher.now.front in
+    let last : All P (c.viewer.result ∷ []) = search (rules, c.viewer.ensures.viewer ∙ c.loop-number.invariant.front) in
+    record {
+      front = front;
+      count = search rules;
+      each = subst (λ (viewers : List Viewer). All P viewers) (sym added) (All-append P before (c.viewer.result ∷ []) c.loop-number.invariant.each last);
+    }

@@ -1,0 +1,5 @@
+pub mod Lists
+pub mod Changes
+pub mod Props
+pub mod Fronts
+pub mod Names

@@ -1,0 +1,53 @@
+-- The list of what was published: the map that was opened, and the changes since, the oldest first.
+use Rattle.std.specs.Prelude.{ℕ, ◌≡◌, ◌+◌, Bool, List, [], ◌∷◌, length, flat_map, reverse}
+use Rattle.board_base.specs.declared.access.Kind.{Kind}
+use Rattle.board_spec.specs.declared.event.Look.{Look}
+use Rattle.board_spec.specs.declared.map_change.MapChange.{MapChange}
+use Rattle.board_spec.specs.Setup.{Setup}
+use Rattle.board_spec.specs.Decode.{Bytes}
+use Rattle.board_spec.specs.FlatMap.{IsSpan}
+use Rattle.addr_decode.specs.MapRegs.{StandsFor}
+use Rattle.map_builder.specs.Map.{Mapped}
+use Rattle.map_publish.specs.declared.mark.Mark.{Mark}
+use Rattle.map_publish.specs.declared.mark.Mark.TheVariants.{Opened, Changed}
+use Rattle.map_publish.specs.Changes.{bytes_after, IsMapAfter}
+
+-- what stands for the opened map of a list that does not begin with one
+abbrev pub no_map : Mapped
+no_map = record {
+  regs = record { drb = []; fdhc = 0; pam = []; smram = 0; xbcs = 0; cards = [] };
+  ranges = [];
+  version = 0;
+}
+
+abbrev pub opened_in : Mark → Mapped
+opened_in (Opened map) = map
+opened_in (Changed change) = no_map
+
+-- the map that was opened, which is the first entry
+abbrev pub opened_of : List Mark → Mapped
+opened_of [] = no_map
+opened_of (first ∷ later) = opened_in first
+
+abbrev pub changes_in : Mark → List MapChange
+changes_in (Opened map) = []
+changes_in (Changed change) = change ∷ []
+
+-- the changes since, the newest first
+abbrev pub changes_of : List Mark → List MapChange
+changes_of log = reverse (flat_map changes_in log)
+
+-- the opened map is this one after the changes
+abbrev pub IsMapOfLog : List Mark → Mapped → Type 0
+IsMapOfLog log now = IsMapAfter (opened_of log) (changes_of log) now
+
+-- the version of the opened map, and one for each change
+abbrev pub version_after : List Mark → ℕ
+version_after log = (opened_of log).version + length (changes_of log)
+
+-- a look shows the opened map after the changes: its version, and the span of the registers
+pub record IsLookIn (log : List Mark) (addr : ℕ) (kind : Kind) (smm : Bool) (look : Look) : Type 0 where
+  pub version : look.version ≡ version_after log
+  pub span :
+      (setup : Setup) (bytes : Bytes) → StandsFor setup bytes (opened_of log).regs →
+      IsSpan setup (bytes_after setup (changes_of log) bytes) addr kind smm look.lo look.hi look.area

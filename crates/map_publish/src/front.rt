@@ -1,0 +1,140 @@
+//! What was seen of a publisher's list: the map that it opened with, and the changes since.
+ghost use Rattle.std.specs.Prelude.{◌≡◌, ◌≤◌, ◌<◌, ◌+◌, ◌++◌, ◌∷◌, [], length, IfSome, IsTrue, IsFalse};
+ghost use mathlib.Core.List.{IsPrefix};
+ghost use Rattle.map_publish.specs.Fronts.{head_of};
+ghost use Rattle.map_publish.specs.Lists.{changes_of};
+ghost use Rattle.map_publish.specs.declared.mark.Mark.TheVariants.{Opened, Changed};
+
+use crate::mark::Mark;
+use board_spec::MapChange;
+use logbook::{Gain, Offer, Plain, Play, Rule, Seen, Start, Word};
+use map_builder::FlatMap;
+
+/// The rule of the list: it only grows, and a word keeps its length.
+pub struct ListRule;
+
+impl Rule<Mark, u64> for ListRule {
+    ghost use Rattle.std.specs.Prelude.{[]};
+    ghost use base.Fml.{ftrue};
+    ghost use Rattle.map_publish.specs.Fronts.{IsKept};
+
+    ghost holds = { λ cells log. IsKept cells log };
+
+    ghost first = { [] };
+
+    ghost hinted = { λ n log. Unit {0} };
+
+    ghost shows = { λ log. [] };
+
+    ghost keeps = { λ names log. ftrue };
+
+    ghost moves = { λ ask before after answer. Unit {0} };
+}
+
+/// An addition trades nothing.
+struct Nothing;
+
+impl Gain<Mark, u64> for Nothing {
+    ghost use base.Fml.{ftrue};
+
+    ghost after = { λ names about answer. ftrue };
+}
+
+/// The step that adds an entry.
+struct Add;
+
+impl Play<Mark, u64> for Add {
+    ghost use Rattle.map_publish.specs.Fronts.{Adds};
+
+    ghost then = { Adds };
+}
+
+impl Plain<Mark, Mark, u64> for Add {
+    ghost use Rattle.std.specs.Prelude.{None};
+
+    ghost ask = { λ mark. mark };
+
+    ghost state = { λ mark. None };
+}
+
+type Listed = Seen<Mark, u64, ListRule>;
+
+/// The word that keeps the length of the list. Whoever has it alone adds to the list.
+pub type Head = Word<Mark, u64, ListRule>;
+
+/// A beginning of the list, of at least the opened map. It takes no bytes beside its length.
+#[derive(Drop)]
+pub struct Front {
+    pub count: u32,
+    pub seen: Seen<Mark, u64, ListRule>,
+    pub ghost counted: { count ≡ length seen.log },
+    pub ghost begun: { length seen.log ≡ 1 + length (changes_of seen.log) },
+}
+
+/// What was seen, with an entry added to the list. None where more stands in the list.
+fn added(seen: &Listed, count: u32, head: &Head, mark: &Mark) -> Option<Listed>
+    requires head { head.now ≡ head_of seen.now.book }
+    requires count { count ≡ length seen.now.log }
+    ensures added { IfSome result (λ all. (all.book ≡ seen.now.book) × (all.log ≡ seen.now.log ++ mark.now ∷ [])) }
+{
+    let mut seen = seen.again();
+    let mut offer: Offer<Mark, u64, ListRule, Nothing> = seen.plain::<Nothing, Mark, Add>(mark);
+    let mut pen = seen.no_pen();
+    let old = u64::from(count);
+    let found = head.compare_exchange::<Add, Nothing>(
+        old,
+        old + 1,
+        &mut seen,
+        &mut offer,
+        &mut pen,
+    );
+    if found == old { Some(seen) } else { None }
+}
+
+impl Front {
+    /// A new list that opens with a map, and the word that keeps its length.
+    pub fn open(map: &FlatMap) -> Option<(Head, Front)>
+        ensures head { IfSome result (λ pair. pair.0 ≡ head_of pair.1.seen.book) }
+        ensures opened { IfSome result (λ pair. pair.1.seen.log ≡ Opened map.now ∷ []) }
+    {
+        let (empty, mut first, _second) = Seen::open(Start::alone(), 0, 0);
+        let head = Word::tracked(0, &mut first);
+        let seen = added(&empty, 0, &head, &Mark::Opened(map.copy()))?;
+        Some((head, Front { count: 1, seen }))
+    }
+
+    /// An equal beginning.
+    pub fn again(&self) -> Front
+        ensures equal { result ≡ self.now }
+    {
+        Front {
+            count: self.count,
+            seen: self.seen.again(),
+        }
+    }
+
+    /// Whether another beginning of the same list begins with this one.
+    pub fn begins(&self, other: &Front) -> bool
+        requires own { other.now.seen.book ≡ self.now.seen.book }
+        ensures yes { IsTrue result → IsPrefix self.now.seen.log other.now.seen.log }
+        ensures no { IsFalse result → length other.now.seen.log < length self.now.seen.log }
+    {
+        let mut both = self.seen.again();
+        both.learn(&other.seen);
+        self.count <= other.count
+    }
+
+    /// This beginning with a change added to the list. None where more stands in the list.
+    pub fn add(&self, head: &Head, change: &MapChange) -> Option<Front>
+        requires head { head.now ≡ head_of self.now.seen.book }
+        requires room { length self.now.seen.log ≤ 4_000_000 }
+        ensures own { IfSome result (λ front. front.seen.book ≡ self.now.seen.book) }
+        ensures added { IfSome result (λ front. front.seen.log ≡ self.now.seen.log ++ Changed change.now ∷ []) }
+    {
+        let seen = added(&self.seen, self.count, head, &Mark::Changed(*change))?;
+        Some(Front {
+            count: self.count + 1,
+            seen,
+        })
+    }
+}

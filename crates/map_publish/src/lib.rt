@@ -1,0 +1,24 @@
+//! Published copies of the memory map: one publisher changes it, and viewers look at the newest map without waiting.
+//! What a viewer finds never goes back.
+#![tactic(auto)]
+
+mod front;
+mod mark;
+mod names;
+mod publisher;
+pub mod sends;
+mod shown;
+mod viewer;
+
+#[cfg(test)]
+mod tests;
+
+pub use board_base::{Kind, NoMemory};
+pub use board_spec::{Look, MapChange};
+pub use front::{Front, ListRule};
+pub use map_builder::FlatMap;
+pub use mark::Mark;
+pub use names::{Name, Published};
+pub use publisher::{Publisher, open};
+pub use shown::Shown;
+pub use viewer::{Note, Viewer};

@@ -1,0 +1,231 @@
+//! The one who publishes.
+ghost use Rattle.std.specs.Prelude.{◌≡◌, ◌≤◌, ◌<◌, ◌++◌, ◌∷◌, [], All, drop, length, IfSome, IfOk, OnOk, MatchResult};
+ghost use Rattle.left_right.specs.Sides.{view};
+ghost use Rattle.map_publish.specs.Lists.{opened_of, changes_of, version_after, IsMapOfLog};
+ghost use Rattle.map_publish.specs.Fronts.{head_of};
+ghost use Rattle.map_publish.specs.declared.mark.Mark.TheVariants.{Opened, Changed};
+ghost use Rattle.map_publish.specs.Names.{name};
+ghost use Rattle.map_publish.specs.Props.{IsMapAfter-prop};
+
+use crate::front::{Front, Head};
+use crate::names::{Name, Names, Published, Stays, Tells};
+use crate::shown::Shown;
+use crate::viewer::{Note, Viewer};
+use board_base::NoMemory;
+use board_spec::MapChange;
+use core::mem::replace_with;
+use left_right::writer::Writer;
+use map_builder::FlatMap;
+use std::alloc::{AllocError, Global};
+use std::sync::Wait;
+
+pub(crate) type Copies = Writer<Shown, Shown, Name, Published>;
+
+/// A map, of which two copies are kept so that viewers can look at one while the other is changed. It is not `Drop`: end
+/// it by `close`.
+pub struct Publisher {
+    writer: Copies,
+    head: Head,
+    /// The list of what is published.
+    pub front: Front,
+    ghost head_is: { head ≡ head_of front.seen.book },
+    ghost quiet: { drop writer.behind writer.log.items ≡ [] },
+    ghost shows: { writer.desk.shown.value.front ≡ front },
+    ghost is_map: { IsMapOfLog front.seen.log writer.desk.shown.value.map }
+        by { IsMapAfter-prop (opened_of front.seen.log) (changes_of front.seen.log) writer.desk.shown.value.map },
+    ghost named: { view writer.desk.place ≡ name front.seen.book },
+}
+
+/// Publishes what is published already, which names the copies.
+fn named<R: Wait>(rt: &R, writer: Copies, same: Shown) -> (Copies, Result<(), NoMemory>)
+    requires map { IsMapOfLog same.front.seen.log same.map }
+    requires quiet { drop writer.behind writer.log.items ≡ [] }
+    requires same { same ≡ writer.desk.shown.value }
+    ensures shows { OnOk result.1 (result.0.desk.shown.value ≡ same) }
+    ensures quiet { drop result.0.behind result.0.log.items ≡ [] }
+    ensures named { OnOk result.1 (view result.0.desk.place ≡ name same.front.seen.book) }
+{
+    let mut writer = writer;
+    match writer.append(same) {
+        Err(_) => (writer, Err(NoMemory)),
+        Ok(()) => {
+            let (writer, result) = writer.publish_as::<Names, R>(rt);
+            result.unwrap();
+            (writer, Ok(()))
+        }
+    }
+}
+
+/// Publishes a map and its list in the place of what was published.
+fn published<R: Wait>(writer: Copies, what: (&R, Shown)) -> (Copies, Result<(), NoMemory>)
+    requires quiet { drop writer.behind writer.log.items ≡ [] }
+    requires own { what.1.front.seen.book ≡ writer.desk.shown.value.front.seen.book }
+    requires map { IsMapOfLog what.1.front.seen.log what.1.map }
+    ensures shows { MatchResult result.1 (λ _. result.0.desk.shown.value ≡ what.entry.1) (λ _. result.0.desk.shown.value ≡ writer.desk.shown.value) }
+    ensures quiet { drop result.0.behind result.0.log.items ≡ [] }
+    ensures named { view result.0.desk.place ≡ view writer.desk.place }
+{
+    let (rt, next) = what;
+    let mut writer = writer;
+    match writer.append(next) {
+        Err(_) => (writer, Err(NoMemory)),
+        Ok(()) => {
+            let (writer, result) = writer.publish_as::<Stays, R>(rt);
+            result.unwrap();
+            (writer, Ok(()))
+        }
+    }
+}
+
+impl Publisher {
+    /// Publishes one change at a version below 4,000,000. It may wait for viewers to leave the old copy. Refused for want
+    /// of memory; then what is published is as before.
+    pub fn change<R: Wait>(&mut self, rt: &R, change: &MapChange) -> Result<(), NoMemory>
+        requires room { version_after self.old.front.seen.log < 4_000_000 }
+        ensures own { self.new.front.seen.book ≡ self.old.front.seen.book }
+        ensures opened { opened_of self.new.front.seen.log ≡ opened_of self.old.front.seen.log }
+        ensures list { MatchResult result (λ _. self.new.front.seen.log ≡ self.old.front.seen.log ++ Changed change.now ∷ []) (λ _. self.new.front.seen.log ≡ self.old.front.seen.log) }
+    {
+        let next = self.after(change).ok_or(NoMemory)?;
+        let front = next.front.again();
+        replace_with(&mut self.writer, (rt, next), published)?;
+        self.front = front;
+        Ok(())
+    }
+
+    /// The published map with a change made in it, and its list. None where more stands in the list.
+    fn after(&self, change: &MapChange) -> Option<Shown>
+        requires room { version_after self.now.front.seen.log < 4_000_000 }
+        ensures own { IfSome result (λ next. next.front.seen.book ≡ self.now.front.seen.book) }
+        ensures list { IfSome result (λ next. next.front.seen.log ≡ self.now.front.seen.log ++ Changed change.now ∷ []) }
+        ensures map { IfSome result (λ next. IsMapOfLog next.front.seen.log next.map) }
+    {
+        let front = self.front.add(&self.head, change)?;
+        let mut map = self.map().copy();
+        map.apply(change);
+        Some(Shown { map, front })
+    }
+
+    /// A note of the list that is published.
+    pub fn tell(&mut self) -> Note
+        ensures note { result.front ≡ self.old.front }
+        ensures same { self.new ≡ self.old }
+    {
+        Note {
+            front: self.front.again(),
+        }
+    }
+
+    /// The map that is published.
+    pub fn map(&self) -> &FlatMap
+        ensures map { IsMapOfLog self.now.front.seen.log result.now }
+    {
+        &self.writer.published().map
+    }
+
+    /// The version of the published map.
+    pub fn count(&self) -> u32
+        ensures count { result ≡ version_after self.now.front.seen.log }
+    {
+        self.map().version()
+    }
+
+    /// Ends the published copies. It may wait for viewers that look. They go on with copies of their own.
+    pub fn close<R: Wait>(self, rt: &R) {
+        let Publisher {
+            writer,
+            head: _head,
+            front: _front,
+        } = self;
+        writer.take(rt);
+    }
+
+    /// A viewer of the published map. It has no place where none is given.
+    fn viewer(&mut self) -> Viewer
+        ensures same { self.new.front ≡ self.old.front }
+        ensures viewer { result.front ≡ self.old.front }
+    {
+        let mut reader = self.writer.factory().reader().ok();
+        let note = self.writer.tell::<Tells>();
+        if let Some(reader) = &mut reader {
+            reader.learn::<Tells>(note);
+        }
+        Viewer::new(reader, self.map().copy(), self.front.again())
+    }
+}
+
+/// The copies of a map, and as many viewers of them as `readers` says, 1 to 8. A viewer for which there is no place
+/// answers every look from its own copy. It may wait. Refused for want of memory.
+pub fn open<R: Wait>(
+    rt: &R,
+    alloc: Global,
+    map: FlatMap,
+    readers: u32,
+) -> Result<(Publisher, Vec<Viewer>), NoMemory>
+    requires few { (1 ≤ readers) × (readers ≤ 8) }
+    ensures list { IfOk result (λ pair. pair.0.front.seen.log ≡ Opened map ∷ []) }
+    ensures count { IfOk result (λ pair. length pair.1.items ≡ readers) }
+    ensures viewers { IfOk result (λ pair. All (λ viewer. viewer.front ≡ pair.0.front) pair.1.items) }
+{
+    let mut publisher = publisher_of(rt, alloc, &map, readers)?;
+    let Ok(viewers) = viewers(alloc, &mut publisher, readers) else {
+        publisher.close(rt);
+        return Err(NoMemory);
+    };
+    Ok((publisher, viewers))
+}
+
+/// The copies of a map, with room for so many viewers.
+fn publisher_of<R: Wait>(
+    rt: &R,
+    alloc: Global,
+    map: &FlatMap,
+    readers: u32,
+) -> Result<Publisher, NoMemory>
+    requires few { (1 ≤ readers) × (readers ≤ 8) }
+    ensures list { IfOk result (λ publisher. publisher.front.seen.log ≡ Opened map.now ∷ []) }
+{
+    let (head, front) = Front::open(map).ok_or(NoMemory)?;
+    let (first, second, same) = (shown(map, &front), shown(map, &front), shown(map, &front));
+    let writer = Copies::new(alloc, first, second, readers as usize)?;
+    let (writer, result) = named(rt, writer, same);
+    if let Err(refused) = result {
+        writer.take(rt);
+        return Err(refused);
+    }
+    Ok(Publisher {
+        writer,
+        head,
+        front,
+    })
+}
+
+/// A copy of a map, as it is opened, and its list.
+fn shown(map: &FlatMap, front: &Front) -> Shown
+    requires opened { front.now.seen.log ≡ Opened map.now ∷ [] }
+    ensures is_map { IsMapOfLog result.front.seen.log result.map }
+    ensures map { result.map ≡ map.now }
+    ensures front { result.front ≡ front.now }
+{
+    Shown {
+        map: map.copy(),
+        front: front.again(),
+    }
+}
+
+/// As many viewers as are asked for.
+fn viewers(
+    alloc: Global,
+    publisher: &mut Publisher,
+    readers: u32,
+) -> Result<Vec<Viewer>, AllocError>
+    ensures same { publisher.new.front ≡ publisher.old.front }
+    ensures count { IfOk result (λ viewers. length viewers.items ≡ readers) }
+    ensures viewers { IfOk result (λ viewers. All (λ viewer. viewer.front ≡ publisher.old.front) viewers.items) }
+{
+    let mut viewers = Vec::with_capacity(alloc, readers as usize)?;
+    for number in 0..readers {
+        viewers.push(publisher.viewer())?;
+    }
+    Ok(viewers)
+}

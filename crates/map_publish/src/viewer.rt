@@ -1,0 +1,117 @@
+//! One who looks at the published map.
+ghost use Rattle.std.specs.Prelude.{◌≡◌, ◌<◌, length, IsTrue, IsFalse};
+ghost use Rattle.std.specs.Option.{ForSome};
+ghost use mathlib.Core.List.{IsPrefix};
+ghost use Rattle.left_right.specs.Sides.{view};
+ghost use Rattle.map_publish.specs.Lists.{opened_of, changes_of, IsMapOfLog, IsLookIn};
+ghost use Rattle.map_publish.specs.Names.{name};
+ghost use Rattle.map_publish.specs.Props.{IsMapAfter-prop};
+
+use crate::front::Front;
+use crate::names::{Name, Published, Stays};
+use crate::shown::Shown;
+use board_base::Kind;
+use board_spec::Look;
+use left_right::reader::Reader;
+use map_builder::FlatMap;
+
+/// What a publisher tells: the list that was published when it told the note. It takes no bytes beside its length.
+#[derive(Drop)]
+pub struct Note {
+    pub front: Front,
+}
+
+pub(crate) type Place = Reader<Shown, Name, Published>;
+
+/// A viewer, with a copy of the newest map that it was opened with, looked at or learnt. It has a place at the published
+/// copies, or none where that was refused.
+#[derive(Drop)]
+pub struct Viewer {
+    reader: Option<Place>,
+    map: FlatMap,
+    /// The list of that map.
+    pub front: Front,
+    ghost is_map: { IsMapOfLog front.seen.log map } by { IsMapAfter-prop (opened_of front.seen.log) (changes_of front.seen.log) map },
+    ghost tied: { ForSome reader (λ r. view r.place ≡ name front.seen.book) },
+}
+
+impl Viewer {
+    pub(crate) fn new(reader: Option<Place>, map: FlatMap, front: Front) -> Viewer
+        requires map { IsMapOfLog front.seen.log map }
+        requires tied { ForSome reader (λ r. view r.place ≡ name front.seen.book) }
+        ensures viewer { result.front ≡ front }
+    {
+        Viewer { reader, map, front }
+    }
+
+    /// Whether the note's list begins with every list that this viewer looked at or learnt. False exactly where it is
+    /// shorter than one of them.
+    pub fn meets(&mut self, note: Note) -> bool
+        requires own { note.front.seen.book ≡ self.old.front.seen.book }
+        ensures yes { IsTrue result → IsPrefix self.old.front.seen.log note.front.seen.log }
+        ensures no { IsFalse result → length note.front.seen.log < length self.old.front.seen.log }
+        ensures same { self.new ≡ self.old }
+    {
+        self.front.begins(&note.front)
+    }
+
+    /// Takes in the map that was published when the note was told.
+    pub fn learn(&mut self, note: Note, map: &FlatMap)
+        requires own { note.front.seen.book ≡ self.old.front.seen.book }
+        requires begins { IsPrefix self.old.front.seen.log note.front.seen.log }
+        requires map { IsMapOfLog note.front.seen.log map.now }
+        ensures learnt { self.new.front ≡ note.front }
+        ensures opened { opened_of self.new.front.seen.log ≡ opened_of self.old.front.seen.log }
+    {
+        self.map = map.copy();
+        self.front = note.front;
+    }
+
+    /// Looks at the newest map: how many changes led to it, and the longest interval round an address in which this kind
+    /// of access has one area. It neither waits nor takes memory.
+    pub fn look(&mut self, addr: u32, kind: Kind, smm: bool) -> Look
+        ensures own { self.new.front.seen.book ≡ self.old.front.seen.book }
+        ensures opened { opened_of self.new.front.seen.log ≡ opened_of self.old.front.seen.log }
+        ensures later { IsPrefix self.old.front.seen.log self.new.front.seen.log }
+        ensures look { IsLookIn self.new.front.seen.log addr kind smm result }
+    {
+        self.refresh();
+        self.find(addr, kind, smm)
+    }
+
+    /// Takes in the published map where its list is longer. Where the entry is refused, or the viewer has no place, the
+    /// viewer stays as it is.
+    fn refresh(&mut self)
+        ensures own { self.new.front.seen.book ≡ self.old.front.seen.book }
+        ensures opened { opened_of self.new.front.seen.log ≡ opened_of self.old.front.seen.log }
+        ensures later { IsPrefix self.old.front.seen.log self.new.front.seen.log }
+    {
+        let Some(reader) = self.reader.take() else {
+            return;
+        };
+        match reader.enter_as::<Stays>() {
+            Err(reader) => self.reader = Some(reader),
+            Ok(reading) => {
+                let shown = reading.get();
+                if self.front.begins(&shown.front) && self.front.count < shown.front.count {
+                    self.map = shown.map.copy();
+                    self.front = shown.front.again();
+                }
+                self.reader = Some(reading.leave());
+            }
+        }
+    }
+
+    /// Looks at the viewer's own copy.
+    fn find(&self, addr: u32, kind: Kind, smm: bool) -> Look
+        ensures look { IsLookIn self.now.front.seen.log addr kind smm result }
+    {
+        let span = self.map.find(addr, kind, smm);
+        Look {
+            version: self.map.version(),
+            lo: span.lo,
+            hi: span.hi,
+            area: span.area,
+        }
+    }
+}
