@@ -121,6 +121,13 @@ impl Cpu {
         self.viewer.look(addr, kind, smm)
     }
 
+    /// How many map writes the caller knows.
+    pub fn version(&self) -> u32
+        ensures version { result ≡ length (known_of self.now) }
+    {
+        self.viewer.version()
+    }
+
     /// Takes a turn without an event, after which the caller knows all that is published.
     pub(crate) fn catch_up<R: Wait>(&mut self, live: &Live, rt: &R)
         requires own { IsCallerOf live.now self.old }

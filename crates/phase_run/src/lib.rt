@@ -1,0 +1,8 @@
+//! The phases of a script on threads. In each phase every processor is a worker, which does its own statements in their
+//! order; a phase begins when all workers of the one before have ended.
+#![tactic(auto)]
+
+mod caller;
+mod worker;
+
+pub use caller::Caller;
