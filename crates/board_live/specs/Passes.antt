@@ -30,12 +30,13 @@ abbrev pub opened_in : SharedPass → List Entry
 opened_in pass = reverse (opened_of pass)
 
 -- a pass of the caller of this number, for these published copies
-pub record IsPassOf (number : ℕ) (book : Book) (pass : SharedPass) : Type 0 where
-  pub number : number_of pass ≡ number
-  pub caller : number < callers_in pass
+pub record IsPassOf (actor : ℕ) (book : Book) (pass : SharedPass) : Type 0 where
+  pub number : number_of pass ≡ actor
+  pub caller : actor < callers_in pass
   pub part : part_of pass ≡ Some (origin (setup_in pass) (callers_in pass) (opened_in pass) book)
-  pub mine : own_by (λ (entry : Entry). entry.actor) number (seen_of pass) ≡ own_by (λ (entry : Entry). entry.actor) number (opened_of pass) ++ mine_of pass
-  pub splits : number ≡ 0 → splits_of pass + 1 ≡ callers_in pass
+  pub mine : own_by (λ (entry : Entry). entry.actor) actor (seen_of pass)
+      ≡ own_by (λ (entry : Entry). entry.actor) actor (opened_of pass) ++ mine_of pass
+  pub splits : actor ≡ 0 → splits_of pass + 1 ≡ callers_in pass
   pub joined : joined_of pass ≡ []
 
 -- a pass that has seen what was opened, and has added nothing

@@ -1,5 +1,5 @@
 //! A caller of the shared board.
-ghost use Rattle.std.specs.Prelude.{◌≡◌, ◌+◌, ◌<◌, ◌≤◌, length, false, MatchResult, OnOk, OnErr};
+ghost use Rattle.std.specs.Prelude.{◌≡◌, ◌+◌, ◌<◌, ◌≤◌, length, false, IfOk, OnErr};
 ghost use mathlib.Core.List.{IsPrefix};
 ghost use Rattle.board_spec.specs.InRange.{IsInRange};
 ghost use Rattle.bus_turn.specs.Passes.{IsIdle, number_of, splits_of};
@@ -95,7 +95,7 @@ impl Cpu {
         requires room { length (mine_of self.old) < most_each }
         ensures own { IsCallerOf live.now self.new }
         ensures same { IsSameCaller self.old self.new }
-        ensures added { OnOk result (λ answered. Adds event.now answered self.old self.new) }
+        ensures added { IfOk result (λ answered. Adds event.now answered self.old self.new) }
         ensures refused { OnErr result (AddsNone self.old self.new) }
     {
         let mut held = live.turn.take(rt, &mut self.pass);

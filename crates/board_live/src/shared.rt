@@ -1,14 +1,15 @@
 //! What the callers share by turns: the board, and the publisher of its memory map.
-ghost use Rattle.std.specs.Prelude.{◌≡◌, ◌<◌, ◌≤◌, ◌∷◌, length, reverse, MatchResult};
+ghost use Rattle.std.specs.Prelude.{◌≡◌, ◌<◌, ◌≤◌, ◌++◌, length, reverse, IfOk, OnOk, OnErr};
 ghost use Rattle.board_spec.specs.InRange.{IsInRange};
 ghost use Rattle.board_spec.specs.Legal.{entries_by};
-ghost use Rattle.map_publish.specs.Lists.{opened_of};
+ghost use Rattle.std.specs.Option.{option_to_list};
+ghost use Rattle.map_publish.specs.Lists.{opened_of, changes_of, version_after};
 ghost use Rattle.board_live.specs.Known.{oldest, ArePublished, Opens, most_each, AreFew};
 ghost use Rattle.board_live.specs.Props.{Opens-prop, AreFew-prop};
 
 use board_base::NoMemory;
 use board_core::{Board, Setup};
-use board_spec::{Entry, Event, Reply};
+use board_spec::{Entry, Event, MapChange, Reply};
 use bus_turn::Kept;
 use map_publish::Publisher;
 use std::collections::LinkedList;
@@ -67,6 +68,24 @@ impl Kept for Shared {
     }
 }
 
+/// Publishes a map write, where there is one.
+fn publish<R: Wait>(
+    publisher: &mut Publisher,
+    rt: &R,
+    change: Option<MapChange>,
+) -> Result<(), NoMemory>
+    requires room { version_after publisher.old.front.seen.log < 4_000_000 }
+    ensures own { publisher.new.front.seen.book ≡ publisher.old.front.seen.book }
+    ensures opened { opened_of publisher.new.front.seen.log ≡ opened_of publisher.old.front.seen.log }
+    ensures ok { OnOk result (changes_of publisher.new.front.seen.log ≡ option_to_list change ++ changes_of publisher.old.front.seen.log) }
+    ensures refused { OnErr result (publisher.new.front.seen.log ≡ publisher.old.front.seen.log) }
+{
+    match change {
+        Some(change) => publisher.change(rt, &change),
+        None => Ok(()),
+    }
+}
+
 impl Shared {
     ghost use Rattle.board_live.specs.Steps.{Steps, IsSameBoard};
 
@@ -82,18 +101,14 @@ impl Shared {
         requires few { length (entries_by number self.old.board.entries) < most_each }
         requires event { IsInRange self.old.board.setup event.now }
         ensures same { IsSameBoard self.old self.new }
-        ensures steps { MatchResult result
-            (λ answered. Steps number event.now answered self.old.board self.new.board)
-            (λ _. self.new.board.entries ≡ self.old.board.entries) }
-        ensures refused { MatchResult result (λ _. Unit {0}) (λ _. self.new.publisher.front.seen.log ≡ self.old.publisher.front.seen.log) }
+        ensures steps { IfOk result (λ answered. Steps number event.now answered self.old.board self.new.board) }
+        ensures refused { OnErr result (self.new.board.entries ≡ self.old.board.entries) }
+        ensures unpublished { OnErr result (self.new.publisher.front.seen.log ≡ self.old.publisher.front.seen.log) }
     {
         let place = self.board.history().len();
-        if self.board.history().spare() == 0 {
-            self.board.reserve(1)?;
-        }
-        if let Some(change) = self.board.map_change(event) {
-            self.publisher.change(rt, &change)?;
-        }
+        self.board.reserve(1)?;
+        let change = self.board.map_change(event);
+        publish(&mut self.publisher, rt, change)?;
         let reply = self.board.step(number, event);
         Ok(Answered { reply, place })
     }
