@@ -1,6 +1,6 @@
 -- A caller, and what it knows. Histories and map writes have the newest first.
-use Rattle.std.specs.Prelude.{ℕ, ◌≡◌, ◌<◌, List, length, map, reverse, range_with_len, All, Some}
-use Rattle.std.specs.List.{Any}
+use Rattle.std.specs.Prelude.{ℕ, ◌≡◌, ◌<◌, List, length, map, reverse, All, Some}
+use Rattle.std.specs.List.{Any, range_with_len}
 use Rattle.bus_turn.specs.Passes.{opened_of as opened_by, part_of, seen_of as seen_in}
 use Rattle.bus_turn.specs.Turns.{IsOf}
 use Rattle.board_spec.specs.declared.event.Entry.{Entry}

@@ -5,7 +5,14 @@ use Rattle.board_spec.specs.Answer.{IsAnswer}
 use Rattle.board_core.specs.Kept.{Standing, next_entry}
 use Rattle.board_live.specs.declared.shared.Answered.{Answered}
 use Rattle.board_live.specs.declared.shared.Shared.{Shared}
+use Rattle.board_live.specs.declared.shared.Origin.{Origin}
 use Rattle.board_live.specs.Known.{oldest}
+use Rattle.board_live.specs.Origins.{origin}
+
+-- what a shared board was opened with
+abbrev pub opened_with : Shared → Origin
+opened_with shared =
+    origin shared.board.setup shared.callers (oldest shared.opened shared.board.entries) shared.publisher.front.seen.book
 
 -- the same board, publisher and callers
 pub record IsSameBoard (before now : Shared) : Type 0 where

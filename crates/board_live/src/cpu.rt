@@ -1,11 +1,15 @@
 //! A caller of the shared board.
-ghost use Rattle.std.specs.Prelude.{◌≡◌, ◌+◌, ◌<◌, ◌≤◌, length, false, IfOk, OnErr};
+ghost use Rattle.std.specs.Prelude.{◌≡◌, ◌+◌, ◌<◌, ◌≤◌, length, drop, reverse, Some, IfOk, OnErr};
 ghost use mathlib.Core.List.{IsPrefix};
 ghost use Rattle.board_spec.specs.InRange.{IsInRange};
-ghost use Rattle.bus_turn.specs.Passes.{IsIdle, number_of, splits_of};
+ghost use Rattle.bus_turn.specs.Passes.{IsIdle, IsHolding, IsSameCaller as IsSamePass, HasSameJoined, number_of, splits_of, opened_of as opened_by, part_of, seen_of as seen_in, mine_of as mine_in};
+ghost use Rattle.bus_turn.specs.Turns.{IsOf};
+ghost use Rattle.bus_turn.specs.Views.{own_by};
 ghost use Rattle.map_publish.specs.Lists.{opened_of};
 ghost use Rattle.board_live.specs.Known.{Opens, most_each};
 ghost use Rattle.board_live.specs.Passes.{IsPassOf, IsFresh, IsViewerFor, callers_in, setup_in, opened_in};
+ghost use Rattle.board_live.specs.Origins.{origin};
+ghost use Rattle.board_live.specs.Steps.{opened_with};
 ghost use Rattle.board_live.specs.Props.{Opens-prop};
 ghost use Rattle.board_live.specs.PassProps.{IsPassOf-prop};
 
@@ -44,16 +48,51 @@ fn meet<R: Wait>(rt: &R, publisher: &mut Publisher, viewer: &mut Viewer)
     unreachable!()
 }
 
-/// Lets a viewer learn the map that is published.
-fn learn(publisher: &mut Publisher, viewer: &mut Viewer)
-    requires own { publisher.old.front.seen.book ≡ viewer.old.front.seen.book }
-    requires begins { IsPrefix viewer.old.front.seen.log publisher.old.front.seen.log }
-    ensures same { publisher.new ≡ publisher.old }
-    ensures learnt { viewer.new.front ≡ publisher.old.front }
+/// Takes the turn, and lets the viewer meet a note.
+fn enter<R: Wait>(
+    live: &Live,
+    rt: &R,
+    pass: &mut Pass<Shared>,
+    viewer: &mut Viewer,
+) -> Held<Shared>
+    requires own { IsOf live.now.turn pass.old }
+    requires idle { IsIdle pass.old }
+    requires part { part_of pass.old ≡ Some (origin (setup_in pass.old) (callers_in pass.old) (opened_in pass.old) viewer.old.front.seen.book) }
+    ensures own { IsOf live.now.turn pass.new }
+    ensures holds { IsHolding pass.new }
+    ensures same { IsSamePass pass.old pass.new × HasSameJoined pass.old pass.new × (mine_in pass.new ≡ mine_in pass.old) }
+    ensures viewer { viewer.new ≡ viewer.old }
+    ensures list { seen_in pass.new ≡ reverse result.value.board.entries }
+    ensures begins { IsPrefix (seen_in pass.old) (reverse result.value.board.entries) }
+    ensures opened { IsPrefix (opened_by pass.old) (reverse result.value.board.entries) }
+    ensures mine { own_by (λ entry. entry.actor) (number_of pass.old) (drop (length (opened_by pass.old)) (reverse result.value.board.entries)) ≡ mine_in pass.old }
+    ensures part { part_of pass.old ≡ Some (opened_with result.value) }
+    ensures meets { IsPrefix viewer.old.front.seen.log result.value.publisher.front.seen.log }
+{
+    let mut held = live.turn.take(rt, pass);
+    meet(rt, &mut held.value.publisher, viewer);
+    held
+}
+
+/// Lets the viewer learn the map that is published, and gives the turn back.
+fn leave(live: &Live, pass: &mut Pass<Shared>, viewer: &mut Viewer, held: Held<Shared>)
+    requires own { IsOf live.now.turn pass.old }
+    requires holds { IsHolding pass.old }
+    requires list { seen_in pass.old ≡ reverse held.value.board.entries }
+    requires part { part_of pass.old ≡ Some (opened_with held.value) }
+    requires copies { held.value.publisher.front.seen.book ≡ viewer.old.front.seen.book }
+    requires begins { IsPrefix viewer.old.front.seen.log held.value.publisher.front.seen.log }
+    ensures own { IsOf live.now.turn pass.new }
+    ensures idle { IsIdle pass.new }
+    ensures same { IsSamePass pass.old pass.new × HasSameJoined pass.old pass.new }
+    ensures seen { (seen_in pass.new ≡ seen_in pass.old) × (mine_in pass.new ≡ mine_in pass.old) }
+    ensures learnt { viewer.new.front ≡ held.value.publisher.front }
     ensures opened { opened_of viewer.new.front.seen.log ≡ opened_of viewer.old.front.seen.log }
 {
-    let note = publisher.tell();
-    viewer.learn(note, publisher.map());
+    let mut held = held;
+    let note = held.value.publisher.tell();
+    viewer.learn(note, held.value.publisher.map());
+    live.turn.give(pass, held);
 }
 
 impl Cpu {
@@ -98,15 +137,18 @@ impl Cpu {
         ensures added { IfOk result (λ answered. Adds event.now answered self.old self.new) }
         ensures refused { OnErr result (AddsNone self.old self.new) }
     {
-        let mut held = live.turn.take(rt, &mut self.pass);
-        meet(rt, &mut held.value.publisher, &mut self.viewer);
-        let result = held.value.step(rt, self.number, event);
-        if result.is_ok() {
-            live.turn.commit(&mut self.pass, &mut held);
+        let mut held = enter(live, rt, &mut self.pass, &mut self.viewer);
+        match held.value.step(rt, self.number, event) {
+            Ok(answered) => {
+                live.turn.commit(&mut self.pass, &mut held);
+                leave(live, &mut self.pass, &mut self.viewer, held);
+                Ok(answered)
+            }
+            Err(NoMemory) => {
+                leave(live, &mut self.pass, &mut self.viewer, held);
+                Err(NoMemory)
+            }
         }
-        learn(&mut held.value.publisher, &mut self.viewer);
-        live.turn.give(&mut self.pass, held);
-        result
     }
 
     /// Looks at the newest map: how many map writes led to it, and the longest interval round an address in which this
@@ -135,9 +177,7 @@ impl Cpu {
         ensures same { IsSameCaller self.old self.new }
         ensures seen { AddsNone self.old self.new }
     {
-        let mut held = live.turn.take(rt, &mut self.pass);
-        meet(rt, &mut held.value.publisher, &mut self.viewer);
-        learn(&mut held.value.publisher, &mut self.viewer);
-        live.turn.give(&mut self.pass, held);
+        let held = enter(live, rt, &mut self.pass, &mut self.viewer);
+        leave(live, &mut self.pass, &mut self.viewer, held);
     }
 }

@@ -1,6 +1,6 @@
 //! The board while it is shared.
-ghost use Rattle.std.specs.Prelude.{◌≡◌, ◌+◌, ◌<◌, ◌≤◌, [], length, map, reverse, range_with_len, vec_capacity, All, IfOk, IfErr};
-ghost use Rattle.std.specs.List.{Any};
+ghost use Rattle.std.specs.Prelude.{◌≡◌, ◌+◌, ◌<◌, ◌≤◌, [], length, map, reverse, vec_capacity, All, IfOk, IfErr};
+ghost use Rattle.std.specs.List.{Any, range_with_len};
 ghost use mathlib.Core.List.{IsPrefix};
 ghost use Rattle.bus_turn.specs.Passes.{IsIdle, IsSameCaller as IsSamePass, number_of, splits_of, seen_of as seen_in, mine_of as mine_in, joined_of};
 ghost use Rattle.bus_turn.specs.Turns.{IsOf};

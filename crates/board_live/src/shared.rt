@@ -54,14 +54,13 @@ impl Kept for Shared {
 
     type Fixed = Origin;
 
-    ghost use Rattle.board_live.specs.Known.{oldest};
-    ghost use Rattle.board_live.specs.Origins.{origin};
+    ghost use Rattle.board_live.specs.Steps.{opened_with};
 
     ghost entries = { λ shared. reverse shared.board.entries };
 
     ghost actor = { λ entry. entry.actor };
 
-    ghost fixed = { λ shared. origin shared.board.setup shared.callers (oldest shared.opened shared.board.entries) shared.publisher.front.seen.book };
+    ghost fixed = { opened_with };
 
     fn count(&self) -> u32 {
         self.board.history().len()
