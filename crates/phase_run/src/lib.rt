@@ -3,6 +3,12 @@
 #![tactic(auto)]
 
 mod caller;
+mod cpu;
+mod jobs;
+mod run;
 mod worker;
 
 pub use caller::Caller;
+pub use jobs::Job;
+pub use run::{Run, run_phases};
+pub use worker::Work;

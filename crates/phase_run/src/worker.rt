@@ -24,7 +24,12 @@ pub struct Work {
 }
 
 /// Does one statement: a look at the published map, and all else through the bus turn.
-fn perform<C: Caller, R: Wait>(cpu: &mut C, shared: &C::Shared, rt: &R, event: &Event) -> Result<Done, NoMemory>
+fn perform<C: Caller, R: Wait>(
+    cpu: &mut C,
+    shared: &C::Shared,
+    rt: &R,
+    event: &Event,
+) -> Result<Done, NoMemory>
     requires own { C.is_of shared.now cpu.old }
     requires event { IsInRange (C.setup cpu.old) event.now }
     requires room { length (entries_by (C.number cpu.old) (C.seen cpu.old)) < most_statements }
@@ -73,16 +78,17 @@ impl Work {
         requires known { C.known cpu.old ≡ map_writes_of (C.setup cpu.old) (C.seen cpu.old) }
         requires in_range { All (λ statement. IsInRange (C.setup cpu.old) statement.event) phase.now }
         requires empty { self.old.done.items ≡ [] }
-        requires mine { length (entries_by (C.number cpu.old) (C.seen cpu.old)) ≤ self.old.asked }
-        requires room { self.old.asked + length phase.now ≤ most_statements }
+        requires room { length (entries_by (C.number cpu.old) (C.seen cpu.old)) + length phase.now ≤ most_statements }
+        requires few { self.old.asked + length phase.now ≤ most_statements }
         ensures own { C.is_of shared.now cpu.new }
         ensures number { C.number cpu.new ≡ C.number cpu.old }
         ensures setup { C.setup cpu.new ≡ C.setup cpu.old }
         ensures fixed { C.fixed cpu.new ≡ C.fixed cpu.old }
         ensures done { OnOk result (HasDone (C.setup cpu.old) (C.number cpu.old) (C.seen cpu.old) phase.now
             self.new.done.items (C.seen cpu.new) (C.known cpu.new)) }
-        ensures mine { OnOk result (length (entries_by (C.number cpu.old) (C.seen cpu.new)) ≤ self.new.asked) }
-        ensures room { self.new.asked ≤ self.old.asked + length phase.now }
+        ensures mine { OnOk result (length (entries_by (C.number cpu.old) (C.seen cpu.new))
+            ≤ length (entries_by (C.number cpu.old) (C.seen cpu.old)) + length phase.now) }
+        ensures asked { self.new.asked ≤ self.old.asked + length phase.now }
     {
         let number = cpu.number();
         for statement in phase {

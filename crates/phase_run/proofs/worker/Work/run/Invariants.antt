@@ -14,6 +14,6 @@ invariant-loop-statement g l = record {
   is : l.number ≡ g.C.Caller.number l.fn.cpu;
   said : map event_of l.self.done.items ≡ events_by l.number (take l.statement-index l.phase);
   done : IsDone (g.C.Caller.setup l.fn.cpu) (g.C.Caller.number l.fn.cpu) (g.C.Caller.seen l.fn.cpu) (reverse l.self.done.items) (g.C.Caller.seen l.cpu) (g.C.Caller.known l.cpu);
-  mine : length (entries_by (g.C.Caller.number l.fn.cpu) (g.C.Caller.seen l.cpu)) ≤ l.self.asked;
-  room : l.self.asked ≤ l.fn.self.asked + l.statement-index;
+  mine : length (entries_by (g.C.Caller.number l.fn.cpu) (g.C.Caller.seen l.cpu)) ≤ length (entries_by (g.C.Caller.number l.fn.cpu) (g.C.Caller.seen l.fn.cpu)) + l.statement-index;
+  asked : l.self.asked ≤ l.fn.self.asked + l.statement-index;
 }
