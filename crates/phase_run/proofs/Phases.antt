@@ -1,7 +1,8 @@
 -- A phase, as the history of the run takes it in.
-use Rattle.std.proofs.Common.{◌≡◌, ℕ, ◌+◌, ◌-◌, ◌<◌, ◌≤◌, List, ◌++◌, map, length, take, drop, All, sym, ◌∙◌, ap, subst, arith}
-use Rattle.std.specs.Prelude.{reverse}
-use Rattle.std.proofs.lemmas.List.{reverse-append, reverse-reverse, length-reverse, length-append, length-map, take_all}
+use Rattle.std.proofs.Common.{◌≡◌, ℕ, ◌+◌, ◌-◌, ◌<◌, ◌≤◌, List, [], ◌∷◌, ◌++◌, map, length, take, drop, flat_map, All, Vec, Global, sym, ◌∙◌, ap, subst, arith}
+use Rattle.std.specs.Prelude.{reverse, slice_index_or}
+use Rattle.std.proofs.lemmas.List.{reverse-append, reverse-reverse, length-reverse, length-append, length-map, map-append, append-nil, take_all, take_more, take-append-drop}
+use Rattle.std.proofs.lemmas.Grind.{flat_map-append}
 use Rattle.std.proofs.Math.Seq.{drop-append_seam}
 use Rattle.std.proofs.lemmas.List.Elements.{All-take, All-drop}
 use Rattle.board_spec.specs.declared.event.Entry.{Entry}
@@ -58,3 +59,32 @@ phase_is_run before now opened entries phase works lists run old is are cards le
           subst (λ (ls : List (List Done)). IsWork before.setup before.entries (reverse (gained opened entries) ++ before.entries) phase actor (done_by 0 actor ls)) (sym are)
           (subst (λ (h : List Entry). IsWork before.setup before.entries h phase actor (done_by 0 actor (done_in works))) (sym whole) (run.each actor few));
     }
+
+-- ---- phase after phase
+
+abbrev Phase : Type 0
+Phase = Vec Statement Global
+
+abbrev in_phase : Phase → List Statement
+in_phase phase = phase.items
+
+phase_at : (phases : List Phase) (i : ℕ) (phase : Phase) → i < length phases → slice_index_or phases i phase ≡ phase → take (i + 1) phases ≡ take i phases ++ phase ∷ []
+phase_at phases i phase less is = take_more phases i phase less ∙ ap (λ (one : Phase). take i phases ++ one ∷ []) is
+
+pub phases_more : (phases : List Phase) (i : ℕ) (phase : Phase) → i < length phases → slice_index_or phases i phase ≡ phase
+    → map in_phase (take (i + 1) phases) ≡ map in_phase (take i phases) ++ phase.items ∷ []
+phases_more phases i phase less is = ap (map in_phase) (phase_at phases i phase less is) ∙ map-append in_phase (take i phases) (phase ∷ [])
+
+pub statements_more : (phases : List Phase) (i : ℕ) (phase : Phase) → i < length phases → slice_index_or phases i phase ≡ phase
+    → length (flat_map in_phase (take (i + 1) phases)) ≡ length (flat_map in_phase (take i phases)) + length phase.items
+statements_more phases i phase less is =
+    ap (λ (ps : List Phase). length (flat_map in_phase ps)) (phase_at phases i phase less is)
+    ∙ (ap length (flat_map-append in_phase (take i phases) (phase ∷ [])) ∙ (length-append (flat_map in_phase (take i phases)) (phase.items ++ [])
+    ∙ ap (λ (one : List Statement). length (flat_map in_phase (take i phases)) + length one) (append-nil phase.items)))
+
+pub statements_within : (phases : List Phase) (i : ℕ) → length (flat_map in_phase (take i phases)) ≤ length (flat_map in_phase phases)
+statements_within phases i =
+    let whole : length (flat_map in_phase phases) ≡ length (flat_map in_phase (take i phases)) + length (flat_map in_phase (drop i phases)) =
+    ap (λ (ps : List Phase). length (flat_map in_phase ps)) (sym (take-append-drop i phases))
+    ∙ (ap length (flat_map-append in_phase (take i phases) (drop i phases)) ∙ length-append (flat_map in_phase (take i phases)) (flat_map in_phase (drop i phases))) in
+    omega (arith, whole)
