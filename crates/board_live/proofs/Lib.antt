@@ -1,3 +1,4 @@
 pub mod Histories
 pub mod Limits
 pub mod Shares
+pub mod Turns

@@ -67,6 +67,7 @@ fn enter<R: Wait>(
     ensures opened { IsPrefix (opened_by pass.old) (reverse result.value.board.entries) }
     ensures mine { own_by (λ entry. entry.actor) (number_of pass.old) (drop (length (opened_by pass.old)) (reverse result.value.board.entries)) ≡ mine_in pass.old }
     ensures part { part_of pass.old ≡ Some (opened_with result.value) }
+    ensures copies { result.value.publisher.front.seen.book ≡ viewer.old.front.seen.book }
     ensures meets { IsPrefix viewer.old.front.seen.log result.value.publisher.front.seen.log }
 {
     let mut held = live.turn.take(rt, pass);
