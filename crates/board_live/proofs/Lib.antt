@@ -2,3 +2,4 @@ pub mod Histories
 pub mod Limits
 pub mod Shares
 pub mod Turns
+pub mod Joining

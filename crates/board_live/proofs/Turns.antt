@@ -24,7 +24,7 @@ use Rattle.board_live.specs.Steps.{IsSameBoard, opened_with}
 use Rattle.board_live.specs.Passes.{SharedPass, IsPassOf, setup_in, callers_in, opened_in}
 use Rattle.board_live.proofs.Histories.{extends_prefix, entries_reversed, known_extend}
 
-abbrev by_actor : Entry → ℕ
+abbrev pub by_actor : Entry → ℕ
 by_actor entry = entry.actor
 
 -- ---- a caller's own entries

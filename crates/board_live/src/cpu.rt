@@ -21,8 +21,7 @@ use bus_turn::{Held, Pass};
 use map_publish::{Publisher, Viewer};
 use std::sync::Wait;
 
-/// A caller: its number, its pass of the turn, and its viewer of the published map.
-#[derive(Drop)]
+/// A caller: its number, its pass of the turn, and its viewer of the published map. It is not `Drop`: `Live::close` ends it.
 pub struct Cpu {
     pub number: u8,
     pub pass: Pass<Shared>,

@@ -81,12 +81,15 @@ impl Live {
         };
         let map = board.map().copy();
         let Ok((publisher, viewers)) = map_publish::open(rt, alloc, map, u32::from(n)) else {
+            cpus.destroy_empty();
             return Err(LiveOpen { board });
         };
         match Turn::open(alloc, shared(board, publisher, n)) {
-            Err(TurnOpen { value }) => Err(LiveOpen {
-                board: unshared(rt, value),
-            }),
+            Err(TurnOpen { value }) => {
+                cpus.destroy_empty();
+                let board = unshared(rt, value);
+                Err(LiveOpen { board })
+            }
             Ok((turn, pass)) => {
                 let live = Live { turn };
                 let cpus = live.callers(pass, viewers, cpus);
@@ -111,7 +114,7 @@ impl Live {
     {
         let (mut pass, mut viewers, mut cpus) = (pass, viewers, cpus);
         let first = viewers.pop().unwrap();
-        for viewer in viewers {
+        while let Some(viewer) = viewers.pop() {
             let further = self.turn.split(&mut pass);
             let number = cpus.len() as u8 + 1;
             cpus.push(Cpu::new(number, further, viewer)).unwrap();
@@ -130,7 +133,11 @@ impl Live {
         let first = cpus.iter().position(|cpu| cpu.number == 0).unwrap();
         let mut first = cpus.remove(first);
         first.catch_up(&self, rt);
-        let Cpu { mut pass, .. } = first;
+        let Cpu {
+            number: _number,
+            mut pass,
+            viewer: _viewer,
+        } = first;
         self.join(rt, &mut pass, cpus);
         let Live { turn } = self;
         unshared(rt, turn.close(pass))
@@ -148,11 +155,17 @@ impl Live {
         ensures seen { IsPrefix (seen_in pass.old) (seen_in pass.new) }
         ensures joined { All (IsJoined pass.new) cpus.items }
     {
-        for cpu in cpus {
+        let mut cpus = cpus;
+        while let Some(cpu) = cpus.pop() {
             let mut cpu = cpu;
             cpu.catch_up(self, rt);
-            let Cpu { pass: other, .. } = cpu;
+            let Cpu {
+                number: _number,
+                pass: other,
+                viewer: _viewer,
+            } = cpu;
             self.turn.join(pass, other);
         }
+        cpus.destroy_empty();
     }
 }
