@@ -3,3 +3,4 @@ pub mod Limits
 pub mod Shares
 pub mod Turns
 pub mod Joining
+pub mod Opening

@@ -1,6 +1,7 @@
 //! The board while it is shared.
-ghost use Rattle.std.specs.Prelude.{◌≡◌, ◌+◌, ◌<◌, ◌≤◌, [], length, map, reverse, vec_capacity, All, IfOk, IfErr};
+ghost use Rattle.std.specs.Prelude.{◌≡◌, ◌+◌, ◌<◌, ◌≤◌, [], length, map, slice_index_or, vec_capacity, All, IfOk, IfErr};
 ghost use Rattle.std.specs.List.{Any, range_with_len};
+ghost use Rattle.board_live.specs.declared.cpu.Cpu.{Cpu};
 ghost use mathlib.Core.List.{IsPrefix};
 ghost use Rattle.bus_turn.specs.Passes.{IsIdle, IsSameCaller as IsSamePass, number_of, splits_of, seen_of as seen_in, mine_of as mine_in, joined_of};
 ghost use Rattle.bus_turn.specs.Turns.{IsOf};
@@ -58,6 +59,20 @@ fn unshared<R: Wait>(rt: &R, shared: Shared) -> Board
     } = shared;
     publisher.close(rt);
     board
+}
+
+/// Where the caller stands that has number 0.
+fn place_of_first(cpus: &[Cpu]) -> usize
+    requires first { Any (λ cpu. cpu.number ≡ 0) cpus.now }
+    ensures place { result < length cpus.now }
+    ensures first { (d : Cpu) → (slice_index_or cpus.now result d).number ≡ 0 }
+{
+    for place in 0..cpus.len() {
+        if cpus[place].number == 0 {
+            return place;
+        }
+    }
+    unreachable!()
 }
 
 impl Live {
@@ -130,8 +145,8 @@ impl Live {
         ensures entries { All (λ entry. Any (λ cpu. cpu.number ≡ entry.actor) cpus.items) result.entries }
     {
         let mut cpus = cpus;
-        let first = cpus.iter().position(|cpu| cpu.number == 0).unwrap();
-        let mut first = cpus.remove(first);
+        let place = place_of_first(&cpus);
+        let mut first = cpus.remove(place);
         first.catch_up(&self, rt);
         let Cpu {
             number: _number,
