@@ -1,19 +1,13 @@
 -- What is published, when an entry is added.
-use Rattle.std.proofs.Common.{◌≡◌, ℕ, ◌+◌, ◌≤◌, Bool, List, [], ◌∷◌, ◌++◌, length, refl, sym, ap, subst, ◌∙◌, append_assoc, length-append, arith}
+use Rattle.std.proofs.Common.{◌≡◌, ℕ, ◌+◌, ◌≤◌, List, [], ◌∷◌, ◌++◌, length, sym, ap, ◌∙◌, append_assoc, length-append, arith}
 use Rattle.std.specs.Option.{option_to_list}
 use Rattle.board_spec.specs.declared.event.Entry.{Entry}
 use Rattle.board_spec.specs.declared.map_change.MapChange.{MapChange}
-use Rattle.board_base.specs.declared.access.Kind.{Kind}
-use Rattle.board_spec.specs.declared.event.Look.{Look}
 use Rattle.board_spec.specs.Setup.{Setup}
-use Rattle.board_spec.specs.Decode.{Bytes}
-use Rattle.board_spec.specs.FlatMap.{IsSpan}
-use Rattle.board_spec.specs.MapWrites.{map_change_of, map_writes_of, registers_after, version_of}
+use Rattle.board_spec.specs.MapWrites.{map_change_of, map_writes_of, version_of}
 use Rattle.map_publish.specs.declared.mark.Mark.{Mark}
-use Rattle.map_publish.specs.Lists.{opened_of, changes_of, version_after, IsLookIn}
-use Rattle.map_publish.proofs.Changes.{registers_after_more}
-use Rattle.board_live.specs.Known.{oldest, known_after, ArePublished, Opens}
-use Rattle.board_live.specs.Bus.{IsLookOf}
+use Rattle.map_publish.specs.Lists.{opened_of, changes_of, version_after}
+use Rattle.board_live.specs.Known.{oldest, known_after, ArePublished}
 use Rattle.board_live.proofs.Histories.{oldest_added}
 
 pub published_added :
@@ -36,17 +30,3 @@ published_version setup opened history log published version =
     let both : length (map_writes_of setup history) ≡ length (changes_of log) + length (map_writes_of setup (oldest opened history)) =
     ap length published ∙ length-append (changes_of log) (map_writes_of setup (oldest opened history)) in
     omega (arith, both, version)
-
--- a look at the published copies is one after all map writes that the viewer knows
-pub look_known :
-    (setup : Setup) (opened : List Entry) (log : List Mark) (addr : ℕ) (kind : Kind) (smm : Bool) (look : Look) →
-    Opens setup opened (opened_of log) → IsLookIn log addr kind smm look → IsLookOf setup (known_after setup opened log) addr kind smm look
-look_known setup opened log addr kind smm look opens saw =
-    let both : length (known_after setup opened log) ≡ length (changes_of log) + length (map_writes_of setup opened) =
-    length-append (changes_of log) (map_writes_of setup opened) in
-    record {
-      version = omega (arith, both, saw.version, opens.version);
-      span = subst (λ (bytes : Bytes). IsSpan setup bytes addr kind smm look.lo look.hi look.area)
-          (registers_after_more setup (changes_of log) (map_writes_of setup opened))
-          (saw.span setup (registers_after setup (map_writes_of setup opened)) opens.stands);
-    }

@@ -9,9 +9,9 @@ use Rattle.board_spec.specs.declared.map_change.MapChange.{MapChange}
 use Rattle.board_spec.specs.Setup.{Setup}
 use Rattle.board_spec.specs.Answer.{IsAnswer}
 use Rattle.board_spec.specs.Legal.{entries_by}
-use Rattle.board_spec.specs.MapWrites.{map_writes_of, registers_after}
-use Rattle.board_spec.specs.FlatMap.{IsSpan}
+use Rattle.board_spec.specs.MapWrites.{map_writes_of}
 use Rattle.board_core.specs.Kept.{next_entry}
+use Rattle.map_publish.specs.Laws.{IsLookAfter}
 use Rattle.board_live.specs.declared.shared.Answered.{Answered}
 use Rattle.board_live.specs.declared.cpu.Cpu.{Cpu}
 use Rattle.board_live.specs.Known.{Extends}
@@ -42,6 +42,5 @@ pub record AddsNone (before now : Cpu) : Type 0 where
   pub known : known_of now ≡ map_writes_of (setup_of before) (seen_of now)
 
 -- what a look gives after these map writes: their number, and a span of the registers after them
-pub record IsLookOf (setup : Setup) (writes : List MapChange) (addr : ℕ) (kind : Kind) (smm : Bool) (look : Look) : Type 0 where
-  pub version : look.version ≡ length writes
-  pub span : IsSpan setup (registers_after setup writes) addr kind smm look.lo look.hi look.area
+abbrev pub IsLookOf : Setup → List MapChange → (addr : ℕ) → Kind → (smm : Bool) → Look → Type 0
+IsLookOf setup writes addr kind smm look = IsLookAfter setup writes addr kind smm look

@@ -1,5 +1,5 @@
 -- A caller, and what it knows. Histories and map writes have the newest first.
-use Rattle.std.specs.Prelude.{ℕ, ◌≡◌, ◌<◌, List, length, map, reverse, All, Some}
+use Rattle.std.specs.Prelude.{ℕ, ◌≡◌, ◌<◌, ◌≤◌, List, length, map, reverse, All, Some}
 use Rattle.std.specs.List.{Any, range_with_len}
 use Rattle.bus_turn.specs.Passes.{opened_of as opened_by, part_of, seen_of as seen_in}
 use Rattle.bus_turn.specs.Turns.{IsOf}
@@ -59,6 +59,7 @@ pub record AreAllOf (live : Live) (cpus : List Cpu) : Type 0 where
   pub own : All (IsCallerOf live) cpus
   pub same : All (λ cpu. part_of cpu.pass ≡ Some opened) cpus
   pub count : length cpus ≡ opened.callers
+  pub some : 1 ≤ length cpus
   pub each : (number : ℕ) → number < length cpus → Any (λ cpu. cpu.number ≡ number) cpus
 
 -- the callers of a board that was just opened, in the order of their numbers

@@ -4,11 +4,11 @@ use Rattle.board_spec.specs.declared.event.Entry.{Entry}
 use Rattle.board_spec.specs.declared.map_change.MapChange.{MapChange}
 use Rattle.board_spec.specs.Setup.{Setup}
 use Rattle.board_spec.specs.Legal.{entries_by}
-use Rattle.board_spec.specs.MapWrites.{map_writes_of, version_of, registers_after}
-use Rattle.addr_decode.specs.MapRegs.{StandsFor}
+use Rattle.board_spec.specs.MapWrites.{map_writes_of}
 use Rattle.map_builder.specs.Map.{Mapped}
 use Rattle.map_publish.specs.declared.mark.Mark.{Mark}
 use Rattle.map_publish.specs.Lists.{changes_of}
+use Rattle.map_publish.specs.Laws.{IsMapOfWrites}
 
 -- a list begins with another: it has more, which is newer
 abbrev pub Extends : {E : Type 0} → (shorter longer : List E) → Type 0
@@ -27,9 +27,8 @@ abbrev pub ArePublished : Setup → ℕ → List Entry → List Mark → Type 0
 ArePublished setup opened history log = map_writes_of setup history ≡ known_after setup (oldest opened history) log
 
 -- a map is that of the opened history
-pub record Opens (setup : Setup) (opened : List Entry) (map : Mapped) : Type 0 where
-  pub stands : StandsFor setup (registers_after setup (map_writes_of setup opened)) map.regs
-  pub version : map.version ≡ version_of setup opened
+abbrev pub Opens : Setup → List Entry → Mapped → Type 0
+Opens setup opened map = IsMapOfWrites setup (map_writes_of setup opened) map
 
 -- the most entries of a caller
 abbrev pub most_each : ℕ

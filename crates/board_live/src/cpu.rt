@@ -21,8 +21,7 @@ use bus_turn::{Held, Pass};
 use map_publish::{Publisher, Viewer};
 use std::sync::Wait;
 
-/// A caller: its number, its pass of the turn, and its viewer of the published map.
-#[derive(Drop)]
+/// A caller: its number, its pass of the turn, and its viewer of the published map. It is not `Drop`: `Live::close` ends it.
 pub struct Cpu {
     pub number: u8,
     pub pass: Pass<Shared>,
@@ -67,6 +66,7 @@ fn enter<R: Wait>(
     ensures opened { IsPrefix (opened_by pass.old) (reverse result.value.board.entries) }
     ensures mine { own_by (λ entry. entry.actor) (number_of pass.old) (drop (length (opened_by pass.old)) (reverse result.value.board.entries)) ≡ mine_in pass.old }
     ensures part { part_of pass.old ≡ Some (opened_with result.value) }
+    ensures copies { result.value.publisher.front.seen.book ≡ viewer.old.front.seen.book }
     ensures meets { IsPrefix viewer.old.front.seen.log result.value.publisher.front.seen.log }
 {
     let mut held = live.turn.take(rt, pass);

@@ -6,6 +6,9 @@ mod live;
 pub mod sends;
 mod shared;
 
+#[cfg(test)]
+mod tests;
+
 pub use cpu::Cpu;
 pub use live::{Live, LiveOpen};
 pub use shared::{Answered, Origin, Shared};

@@ -1,6 +1,7 @@
 //! The board while it is shared.
-ghost use Rattle.std.specs.Prelude.{◌≡◌, ◌+◌, ◌<◌, ◌≤◌, [], length, map, reverse, vec_capacity, All, IfOk, IfErr};
+ghost use Rattle.std.specs.Prelude.{◌≡◌, ◌+◌, ◌<◌, ◌≤◌, [], length, map, slice_index_or, vec_capacity, All, IfOk, IfErr};
 ghost use Rattle.std.specs.List.{Any, range_with_len};
+ghost use Rattle.board_live.specs.declared.cpu.Cpu.{Cpu};
 ghost use mathlib.Core.List.{IsPrefix};
 ghost use Rattle.bus_turn.specs.Passes.{IsIdle, IsSameCaller as IsSamePass, number_of, splits_of, seen_of as seen_in, mine_of as mine_in, joined_of};
 ghost use Rattle.bus_turn.specs.Turns.{IsOf};
@@ -60,6 +61,20 @@ fn unshared<R: Wait>(rt: &R, shared: Shared) -> Board
     board
 }
 
+/// Where the caller stands that has number 0.
+fn place_of_first(cpus: &[Cpu]) -> usize
+    requires first { Any (λ cpu. cpu.number ≡ 0) cpus.now }
+    ensures place { result < length cpus.now }
+    ensures first { (d : Cpu) → (slice_index_or cpus.now result d).number ≡ 0 }
+{
+    for place in 0..cpus.len() {
+        if cpus[place].number == 0 {
+            return place;
+        }
+    }
+    unreachable!()
+}
+
 impl Live {
     ghost use Rattle.board_live.specs.Callers.{IsCallerOf, IsNewOf, AreOpened, AreAllOf, Closes};
     ghost use Rattle.board_live.specs.Joins.{IsJoined};
@@ -81,12 +96,15 @@ impl Live {
         };
         let map = board.map().copy();
         let Ok((publisher, viewers)) = map_publish::open(rt, alloc, map, u32::from(n)) else {
+            cpus.destroy_empty();
             return Err(LiveOpen { board });
         };
         match Turn::open(alloc, shared(board, publisher, n)) {
-            Err(TurnOpen { value }) => Err(LiveOpen {
-                board: unshared(rt, value),
-            }),
+            Err(TurnOpen { value }) => {
+                cpus.destroy_empty();
+                let board = unshared(rt, value);
+                Err(LiveOpen { board })
+            }
             Ok((turn, pass)) => {
                 let live = Live { turn };
                 let cpus = live.callers(pass, viewers, cpus);
@@ -111,7 +129,7 @@ impl Live {
     {
         let (mut pass, mut viewers, mut cpus) = (pass, viewers, cpus);
         let first = viewers.pop().unwrap();
-        for viewer in viewers {
+        while let Some(viewer) = viewers.pop() {
             let further = self.turn.split(&mut pass);
             let number = cpus.len() as u8 + 1;
             cpus.push(Cpu::new(number, further, viewer)).unwrap();
@@ -127,10 +145,14 @@ impl Live {
         ensures entries { All (λ entry. Any (λ cpu. cpu.number ≡ entry.actor) cpus.items) result.entries }
     {
         let mut cpus = cpus;
-        let first = cpus.iter().position(|cpu| cpu.number == 0).unwrap();
-        let mut first = cpus.remove(first);
+        let place = place_of_first(&cpus);
+        let mut first = cpus.remove(place);
         first.catch_up(&self, rt);
-        let Cpu { mut pass, .. } = first;
+        let Cpu {
+            number: _number,
+            mut pass,
+            viewer: _viewer,
+        } = first;
         self.join(rt, &mut pass, cpus);
         let Live { turn } = self;
         unshared(rt, turn.close(pass))
@@ -148,11 +170,17 @@ impl Live {
         ensures seen { IsPrefix (seen_in pass.old) (seen_in pass.new) }
         ensures joined { All (IsJoined pass.new) cpus.items }
     {
-        for cpu in cpus {
+        let mut cpus = cpus;
+        while let Some(cpu) = cpus.pop() {
             let mut cpu = cpu;
             cpu.catch_up(self, rt);
-            let Cpu { pass: other, .. } = cpu;
+            let Cpu {
+                number: _number,
+                pass: other,
+                viewer: _viewer,
+            } = cpu;
             self.turn.join(pass, other);
         }
+        cpus.destroy_empty();
     }
 }

@@ -1,5 +1,6 @@
 //! What the callers share by turns: the board, and the publisher of its memory map.
 ghost use Rattle.std.specs.Prelude.{◌≡◌, ◌<◌, ◌≤◌, ◌++◌, length, reverse, IfOk, OnOk, OnErr};
+ghost use mathlib.Core.List.{IsPrefix};
 ghost use Rattle.board_spec.specs.InRange.{IsInRange};
 ghost use Rattle.board_spec.specs.Legal.{entries_by};
 ghost use Rattle.std.specs.Option.{option_to_list};
@@ -78,6 +79,7 @@ fn publish<R: Wait>(
     ensures opened { opened_of publisher.new.front.seen.log ≡ opened_of publisher.old.front.seen.log }
     ensures ok { OnOk result (changes_of publisher.new.front.seen.log ≡ option_to_list change ++ changes_of publisher.old.front.seen.log) }
     ensures refused { OnErr result (publisher.new.front.seen.log ≡ publisher.old.front.seen.log) }
+    ensures later { IsPrefix publisher.old.front.seen.log publisher.new.front.seen.log }
 {
     match change {
         Some(change) => publisher.change(rt, &change),
@@ -102,6 +104,7 @@ impl Shared {
         ensures same { IsSameBoard self.old self.new }
         ensures steps { IfOk result (λ answered. Steps number event.now answered self.old.board self.new.board) }
         ensures refused { OnErr result (self.new.board.entries ≡ self.old.board.entries) }
+        ensures later { IsPrefix self.old.publisher.front.seen.log self.new.publisher.front.seen.log }
         ensures unpublished { OnErr result (self.new.publisher.front.seen.log ≡ self.old.publisher.front.seen.log) }
     {
         let place = self.board.history().len();

@@ -1,5 +1,5 @@
 -- Maps after changes, and the changes of lists.
-use Rattle.std.proofs.Common.{◌≡◌, ℕ, ◌+◌, ◌<◌, List, [], ◌∷◌, ◌++◌, length, refl, sym, ap, ◌∙◌, arith}
+use Rattle.std.proofs.Common.{◌≡◌, ◌+◌, ◌<◌, List, [], ◌∷◌, ◌++◌, length, refl, sym, ap, ◌∙◌, arith}
 use Rattle.std.specs.Prelude.{flat_map, reverse}
 use Rattle.std.proofs.lemmas.Grind.{flat_map-append}
 use Rattle.std.proofs.lemmas.List.{reverse-append}
@@ -14,7 +14,7 @@ use Rattle.map_builder.specs.Map.{Mapped}
 use Rattle.map_builder.specs.Changed.{after}
 use Rattle.map_publish.specs.Changes.{bytes_after, IsMapAfter}
 use Rattle.map_publish.specs.declared.mark.Mark.{Mark}
-use Rattle.map_publish.specs.declared.mark.Mark.TheVariants.{Opened, Changed}
+use Rattle.map_publish.specs.declared.mark.Mark.TheVariants.{Changed}
 use Rattle.map_publish.specs.Lists.{changes_in, changes_of, opened_of}
 
 -- ---- maps
@@ -45,9 +45,10 @@ registers_after_more setup (change ∷ changes) earlier = ap (after setup change
 
 -- a list that goes on has the changes of its beginning, and more
 pub changes_extend : (front whole : List Mark) → IsPrefix front whole → (more : List MapChange) × (changes_of whole ≡ more ++ changes_of front)
-changes_extend front whole (rest, is) =
-    (changes_of rest,
-      ap changes_of (sym is) ∙ (ap reverse (flat_map-append changes_in front rest) ∙ reverse-append (flat_map changes_in front) (flat_map changes_in rest)))
+changes_extend front whole (rest, is) = (
+  changes_of rest,
+  ap changes_of (sym is) ∙ (ap reverse (flat_map-append changes_in front rest) ∙ reverse-append (flat_map changes_in front) (flat_map changes_in rest)),
+)
 
 pub changes_added : (log : List Mark) (change : MapChange) → changes_of (log ++ Changed change ∷ []) ≡ change ∷ changes_of log
 changes_added log change = ap reverse (flat_map-append changes_in log (Changed change ∷ [])) ∙ reverse-append (flat_map changes_in log) (change ∷ [])

@@ -2,3 +2,4 @@ pub mod Fronts
 pub mod Adding
 pub mod Changes
 pub mod Naming
+pub mod Looks

@@ -1,5 +1,5 @@
 -- The steps on the published copies keep the rule.
-use Rattle.std.proofs.Common.{◌≡◌, ◌≢◌, ℕ, true, false, List, [], ◌∷◌, ◌++◌, fold, set, refl, sym, ◌∙◌, ap, subst, ⊎_elim}
+use Rattle.std.proofs.Common.{◌≡◌, ◌≢◌, ℕ, List, [], ◌∷◌, ◌++◌, fold, set, refl, sym, ◌∙◌, ap, subst, ⊎_elim}
 use mathlib.Core.Option.{some}
 use lib.ListN.{get_elem?}
 use Rattle.left_right.specs.Register.{Admits, TurnsAt, Turns, Forks, Merges}
@@ -7,7 +7,7 @@ use Rattle.atomic_table.proofs.Lists.{at_set, at_snoc}
 use Rattle.map_publish.specs.declared.shown.Shown.{Shown}
 use Rattle.map_publish.specs.declared.names.Name.{Name}
 use Rattle.map_publish.specs.Lists.{IsMapOfLog}
-use Rattle.map_publish.specs.Names.{nobody, name, book_of, IsOf, Knows, Holds, Names, Stays}
+use Rattle.map_publish.specs.Names.{nobody, name, Knows, Holds, Names, Stays}
 
 nobody_knows : (shown : Shown) → Knows shown nobody
 nobody_knows shown named = absurd (cc named)

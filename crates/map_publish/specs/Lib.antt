@@ -3,3 +3,4 @@ pub mod Changes
 pub mod Props
 pub mod Fronts
 pub mod Names
+pub mod Laws

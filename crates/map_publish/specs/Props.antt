@@ -2,14 +2,14 @@
 use Rattle.std.specs.Prelude.{ℕ, List, Option, Some, None}
 use Rattle.std.specs.Coded.{Unit-prop}
 use Rattle.std.proofs.Props.{props}
-use Rattle.board_spec.specs.Setup.{Base, FittedCard}
 use Rattle.board_spec.specs.Decode.{Bytes}
 use Rattle.board_spec.specs.declared.map_change.MapChange.{MapChange}
 use Rattle.pci_bars.specs.Cards.{HoldsRom}
 use Rattle.map_builder.specs.Map.{Mapped}
 use Rattle.map_publish.specs.Changes.{IsMapAfter}
 
-HoldsRom-prop : (bytes : Bytes) (dev rom : ℕ) (size : Option ℕ) → IsProp (HoldsRom bytes dev rom size)
+-- what holds the register of an expansion ROM
+pub HoldsRom-prop : (bytes : Bytes) (dev rom : ℕ) (size : Option ℕ) → IsProp (HoldsRom bytes dev rom size)
 HoldsRom-prop bytes dev rom None = Unit-prop
 HoldsRom-prop bytes dev rom (Some bits) = hlevel props
 

@@ -60,7 +60,7 @@ impl Plain<Mark, Mark, u64> for Add {
 type Listed = Seen<Mark, u64, ListRule>;
 
 /// The word that keeps the length of the list. Whoever has it alone adds to the list.
-pub type Head = Word<Mark, u64, ListRule>;
+pub(crate) type Head = Word<Mark, u64, ListRule>;
 
 /// A beginning of the list, of at least the opened map. It takes no bytes beside its length.
 #[derive(Drop)]
@@ -93,7 +93,7 @@ fn added(seen: &Listed, count: u32, head: &Head, mark: &Mark) -> Option<Listed>
 
 impl Front {
     /// A new list that opens with a map, and the word that keeps its length.
-    pub fn open(map: &FlatMap) -> Option<(Head, Front)>
+    pub(crate) fn open(map: &FlatMap) -> Option<(Head, Front)>
         ensures head { IfSome result (λ pair. pair.0 ≡ head_of pair.1.seen.book) }
         ensures opened { IfSome result (λ pair. pair.1.seen.log ≡ Opened map.now ∷ []) }
     {
@@ -104,7 +104,7 @@ impl Front {
     }
 
     /// An equal beginning.
-    pub fn again(&self) -> Front
+    pub(crate) fn again(&self) -> Front
         ensures equal { result ≡ self.now }
     {
         Front {
@@ -114,7 +114,7 @@ impl Front {
     }
 
     /// Whether another beginning of the same list begins with this one.
-    pub fn begins(&self, other: &Front) -> bool
+    pub(crate) fn begins(&self, other: &Front) -> bool
         requires own { other.now.seen.book ≡ self.now.seen.book }
         ensures yes { IsTrue result → IsPrefix self.now.seen.log other.now.seen.log }
         ensures no { IsFalse result → length other.now.seen.log < length self.now.seen.log }
@@ -125,7 +125,7 @@ impl Front {
     }
 
     /// This beginning with a change added to the list. None where more stands in the list.
-    pub fn add(&self, head: &Head, change: &MapChange) -> Option<Front>
+    pub(crate) fn add(&self, head: &Head, change: &MapChange) -> Option<Front>
         requires head { head.now ≡ head_of self.now.seen.book }
         requires room { length self.now.seen.log ≤ 4_000_000 }
         ensures own { IfSome result (λ front. front.seen.book ≡ self.now.seen.book) }

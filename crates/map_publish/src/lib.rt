@@ -3,22 +3,20 @@
 #![tactic(auto)]
 
 mod front;
+pub mod laws;
 mod mark;
 mod names;
 mod publisher;
 pub mod sends;
 mod shown;
-mod viewer;
-
 #[cfg(test)]
 mod tests;
+mod viewer;
 
 pub use board_base::{Kind, NoMemory};
 pub use board_spec::{Look, MapChange};
 pub use front::{Front, ListRule};
 pub use map_builder::FlatMap;
 pub use mark::Mark;
-pub use names::{Name, Published};
 pub use publisher::{Publisher, open};
-pub use shown::Shown;
 pub use viewer::{Note, Viewer};

@@ -31,8 +31,7 @@ pub struct Publisher {
     ghost head_is: { head ≡ head_of front.seen.book },
     ghost quiet: { drop writer.behind writer.log.items ≡ [] },
     ghost shows: { writer.desk.shown.value.front ≡ front },
-    ghost is_map: { IsMapOfLog front.seen.log writer.desk.shown.value.map }
-        by { IsMapAfter-prop (opened_of front.seen.log) (changes_of front.seen.log) writer.desk.shown.value.map },
+    ghost is_map: { IsMapOfLog front.seen.log writer.desk.shown.value.map } by { IsMapAfter-prop (opened_of front.seen.log) (changes_of front.seen.log) writer.desk.shown.value.map },
     ghost named: { view writer.desk.place ≡ name front.seen.book },
 }
 

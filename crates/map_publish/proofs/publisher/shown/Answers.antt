@@ -1,6 +1,3 @@
-use Rattle.std.proofs.Common.{List, sym, subst}
-use Rattle.map_publish.specs.declared.mark.Mark.{Mark}
-use Rattle.map_publish.specs.Lists.{IsMapOfLog}
 use Rattle.map_publish.proofs.Changes.{unchanged}
 use Rattle.map_publish.proofs.publisher.shown.Goals as goal
 

@@ -1,6 +1,5 @@
 use Rattle.std.proofs.Common.{rules, ◌≡◌, [], ◌∷◌, ◌++◌, All, List, sym, ◌∙◌, subst}
 use Rattle.std.proofs.lemmas.List.Elements.{All-append}
-use Rattle.map_publish.specs.declared.front.Front.{Front}
 use Rattle.map_publish.specs.declared.viewer.Viewer.{Viewer}
 use Rattle.map_publish.proofs.publisher.viewers.Goals as goal
 

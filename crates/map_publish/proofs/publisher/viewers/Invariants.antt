@@ -1,4 +1,4 @@
-use Rattle.std.proofs.Common.{◌≡◌, ◌≤◌, All, length}
+use Rattle.std.proofs.Common.{◌≡◌, All, length}
 use Rattle.map_publish.proofs.publisher.viewers.Given as goal
 
 abbrev pub invariant-loop-number : goal.invariant-loop-number

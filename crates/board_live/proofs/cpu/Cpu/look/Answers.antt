@@ -4,7 +4,8 @@ use Rattle.map_publish.specs.Lists.{opened_of}
 use Rattle.board_live.specs.Known.{Opens}
 use Rattle.board_live.specs.Passes.{setup_in, opened_in}
 use Rattle.board_live.proofs.Histories.{known_extend}
-use Rattle.board_live.proofs.Shares.{look_known}
+use Rattle.board_spec.specs.MapWrites.{map_writes_of}
+use Rattle.map_publish.proofs.Looks.{looks_go_on}
 use Rattle.board_live.proofs.cpu.Cpu.look.Goals as goal
 
 pub returns-clause-later : goal.returns-clause-later
@@ -18,4 +19,4 @@ returns-clause-look c =
     let log = c.look.new.self.front.seen.log in
     let opens : Opens (setup_in pass) (opened_in pass) (opened_of log) =
     subst (λ (map : Mapped). Opens (setup_in pass) (opened_in pass) map) (sym c.look.ensures.opened) c.args.self.now.opens in
-    look_known (setup_in pass) (opened_in pass) log c.args.addr c.args.kind c.args.smm c.look.result opens c.look.ensures.look
+    looks_go_on (setup_in pass) (map_writes_of (setup_in pass) (opened_in pass)) log c.args.addr c.args.kind c.args.smm c.look.result opens c.look.ensures.look
