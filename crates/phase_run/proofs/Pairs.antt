@@ -10,6 +10,6 @@ map_pairs f [] (y ∷ ys) size each = absurd (omega (arith, size))
 map_pairs f (x ∷ xs) [] size each = absurd (omega (arith, size))
 map_pairs f (x ∷ xs) (y ∷ ys) size each =
     ext_get_or 0 (map f (y ∷ ys)) (map f (x ∷ xs)) (length-map (y ∷ ys) f ∙ (size ∙ sym (length-map (x ∷ xs) f))) (λ i below.
-      let less : i < length (y ∷ ys) = subst (λ (n : ℕ). i < n) (length-map (y ∷ ys) f) below in
-      let old : i < length (x ∷ xs) = subst (λ (n : ℕ). i < n) size less in
-      get_or-map f (y ∷ ys) i x 0 less ∙ (each i x old ∙ sym (get_or-map f (x ∷ xs) i x 0 old)))
+    let less : i < length (y ∷ ys) = subst (λ (n : ℕ). i < n) (length-map (y ∷ ys) f) below in
+    let old : i < length (x ∷ xs) = subst (λ (n : ℕ). i < n) size less in
+    get_or-map f (y ∷ ys) i x 0 less ∙ (each i x old ∙ sym (get_or-map f (x ∷ xs) i x 0 old)))

@@ -28,6 +28,7 @@ enum Moment {
 use Moment::{After, Before};
 
 /// Holds moments until others have come.
+#[derive(Drop)]
 struct HoldingGate {
     /// The second of each pair waits for the first.
     holds: &'static [(Moment, Moment)],
@@ -278,21 +279,25 @@ fn one_processor_is_a_replay(rt: HostRuntime) -> Result<(), Fail> {
 }
 
 /// One processor opens the window while another looks.
-const TWO: Script = &[
-    &[(0, Said::Select)],
-    &[(0, Said::Open), (1, Said::Look)],
-];
+const TWO: Script = &[&[(0, Said::Select)], &[(0, Said::Open), (1, Said::Look)]];
 
 /// The look came after.
-const FIRST: [Entry; 3] = [selected(0, 1), opened(0, 2), seen(1, 1, 1, Area::Shadow(0))];
+fn first_order() -> [Entry; 3] {
+    [selected(0, 1), opened(0, 2), seen(1, 1, 1, Area::Shadow(0))]
+}
 
 /// The look came before.
-const SECOND: [Entry; 3] = [selected(0, 1), seen(1, 1, 0, Area::Rom), opened(0, 2)];
+fn second_order() -> [Entry; 3] {
+    [selected(0, 1), seen(1, 1, 0, Area::Rom), opened(0, 2)]
+}
 
 #[test]
 fn two_processors_in_either_order(rt: HostRuntime) -> Result<(), Fail> {
     let entries = entries_of(&rt, rt.alloc(), TWO, 2, &QuietGate)?;
-    assert!(rt; entries.as_slice() == FIRST.as_slice() || entries.as_slice() == SECOND.as_slice());
+    assert!(rt;
+        entries.as_slice() == first_order().as_slice()
+            || entries.as_slice() == second_order().as_slice()
+    );
     Ok(())
 }
 
@@ -301,16 +306,21 @@ fn a_gate_forces_each_order(rt: HostRuntime) -> Result<(), Fail> {
     let gate = HoldingGate::new(&[(After(0, 2), Before(1, 1))]);
     let entries = entries_of(&rt, rt.alloc(), TWO, 2, &gate)?;
     assert_eq!(rt; gate.missed.load(Ordering::SeqCst), 0);
-    assert!(rt; entries.as_slice() == FIRST.as_slice());
+    assert!(rt; entries.as_slice() == first_order().as_slice());
     let gate = HoldingGate::new(&[(After(1, 1), Before(0, 2))]);
     let entries = entries_of(&rt, rt.alloc(), TWO, 2, &gate)?;
     assert_eq!(rt; gate.missed.load(Ordering::SeqCst), 0);
-    assert!(rt; entries.as_slice() == SECOND.as_slice());
+    assert!(rt; entries.as_slice() == second_order().as_slice());
     Ok(())
 }
 
 /// Each processor looks first.
-const BOTH: Script = &[&[(0, Said::Look), (1, Said::Look), (0, Said::Select), (1, Said::Select)]];
+const BOTH: Script = &[&[
+    (0, Said::Look),
+    (1, Said::Look),
+    (0, Said::Select),
+    (1, Said::Select),
+]];
 
 #[test]
 fn workers_run_side_by_side(rt: HostRuntime) -> Result<(), Fail> {
