@@ -3,7 +3,7 @@ ghost use Rattle.std.specs.Prelude.{◌≡◌, ◌<◌, length, IsTrue, IsFalse}
 ghost use Rattle.std.specs.Option.{ForSome};
 ghost use mathlib.Core.List.{IsPrefix};
 ghost use Rattle.left_right.specs.Sides.{view};
-ghost use Rattle.map_publish.specs.Lists.{opened_of, changes_of, IsMapOfLog, IsLookIn};
+ghost use Rattle.map_publish.specs.Lists.{opened_of, changes_of, version_after, IsMapOfLog, IsLookIn};
 ghost use Rattle.map_publish.specs.Names.{name};
 ghost use Rattle.map_publish.specs.Props.{IsMapAfter-prop};
 
@@ -77,6 +77,13 @@ impl Viewer {
     {
         self.refresh();
         self.find(addr, kind, smm)
+    }
+
+    /// How many changes led to the map that the viewer knows.
+    pub fn version(&self) -> u32
+        ensures version { result ≡ version_after self.now.front.seen.log }
+    {
+        self.map.version()
     }
 
     /// Takes in the published map where its list is longer. Where the entry is refused, or the viewer has no place, the

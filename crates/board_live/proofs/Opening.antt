@@ -1,0 +1,87 @@
+-- Callers of a board that was just opened.
+use Rattle.std.proofs.Common.{◌≡◌, ℕ, zero, suc, ◌+◌, ◌<◌, Option, Some, List, [], ◌∷◌, ◌++◌, length, map, refl, sym, ap, ◌∙◌, subst, arith, All, Any}
+use Rattle.std.specs.Prelude.{reverse}
+use Rattle.std.specs.List.{range_with_len}
+use Rattle.std.proofs.lemmas.List.{map-append, reverse-reverse}
+use Rattle.std.proofs.lemmas.List.Elements.{All-nil}
+use Rattle.bus_turn.specs.Passes.{opened_of as opened_by, part_of}
+use Rattle.board_spec.specs.declared.event.Entry.{Entry}
+use Rattle.map_publish.specs.declared.viewer.Viewer.{Viewer}
+use Rattle.map_publish.specs.Lists.{opened_of, changes_of}
+use Rattle.map_publish.specs.declared.front.Front.{Front}
+use Rattle.board_spec.specs.Setup.{Setup}
+use Rattle.board_spec.specs.MapWrites.{map_writes_of}
+use Rattle.board_live.specs.declared.cpu.Cpu.{Cpu}
+use Rattle.board_live.specs.declared.shared.Origin.{Origin}
+use Rattle.board_live.specs.Known.{Opens, oldest}
+use Rattle.board_live.specs.Origins.{origin, origin_in}
+use Rattle.board_live.specs.Passes.{SharedPass, IsViewerFor, setup_in, callers_in, opened_in}
+use Rattle.board_live.specs.declared.shared.Shared.{Shared}
+use Rattle.board_live.specs.Steps.{opened_with}
+use Rattle.board_live.proofs.Histories.{oldest_whole}
+use Rattle.board_live.specs.Callers.{IsNewOf, seen_of, known_of}
+
+-- a pass that was opened with the same has the same viewers and the same callers
+pub viewer_for : (one other : SharedPass) (viewer : Viewer) → opened_by other ≡ opened_by one → part_of other ≡ part_of one → IsViewerFor one viewer → IsViewerFor other viewer
+viewer_for one other viewer opened part has = record {
+  part = subst
+      (λ (t : Option Origin × List Entry). t.0 ≡ Some (origin (origin_in t.0).setup (origin_in t.0).callers (reverse t.1) viewer.front.seen.book))
+      (λ k. (sym part k, sym opened k)) has.part;
+  opens = subst (λ (t : Option Origin × List Entry). Opens (origin_in t.0).setup (reverse t.1) (opened_of viewer.front.seen.log)) (λ k. (sym part k, sym opened k)) has.opens;
+  none = has.none;
+}
+
+pub new_of : (one other : SharedPass) (cpu : Cpu) → opened_by other ≡ opened_by one → part_of other ≡ part_of one → IsNewOf other cpu → IsNewOf one cpu
+new_of one other cpu opened part new = record {
+  part = new.part ∙ part;
+  seen = new.seen ∙ ap reverse opened;
+  known = new.known ∙ λ k. map_writes_of (origin_in (part k)).setup (reverse (opened k));
+}
+
+pub none_all : {X : Type 0} (P : X → Type 0) (xs : List X) → xs ≡ [] → All P xs
+none_all {X} P xs none = subst (λ (w : List X). All P w) (sym none) (All-nil P)
+
+range_more : (a n : ℕ) → range_with_len a (suc n) ≡ range_with_len a n ++ (a + n) ∷ []
+range_more a zero = let same : a ≡ a + 0 = omega arith in ap (λ (k : ℕ). k ∷ []) same
+range_more a (suc n) =
+    let next : (a + 1) + n ≡ a + suc n = omega arith in
+    ap (λ (w : List ℕ). a ∷ w) (range_more (a + 1) n ∙ ap (λ (k : ℕ). range_with_len (a + 1) n ++ k ∷ []) next)
+
+-- a caller more has the next number
+pub numbers_more : (cpus all : List Cpu) (cpu : Cpu) → all ≡ cpus ++ cpu ∷ [] → cpu.number ≡ length cpus + 1 →
+    map (λ (c : Cpu). c.number) cpus ≡ range_with_len 1 (length cpus) → map (λ (c : Cpu). c.number) all ≡ range_with_len 1 (length cpus + 1)
+numbers_more cpus all cpu is number before =
+    let next : cpu.number ≡ 1 + length cpus = omega (arith, number) in
+    let one : suc (length cpus) ≡ length cpus + 1 = omega arith in
+    ap (map (λ (c : Cpu). c.number)) is
+    ∙ (map-append (λ (c : Cpu). c.number) cpus (cpu ∷ [])
+    ∙ ((λ k. before k ++ next k ∷ []) ∙ (sym (range_more 1 (length cpus)) ∙ ap (range_with_len 1) one)))
+
+-- ---- what a board is opened with
+
+pub opened_viewer :
+    (pass : SharedPass) (shared : Shared) (viewer : Viewer) → part_of pass ≡ Some (opened_with shared) → opened_by pass ≡ reverse shared.board.entries →
+    shared.opened ≡ length shared.board.entries → viewer.front ≡ shared.publisher.front → changes_of shared.publisher.front.seen.log ≡ [] → IsViewerFor pass viewer
+opened_viewer pass shared viewer part opened count front none =
+    let setup : shared.board.setup ≡ setup_in pass = sym (ap (λ (o : Option Origin). (origin_in o).setup) part) in
+    let callers : shared.callers ≡ callers_in pass = sym (ap (λ (o : Option Origin). (origin_in o).callers) part) in
+    let whole : oldest shared.opened shared.board.entries ≡ opened_in pass =
+    ap (λ (n : ℕ). oldest n shared.board.entries) count
+    ∙ (oldest_whole shared.board.entries ∙ sym (ap reverse opened ∙ reverse-reverse shared.board.entries)) in
+    let back : shared.publisher.front ≡ viewer.front = sym front in
+    record {
+      part = part ∙ λ k. Some (origin (setup k) (callers k) (whole k) (back k).seen.book);
+      opens = subst (λ (t : Setup × List Entry × Front). Opens t.0 t.1 (opened_of t.2.seen.log)) (λ k. (setup k, whole k, back k)) shared.opens;
+      none = ap (λ (f : Front). changes_of f.seen.log) front ∙ none;
+    }
+
+pub any_numbered : (a : ℕ) (cpus : List Cpu) → map (λ (c : Cpu). c.number) cpus ≡ range_with_len a (length cpus) →
+    (number : ℕ) → number < length cpus → Any (λ cpu. cpu.number ≡ a + number) cpus
+any_numbered a [] is number below = absurd (omega (arith, below))
+any_numbered a (cpu ∷ later) is zero below =
+    let first : cpu.number ≡ a = cc (is) in
+    (0, cpu, omega arith, refl, omega (arith, first))
+any_numbered a (cpu ∷ later) is (suc number) below =
+    let rest : map (λ (c : Cpu). c.number) later ≡ range_with_len (a + 1) (length later) = cc (is) in
+    let (k, other, within, at', has) = any_numbered (a + 1) later rest number (omega (arith, below)) in
+    (suc k, other, omega (arith, within), at', omega (arith, has))

@@ -1,0 +1,77 @@
+-- The opened map stands for the registers after the map writes of the history.
+use Rattle.std.proofs.Common.{◌≡◌, ℕ, ◌+◌, ◌*◌, ◌<◌, ◌≤◌, Bool, true, false, ◌&&◌, ◌||◌, List, Option, Some, None, refl, sym, ap, ◌∙◌, arith}
+use Rattle.std.specs.Prelude.{◌==◌, is_some}
+use Rattle.std.proofs.lemmas.Bool.Decides.{nat_tests}
+use Rattle.board_spec.specs.declared.event.Entry.{Entry}
+use Rattle.board_spec.specs.Bits.{is_within}
+use Rattle.board_spec.specs.Setup.{Setup, card_at}
+use Rattle.board_spec.specs.Decode.{Bytes}
+use Rattle.board_spec.specs.Laws.{SameMapBytes}
+use Rattle.board_spec.specs.MapWrites.{has_rom, reg_after, map_writes_of, registers_after}
+use Rattle.board_spec.specs.RegisterNames.{bridge, isa, card_register, base_register, expansion_rom}
+use Rattle.board_spec.specs.Registers.{byte_of}
+use Rattle.board_spec.proofs.MapWriteLaws.{map_writes_decide}
+use Rattle.pci_bars.specs.Cards.{CardBytes, DecodesAs, HoldsRom}
+use Rattle.pci_bars.proofs.CardLemmas.{holds-same}
+use Rattle.addr_decode.specs.MapRegs.{MapBytes, StandsFor}
+
+third : (a b fitted is d : Bool) → fitted ≡ true → is ≡ true → (a || b || fitted && true && is || d) ≡ true
+third true b fitted is d h k = refl
+third false true fitted is d h k = refl
+third false false fitted is d h k = rw (h, k) refl
+
+fourth : (a b c rom is : Bool) → rom ≡ true → is ≡ true → (a || b || c || rom && true && is) ≡ true
+fourth true b c rom is h k = refl
+fourth false true c rom is h k = refl
+fourth false false true rom is h k = refl
+fourth false false false rom is h k = rw (h, k) refl
+
+module _ (setup : Setup) (bytes other : Bytes) (same : SameMapBytes setup bytes other) where
+  bridge_same : (off : ℕ) → is_within 0x59 0x68 off ≡ true → bytes (bridge off) ≡ other (bridge off)
+  bridge_same off within = same (bridge off) (rw within refl)
+
+  card_same : (dev off : ℕ) → is_some (card_at setup dev) ≡ true → (off == 0x04 || is_within 0x10 0x27 off) ≡ true →
+      bytes (card_register dev off) ≡ other (card_register dev off)
+  card_same dev off fitted is =
+      same (card_register dev off)
+      (third (dev == 0 && 0 == 0 && (is_within 0x59 0x68 off || off == 0x72)) (dev == 1 && 0 == 0 && off == 0x4E)
+      (is_some (card_at setup dev)) (off == 0x04 || is_within 0x10 0x27 off) _ fitted is)
+
+  rom_same : (dev off : ℕ) → has_rom (card_at setup dev) ≡ true → is_within 0x30 0x33 off ≡ true →
+      bytes (card_register dev off) ≡ other (card_register dev off)
+  rom_same dev off fitted is =
+      same (card_register dev off)
+      (fourth (dev == 0 && 0 == 0 && (is_within 0x59 0x68 off || off == 0x72)) (dev == 1 && 0 == 0 && off == 0x4E)
+      (is_some (card_at setup dev) && true && (off == 0x04 || is_within 0x10 0x27 off))
+      (has_rom (card_at setup dev)) (is_within 0x30 0x33 off) fitted is)
+
+  rom_moves : (dev value : ℕ) (size : Option ℕ) → (is_some size ≡ true → has_rom (card_at setup dev) ≡ true) → HoldsRom bytes dev value size → HoldsRom other dev value size
+  rom_moves dev value None has holds = tt
+  rom_moves dev value (Some bits) has holds =
+      holds-same bytes other (expansion_rom dev) value (λ j below. sym (rom_same dev (0x30 + j) (has refl) (grind (arith, nat_tests)))) holds
+
+  decodes_moves : (card : CardBytes) → DecodesAs setup bytes card → DecodesAs setup other card
+  decodes_moves card is =
+      let fitted : is_some (card_at setup card.card.dev) ≡ true = ap is_some is.fitted in
+      record {
+        fitted = is.fitted;
+        command = sym (card_same card.card.dev 0x04 fitted refl) ∙ is.command;
+        bases = λ k below.
+            holds-same bytes other (base_register card.card.dev k) _
+            (λ j within. sym (card_same card.card.dev ((base_register card.card.dev k).off + j) fitted (grind (arith, nat_tests)))) (is.bases k below);
+        rom = rom_moves card.card.dev card.rom card.card.rom (λ some. ap has_rom is.fitted ∙ some) is.rom;
+      }
+
+  pub stands_moves : (regs : MapBytes) → StandsFor setup bytes regs → StandsFor setup other regs
+  stands_moves regs stands = record {
+    rows = λ row below. stands.rows row below ∙ bridge_same (0x60 + row) (grind (arith, nat_tests));
+    hole = stands.hole ∙ bridge_same 0x68 refl;
+    windows = λ off within. stands.windows off within ∙ bridge_same off (grind (arith, nat_tests));
+    smram = stands.smram ∙ same (bridge 0x72) refl;
+    xbcs = stands.xbcs ∙ same (isa 0x4E) refl;
+    cards = (stands.cards.0, λ k d below. decodes_moves _ (stands.cards.1 k d below));
+  }
+
+pub stands_after : (setup : Setup) (history : List Entry) (regs : MapBytes) → StandsFor setup (byte_of setup history) regs →
+    StandsFor setup (registers_after setup (map_writes_of setup history)) regs
+stands_after setup history regs = stands_moves setup (byte_of setup history) (registers_after setup (map_writes_of setup history)) (map_writes_decide setup history) regs

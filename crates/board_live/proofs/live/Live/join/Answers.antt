@@ -1,0 +1,46 @@
+use Rattle.std.proofs.Common.{rules, ◌≡◌, ℕ, ◌+◌, List, [], ◌∷◌, ◌++◌, length, take, drop, All, sym, ap, ◌∙◌, subst, refl, arith, length-append}
+use Rattle.std.proofs.lemmas.List.Elements.{All-cons, All-weaker}
+use Rattle.bus_turn.specs.Passes.{number_of, mine_of as mine_in, joined_of}
+use Rattle.bus_turn.proofs.Rows.{prefix_trans}
+use Rattle.board_spec.specs.declared.event.Entry.{Entry}
+use Rattle.board_live.specs.declared.cpu.Cpu.{Cpu}
+use Rattle.board_live.specs.Joins.{IsJoined}
+use Rattle.board_live.proofs.Joining.{popped, joined_more, joined_new}
+use Rattle.board_live.proofs.live.Live.join.Goals as goal
+
+pub loop-cpu-preserved : goal.loop-cpu-preserved
+loop-cpu-preserved g c =
+    let i = c.loop-cpu.invariant in
+    let whole = c.args.cpus.items in
+    let items = c.loop-cpu.cpus.items in
+    let rest = c.pop.new.self.items in
+    let cpu = c.in-Some.cpu in
+    let now = c.catch_up.new.self in
+    let pass = c.join.new.pass in
+    let is : items ≡ rest ++ cpu ∷ [] = search rules in
+    let both = popped whole items rest cpu i.left is in
+    let added : joined_of pass ≡ joined_of c.loop-cpu.pass ++ (number_of now.pass, mine_in now.pass) ∷ joined_of now.pass = c.join.ensures.joined in
+    let none : joined_of now.pass ≡ [] = now.passed.joined in
+    let long : length (joined_of pass) ≡ length (joined_of c.loop-cpu.pass) + length ((number_of now.pass, mine_in now.pass) ∷ joined_of now.pass) =
+    ap length added ∙ length-append (joined_of c.loop-cpu.pass) ((number_of now.pass, mine_in now.pass) ∷ joined_of now.pass) in
+    let no_more : length (joined_of now.pass) ≡ 0 = ap length none in
+    let fewer : length items ≡ length rest + 1 = ap length is ∙ length-append rest (cpu ∷ []) in
+    let before : All (IsJoined pass) (drop (length items) whole) =
+    All-weaker (IsJoined c.loop-cpu.pass) (IsJoined pass)
+        (λ other has. joined_more c.loop-cpu.pass pass ((number_of now.pass, mine_in now.pass) ∷ joined_of now.pass) other c.join.ensures.seen.0 added has)
+        (drop (length items) whole) i.joined in
+    let this : IsJoined pass cpu = joined_new c.loop-cpu.pass pass cpu now c.catch_up.ensures.same c.catch_up.ensures.seen c.join.ensures.seen.1 added in
+    record {
+      own = c.join.ensures.own;
+      idle = c.join.ensures.idle;
+      same = search rules;
+      left = both.0;
+      count = omega (arith, i.count, long, no_more, fewer);
+      seen = prefix_trans _ _ _ i.seen c.join.ensures.seen.0;
+      joined = subst (λ (w : List Cpu). All (IsJoined pass) w) (sym both.1) (All-cons (IsJoined pass) cpu (drop (length items) whole) this before);
+    }
+
+pub returns-clause-joined : goal.returns-clause-joined
+returns-clause-joined g c =
+    let none : length c.loop-cpu.cpus.items ≡ 0 = search rules in
+    subst (λ (n : ℕ). All (IsJoined c.loop-cpu.pass) (drop n c.args.cpus.items)) none c.loop-cpu.invariant.joined

@@ -1,0 +1,79 @@
+use Rattle.std.proofs.Common.{rules, ◌≡◌, ℕ, ◌+◌, ◌<◌, ◌≤◌, List, Option, Some, [], ◌∷◌, ◌++◌, length, map, reverse, All, sym, ap, ◌∙◌, subst, refl, arith}
+use Rattle.std.specs.List.{Any, range_with_len}
+use Rattle.std.proofs.lemmas.List.{reverse-reverse, length-map}
+use Rattle.std.proofs.lemmas.List.FromFn.{length-range_with_len}
+use Rattle.std.proofs.lemmas.List.Elements.{All-weaker}
+use Rattle.bus_turn.specs.Passes.{opened_of as opened_by, part_of}
+use Rattle.board_spec.specs.declared.event.Entry.{Entry}
+use Rattle.board_spec.specs.Setup.{Setup}
+use Rattle.board_spec.specs.MapWrites.{map_writes_of}
+use Rattle.addr_decode.specs.MapRegs.{MapBytes}
+use Rattle.map_builder.specs.Map.{Mapped}
+use Rattle.map_publish.specs.declared.viewer.Viewer.{Viewer}
+use Rattle.map_publish.specs.Lists.{opened_of, changes_of}
+use Rattle.board_live.specs.declared.cpu.Cpu.{Cpu}
+use Rattle.board_live.specs.declared.shared.Origin.{Origin}
+use Rattle.board_live.specs.Known.{Opens}
+use Rattle.board_live.specs.Origins.{origin_in}
+use Rattle.board_live.specs.Steps.{opened_with}
+use Rattle.board_live.specs.Passes.{callers_in, opened_in, setup_in, IsViewerFor}
+use Rattle.board_live.specs.Callers.{IsNew, IsNewOf}
+use Rattle.board_live.proofs.Standing.{stands_after}
+use Rattle.board_live.proofs.Opening.{opened_viewer, any_numbered}
+use Rattle.board_live.proofs.live.Live.open.Goals as goal
+
+pub shared-requires-clause-opens : goal.shared-requires-clause-opens
+shared-requires-clause-opens g c =
+    let board = c.args.board in
+    let map : opened_of c.in-Ok-open.publisher.front.seen.log ≡ c.map.result.now = search rules in
+    let version : c.map.result.now.version ≡ length (map_writes_of board.setup board.entries) = c.map.ensures.version in
+    subst (λ (m : Mapped). Opens board.setup board.entries m) (sym map)
+        (record { stands = stands_after board.setup board.entries c.map.result.now.regs c.map.ensures.stands; version = version })
+
+pub callers-cpus-requires-clause-viewers : goal.callers-cpus-requires-clause-viewers
+callers-cpus-requires-clause-viewers g c =
+    let pass = c.in-Ok-open-2.pass in
+    let shared = c.shared.result in
+    let part : part_of pass ≡ Some (opened_with shared) = search rules in
+    let opened : opened_by pass ≡ reverse shared.board.entries = search rules in
+    let count : shared.opened ≡ length shared.board.entries = search rules in
+    let none : changes_of shared.publisher.front.seen.log ≡ [] = search rules in
+    let fronts : All (λ (viewer : Viewer). viewer.front ≡ shared.publisher.front) c.in-Ok-open.viewers.items = search rules in
+    All-weaker (λ (viewer : Viewer). viewer.front ≡ shared.publisher.front) (IsViewerFor pass)
+        (λ viewer front. opened_viewer pass shared viewer part opened count front none) c.in-Ok-open.viewers.items fronts
+
+pub returns-in-Ok-open-2-clause-opened : goal.returns-in-Ok-open-2-clause-opened
+returns-in-Ok-open-2-clause-opened g c =
+    let board = c.args.board in
+    let pass = c.in-Ok-open-2.pass in
+    let shared = c.shared.result in
+    let cpus = c.callers-cpus.result.items in
+    let part : part_of pass ≡ Some (opened_with shared) = search rules in
+    let opened : opened_by pass ≡ reverse board.entries = search rules in
+    let history : opened_in pass ≡ board.entries = ap reverse opened ∙ reverse-reverse board.entries in
+    let callers : shared.callers ≡ c.args.n = search rules in
+    let many : callers_in pass ≡ c.args.n = ap (λ (o : Option Origin). (origin_in o).callers) part ∙ callers in
+    let its : shared.board.setup ≡ board.setup = search rules in
+    let setup : setup_in pass ≡ board.setup = ap (λ (o : Option Origin). (origin_in o).setup) part ∙ its in
+    let numbers : map (λ (cpu : Cpu). cpu.number) cpus ≡ range_with_len 0 c.args.n = c.callers-cpus.ensures.numbers ∙ ap (range_with_len 0) many in
+    let count : length cpus ≡ c.args.n = sym (length-map cpus (λ (cpu : Cpu). cpu.number)) ∙ (ap length numbers ∙ length-range_with_len 0 c.args.n) in
+    let one : 1 ≤ c.args.n = c.requires.few.some in
+    record {
+      all = record {
+        opened = opened_with shared;
+        own = c.callers-cpus.ensures.own;
+        same = All-weaker (IsNewOf pass) (λ (cpu : Cpu). part_of cpu.pass ≡ Some (opened_with shared)) (λ cpu new. new.part ∙ part) cpus c.callers-cpus.ensures.new;
+        count = count ∙ sym callers;
+        some = omega (arith, count, one);
+        each = λ number below.
+            let same : 0 + number ≡ number = omega arith in
+            subst (λ (n : ℕ). Any (λ (cpu : Cpu). cpu.number ≡ n) cpus) same (any_numbered 0 cpus (numbers ∙ ap (range_with_len 0) (sym count)) number below);
+      };
+      numbers = numbers;
+      new = All-weaker (IsNewOf pass) (IsNew board)
+          (λ cpu new. record {
+            setup = ap (λ (o : Option Origin). (origin_in o).setup) new.part ∙ setup;
+            seen = new.seen ∙ history;
+            known = new.known ∙ λ k. map_writes_of (setup k) (history k);
+          }) cpus c.callers-cpus.ensures.new;
+    }

@@ -1,0 +1,67 @@
+use Rattle.std.proofs.Common.{rules, ◌≡◌, ℕ, ◌≤◌, ◌∷◌, ◌++◌, List, Option, length, refl, ap, ◌∙◌, arith}
+use Rattle.std.specs.Option.{option_to_list}
+use Rattle.board_spec.specs.declared.event.Entry.{Entry}
+use Rattle.board_spec.specs.declared.map_change.MapChange.{MapChange}
+use Rattle.board_spec.specs.Setup.{Setup}
+use Rattle.board_spec.specs.MapWrites.{map_change_of, version_of}
+use Rattle.board_core.specs.Kept.{Standing, next_entry}
+use Rattle.map_publish.specs.Lists.{opened_of, changes_of, version_after}
+use Rattle.board_live.specs.Known.{oldest}
+use Rattle.board_live.proofs.Histories.{oldest_added, writes_few}
+use Rattle.board_live.proofs.Limits.{few_entries, few_added}
+use Rattle.board_live.proofs.Shares.{published_added, published_version}
+use Rattle.board_live.proofs.shared.Shared.step.Goals as goal
+
+pub reserve-requires : goal.reserve-requires
+reserve-requires g c =
+    let all : length c.args.self.now.board.entries ≤ 2_000_000 = few_entries c.args.self.now.callers c.args.self.now.board.entries c.args.self.now.few in
+    omega (arith, all)
+
+pub publish-requires : goal.publish-requires
+publish-requires g c =
+    let shared = c.args.self.now in
+    let log = shared.publisher.front.seen.log in
+    let all : length shared.board.entries ≤ 2_000_000 = few_entries shared.callers shared.board.entries shared.few in
+    let writes = writes_few shared.board.setup shared.board.entries in
+    let version : version_after log ≡ version_of shared.board.setup shared.board.entries =
+    published_version shared.board.setup shared.opened shared.board.entries log shared.published shared.opens.version in
+    record { room = omega (arith, all, writes, version) }
+
+pub invariant_of-self-2 : goal.invariant_of-self-2
+invariant_of-self-2 g c =
+    let shared = c.args.self.now in
+    let board = shared.board in
+    let now = c.step-reply.new.self in
+    let entry : Entry = next_entry board.entries c.args.number c.args.event.now c.step-reply.result in
+    let room : c.reserve.new.self ≡ record board { spare = c.reserve.new.self.spare } = search rules in
+    let is : now ≡ record c.reserve.new.self { entries = next_entry c.reserve.new.self.entries c.args.number c.args.event.now c.step-reply.result ∷ c.reserve.new.self.entries; spare = now.spare } = search rules in
+    let setup : now.setup ≡ board.setup = ap (λ (b : Standing). b.setup) is ∙ ap (λ (b : Standing). b.setup) room in
+    let entries : now.entries ≡ entry ∷ board.entries = search rules in
+    let log = shared.publisher.front.seen.log in
+    let later = c.publish.new.publisher.front.seen.log in
+    let changes : changes_of later ≡ option_to_list c.map_change-change.result ++ changes_of log = search rules in
+    let change : c.map_change-change.result ≡ map_change_of board.setup board.entries c.args.event.now = search rules in
+    let opened : opened_of later ≡ opened_of log = c.publish.ensures.opened in
+    rw (setup, entries) (record {
+      within = let within : shared.opened ≤ length board.entries = shared.within in omega (arith, within);
+      few = few_added shared.callers entry board.entries shared.few c.requires.number c.requires.few;
+      published = published_added board.setup shared.opened board.entries entry log later shared.within shared.published
+          (changes ∙ ap (λ (w : Option MapChange). option_to_list w ++ changes_of log) change);
+      opens = rw (oldest_added shared.opened entry board.entries shared.within, opened) shared.opens;
+    })
+
+pub returns-clause-same : goal.returns-clause-same
+returns-clause-same g c =
+    let shared = c.args.self.now in
+    let board = shared.board in
+    let now = c.step-reply.new.self in
+    let entry : Entry = next_entry board.entries c.args.number c.args.event.now c.step-reply.result in
+    let room : c.reserve.new.self ≡ record board { spare = c.reserve.new.self.spare } = search rules in
+    let is : now ≡ record c.reserve.new.self { entries = next_entry c.reserve.new.self.entries c.args.number c.args.event.now c.step-reply.result ∷ c.reserve.new.self.entries; spare = now.spare } = search rules in
+    let entries : now.entries ≡ entry ∷ board.entries = search rules in
+    record {
+      setup = ap (λ (b : Standing). b.setup) is ∙ ap (λ (b : Standing). b.setup) room;
+      opened = ap (λ (h : List Entry). oldest shared.opened h) entries ∙ oldest_added shared.opened entry board.entries shared.within;
+      callers = refl;
+      book = c.publish.ensures.own;
+    }

@@ -1,0 +1,46 @@
+-- What a caller's calls do.
+use Rattle.std.specs.Prelude.{ℕ, ◌≡◌, Bool, List, ◌∷◌, length}
+use Rattle.board_base.specs.declared.access.Kind.{Kind}
+use Rattle.board_spec.specs.declared.event.Event.{Event}
+use Rattle.board_spec.specs.declared.event.Event.TheVariants.{Look as LookAt}
+use Rattle.board_spec.specs.declared.event.Look.{Look}
+use Rattle.board_spec.specs.declared.event.Entry.{Entry}
+use Rattle.board_spec.specs.declared.map_change.MapChange.{MapChange}
+use Rattle.board_spec.specs.Setup.{Setup}
+use Rattle.board_spec.specs.Answer.{IsAnswer}
+use Rattle.board_spec.specs.Legal.{entries_by}
+use Rattle.board_spec.specs.MapWrites.{map_writes_of}
+use Rattle.board_core.specs.Kept.{next_entry}
+use Rattle.map_publish.specs.Laws.{IsLookAfter}
+use Rattle.board_live.specs.declared.shared.Answered.{Answered}
+use Rattle.board_live.specs.declared.cpu.Cpu.{Cpu}
+use Rattle.board_live.specs.Known.{Extends}
+use Rattle.board_live.specs.Callers.{setup_of, seen_of, mine_of, known_of}
+
+-- a look is asked of the caller itself, not of the bus
+abbrev pub IsNoLook : Event → Type 0
+IsNoLook (LookAt kind addr smm) = ⊥
+IsNoLook _ = Unit {0}
+
+-- a call of the bus added one entry to `list`, which is the shared history as it was when the turn was taken
+pub record Adds (event : Event) (answered : Answered) (before now : Cpu) : Type 0 where
+  pub list : List Entry
+  pub begins : Extends (seen_of before) list
+  pub own : entries_by before.number list ≡ mine_of before
+  pub meets : Extends (known_of before) (map_writes_of (setup_of before) list)
+  pub place : answered.place ≡ length list
+  pub answer : IsAnswer (setup_of before) list event answered.reply
+  pub seen : seen_of now ≡ next_entry list before.number event answered.reply ∷ list
+  pub mine : mine_of now ≡ next_entry list before.number event answered.reply ∷ mine_of before
+  pub known : known_of now ≡ map_writes_of (setup_of before) (seen_of now)
+
+-- a call of the bus was refused: it added no entry and published nothing
+pub record AddsNone (before now : Cpu) : Type 0 where
+  pub begins : Extends (seen_of before) (seen_of now)
+  pub mine : mine_of now ≡ mine_of before
+  pub meets : Extends (known_of before) (known_of now)
+  pub known : known_of now ≡ map_writes_of (setup_of before) (seen_of now)
+
+-- what a look gives after these map writes: their number, and a span of the registers after them
+abbrev pub IsLookOf : Setup → List MapChange → (addr : ℕ) → Kind → (smm : Bool) → Look → Type 0
+IsLookOf setup writes addr kind smm look = IsLookAfter setup writes addr kind smm look

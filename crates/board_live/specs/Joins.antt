@@ -1,0 +1,24 @@
+-- What a pass has of a caller whose pass was joined into it.
+use Rattle.std.specs.Prelude.{ℕ, ◌≡◌, List, ◌++◌, reverse}
+use Rattle.std.specs.List.{Any}
+use Rattle.bus_turn.specs.Passes.{opened_of, seen_of as seen_in, joined_of}
+use Rattle.bus_turn.specs.Views.{own_by}
+use Rattle.board_spec.specs.declared.event.Entry.{Entry}
+use Rattle.board_spec.specs.MapWrites.{map_writes_of}
+use Rattle.board_live.specs.declared.cpu.Cpu.{Cpu}
+use Rattle.board_live.specs.Known.{Extends}
+use Rattle.board_live.specs.Passes.{SharedPass}
+use Rattle.board_live.specs.Callers.{setup_of, seen_of, known_of}
+
+-- the caller's own entries, the oldest first, are those that the opened board had and these
+abbrev pub HasOwn : Cpu → ℕ × List Entry → Type 0
+HasOwn cpu other =
+    (other.0 ≡ cpu.number)
+    × (own_by (λ (entry : Entry). entry.actor) cpu.number (opened_of cpu.pass) ++ other.1
+    ≡ own_by (λ (entry : Entry). entry.actor) cpu.number (seen_in cpu.pass))
+
+-- the pass has all that the caller has seen and knows, and the caller's own entries
+pub record IsJoined (pass : SharedPass) (cpu : Cpu) : Type 0 where
+  pub begins : Extends (seen_of cpu) (reverse (seen_in pass))
+  pub meets : Extends (known_of cpu) (map_writes_of (setup_of cpu) (reverse (seen_in pass)))
+  pub own : Any (HasOwn cpu) (joined_of pass)

@@ -1,0 +1,9 @@
+pub mod Known
+pub mod Props
+pub mod Origins
+pub mod Steps
+pub mod Passes
+pub mod PassProps
+pub mod Callers
+pub mod Bus
+pub mod Joins

@@ -1,0 +1,28 @@
+-- A step of the shared board.
+use Rattle.std.specs.Prelude.{ℕ, ◌≡◌, ◌∷◌, length}
+use Rattle.board_spec.specs.declared.event.Event.{Event}
+use Rattle.board_spec.specs.Answer.{IsAnswer}
+use Rattle.board_core.specs.Kept.{Standing, next_entry}
+use Rattle.board_live.specs.declared.shared.Answered.{Answered}
+use Rattle.board_live.specs.declared.shared.Shared.{Shared}
+use Rattle.board_live.specs.declared.shared.Origin.{Origin}
+use Rattle.board_live.specs.Known.{oldest}
+use Rattle.board_live.specs.Origins.{origin}
+
+-- what a shared board was opened with
+abbrev pub opened_with : Shared → Origin
+opened_with shared =
+    origin shared.board.setup shared.callers (oldest shared.opened shared.board.entries) shared.publisher.front.seen.book
+
+-- the same board, publisher and callers
+pub record IsSameBoard (before now : Shared) : Type 0 where
+  pub setup : now.board.setup ≡ before.board.setup
+  pub opened : oldest now.opened now.board.entries ≡ oldest before.opened before.board.entries
+  pub callers : now.callers ≡ before.callers
+  pub book : now.publisher.front.seen.book ≡ before.publisher.front.seen.book
+
+-- a board did an event of a caller, which added one entry
+pub record Steps (number : ℕ) (event : Event) (answered : Answered) (before now : Standing) : Type 0 where
+  pub place : answered.place ≡ length before.entries
+  pub answer : IsAnswer before.setup before.entries event answered.reply
+  pub entry : now.entries ≡ next_entry before.entries number event answered.reply ∷ before.entries

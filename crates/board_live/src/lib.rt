@@ -1,0 +1,14 @@
+//! The shared board: callers on threads of their own take turns at one board, and look at its memory map without a turn.
+#![tactic(auto)]
+
+mod cpu;
+mod live;
+pub mod sends;
+mod shared;
+
+#[cfg(test)]
+mod tests;
+
+pub use cpu::Cpu;
+pub use live::{Live, LiveOpen};
+pub use shared::{Answered, Origin, Shared};

@@ -1,0 +1,38 @@
+//! A shared board and its callers may cross threads. The check of each function is that its bound is met.
+ghost use Rattle.std.specs.Prelude.{◌≡◌};
+
+use crate::cpu::Cpu;
+use crate::live::Live;
+
+fn sent<X: Send>(x: X) -> X
+    ensures same { result ≡ x }
+{
+    x
+}
+
+fn lent<X: Sync>(x: &X) -> &X
+    ensures same { result.now ≡ x.now }
+{
+    x
+}
+
+/// A caller may go to another thread.
+pub fn send_cpu(cpu: Cpu) -> Cpu
+    ensures same { result ≡ cpu }
+{
+    sent(cpu)
+}
+
+/// A shared board may go to another thread.
+pub fn send_live(live: Live) -> Live
+    ensures same { result ≡ live }
+{
+    sent(live)
+}
+
+/// Threads may share a shared board.
+pub fn share_live(live: &Live) -> &Live
+    ensures same { result.now ≡ live.now }
+{
+    lent(live)
+}

@@ -1,0 +1,4 @@
+pub mod Pairs
+pub mod Phases
+pub mod Numbers
+pub mod Workers

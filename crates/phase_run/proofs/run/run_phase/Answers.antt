@@ -1,0 +1,87 @@
+use Rattle.std.proofs.Common.{rules, ◌≡◌, ℕ, ◌<◌, List, Bor, map, length, All, sym, ◌∙◌, ap, subst}
+use Rattle.std.specs.Prelude.{reverse}
+use Rattle.access_history.specs.Past.{Past}
+use Rattle.board_spec.specs.declared.event.Entry.{Entry}
+use Rattle.board_spec.specs.MapWrites.{version_of}
+use Rattle.run_order.specs.declared.done.Done.{Done}
+use Rattle.run_order.specs.PhaseRun.{bare}
+use Rattle.phase_run.specs.declared.worker.Work.{Work}
+use Rattle.phase_run.specs.Jobs.{IsStatement, done_in}
+use Rattle.phase_run.proofs.Phases.{gained, gained_all, whole_is, phase_is_run}
+use Rattle.phase_run.proofs.run.run_phase.Goals as goal
+use Rattle.std.proofs.lemmas.List.{length-map}
+
+pub place-requires : goal.place-requires
+place-requires g c =
+    let before = c.args.run.board in
+    let now = c.in_ok-run.run'.board in
+    let works : List Work = c.in_ok-run.run'.works.items in
+    let opened : List Entry = c.entries-opened.result.now in
+    let entries : List Entry = c.entries-entries.result.now in
+    let old : opened ≡ reverse before.entries = c.entries-opened.ensures.entries ∙ ap (λ (past : Past). reverse past.entries) c.history.ensures.history in
+    let is : entries ≡ reverse now.entries = c.entries-entries.ensures.entries ∙ ap (λ (past : Past). reverse past.entries) c.history-2.ensures.history in
+    let are : map (λ (done : Bor (List Done)). done.now) c.works_of.result.items ≡ done_in works = c.works_of.ensures.done ∙ ap done_in c.deref.ensures.value in
+    let asked = c.in_ok-run.ensures.asked c.requires.asked.0 c.requires.asked.1 c.requires.asked.2 in
+    let count : length c.works_of.result.items ≡ length works =
+    sym (length-map c.works_of.result.items (λ (done : Bor (List Done)). done.now)) ∙ (ap length are ∙ length-map works (λ (work : Work). work.done.items)) in
+    record {
+      callers = subst (λ (n : ℕ). All (λ (entry : Entry). entry.actor < n) (gained opened entries)) (sym count)
+          (gained_all (λ (entry : Entry). entry.actor < length works) now.entries opened entries is asked.actors);
+    }
+
+pub returns-clause-legal : goal.returns-clause-legal
+returns-clause-legal g c =
+    let before = c.args.run.board in
+    let now = c.in_ok-run.run'.board in
+    let works : List Work = c.in_ok-run.run'.works.items in
+    let opened : List Entry = c.entries-opened.result.now in
+    let entries : List Entry = c.entries-entries.result.now in
+    let old : opened ≡ reverse before.entries = c.entries-opened.ensures.entries ∙ ap (λ (past : Past). reverse past.entries) c.history.ensures.history in
+    let is : entries ≡ reverse now.entries = c.entries-entries.ensures.entries ∙ ap (λ (past : Past). reverse past.entries) c.history-2.ensures.history in
+    let are : map (λ (done : Bor (List Done)). done.now) c.works_of.result.items ≡ done_in works = c.works_of.ensures.done ∙ ap done_in c.deref.ensures.value in
+    let asked = c.in_ok-run.ensures.asked c.requires.asked.0 c.requires.asked.1 c.requires.asked.2 in
+    let count : length c.args.run.works.items ≡ length works = sym c.in_ok-run.ensures.count in
+    let speakers = subst (λ (n : ℕ). All (IsStatement before.setup n) c.args.phase.now) count c.requires.in_range in
+    let run = phase_is_run before now opened entries c.args.phase.now works (map (λ (done : Bor (List Done)). done.now) c.works_of.result.items)
+    c.in_ok-run.ensures.run old is are c.requires.cards c.history-2.ensures.legal asked.actors speakers in
+    let version : c.version-version.result ≡ version_of before.setup before.entries = c.version-version.ensures.version ∙ c.map.ensures.version in
+    let placed = c.in_ok-place.ensures.runs before.setup before.entries c.args.phase.now run version c.requires.legal c.requires.same in
+    placed.legal
+
+pub returns-clause-same : goal.returns-clause-same
+returns-clause-same g c =
+    let before = c.args.run.board in
+    let now = c.in_ok-run.run'.board in
+    let works : List Work = c.in_ok-run.run'.works.items in
+    let opened : List Entry = c.entries-opened.result.now in
+    let entries : List Entry = c.entries-entries.result.now in
+    let old : opened ≡ reverse before.entries = c.entries-opened.ensures.entries ∙ ap (λ (past : Past). reverse past.entries) c.history.ensures.history in
+    let is : entries ≡ reverse now.entries = c.entries-entries.ensures.entries ∙ ap (λ (past : Past). reverse past.entries) c.history-2.ensures.history in
+    let are : map (λ (done : Bor (List Done)). done.now) c.works_of.result.items ≡ done_in works = c.works_of.ensures.done ∙ ap done_in c.deref.ensures.value in
+    let asked = c.in_ok-run.ensures.asked c.requires.asked.0 c.requires.asked.1 c.requires.asked.2 in
+    let count : length c.args.run.works.items ≡ length works = sym c.in_ok-run.ensures.count in
+    let speakers = subst (λ (n : ℕ). All (IsStatement before.setup n) c.args.phase.now) count c.requires.in_range in
+    let run = phase_is_run before now opened entries c.args.phase.now works (map (λ (done : Bor (List Done)). done.now) c.works_of.result.items)
+    c.in_ok-run.ensures.run old is are c.requires.cards c.history-2.ensures.legal asked.actors speakers in
+    let version : c.version-version.result ≡ version_of before.setup before.entries = c.version-version.ensures.version ∙ c.map.ensures.version in
+    let placed = c.in_ok-place.ensures.runs before.setup before.entries c.args.phase.now run version c.requires.legal c.requires.same in
+    placed.bus ∙ ap bare (whole_is before.entries now.entries opened entries c.in_ok-run.ensures.run.begins old is)
+
+pub returns-clause-phases : goal.returns-clause-phases
+returns-clause-phases g c =
+    let before = c.args.run.board in
+    let now = c.in_ok-run.run'.board in
+    let works : List Work = c.in_ok-run.run'.works.items in
+    let opened : List Entry = c.entries-opened.result.now in
+    let entries : List Entry = c.entries-entries.result.now in
+    let old : opened ≡ reverse before.entries = c.entries-opened.ensures.entries ∙ ap (λ (past : Past). reverse past.entries) c.history.ensures.history in
+    let is : entries ≡ reverse now.entries = c.entries-entries.ensures.entries ∙ ap (λ (past : Past). reverse past.entries) c.history-2.ensures.history in
+    let are : map (λ (done : Bor (List Done)). done.now) c.works_of.result.items ≡ done_in works = c.works_of.ensures.done ∙ ap done_in c.deref.ensures.value in
+    let asked = c.in_ok-run.ensures.asked c.requires.asked.0 c.requires.asked.1 c.requires.asked.2 in
+    let count : length c.args.run.works.items ≡ length works = sym c.in_ok-run.ensures.count in
+    let speakers = subst (λ (n : ℕ). All (IsStatement before.setup n) c.args.phase.now) count c.requires.in_range in
+    let run = phase_is_run before now opened entries c.args.phase.now works (map (λ (done : Bor (List Done)). done.now) c.works_of.result.items)
+    c.in_ok-run.ensures.run old is are c.requires.cards c.history-2.ensures.legal asked.actors speakers in
+    let version : c.version-version.result ≡ version_of before.setup before.entries = c.version-version.ensures.version ∙ c.map.ensures.version in
+    let placed = c.in_ok-place.ensures.runs before.setup before.entries c.args.phase.now run version c.requires.legal c.requires.same in
+    placed.phases

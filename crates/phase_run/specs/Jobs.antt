@@ -1,0 +1,76 @@
+-- The workers of a phase, and what they leave. Histories have the newest entry first.
+use Rattle.std.specs.Prelude.{ℕ, ◌≡◌, ◌+◌, ◌<◌, ◌≤◌, false, List, [], length, map, All, Option}
+use Rattle.bus_turn.specs.Passes.{part_of}
+use Rattle.board_spec.specs.declared.event.Entry.{Entry}
+use Rattle.board_spec.specs.declared.event.Statement.{Statement}
+use Rattle.board_spec.specs.Setup.{Setup}
+use Rattle.board_spec.specs.InRange.{IsInRange}
+use Rattle.board_spec.specs.Legal.{entries_by}
+use Rattle.board_core.specs.Kept.{Standing}
+use Rattle.board_live.specs.declared.shared.Origin.{Origin}
+use Rattle.board_live.specs.declared.live.Live.{Live}
+use Rattle.board_live.specs.Callers.{IsCallerOf, IsNew, setup_of, seen_of, mine_of, known_of}
+use Rattle.run_order.specs.declared.done.Done.{Done}
+use Rattle.run_order.specs.Placing.{done_by}
+use Rattle.run_order.specs.PhaseRun.{IsWork}
+use Rattle.run_order.specs.Trace.{Begins}
+use Rattle.phase_run.specs.declared.worker.Work.{Work}
+use Rattle.phase_run.specs.declared.jobs.Job.{Job}
+use Rattle.phase_run.specs.Works.{most_statements, HasDone}
+
+-- a statement of a processor below `cpus`, with an event in range for this setup
+pub record IsStatement (setup : Setup) (cpus : ℕ) (statement : Statement) : Type 0 where
+  pub actor : statement.actor < cpus
+  pub event : IsInRange setup statement.event
+
+-- a worker that is about to do a phase, with a caller of a board that was just opened. No processor was given more than
+-- `before` statements until then
+pub record IsReady (live : Live) (board : Standing) (part : Option Origin) (phase : List Statement) (before : ℕ)
+    (job : Job) : Type 0 where
+  pub own : IsCallerOf live job.cpu
+  pub same : part_of job.cpu.pass ≡ part
+  pub new : IsNew board job.cpu
+  pub in_range : All (λ statement. IsInRange board.setup statement.event) phase
+  pub empty : job.work.done.items ≡ []
+  pub mine : length (entries_by job.cpu.number board.entries) ≤ before
+  pub asked : job.work.asked ≤ before
+  pub room : before + length phase ≤ most_statements
+
+abbrev pub CanRun : Live → List Statement → Job → Type 0
+CanRun live phase job = (board : Standing) × (part : Option Origin) × (before : ℕ) × IsReady live board part phase before job
+
+-- a worker that did its processor's statements of a phase, or was refused memory
+pub record IsRun (live : Live) (board : Standing) (part : Option Origin) (phase : List Statement) (before : ℕ)
+    (job : Job) : Type 0 where
+  pub own : IsCallerOf live job.cpu
+  pub same : part_of job.cpu.pass ≡ part
+  pub setup : setup_of job.cpu ≡ board.setup
+  pub asked : job.work.asked ≤ before + length phase
+  pub mine : job.refused ≡ false → length (mine_of job.cpu) ≤ before + length phase
+  pub done :
+      job.refused ≡ false →
+      HasDone board.setup job.cpu.number board.entries phase job.work.done.items (seen_of job.cpu) (known_of job.cpu)
+
+-- what a worker does of a phase
+pub record Runs (live : Live) (phase : List Statement) (before now : Job) : Type 0 where
+  pub number : now.cpu.number ≡ before.cpu.number
+  pub run :
+      (board : Standing) (part : Option Origin) (asked : ℕ) →
+      IsReady live board part phase asked before → IsRun live board part phase asked now
+
+-- no processor was given more than so many statements
+pub record AreAsked (most : ℕ) (entries : List Entry) (works : List Work) : Type 0 where
+  pub actors : All (λ entry. entry.actor < length works) entries
+  pub mine : (actor : ℕ) → length (entries_by actor entries) ≤ most
+  pub asked : All (λ work. work.asked ≤ most) works
+
+abbrev pub done_in : List Work → List (List Done)
+done_in works = map (λ work. work.done.items) works
+
+-- workers did a phase, which led from one state of the board to another
+pub record HasRun (before now : Standing) (phase : List Statement) (works : List Work) : Type 0 where
+  pub setup : now.setup ≡ before.setup
+  pub begins : Begins before.entries now.entries
+  pub each :
+      (actor : ℕ) → actor < length works →
+      IsWork before.setup before.entries now.entries phase actor (done_by 0 actor (done_in works))

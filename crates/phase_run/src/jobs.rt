@@ -1,0 +1,161 @@
+//! The workers of a phase: each has a caller of the shared board.
+
+ghost use Rattle.std.specs.Prelude.{◌≡◌, ◌+◌, ◌<◌, ◌≤◌, ℕ, [], All, Option, false, length, map, reverse, vec_capacity, IfOk, IsTrue, IsFalse};
+ghost use Rattle.board_core.specs.Kept.{Standing};
+ghost use Rattle.board_live.specs.declared.shared.Origin.{Origin};
+ghost use Rattle.phase_run.specs.Jobs.{IsReady, CanRun, IsRun, Runs, done_in};
+
+use crate::worker::Work;
+use board_base::{Gate, NoMemory};
+use board_live::{Cpu, Live};
+use board_spec::Statement;
+use run_order::Works;
+use std::alloc::Global;
+use std::sync::Wait;
+use std::thread::{Threads, for_each_mut};
+
+/// A worker, with the caller that it has in a phase.
+pub struct Job {
+    pub cpu: Cpu,
+    pub work: Work,
+    /// There was no memory for one of its statements.
+    pub refused: bool,
+}
+
+impl Job {
+    /// Does the statements of one processor.
+    fn run<R: Wait, G: Gate>(&mut self, live: &Live, rt: &R, phase: &[Statement], gate: &G)
+        requires can { CanRun live.now phase.now self.old }
+        ensures runs { Runs live.now phase.now self.old self.new }
+    {
+        self.refused = self.work.run(&mut self.cpu, live, rt, phase, gate).is_err();
+    }
+}
+
+/// Does a phase, each worker on a thread of its own. All have ended when it returns.
+pub(crate) fn run_jobs<R: Threads + Wait + Sync, G: Gate>(
+    rt: &R,
+    live: &Live,
+    phase: &[Statement],
+    gate: &G,
+    jobs: &mut [Job],
+)
+    requires some { 0 < length jobs.old }
+    requires can { All (CanRun live.now phase.now) jobs.old }
+    ensures numbers { map (λ job. job.cpu.number) jobs.new ≡ map (λ job. job.cpu.number) jobs.old }
+    ensures run { (board : Standing) (part : Option Origin) (before : ℕ)
+        → All (IsReady live.now board part phase.now before) jobs.old
+        → All (IsRun live.now board part phase.now before) jobs.new }
+{
+    let count = jobs.len();
+    for_each_mut(
+        rt,
+        jobs,
+        count,
+        &|_i: usize, job: &mut Job|
+            requires { CanRun live.now phase.now job.old }
+            ensures { Runs live.entry.now phase.entry.now job.old job.new }
+        { job.run(live, rt, phase, gate) },
+    );
+}
+
+/// How many statements of a phase are a processor's.
+fn own_in(phase: &[Statement], actor: usize) -> usize {
+    phase
+        .iter()
+        .filter(|statement| usize::from(statement.actor) == actor)
+        .count()
+}
+
+/// The works of so many processors before the first phase.
+pub(crate) fn first_works(alloc: Global, cpus: u8) -> Result<Vec<Work>, NoMemory>
+    ensures count { IfOk result (λ works. length works.items ≡ cpus) }
+    ensures asked { IfOk result (λ works. All (λ work. work.asked ≡ 0) works.items) }
+{
+    let mut works = Vec::with_capacity(alloc, usize::from(cpus))?;
+    for _ in 0..cpus {
+        let done = Vec::new(alloc);
+        works.push(Work { done, asked: 0 })?;
+    }
+    Ok(works)
+}
+
+/// The works of the next phase, with room for each processor's statements.
+pub(crate) fn next_works(
+    alloc: Global,
+    phase: &[Statement],
+    works: &[Work],
+) -> Result<Vec<Work>, NoMemory>
+    ensures asked { IfOk result (λ next. map (λ work. work.asked) next.items ≡ map (λ work. work.asked) works.now) }
+    ensures empty { IfOk result (λ next. All (λ work. work.done.items ≡ []) next.items) }
+{
+    let mut next = Vec::with_capacity(alloc, works.len())?;
+    for actor in 0..works.len() {
+        let done = Vec::with_capacity(alloc, own_in(phase, actor))?;
+        let asked = works[actor].asked;
+        next.push(Work { done, asked })?;
+    }
+    Ok(next)
+}
+
+/// Gives each caller its work. What is left has room for as many.
+pub(crate) fn begin(cpus: &mut Vec<Cpu>, works: &mut Vec<Work>, jobs: &mut Vec<Job>)
+    requires same { length works.old.items ≡ length cpus.old.items }
+    requires none { jobs.old.items ≡ [] }
+    requires room { length cpus.old.items ≤ vec_capacity jobs.old }
+    ensures cpus { map (λ job. job.cpu) (reverse jobs.new.items) ≡ cpus.old.items }
+    ensures works { map (λ job. job.work) (reverse jobs.new.items) ≡ works.old.items }
+    ensures left { (cpus.new.items ≡ []) × (works.new.items ≡ []) }
+    ensures cpus_room { length cpus.old.items ≤ vec_capacity cpus.new }
+    ensures works_room { length cpus.old.items ≤ vec_capacity works.new }
+{
+    while let Some(cpu) = cpus.pop() {
+        let work = works.pop().unwrap();
+        let job = Job {
+            cpu,
+            work,
+            refused: false,
+        };
+        jobs.push(job).unwrap();
+    }
+}
+
+/// Takes the callers and the works back.
+pub(crate) fn end(jobs: Vec<Job>, cpus: &mut Vec<Cpu>, works: &mut Vec<Work>)
+    requires none { (cpus.old.items ≡ []) × (works.old.items ≡ []) }
+    requires cpus_room { length jobs.items ≤ vec_capacity cpus.old }
+    requires works_room { length jobs.items ≤ vec_capacity works.old }
+    ensures cpus { map (λ job. job.cpu) (reverse jobs.items) ≡ cpus.new.items }
+    ensures works { map (λ job. job.work) (reverse jobs.items) ≡ works.new.items }
+{
+    let mut jobs = jobs;
+    while let Some(job) = jobs.pop() {
+        let Job {
+            cpu,
+            work,
+            refused: _refused,
+        } = job;
+        cpus.push(cpu).unwrap();
+        works.push(work).unwrap();
+    }
+    jobs.destroy_empty();
+}
+
+/// Whether a worker was refused memory.
+pub(crate) fn is_refused(jobs: &[Job]) -> bool
+    ensures none { IsFalse result → All (λ job. job.refused ≡ false) jobs.now }
+{
+    jobs.iter().any(|job| job.refused)
+}
+
+/// What each processor did, from processor 0 on.
+pub(crate) fn works_of(works: &[Work]) -> Works<'_>
+    requires few { length works.now ≤ 8 }
+    ensures done { map (λ done. done.now) result.items ≡ done_in works.now }
+{
+    let mut all = Works::new();
+    for work in works {
+        all.push(&work.done);
+    }
+    all
+}

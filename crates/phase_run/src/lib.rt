@@ -1,0 +1,17 @@
+//! The phases of a script on threads. In each phase every processor is a worker, which does its own statements in their
+//! order; a phase begins when all workers of the one before have ended.
+#![tactic(auto)]
+
+mod caller;
+mod cpu;
+mod jobs;
+mod run;
+mod worker;
+
+pub use caller::Caller;
+pub use jobs::Job;
+pub use run::{Run, run_phases};
+pub use worker::Work;
+
+#[cfg(test)]
+mod tests;

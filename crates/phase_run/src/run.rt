@@ -1,0 +1,127 @@
+//! A script's phases, one after another.
+
+ghost use Rattle.std.specs.Prelude.{◌≡◌, ◌+◌, ◌++◌, ◌∷◌, ◌<◌, ◌≤◌, ℕ, List, [], All, length, map, flat_map, IfOk, OnOk};
+ghost use Rattle.board_spec.specs.declared.event.Statement.{Statement};
+ghost use Rattle.board_spec.specs.Setup.{IsCardList};
+ghost use Rattle.board_spec.specs.Legal.{IsLegal};
+ghost use Rattle.board_spec.specs.Orders.{statements_of, HasPhases, IsCompleteFor};
+ghost use Rattle.run_order.specs.PhaseRun.{bare};
+ghost use Rattle.phase_run.specs.Works.{most_statements};
+ghost use Rattle.phase_run.specs.Jobs.{IsStatement, AreAsked, HasRun};
+
+use crate::jobs::{begin, end, first_works, is_refused, next_works, run_jobs, works_of};
+use crate::worker::Work;
+use board_base::{Gate, NoMemory};
+use board_core::Board;
+use board_live::Live;
+use board_spec::Statement;
+use run_order::RunHistory;
+use std::alloc::Global;
+use std::sync::Wait;
+use std::thread::Threads;
+
+/// A board between two phases, and what its processors did in the last.
+#[derive(Drop)]
+pub struct Run {
+    pub board: Board,
+    pub works: Vec<Work>,
+}
+
+/// Runs a phase: shares the board among the workers, and takes it back when all have ended.
+fn run_workers<R: Threads + Wait + Sync, G: Gate>(
+    rt: &R,
+    alloc: Global,
+    run: Run,
+    phase: &[Statement],
+    gate: &G,
+) -> Result<Run, NoMemory>
+    requires some { 1 ≤ length run.works.items }
+    requires few { length run.works.items ≤ 8 }
+    requires in_range { All (IsStatement run.board.setup (length run.works.items)) phase.now }
+    requires asked { (most : ℕ) × AreAsked most run.board.entries run.works.items × (most + length phase.now ≤ most_statements) }
+    ensures count { IfOk result (λ next. length next.works.items ≡ length run.works.items) }
+    ensures asked { IfOk result (λ next. (most : ℕ) → AreAsked most run.board.entries run.works.items
+        → most + length phase.now ≤ most_statements
+        → AreAsked (most + length phase.now) next.board.entries next.works.items) }
+    ensures run { IfOk result (λ next. HasRun run.board next.board phase.now next.works.items) }
+{
+    let Run { board, works } = run;
+    let mut works = next_works(alloc, phase, &works)?;
+    let mut jobs = Vec::with_capacity(alloc, works.len())?;
+    let Ok((live, mut cpus)) = Live::open(rt, alloc, board, works.len() as u8) else {
+        jobs.destroy_empty();
+        return Err(NoMemory);
+    };
+    begin(&mut cpus, &mut works, &mut jobs);
+    run_jobs(rt, &live, phase, gate, &mut jobs);
+    let refused = is_refused(&jobs);
+    end(jobs, &mut cpus, &mut works);
+    let board = live.close(rt, cpus);
+    if refused {
+        return Err(NoMemory);
+    }
+    Ok(Run { board, works })
+}
+
+/// Runs a phase, and adds what it did to the history of the run.
+fn run_phase<R: Threads + Wait + Sync, G: Gate>(
+    rt: &R,
+    alloc: Global,
+    run: Run,
+    phase: &[Statement],
+    gate: &G,
+    history: &mut RunHistory,
+) -> Result<Run, NoMemory>
+    requires cards { IsCardList run.board.setup.cards }
+    requires some { 1 ≤ length run.works.items }
+    requires few { length run.works.items ≤ 8 }
+    requires in_range { All (IsStatement run.board.setup (length run.works.items)) phase.now }
+    requires asked { (most : ℕ) × AreAsked most run.board.entries run.works.items × (most + length phase.now ≤ most_statements) }
+    requires legal { IsLegal run.board.setup history.old.entries }
+    requires same { bare history.old.entries ≡ bare run.board.entries }
+    ensures setup { IfOk result (λ next. next.board.setup ≡ run.board.setup) }
+    ensures count { IfOk result (λ next. length next.works.items ≡ length run.works.items) }
+    ensures asked { IfOk result (λ next. (most : ℕ) → AreAsked most run.board.entries run.works.items
+        → most + length phase.now ≤ most_statements
+        → AreAsked (most + length phase.now) next.board.entries next.works.items) }
+    ensures legal { OnOk result (IsLegal run.board.setup history.new.entries) }
+    ensures same { IfOk result (λ next. bare history.new.entries ≡ bare next.board.entries) }
+    ensures phases { OnOk result ((phases : List (List Statement)) → HasPhases phases (statements_of history.old.entries)
+        → HasPhases (phases ++ phase.now ∷ []) (statements_of history.new.entries)) }
+{
+    let version = run.board.map().version();
+    let opened = run.board.history().entries().len();
+    let run = run_workers(rt, alloc, run, phase, gate)?;
+    let entries = run.board.history().entries();
+    history.place(version, &entries[opened..], works_of(&run.works))?;
+    Ok(run)
+}
+
+/// Runs the phases of a script on a fresh board, with 1 to 8 processors. In each phase every processor does its own
+/// statements on a thread of its own; the gate is told before and after each. What is answered is the history of the
+/// run: it is legal, and has each phase's statements. Refused for want of memory.
+pub fn run_phases<R: Threads + Wait + Sync, G: Gate>(
+    rt: &R,
+    alloc: Global,
+    board: Board,
+    cpus: u8,
+    phases: &[Vec<Statement>],
+    gate: &G,
+) -> Result<RunHistory, NoMemory>
+    requires fresh { board.entries ≡ [] }
+    requires cards { IsCardList board.setup.cards }
+    requires some { 1 ≤ cpus }
+    requires few { cpus ≤ 8 }
+    requires in_range { All (λ phase. All (IsStatement board.setup cpus) phase.items) phases.now }
+    requires statements { length (flat_map (λ phase. phase.items) phases.now) ≤ most_statements }
+    ensures legal { IfOk result (λ history. IsLegal board.setup history.entries) }
+    ensures complete { IfOk result (λ history. IsCompleteFor (map (λ phase. phase.items) phases.now) history.entries) }
+{
+    let mut history = RunHistory::new(alloc);
+    let works = first_works(alloc, cpus)?;
+    let mut run = Run { board, works };
+    for phase in phases {
+        run = run_phase(rt, alloc, run, phase, gate, &mut history)?;
+    }
+    Ok(history)
+}
