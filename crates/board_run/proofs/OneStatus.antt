@@ -12,7 +12,7 @@ use Rattle.board_run.specs.declared.status.Which.{Which}
 use Rattle.board_run.specs.declared.status.Which.TheVariants.{Script, Rom, Disk, Log}
 use Rattle.board_run.specs.declared.status.Status.{Status}
 use Rattle.board_run.specs.declared.status.Status.TheVariants.{Done, Usage, ReadFault, WriteFault, TooLong, BadScript, BadImage, Differs, NoMemory}
-use Rattle.board_run.specs.Words.{Command, Replay, Map, Check, Make, script_name, log_name}
+use Rattle.board_run.specs.Words.{Command, Replay, Run, Map, Check, Make, script_name, log_name}
 use Rattle.board_run.specs.Asked.{Files, limit_of, setup_of, SaysScript, IsGood, HasScript, CanBeDone, AsksFor}
 use Rattle.board_run.specs.Texts.{IsCommandText}
 
@@ -251,6 +251,7 @@ differs :
     (command : Command) (files : Files) (line : ℕ) → AsksFor command files (Differs line) →
     EndsWith command files (Differs line)
 differs (Replay name) files line is = absurd is
+differs (Run name) files line is = absurd is
 differs (Map name) files line is = absurd is
 differs (Make rounds) files line is = absurd is
 differs (Check name log) files line is =
@@ -260,6 +261,7 @@ differs (Check name log) files line is =
 
 done : (command : Command) (files : Files) → CanBeDone command files → EndsWith command files Done
 done (Replay name) files is = good_ends (Replay name) files Done is refl
+done (Run name) files is = good_ends (Run name) files Done is refl
 done (Map name) files is = good_ends (Map name) files Done is refl
 done (Make rounds) files is = refl
 done (Check name log) files is =
@@ -294,6 +296,8 @@ pub done_of_text :
     (command : Command) (files : Files) (text : List ℕ) →
     IsCommandText command files text → AsksFor command files Done
 done_of_text (Replay name) files text is =
+    record { name = name; named = refl; script = is.script; holds = is.good }
+done_of_text (Run name) files text is =
     record { name = name; named = refl; script = is.script; holds = is.good }
 done_of_text (Map name) files text is = record { name = name; named = refl; script = is.script; holds = is.good }
 done_of_text (Make rounds) files text is = tt

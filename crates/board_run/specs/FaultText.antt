@@ -13,7 +13,7 @@ name_of Log = codes "log"
 
 abbrev pub text_of : Status → List ℕ
 text_of Done = []
-text_of Usage = codes "usage: board replay FILE, map FILE, check FILE LOG, make N"
+text_of Usage = codes "usage: board replay FILE, run FILE, map FILE, check FILE LOG, make N"
 text_of (ReadFault which) = codes "read fault: " ++ name_of which
 text_of WriteFault = codes "write fault"
 text_of (TooLong which) = codes "too long: " ++ name_of which

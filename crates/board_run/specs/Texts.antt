@@ -4,7 +4,8 @@ use Rattle.board_spec.specs.declared.event.Entry.{Entry}
 use Rattle.board_spec.specs.Text.{line_feed}
 use Rattle.board_spec.specs.Setup.{Setup}
 use Rattle.board_spec.specs.Registers.{byte_of}
-use Rattle.board_spec.specs.Orders.{IsReplayOf}
+use Rattle.board_spec.specs.Legal.{IsLegal}
+use Rattle.board_spec.specs.Orders.{IsReplayOf, IsCompleteFor}
 use Rattle.board_spec.specs.LockLaw.{LockLaw}
 use Rattle.board_spec.specs.LogText.{log_text}
 use Rattle.board_spec.specs.FlatMap.{MapRange, IsFlatMapOf}
@@ -13,7 +14,7 @@ use Rattle.script_spec.specs.ScriptText.{Script as Said, IsScriptText}
 use Rattle.script_spec.specs.ScriptRange.{statements_in}
 use Rattle.script_spec.specs.Checks.{IsLogOf}
 use Rattle.board_run.specs.declared.status.Which.TheVariants.{Log}
-use Rattle.board_run.specs.Words.{Command, Replay, Map, Check, Make}
+use Rattle.board_run.specs.Words.{Command, Replay, Run, Map, Check, Make}
 use Rattle.make_script.specs.MakeText.{make_text}
 use Rattle.make_script.specs.Images.{rom_image, disk_image}
 use Rattle.make_script.specs.Summary.{summary_of}
@@ -24,6 +25,15 @@ use Rattle.board_run.specs.Asked.{Files, limit_of, IsGood, fitted, setup_of}
 pub record IsReplayText (setup : Setup) (script : Said) (text : List ℕ) : Type 0 where
   pub history : List Entry
   pub replay : IsReplayOf setup (statements_in script) history
+  pub locked : LockLaw setup history
+  pub log : text ≡ log_text script.version history
+
+-- the log of a run of a script: of a legal history that has, phase by phase, each processor's statements once each in its
+-- own order, and in which nothing outside SMM reaches SMRAM once it is locked
+pub record IsRunText (setup : Setup) (script : Said) (text : List ℕ) : Type 0 where
+  pub history : List Entry
+  pub legal : IsLegal setup history
+  pub complete : IsCompleteFor script.phases history
   pub locked : LockLaw setup history
   pub log : text ≡ log_text script.version history
 
@@ -69,6 +79,7 @@ pub record TextOfScript (files : Files) (name : List ℕ) (P : Setup → Said �
 -- what each command puts
 abbrev pub IsCommandText : Command → Files → List ℕ → Type 0
 IsCommandText (Replay name) files text = TextOfScript files name IsReplayText text
+IsCommandText (Run name) files text = TextOfScript files name IsRunText text
 IsCommandText (Map name) files text = TextOfScript files name IsMapText text
 IsCommandText (Check name log) files text = TextOfScript files name (λ setup script. IsLegalText setup script (files log)) text
 IsCommandText (Make rounds) files text = IsMakeText rounds text

@@ -6,6 +6,7 @@ use Rattle.script_lines.specs.Numbers.{decimal_of, ◌>>=◌}
 -- a command, with the names of the files that it reads
 pub data Command : Type 0 where
   Replay : (script : List ℕ) → Command
+  Run : (script : List ℕ) → Command
   Map : (script : List ℕ) → Command
   Check : (script log : List ℕ) → Command
   Make : (rounds : ℕ) → Command
@@ -13,6 +14,7 @@ pub data Command : Type 0 where
 -- the name of the script that a command reads
 abbrev pub script_name : Command → Option (List ℕ)
 script_name (Replay script) = Some script
+script_name (Run script) = Some script
 script_name (Map script) = Some script
 script_name (Check script log) = Some script
 script_name (Make rounds) = None
@@ -35,6 +37,7 @@ make_of word = do
 unfoldable pub command_with : (verb word : List ℕ) → Option Command
 command_with verb word =
     if bytes_eq verb (codes "replay") then Some (Replay word) else
+    if bytes_eq verb (codes "run") then Some (Run word) else
     if bytes_eq verb (codes "map") then Some (Map word) else
     if bytes_eq verb (codes "make") then make_of word else None
 
@@ -42,7 +45,7 @@ command_with verb word =
 unfoldable pub command_with_two : (verb word other : List ℕ) → Option Command
 command_with_two verb word other = if bytes_eq verb (codes "check") then Some (Check word other) else None
 
--- `replay FILE`, `map FILE`, `check FILE LOG` and `make N`
+-- `replay FILE`, `run FILE`, `map FILE`, `check FILE LOG` and `make N`
 abbrev pub command_of : List (List ℕ) → Option Command
 command_of (verb ∷ word ∷ []) = command_with verb word
 command_of (verb ∷ word ∷ other ∷ []) = command_with_two verb word other

@@ -18,11 +18,13 @@ use std::sync::Wait;
 use std::thread::Threads;
 
 /// Makes the text of a command from its files, and puts it.
-fn run_command<S: Shelf, K: Sink>(
+fn run_command<R: Threads + Wait + Sync, S: Shelf, K: Sink, G: Gate>(
+    rt: &R,
     alloc: Global,
     command: Command,
     shelf: &mut S,
     out: &mut K,
+    gate: &G,
 ) -> Result<(), Status>
     requires called { IsCalled command }
     ensures caused { IsCaused (status_of result) (Some (said_by command.entry))
@@ -31,17 +33,19 @@ fn run_command<S: Shelf, K: Sink>(
     ensures only { IfErr result IsRefusal }
     ensures same_files { S.files shelf.new ≡ S.files shelf.old }
 {
-    let text = command_text(alloc, command, shelf)?;
+    let text = command_text(rt, alloc, command, shelf, gate)?;
     put_all(out, text.as_bytes())?;
     Ok(())
 }
 
 /// Does what the words ask for. Each status comes only where its cause holds.
-fn run_words<S: Shelf, K: Sink>(
+fn run_words<R: Threads + Wait + Sync, S: Shelf, K: Sink, G: Gate>(
+    rt: &R,
     alloc: Global,
     words: &[String],
     shelf: &mut S,
     out: &mut K,
+    gate: &G,
 ) -> Status
     ensures usage { (result ≡ Status.Usage) ↔ (asked words.now ≡ None) }
     ensures caused { IsCaused result (asked words.now)
@@ -52,23 +56,24 @@ fn run_words<S: Shelf, K: Sink>(
     let Some(command) = command_of(words) else {
         return Status::Usage;
     };
-    match run_command(alloc, command, shelf, out) {
+    match run_command(rt, alloc, command, shelf, out, gate) {
         Ok(()) => Status::Done,
         Err(status) => status,
     }
 }
 
-/// Runs one command over a shelf of files and a sink: `replay FILE` puts the log of the replay of a script, `map FILE` the
+/// Runs one command over a shelf of files and a sink: `replay FILE` puts the log of the replay of a script, `run FILE`
+/// that of a run with a thread for each processor, `map FILE` the
 /// address map after it, `check FILE LOG` whether a log is one of the script, and `make N` the summary of a script of N
 /// rounds. Where several causes hold, the words come first, then the script, its ROM, its disk, the log, and what is put.
-/// Nothing is put before all else is done.
+/// Nothing is put before all else is done. Only `run` may wait.
 pub fn board<R: Threads + Wait + Sync, S: Shelf, K: Sink, G: Gate>(
-    _rt: &R,
+    rt: &R,
     alloc: Global,
     words: &[String],
     shelf: &mut S,
     out: &mut K,
-    _gate: &G,
+    gate: &G,
 ) -> Status
     ensures usage { (result ≡ Status.Usage) ↔ (asked words.now ≡ None) }
     ensures caused { IsCaused result (asked words.now)
@@ -78,5 +83,5 @@ pub fn board<R: Threads + Wait + Sync, S: Shelf, K: Sink, G: Gate>(
         (¬ Rose (S.faults shelf.old) (S.faults shelf.new)) (¬ Rose (K.faults out.old) (K.faults out.new)) }
     ensures same_files { S.files shelf.new ≡ S.files shelf.old }
 {
-    run_words(alloc, words, shelf, out)
+    run_words(rt, alloc, words, shelf, out, gate)
 }

@@ -10,6 +10,7 @@ mod message;
 mod output;
 mod prepare;
 mod replay;
+mod run;
 mod status;
 mod texts;
 mod words;
@@ -19,6 +20,7 @@ pub use command::board;
 pub use memory::board_in_memory;
 pub use message::fault_text;
 pub use replay::{check_log, replay_script};
+pub use run::run_script;
 pub use status::{Status, Which, exit_code};
 
 #[cfg(test)]

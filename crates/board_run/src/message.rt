@@ -26,7 +26,7 @@ fn text_of(alloc: Global, status: &Status) -> Result<String, AllocError>
         Status::Done => Ok(String::new(alloc)),
         Status::Usage => String::from_str(
             alloc,
-            "usage: board replay FILE, map FILE, check FILE LOG, make N",
+            "usage: board replay FILE, run FILE, map FILE, check FILE LOG, make N",
         ),
         Status::ReadFault(which) => format!(in alloc; "read fault: {}", name_of(*which)),
         Status::WriteFault => String::from_str(alloc, "write fault"),

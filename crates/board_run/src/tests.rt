@@ -14,7 +14,7 @@ fn texts_and_codes(rt: HostRuntime) -> Result<(), Fail> {
         (
             Status::Usage,
             1,
-            "usage: board replay FILE, map FILE, check FILE LOG, make N",
+            "usage: board replay FILE, run FILE, map FILE, check FILE LOG, make N",
         ),
         (Status::ReadFault(Which::Script), 2, "read fault: script"),
         (Status::ReadFault(Which::Rom), 2, "read fault: rom"),

@@ -5,8 +5,8 @@ ghost use Rattle.script_spec.specs.ScriptRange.{IsInRangeScript};
 ghost use Rattle.script_text.specs.Script.{said_of};
 ghost use Rattle.board_run.specs.declared.status.Which.{Which};
 ghost use Rattle.board_run.specs.declared.status.Status.{Status};
-ghost use Rattle.board_run.specs.Words.{Replay, Map, Check};
-ghost use Rattle.board_run.specs.Commands.{said_by, IsCalled};
+ghost use Rattle.board_run.specs.Words.{Replay, Run, Map, Check};
+ghost use Rattle.board_run.specs.Commands.{said_by, IsCalled, WaitsForNobody};
 ghost use Rattle.board_run.specs.Texts.{IsCommandText};
 ghost use Rattle.board_run.specs.Outcomes.{OfFiles};
 ghost use Rattle.board_run.specs.Statuses.{IsRefused, IsReady};
@@ -15,10 +15,13 @@ use crate::fetch::fetch;
 use crate::made::summary_of_made;
 use crate::prepare::{Prepared, prepare};
 use crate::replay::{log_of_replay, map_after_replay, verdict_on_log};
+use crate::run::log_of_run;
 use crate::status::{Status, Which};
 use crate::words::Command;
-use board_base::Shelf;
+use board_base::{Gate, Shelf};
 use std::alloc::Global;
+use std::sync::Wait;
+use std::thread::Threads;
 
 /// The log of the replay of a script.
 fn replay<S: Shelf>(alloc: Global, shelf: &mut S, name: &str) -> Result<String, Status>
@@ -87,11 +90,57 @@ fn check<S: Shelf>(alloc: Global, shelf: &mut S, name: &str, log: &str) -> Resul
     verdict(alloc, shelf, &mut prepared, log)
 }
 
-/// The text of a command.
-pub fn command_text<S: Shelf>(
+/// The text of a command that waits for nobody.
+fn text_without_waiting<S: Shelf>(
     alloc: Global,
     command: Command,
     shelf: &mut S,
+) -> Result<String, Status>
+    requires called { IsCalled command }
+    requires alone { WaitsForNobody command }
+    ensures text { IfOk result (λ text. OfFiles (S.files shelf.old) (λ files. IsCommandText (said_by command.entry) files (string_bytes text))) }
+    ensures refused { IfErr result (IsRefused (said_by command.entry)
+        (record { files = S.files shelf.old; faults_before = S.faults shelf.old; faults_now = S.faults shelf.new; failed_name = S.failed_name shelf.new })) }
+    ensures quiet { OnOk result (S.faults shelf.new ≡ S.faults shelf.old) }
+    ensures no_fault { IfErr result (λ status. ((of : Which) → status ≢ Status.ReadFault of) → S.faults shelf.new ≡ S.faults shelf.old) }
+    ensures same_files { S.files shelf.new ≡ S.files shelf.old }
+{
+    match command {
+        Command::Replay(name) => replay(alloc, shelf, name),
+        Command::Run(_) => unreachable!(),
+        Command::Map(name) => map(alloc, shelf, name),
+        Command::Check { script, log } => check(alloc, shelf, script, log),
+        Command::Make(rounds) => Ok(summary_of_made(alloc, rounds)?),
+    }
+}
+
+/// The log of a run of a script, with a thread for each processor.
+fn run<R: Threads + Wait + Sync, S: Shelf, G: Gate>(
+    rt: &R,
+    alloc: Global,
+    shelf: &mut S,
+    name: &str,
+    gate: &G,
+) -> Result<String, Status>
+    ensures text { IfOk result (λ text. OfFiles (S.files shelf.old) (λ files. IsCommandText (Run name.now) files (string_bytes text))) }
+    ensures refused { IfErr result (IsRefused (Run name.now)
+        (record { files = S.files shelf.old; faults_before = S.faults shelf.old; faults_now = S.faults shelf.new; failed_name = S.failed_name shelf.new })) }
+    ensures quiet { OnOk result (S.faults shelf.new ≡ S.faults shelf.old) }
+    ensures no_fault { IfErr result (λ status. ((of : Which) → status ≢ Status.ReadFault of) → S.faults shelf.new ≡ S.faults shelf.old) }
+    ensures same_files { S.files shelf.new ≡ S.files shelf.old }
+{
+    let Prepared { script, board } = prepare(alloc, shelf, name)?;
+    let text = log_of_run(rt, alloc, board, &script, gate)?;
+    Ok(text)
+}
+
+/// The text of a command. Only `run` may wait.
+pub fn command_text<R: Threads + Wait + Sync, S: Shelf, G: Gate>(
+    rt: &R,
+    alloc: Global,
+    command: Command,
+    shelf: &mut S,
+    gate: &G,
 ) -> Result<String, Status>
     requires called { IsCalled command }
     ensures text { IfOk result (λ text. OfFiles (S.files shelf.old) (λ files. IsCommandText (said_by command.entry) files (string_bytes text))) }
@@ -102,9 +151,7 @@ pub fn command_text<S: Shelf>(
     ensures same_files { S.files shelf.new ≡ S.files shelf.old }
 {
     match command {
-        Command::Replay(name) => replay(alloc, shelf, name),
-        Command::Map(name) => map(alloc, shelf, name),
-        Command::Check { script, log } => check(alloc, shelf, script, log),
-        Command::Make(rounds) => Ok(summary_of_made(alloc, rounds)?),
+        Command::Run(name) => run(rt, alloc, shelf, name, gate),
+        _ => text_without_waiting(alloc, command, shelf),
     }
 }

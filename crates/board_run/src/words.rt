@@ -14,6 +14,8 @@ const MOST_ROUNDS: u32 = 20_000;
 pub enum Command<'a> {
     /// Puts the log of the replay of a script.
     Replay(&'a str),
+    /// Puts the log of a run of a script, with a thread for each processor.
+    Run(&'a str),
     /// Puts the address map after that replay.
     Map(&'a str),
     /// Puts how many entries a log has, where it is that of a legal history of a script.
@@ -50,6 +52,7 @@ fn command_with<'a>(verb: &str, word: &'a str) -> Option<Command<'a>>
 {
     match verb {
         "replay" => Some(Command::Replay(word)),
+        "run" => Some(Command::Run(word)),
         "map" => Some(Command::Map(word)),
         "make" => make_of(word),
         _ => None,
@@ -68,7 +71,7 @@ fn command_with_two<'a>(verb: &str, script: &'a str, log: &'a str) -> Option<Com
     }
 }
 
-/// Reads the words of `replay FILE`, `map FILE`, `check FILE LOG` and `make N`. None where the words are no command.
+/// Reads the words of `replay FILE`, `run FILE`, `map FILE`, `check FILE LOG` and `make N`. None where the words are no command.
 pub fn command_of(words: &[String]) -> Option<Command<'_>>
     ensures said { option_map said_by result ≡ asked words.now }
     ensures called { IfSome result IsCalled }

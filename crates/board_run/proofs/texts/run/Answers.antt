@@ -1,0 +1,7 @@
+use Rattle.std.proofs.Common.{rules, refl}
+use Rattle.board_run.proofs.Refusals.{refuses_with}
+use Rattle.board_run.proofs.texts.run.Goals as goal
+
+pub returns-in_err-tuple-clause-refused : goal.returns-in_err-tuple-clause-refused
+returns-in_err-tuple-clause-refused g c =
+    refuses_with _ _ _ c.in_err-tuple.field-0.0 (search rules) (c.in_err-tuple.ensures.refused _ refl)

@@ -1,0 +1,58 @@
+//! Runs of scripts on threads.
+
+ghost use Rattle.std.specs.Prelude.{◌≡◌, [], string_bytes, IfOk};
+ghost use Rattle.board_spec.specs.Legal.{IsLegal};
+ghost use Rattle.board_spec.specs.Orders.{IsCompleteFor};
+ghost use Rattle.script_spec.specs.ScriptRange.{IsInRangeScript};
+ghost use Rattle.script_text.specs.Script.{said_of};
+ghost use Rattle.board_run.specs.Texts.{IsRunText};
+
+use board_base::{Gate, NoMemory};
+use board_core::Board;
+use board_script::push_log;
+use board_spec::laws::law_lock;
+use phase_run::run_phases;
+use run_order::RunHistory;
+use script_text::Script;
+use std::alloc::Global;
+use std::sync::Wait;
+use std::thread::Threads;
+
+/// Runs a script on a fresh board with its cards: in each phase every processor does its own statements on a thread of its
+/// own, and the gate is told before and after each. A phase begins when the one before has ended. The history is legal, and
+/// has each phase's statements.
+pub fn run_script<R: Threads + Wait + Sync, G: Gate>(
+    rt: &R,
+    alloc: Global,
+    board: Board,
+    script: &Script,
+    gate: &G,
+) -> Result<RunHistory, NoMemory>
+    requires in_range { IsInRangeScript (said_of script.now) }
+    requires cards { board.setup.cards ≡ (said_of script.now).cards }
+    requires fresh { board.entries ≡ [] }
+    ensures legal { IfOk result (λ history. IsLegal board.setup history.entries) }
+    ensures complete { IfOk result (λ history. IsCompleteFor (said_of script.now).phases history.entries) }
+{
+    run_phases(rt, alloc, board, script.cpus, &script.phases, gate)
+}
+
+/// The log of a run of a script.
+pub fn log_of_run<R: Threads + Wait + Sync, G: Gate>(
+    rt: &R,
+    alloc: Global,
+    board: Board,
+    script: &Script,
+    gate: &G,
+) -> Result<String, NoMemory>
+    requires in_range { IsInRangeScript (said_of script.now) }
+    requires cards { board.setup.cards ≡ (said_of script.now).cards }
+    requires fresh { board.entries ≡ [] }
+    ensures text { IfOk result (λ text. IsRunText board.setup (said_of script.now) (string_bytes text)) }
+{
+    let history = run_script(rt, alloc, board, script, gate)?;
+    let mut text = String::new(alloc);
+    push_log(&mut text, script.version, history.entries())?;
+    law_lock();
+    Ok(text)
+}
