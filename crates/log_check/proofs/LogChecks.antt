@@ -172,31 +172,6 @@ begun_after setup version phases bytes entries (Ok count) checked =
     complete_is_begun phases entries (subst (IsCompleteFor phases) checked.same checked.log.complete)
 begun_after setup version phases bytes entries (Err fault) checked = checked.begun
 
-pub legal_after :
-    (setup : Setup) (version : ℕ) (phases : List (List Statement)) (bytes : List ℕ) (entries : List Entry)
-    (result : Result ℕ CheckFault) →
-    MatchResult result (IsCheckedLog setup version phases bytes entries) (Failed setup version phases bytes entries) →
-    IsLegal setup entries
-legal_after setup version phases bytes entries (Ok count) checked =
-    subst (IsLegal setup) checked.same checked.log.legal
-legal_after setup version phases bytes entries (Err fault) checked = checked.legal
-
-pub stands_after :
-    (setup : Setup) (version : ℕ) (phases : List (List Statement)) (bytes : List ℕ) (entries : List Entry)
-    (result : Result ℕ CheckFault) →
-    MatchResult result (IsCheckedLog setup version phases bytes entries) (Failed setup version phases bytes entries) →
-    IfErr result (StandsAfter version bytes entries)
-stands_after setup version phases bytes entries (Ok count) checked = tt
-stands_after setup version phases bytes entries (Err fault) checked = checked.stands
-
-pub log_after :
-    (setup : Setup) (version : ℕ) (phases : List (List Statement)) (bytes : List ℕ) (entries : List Entry)
-    (result : Result ℕ CheckFault) →
-    MatchResult result (IsCheckedLog setup version phases bytes entries) (Failed setup version phases bytes entries) →
-    IfOk result (IsCheckedLog setup version phases bytes entries)
-log_after setup version phases bytes entries (Ok count) checked = checked
-log_after setup version phases bytes entries (Err fault) checked = tt
-
 pub exactly :
     (setup : Setup) (version : ℕ) (phases : List (List Statement)) (bytes : List ℕ) (entries : List Entry)
     (result : Result ℕ CheckFault) →
@@ -210,13 +185,3 @@ exactly setup version phases bytes entries (Ok count) checked log =
     inl (ap Ok (checked.count_is ∙ own ∙ sym other))
 exactly setup version phases bytes entries (Err (Differs line)) checked log = absurd (checked.refused.other log)
 exactly setup version phases bytes entries (Err NoMemory) checked log = inr refl
-
-pub refused_at :
-    (setup : Setup) (version : ℕ) (phases : List (List Statement)) (bytes : List ℕ) (entries : List Entry)
-    (result : Result ℕ CheckFault) →
-    MatchResult result (IsCheckedLog setup version phases bytes entries) (Failed setup version phases bytes entries) →
-    (line : ℕ) → result ≡ Err (Differs line) → DiffersAt setup version phases bytes line
-refused_at setup version phases bytes entries (Ok count) checked line is = cc
-refused_at setup version phases bytes entries (Err (Differs place)) checked line is =
-    let same : place ≡ line = cc in subst (DiffersAt setup version phases bytes) same checked.refused
-refused_at setup version phases bytes entries (Err NoMemory) checked line is = cc

@@ -1,6 +1,6 @@
 //! Logs of small scripts: those that the scripts allow, and where others differ.
 
-ghost use Rattle.std.specs.Prelude.{◌≡◌, ◌≤◌, ◌<◌, false, length, IfOk, All};
+ghost use Rattle.std.specs.Prelude.{◌≡◌, ◌<◌, [], length, IfOk};
 ghost use Rattle.board_spec.specs.Setup.{Setup as Fitting};
 ghost use Rattle.board_spec.specs.InRange.{IsInRange};
 ghost use Rattle.board_core.specs.Steps.{AreInRange};
@@ -76,17 +76,19 @@ const LOGS: [(&[&str], Result<u32, CheckFault>); 13] = [
     (&[HEADING, NAMES, WRITES, LOOKS_AFTER, LOOKS_AFTER], Err(Differs { line: 5 })),
 ];
 
-/// A log of ten lines.
-const TEN_LINES: &[u8] = b"access log 1\n\
-    1 0.1 ack = 07 spur0 -\n\
-    2 0.2 out b 0020 11 = - pic0 -\n\
-    3 0.3 out b 0021 20 = - pic0 -\n\
-    4 0.4 out b 0021 04 = - pic0 -\n\
-    5 0.5 out b 0021 01 = - pic0 -\n\
-    6 0.6 out b 00A0 11 = - pic1 -\n\
-    7 0.7 out b 00A1 28 = - pic1 -\n\
-    8 0.8 out b 00A1 02 = - pic1 -\n\
-    9 0.9 out b 00A1 01 = - pic1 -\n";
+/// A log of ten lines of the second script.
+const TEN_LINES: [&str; 10] = [
+    HEADING,
+    "1 0.1 ack = 07 spur0 -\n",
+    "2 0.2 out b 0020 11 = - pic0 -\n",
+    "3 0.3 out b 0021 20 = - pic0 -\n",
+    "4 0.4 out b 0021 04 = - pic0 -\n",
+    "5 0.5 out b 0021 01 = - pic0 -\n",
+    "6 0.6 out b 00A0 11 = - pic1 -\n",
+    "7 0.7 out b 00A1 28 = - pic1 -\n",
+    "8 0.8 out b 00A1 02 = - pic1 -\n",
+    "9 0.9 out b 00A1 01 = - pic1 -\n",
+];
 
 /// What is asked.
 fn event(request: Request) -> Event
@@ -130,7 +132,9 @@ fn phase(alloc: Global, requests: &[Line]) -> Result<Vec<Statement>, AllocError>
 }
 
 /// A board of 1 MiB with a ROM of 64 KiB.
-fn board(alloc: Global) -> Result<Board, Fail> {
+fn board(alloc: Global) -> Result<Board, Fail>
+    ensures fresh { IfOk result (λ board. board.entries ≡ []) }
+{
     let setup = Setup {
         mib: 1,
         cards: Vec::new(alloc),
@@ -154,15 +158,30 @@ fn check(
     Ok(check_log(alloc, &mut board, 1, &phases, bytes))
 }
 
+/// Appends lines.
+fn append(log: &mut Vec<u8>, lines: &[&str]) -> Result<(), AllocError> {
+    for line in lines {
+        log.extend_from_slice(line.as_bytes())?;
+    }
+    Ok(())
+}
+
+/// A line with one byte changed.
+fn changed(alloc: Global, line: &str, at: usize, byte: u8) -> Result<Vec<u8>, AllocError>
+    requires within { at < length line.now }
+{
+    let mut bytes = Vec::from_slice(alloc, line.as_bytes())?;
+    bytes[at] = byte;
+    Ok(bytes)
+}
+
 #[test]
 fn logs_of_two_phases(rt: HostRuntime) -> Result<(), Fail> {
     let alloc = rt.alloc();
     for (lines, expected) in &LOGS {
-        let mut log = String::new(alloc);
-        for line in *lines {
-            log.push_str(line)?;
-        }
-        assert_eq!(rt; check(&rt, alloc, &NAMED, &WRITTEN, log.as_bytes())?, *expected);
+        let mut log = Vec::new(alloc);
+        append(&mut log, lines)?;
+        assert_eq!(rt; check(&rt, alloc, &NAMED, &WRITTEN, &log)?, *expected);
     }
     Ok(())
 }
@@ -170,17 +189,20 @@ fn logs_of_two_phases(rt: HostRuntime) -> Result<(), Fail> {
 #[test]
 fn each_change_of_a_byte_is_refused_at_its_line(rt: HostRuntime) -> Result<(), Fail> {
     let alloc = rt.alloc();
-    assert_eq!(rt; check(&rt, alloc, &INITIALIZED, &[], TEN_LINES)?, Ok(9));
-    let mut log = TEN_LINES.to_vec(alloc)?;
-    let mut line = 1;
-    for (at, byte) in TEN_LINES.iter().enumerate() {
-        for bit in 0..1 {
-            log[at] = *byte ^ (1 << bit);
-            assert_eq!(rt; check(&rt, alloc, &INITIALIZED, &[], &log)?, Err(Differs { line }));
-        }
-        log[at] = *byte;
-        if *byte == b'\n' {
-            line += 1;
+    for (index, line) in TEN_LINES.iter().enumerate() {
+        for (at, byte) in line.as_bytes().iter().enumerate() {
+            for other in 0..=255 {
+                let mut log = Vec::new(alloc);
+                append(&mut log, &TEN_LINES[..index])?;
+                log.extend_from_slice(&changed(alloc, line, at, other)?)?;
+                append(&mut log, &TEN_LINES[index + 1..])?;
+                let expected = if other == *byte {
+                    Ok(9)
+                } else {
+                    Err(Differs { line: index as u32 + 1 })
+                };
+                assert_eq!(rt; check(&rt, alloc, &INITIALIZED, &[], &log)?, expected);
+            }
         }
     }
     Ok(())
