@@ -93,9 +93,9 @@ differs setup version phases bytes entries line known stops =
     let behind : (log : List ℕ) (left : List ℕ) (whole : IsLogOf setup version phases log) →
     log ≡ log_text version history ++ left → Extends history whole.history left =
     λ log left whole is.
-      extends known.one setup phases history whole.history left known.typed stops.legal stops.begun whole.legal
-      (complete_is_begun phases whole.history whole.complete)
-      (lines_behind version whole.history history left (sym whole.text ∙ is)) in
+    extends known.one setup phases history whole.history left known.typed stops.legal stops.begun whole.legal
+    (complete_is_begun phases whole.history whole.complete)
+    (lines_behind version whole.history history left (sym whole.text ∙ is)) in
     record {
       before = first.lines;
       each = first.each;

@@ -66,7 +66,7 @@ cut_behind mark at bytes before after apart is found =
     let next : at + 1 ≡ suc (length before) = ap (λ (n : ℕ). n + 1) place ∙ add-one (length before) in (
       ap (λ (n : ℕ). take n bytes) place ∙ ap (take (length before)) is ∙ take-append_seam before (mark ∷ after),
       take_rest (at + 1) bytes ∙ ap (λ (n : ℕ). drop n bytes) next ∙ ap (drop (suc (length before))) is
-      ∙ drop_behind mark before after,
+          ∙ drop_behind mark before after,
     )
 
 pub not_lost :
@@ -117,9 +117,9 @@ pub cut_line :
     line ++ line_feed ∷ after ≡ other ++ line_feed ∷ rest → (line ≡ other) × (after ≡ rest)
 cut_line line other after rest one two same = (
   sym (front-field line_feed line after (lacks-line line one)) ∙ ap (front line_feed) same
-  ∙ front-field line_feed other rest (lacks-line other two),
+      ∙ front-field line_feed other rest (lacks-line other two),
   sym (back-field line_feed line after (lacks-line line one)) ∙ ap (back line_feed) same
-  ∙ back-field line_feed other rest (lacks-line other two),
+      ∙ back-field line_feed other rest (lacks-line other two),
 )
 
 -- the processor of an entry stands behind the number of its line
