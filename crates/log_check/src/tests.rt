@@ -219,8 +219,10 @@ fn check(
     script: &Script,
     bytes: &[u8],
 ) -> Result<Result<u32, CheckFault>, Fail> {
-    assert!(rt; 1 <= script.mib && script.mib <= 64);
-    assert!(rt; script.first.len() < 100 && script.second.len() < 100);
+    assert!(rt; 1 <= script.mib);
+    assert!(rt; script.mib <= 64);
+    assert!(rt; script.first.len() < 100);
+    assert!(rt; script.second.len() < 100);
     let phases = vec![in alloc; phase(alloc, script.first)?, phase(alloc, script.second)?]?;
     let mut board = board(alloc, script.mib)?;
     Ok(check_log(alloc, &mut board, 1, &phases, bytes))

@@ -1,4 +1,4 @@
-use Rattle.std.proofs.Common.{◌≡◌, ◌++◌, ◌∷◌, [], List, ap, sym, subst, ◌∙◌, append-nil}
+use Rattle.std.proofs.Common.{◌≡◌, ◌++◌, ◌∷◌, [], List, ap, sym, subst, ◌∙◌, ◌+◌, length, append-nil, length-append, arith}
 use Rattle.std.proofs.lemmas.List.Elements.{All-append}
 use Rattle.board_spec.specs.declared.event.Statement.{Statement}
 use Rattle.board_spec.specs.InRange.{IsInRange}
@@ -16,3 +16,13 @@ check_log-requires-clause-in_range g c =
     (c.in_ok-phase.ensures.in_range c.in_ok-board.board.setup)
     (subst (AreInRange c.in_ok-board.board.setup) (sym (append-nil c.in_ok-phase-2.field-0.items))
     (c.in_ok-phase-2.ensures.in_range c.in_ok-board.board.setup)))
+
+pub check_log-requires-clause-few : goal.check_log-requires-clause-few
+check_log-requires-clause-few g c =
+    let first : List Statement = c.in_ok-phase.field-0.items in
+    let second : List Statement = c.in_ok-phase-2.field-0.items in
+    let whole : length (in_file_order (listed c.deref.result.now)) ≡ length (first ++ (second ++ [])) =
+    ap (λ phases. length (in_file_order (listed phases))) (c.deref.ensures.value ∙ c.in_ok-phases.ensures.items) in
+    let size : length (first ++ (second ++ [])) ≡ length first + length (second ++ []) = length-append first (second ++ []) in
+    let last : length (second ++ []) ≡ length second = ap length (append-nil second) in
+    omega (arith, c.in_ok-phase.ensures.count, c.in_ok-phase-2.ensures.count)
