@@ -1,5 +1,5 @@
 -- A line of a log: past it, or where the walk stops.
-use Rattle.std.proofs.Common.{ℕ, ◌≡◌, ◌≢◌, ◌+◌, ◌<◌, ◌≤◌, List, [], ◌∷◌, ◌++◌, length, All, refl, sym, ap, ◌∙◌, subst, inl, inr, append_assoc, arith}
+use Rattle.std.proofs.Common.{ℕ, ◌≡◌, ◌≢◌, ◌+◌, ◌<◌, List, [], ◌∷◌, ◌++◌, length, All, refl, sym, ap, ◌∙◌, subst, inl, inr, append_assoc, arith}
 use Rattle.std.specs.Prelude.{Result, Ok, Err, MatchResult}
 use Rattle.std.specs.Borrow.{Bor}
 use Rattle.std.specs.Result.{IsErrAnd}
@@ -8,7 +8,7 @@ use Rattle.board_spec.specs.declared.event.Entry.{Entry}
 use Rattle.board_spec.specs.declared.event.Statement.{Statement}
 use Rattle.board_spec.specs.Setup.{Setup}
 use Rattle.board_spec.specs.Legal.{IsNext, IsLegal}
-use Rattle.board_spec.specs.Orders.{IsBegunFor, IsCompleteFor}
+use Rattle.board_spec.specs.Orders.{IsBegunFor}
 use Rattle.board_spec.specs.Laws.{OneReplay}
 use Rattle.board_spec.specs.Text.{line_feed}
 use Rattle.board_spec.specs.LogText.{line_text, log_text}
@@ -16,7 +16,7 @@ use Rattle.log_check.specs.declared.fault.CheckFault.{CheckFault}
 use Rattle.log_check.specs.declared.fault.CheckFault.TheVariants.{Differs, NoMemory}
 use Rattle.log_check.specs.Phases.{IsTyped}
 use Rattle.log_check.specs.Checked.{IsAtMostNext, IsAtLine}
-use Rattle.log_check.specs.Walks.{Place, IsWithin, IsPast, GoesOnWithNone, StopsAt, Stopped}
+use Rattle.log_check.specs.Walks.{Place, IsWithin, IsPast, GoesOnWithNone, Stopped}
 use Rattle.log_check.proofs.NextStatements.{same_next}
 use Rattle.log_check.proofs.LogLines.{log-newest}
 use Rattle.log_check.proofs.Steps.{within_begun, within_unfinished, within_next, small_actor, none_left}

@@ -1,7 +1,7 @@
 -- A whole check: passed, or where it fails.
-use Rattle.std.proofs.Common.{ℕ, ◌≡◌, ◌≢◌, ◌+◌, ◌<◌, ◌≤◌, ◌⊎◌, List, [], ◌∷◌, ◌++◌, length, All, refl, sym, ap, ◌∙◌, subst, inl, inr, append-nil, arith}
+use Rattle.std.proofs.Common.{ℕ, ◌≡◌, ◌≢◌, ◌+◌, ◌≤◌, ◌⊎◌, List, [], ◌∷◌, ◌++◌, length, All, refl, sym, ap, ◌∙◌, subst, inl, inr, append-nil, arith}
 use Rattle.std.proofs.lemmas.Bool.{eq-eqb, eqb-true, true≢false}
-use Rattle.std.specs.Prelude.{◌==◌, true, false, Result, Ok, Err, MatchResult, IfOk, IfErr}
+use Rattle.std.specs.Prelude.{◌==◌, true, false, Result, Ok, Err, MatchResult}
 use Rattle.std.proofs.lemmas.List.Elements.{All-nil, All-cons, All-head, All-tail}
 use Rattle.board_spec.specs.declared.event.Event.{Event}
 use Rattle.board_spec.specs.declared.event.Event.TheVariants.{Memory, Wide, Port, Look as LookAt, Ack, Pulses, Time, Wire, Line, BadSector}
@@ -10,7 +10,7 @@ use Rattle.board_spec.specs.declared.event.Statement.{Statement}
 use Rattle.board_spec.specs.Setup.{Setup}
 use Rattle.board_spec.specs.InRange.{IsInRange}
 use Rattle.board_spec.specs.Legal.{IsLegal}
-use Rattle.board_spec.specs.Orders.{statements_of, HasPhasesSoFar, IsBegunFor, IsCompleteFor}
+use Rattle.board_spec.specs.Orders.{IsBegunFor, IsCompleteFor}
 use Rattle.board_spec.specs.OrderLaws.{in_file_order}
 use Rattle.board_spec.specs.Laws.{IsAddressed, OneReplay}
 use Rattle.board_spec.specs.LogText.{log_text}
@@ -18,12 +18,12 @@ use Rattle.board_spec.proofs.OrderLawProofs.{complete_is_begun}
 use Rattle.board_spec.proofs.OrderLengths.{begun_is_bounded, complete_is_whole}
 use Rattle.board_spec.proofs.GoesOnProofs.{none_so_far}
 use Rattle.board_core.specs.Steps.{AreInRange}
-use Rattle.script_spec.specs.Checks.{IsLogOf, DiffersAt}
+use Rattle.script_spec.specs.Checks.{IsLogOf}
 use Rattle.log_check.specs.declared.fault.CheckFault.{CheckFault}
 use Rattle.log_check.specs.declared.fault.CheckFault.TheVariants.{Differs, NoMemory}
 use Rattle.log_check.specs.Phases.{FitsLook, IsTyped}
-use Rattle.log_check.specs.Checked.{IsCheckedLog, StandsAfter}
-use Rattle.log_check.specs.Walks.{StopsAt, Stopped, Failed}
+use Rattle.log_check.specs.Checked.{IsCheckedLog}
+use Rattle.log_check.specs.Walks.{Stopped, Failed}
 use Rattle.log_check.proofs.Differences.{Known, differs, differs_at_once}
 
 -- ---- what is known of the script

@@ -1,5 +1,5 @@
 -- A text is cut at a byte, and a line of a log names its processor.
-use Rattle.std.proofs.Common.{ℕ, zero, suc, ◌≡◌, ◌≢◌, ◌+◌, ◌-◌, ◌<◌, ◌≤◌, Bool, true, false, not, cond, eqb, ltb, List, [], ◌∷◌, ◌++◌, length, take, drop, All, Option, Some, None, Result, Ok, Err, refl, sym, ap, ◌∙◌, inl, inr, append_assoc, add-one, subst, MatchOption, length-append, length-drop, arith}
+use Rattle.std.proofs.Common.{ℕ, suc, ◌≡◌, ◌≢◌, ◌+◌, ◌-◌, ◌<◌, true, cond, ltb, List, [], ◌∷◌, ◌++◌, length, take, drop, All, Option, Some, None, Result, Ok, Err, refl, sym, ap, ◌∙◌, inl, append_assoc, add-one, subst, MatchOption, length-append, length-drop, arith}
 use Rattle.std.specs.Prelude.{decimal, codes, MatchResult, ◌==◌}
 use Rattle.std.specs.List.{position, position_or_len}
 use Rattle.std.specs.Result.{result_ok}
@@ -15,7 +15,7 @@ use Rattle.board_spec.specs.declared.event.Entry.{Entry}
 use Rattle.board_spec.specs.Text.{space, line_feed}
 use Rattle.board_spec.specs.LogText.{event_text, value_bytes, reply_text, line_text}
 use Rattle.script_spec.specs.Lines.{IsOneLine}
-use Rattle.script_spec.proofs.Digits.{lacks, value_of_decimal}
+use Rattle.script_spec.proofs.Digits.{lacks}
 use Rattle.script_spec.proofs.Fields.{front, back, front-field, back-field, lacks-first, lacks-later, lacks-decimal}
 use Rattle.script_spec.proofs.PlainText.{lacks-word, decimal_word}
 use Rattle.script_spec.proofs.CheckLaws.{lacks-line}

@@ -1,10 +1,9 @@
-use Rattle.std.proofs.Common.{ℕ, ◌≡◌, ◌≢◌, ◌+◌, ◌∷◌, ◌<◌, ◌++◌, List, [], Option, Some, None, length, refl, sym, ap, ◌∙◌, subst, arith}
+use Rattle.std.proofs.Common.{ℕ, ◌≡◌, ◌+◌, ◌∷◌, List, [], Some, None, length, refl, sym, ap, ◌∙◌, subst}
 use Rattle.std.specs.Prelude.{MatchResult}
 use Rattle.std.proofs.lemmas.List.Elements.{All-head}
 use Rattle.board_spec.specs.declared.event.Entry.{Entry}
 use Rattle.board_spec.specs.declared.event.Statement.{Statement}
 use Rattle.board_spec.specs.InRange.{IsInRange}
-use Rattle.board_spec.specs.LogText.{line_text}
 use Rattle.board_core.specs.Kept.{next_entry}
 use Rattle.log_check.specs.Fronts.{left_of}
 use Rattle.log_check.proofs.LineSteps.{stops_unnamed, stops_idle, stops_without_memory, past_line, handed_on, phases_of, next_place}

@@ -1,7 +1,6 @@
-use Rattle.std.proofs.Common.{◌≡◌, ◌++◌, ◌∷◌, [], ap, sym, subst, length, length-append, ◌∙◌, ◌+◌, ℕ, arith}
+use Rattle.std.proofs.Common.{ap, sym, subst, length, length-append, ◌∙◌, ◌+◌, ℕ}
 use Rattle.std.proofs.lemmas.List.Elements.{All-push}
 use Rattle.board_spec.specs.declared.event.Statement.{Statement}
-use Rattle.board_spec.specs.Setup.{Setup}
 use Rattle.board_spec.specs.InRange.{IsInRange}
 use Rattle.board_core.specs.Steps.{AreInRange}
 use Rattle.log_check.proofs.tests.phase.Goals as goal
