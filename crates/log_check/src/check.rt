@@ -1,7 +1,6 @@
 //! The walk over a log, line by line, phase by phase.
 
 ghost use Rattle.std.specs.Prelude.{◌≡◌, ◌+◌, ◌<◌, ◌≤◌, ◌++◌, ◌∷◌, ◌⊎◌, ℕ, [], List, All, length, Ok, Err, IfOk, IfErr, OnOk, MatchResult};
-ghost use Rattle.board_spec.specs.declared.event.Statement.{Statement as Said};
 ghost use Rattle.board_spec.specs.Legal.{IsLegal};
 ghost use Rattle.board_spec.specs.LogText.{log_text};
 ghost use Rattle.board_spec.specs.Orders.{IsBegunFor, IsCompleteFor};
