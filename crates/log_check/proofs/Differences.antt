@@ -1,25 +1,24 @@
 -- Where a walk stops, the bytes leave the logs of the script.
-use Rattle.std.proofs.Common.{ℕ, ◌≡◌, ◌≢◌, ◌+◌, ◌<◌, ◌≤◌, List, [], ◌∷◌, ◌++◌, length, reverse, All, refl, sym, ap, ◌∙◌, subst, inl, inr, append_assoc, append-nil, arith}
+use Rattle.std.proofs.Common.{ℕ, ◌≡◌, ◌≢◌, ◌+◌, List, [], ◌∷◌, ◌++◌, length, reverse, All, refl, sym, ap, ◌∙◌, subst, append_assoc, append-nil, arith}
 use Rattle.std.proofs.lemmas.List.Elements.{All-nil}
 use Rattle.board_spec.specs.declared.event.Entry.{Entry}
 use Rattle.board_spec.specs.declared.event.Statement.{Statement}
 use Rattle.board_spec.specs.Setup.{Setup}
-use Rattle.board_spec.specs.Legal.{IsNext, IsLegal}
+use Rattle.board_spec.specs.Legal.{IsLegal}
 use Rattle.board_spec.specs.Orders.{IsBegunFor, IsCompleteFor}
 use Rattle.board_spec.specs.OrderLaws.{in_file_order}
 use Rattle.board_spec.specs.Laws.{IsAddressed, OneReplay}
 use Rattle.board_spec.specs.Text.{line_feed}
 use Rattle.board_spec.specs.LogText.{line_text, lines_text, log_text}
 use Rattle.board_spec.proofs.OrderLawProofs.{complete_is_begun}
-use Rattle.board_spec.proofs.OrderLengths.{begun_is_bounded, complete_is_whole}
 use Rattle.board_spec.proofs.GoesOnProofs.{none_so_far}
 use Rattle.script_spec.specs.Lines.{text_of_lines, IsOneLine}
-use Rattle.script_spec.specs.Checks.{AreBegun, LeavesAt, IsLogOf, DiffersAt}
+use Rattle.script_spec.specs.Checks.{AreBegun, IsLogOf, DiffersAt}
 use Rattle.script_spec.proofs.LogLaws.{line_whole}
 use Rattle.log_check.specs.Phases.{IsTyped}
 use Rattle.log_check.specs.Walks.{GoesOnWithNone, StopsAt}
 use Rattle.log_check.proofs.TextCuts.{cut_line}
-use Rattle.log_check.proofs.LogLines.{heading, heading_whole, heading-log, log_parts, lines_from, newest_last, lines_behind, log_behind, Lined, lined, one_line_more}
+use Rattle.log_check.proofs.LogLines.{heading, heading_whole, heading-log, log_parts, lines_from, newest_last, lines_behind, log_behind, lined, one_line_more}
 use Rattle.log_check.proofs.Histories.{no_line, legal_front, begun_front, Extends, extends, completed}
 
 -- what is known of a script
@@ -93,9 +92,9 @@ differs setup version phases bytes entries line known stops =
     let behind : (log : List ℕ) (left : List ℕ) (whole : IsLogOf setup version phases log) →
     log ≡ log_text version history ++ left → Extends history whole.history left =
     λ log left whole is.
-      extends known.one setup phases history whole.history left known.typed stops.legal stops.begun whole.legal
-      (complete_is_begun phases whole.history whole.complete)
-      (lines_behind version whole.history history left (sym whole.text ∙ is)) in
+    extends known.one setup phases history whole.history left known.typed stops.legal stops.begun whole.legal
+    (complete_is_begun phases whole.history whole.complete)
+    (lines_behind version whole.history history left (sym whole.text ∙ is)) in
     record {
       before = first.lines;
       each = first.each;

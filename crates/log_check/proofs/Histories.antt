@@ -1,17 +1,17 @@
 -- A history that begins with the lines of another goes on from it, and a begun history can be completed.
-use Rattle.std.proofs.Common.{ℕ, zero, suc, ◌≡◌, ◌+◌, ◌-◌, ◌<◌, ◌≤◌, List, [], ◌∷◌, ◌++◌, length, reverse, All, refl, sym, ap, ◌∙◌, subst, inl, inr, append-nil, add-one, arith}
+use Rattle.std.proofs.Common.{ℕ, zero, suc, ◌≡◌, ◌+◌, ◌-◌, ◌<◌, List, [], ◌∷◌, ◌++◌, length, reverse, All, refl, sym, ap, ◌∙◌, subst, inl, append-nil, add-one, arith}
 use Rattle.std.specs.Prelude.{decimal}
 use Rattle.std.proofs.lemmas.List.{reverse-reverse}
 use Rattle.board_spec.specs.declared.event.Entry.{Entry}
 use Rattle.board_spec.specs.declared.event.Statement.{Statement}
 use Rattle.board_spec.specs.Setup.{Setup}
-use Rattle.board_spec.specs.Legal.{IsNext, IsLegal}
-use Rattle.board_spec.specs.Orders.{statements_of, IsBegunFor, IsCompleteFor}
+use Rattle.board_spec.specs.Legal.{IsLegal}
+use Rattle.board_spec.specs.Orders.{IsBegunFor, IsCompleteFor}
 use Rattle.board_spec.specs.OrderLaws.{in_file_order}
 use Rattle.board_spec.specs.Laws.{IsAddressed, OneReplay}
 use Rattle.board_spec.specs.Text.{space, line_feed}
 use Rattle.board_spec.specs.LogText.{line_text, lines_text}
-use Rattle.board_spec.proofs.OrderLawProofs.{complete_is_begun, front_is_begun}
+use Rattle.board_spec.proofs.OrderLawProofs.{front_is_begun}
 use Rattle.board_spec.proofs.OrderLengths.{begun_is_bounded, whole_is_complete, complete_is_whole}
 use Rattle.board_spec.proofs.GoesOnProofs.{begun_goes_on}
 use Rattle.script_spec.proofs.Digits.{value_of_decimal}

@@ -1,5 +1,5 @@
 -- A line of a log: past it, or where the walk stops.
-use Rattle.std.proofs.Common.{ℕ, ◌≡◌, ◌≢◌, ◌+◌, ◌<◌, ◌≤◌, List, [], ◌∷◌, ◌++◌, length, All, refl, sym, ap, ◌∙◌, subst, inl, inr, append_assoc, arith}
+use Rattle.std.proofs.Common.{ℕ, ◌≡◌, ◌≢◌, ◌+◌, ◌<◌, List, [], ◌∷◌, ◌++◌, length, All, refl, sym, ap, ◌∙◌, subst, inl, inr, append_assoc, arith}
 use Rattle.std.specs.Prelude.{Result, Ok, Err, MatchResult}
 use Rattle.std.specs.Borrow.{Bor}
 use Rattle.std.specs.Result.{IsErrAnd}
@@ -8,7 +8,7 @@ use Rattle.board_spec.specs.declared.event.Entry.{Entry}
 use Rattle.board_spec.specs.declared.event.Statement.{Statement}
 use Rattle.board_spec.specs.Setup.{Setup}
 use Rattle.board_spec.specs.Legal.{IsNext, IsLegal}
-use Rattle.board_spec.specs.Orders.{IsBegunFor, IsCompleteFor}
+use Rattle.board_spec.specs.Orders.{IsBegunFor}
 use Rattle.board_spec.specs.Laws.{OneReplay}
 use Rattle.board_spec.specs.Text.{line_feed}
 use Rattle.board_spec.specs.LogText.{line_text, log_text}
@@ -16,7 +16,7 @@ use Rattle.log_check.specs.declared.fault.CheckFault.{CheckFault}
 use Rattle.log_check.specs.declared.fault.CheckFault.TheVariants.{Differs, NoMemory}
 use Rattle.log_check.specs.Phases.{IsTyped}
 use Rattle.log_check.specs.Checked.{IsAtMostNext, IsAtLine}
-use Rattle.log_check.specs.Walks.{Place, IsWithin, IsPast, GoesOnWithNone, StopsAt, Stopped}
+use Rattle.log_check.specs.Walks.{Place, IsWithin, IsPast, GoesOnWithNone, Stopped}
 use Rattle.log_check.proofs.NextStatements.{same_next}
 use Rattle.log_check.proofs.LogLines.{log-newest}
 use Rattle.log_check.proofs.Steps.{within_begun, within_unfinished, within_next, small_actor, none_left}
@@ -74,8 +74,8 @@ pub stops_unnamed :
 stops_unnamed setup place phase left history rest line walk unnamed is =
     stopped setup place phase left history history rest line walk
     (λ entry after next more text.
-      unnamed (length history + 1) entry (line_feed ∷ after)
-      (small_actor place phase left history entry walk.within walk.short walk.typed more) text)
+    unnamed (length history + 1) entry (line_feed ∷ after)
+    (small_actor place phase left history entry walk.within walk.short walk.typed more) text)
     (inl refl) walk.legal (begun setup place phase left history rest walk) is
 
 -- the processor has nothing left
@@ -88,11 +88,11 @@ pub stops_idle :
 stops_idle setup place phase left history rest line actor walk named nothing is =
     stopped setup place phase left history history rest line walk
     (λ entry after next more text.
-      none_left place phase left history entry walk.within walk.short
-      (subst (λ (a : ℕ). left a ≡ [])
-      (named (length history + 1) entry (line_feed ∷ after)
-      (small_actor place phase left history entry walk.within walk.short walk.typed more) text) nothing)
-      more)
+    none_left place phase left history entry walk.within walk.short
+    (subst (λ (a : ℕ). left a ≡ [])
+    (named (length history + 1) entry (line_feed ∷ after)
+    (small_actor place phase left history entry walk.within walk.short walk.typed more) text) nothing)
+    more)
     (inl refl) walk.legal (begun setup place phase left history rest walk) is
 
 -- ---- with the entry of the processor's next statement
@@ -129,8 +129,11 @@ pub stops_without_memory :
     Made setup place phase left after history entry →
     Stopped setup place.version (phases_of place phase) place.bytes (entry ∷ history) NoMemory
 stops_without_memory setup place phase left after history entry rest walk made = record {
-  by = (length history + 2, at_line place history (entry ∷ history) rest (length history + 2) walk.past
-      (inr (entry, refl)) refl);
+  by = (
+    length history + 2,
+    at_line place history (entry ∷ history) rest (length history + 2) walk.past
+        (inr (entry, refl)) refl,
+  );
   legal = (made.next, walk.legal);
   begun = made_begun setup place phase left after history entry rest walk made;
 }
@@ -152,9 +155,9 @@ past_line setup place phase left after history entry rest printed line (Ok behin
     let text : List ℕ = line_text (length history + 1) entry in (
       made_within setup place phase left after history entry rest walk made,
       walk.past
-      ∙ ap (λ (t : List ℕ). log_text place.version history ++ t)
-      (told ∙ ap (λ (t : List ℕ). t ++ behind.now) is ∙ append_assoc text (line_feed ∷ []) behind.now)
-      ∙ sym (log-newest place.version entry history behind.now),
+          ∙ ap (λ (t : List ℕ). log_text place.version history ++ t)
+          (told ∙ ap (λ (t : List ℕ). t ++ behind.now) is ∙ append_assoc text (line_feed ∷ []) behind.now)
+          ∙ sym (log-newest place.version entry history behind.now),
     )
 past_line setup place phase left after history entry rest printed line (Err fault) one walk made named is at_place told =
     let text : List ℕ = line_text (length history + 1) entry in
@@ -163,16 +166,16 @@ past_line setup place phase left after history entry rest printed line (Err faul
     subst (Stopped setup place.version (phases_of place phase) place.bytes (entry ∷ history)) (sym told.0)
     (stopped setup place phase left history (entry ∷ history) rest line walk
     (λ other behind next more same.
-      let actor : entry.actor ≡ other.actor =
-      named (length history + 1) other (line_feed ∷ behind)
-      (small_actor place phase left history other walk.within walk.short walk.typed more) same in
-      let equal : entry ≡ other =
-      same_next one setup (phases_of place phase) history entry other walk.legal made.next next entries more actor in
-      told.1 behind
-      (same
-      ∙ ap (λ (e : Entry). line_text (length history + 1) e ++ line_feed ∷ behind) (sym equal)
-      ∙ sym (append_assoc text (line_feed ∷ []) behind)
-      ∙ ap (λ (t : List ℕ). t ++ behind) (sym is)))
+    let actor : entry.actor ≡ other.actor =
+    named (length history + 1) other (line_feed ∷ behind)
+    (small_actor place phase left history other walk.within walk.short walk.typed more) same in
+    let equal : entry ≡ other =
+    same_next one setup (phases_of place phase) history entry other walk.legal made.next next entries more actor in
+    told.1 behind
+    (same
+    ∙ ap (λ (e : Entry). line_text (length history + 1) e ++ line_feed ∷ behind) (sym equal)
+    ∙ sym (append_assoc text (line_feed ∷ []) behind)
+    ∙ ap (λ (t : List ℕ). t ++ behind) (sym is)))
     (inr (entry, refl)) (made.next, walk.legal) entries at_place)
 
 -- a fault is handed on

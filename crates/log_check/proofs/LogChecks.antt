@@ -1,7 +1,7 @@
 -- A whole check: passed, or where it fails.
-use Rattle.std.proofs.Common.{ℕ, ◌≡◌, ◌≢◌, ◌+◌, ◌<◌, ◌≤◌, ◌⊎◌, List, [], ◌∷◌, ◌++◌, length, All, refl, sym, ap, ◌∙◌, subst, inl, inr, append-nil, arith}
+use Rattle.std.proofs.Common.{ℕ, ◌≡◌, ◌≢◌, ◌+◌, ◌≤◌, ◌⊎◌, List, [], ◌∷◌, ◌++◌, length, All, refl, sym, ap, ◌∙◌, subst, inl, inr, append-nil, arith}
 use Rattle.std.proofs.lemmas.Bool.{eq-eqb, eqb-true, true≢false}
-use Rattle.std.specs.Prelude.{◌==◌, true, false, Result, Ok, Err, MatchResult, IfOk, IfErr}
+use Rattle.std.specs.Prelude.{◌==◌, true, false, Result, Ok, Err, MatchResult}
 use Rattle.std.proofs.lemmas.List.Elements.{All-nil, All-cons, All-head, All-tail}
 use Rattle.board_spec.specs.declared.event.Event.{Event}
 use Rattle.board_spec.specs.declared.event.Event.TheVariants.{Memory, Wide, Port, Look as LookAt, Ack, Pulses, Time, Wire, Line, BadSector}
@@ -10,7 +10,7 @@ use Rattle.board_spec.specs.declared.event.Statement.{Statement}
 use Rattle.board_spec.specs.Setup.{Setup}
 use Rattle.board_spec.specs.InRange.{IsInRange}
 use Rattle.board_spec.specs.Legal.{IsLegal}
-use Rattle.board_spec.specs.Orders.{statements_of, HasPhasesSoFar, IsBegunFor, IsCompleteFor}
+use Rattle.board_spec.specs.Orders.{IsBegunFor, IsCompleteFor}
 use Rattle.board_spec.specs.OrderLaws.{in_file_order}
 use Rattle.board_spec.specs.Laws.{IsAddressed, OneReplay}
 use Rattle.board_spec.specs.LogText.{log_text}
@@ -18,12 +18,12 @@ use Rattle.board_spec.proofs.OrderLawProofs.{complete_is_begun}
 use Rattle.board_spec.proofs.OrderLengths.{begun_is_bounded, complete_is_whole}
 use Rattle.board_spec.proofs.GoesOnProofs.{none_so_far}
 use Rattle.board_core.specs.Steps.{AreInRange}
-use Rattle.script_spec.specs.Checks.{IsLogOf, DiffersAt}
+use Rattle.script_spec.specs.Checks.{IsLogOf}
 use Rattle.log_check.specs.declared.fault.CheckFault.{CheckFault}
 use Rattle.log_check.specs.declared.fault.CheckFault.TheVariants.{Differs, NoMemory}
 use Rattle.log_check.specs.Phases.{FitsLook, IsTyped}
-use Rattle.log_check.specs.Checked.{IsCheckedLog, StandsAfter}
-use Rattle.log_check.specs.Walks.{StopsAt, Stopped, Failed}
+use Rattle.log_check.specs.Checked.{IsCheckedLog}
+use Rattle.log_check.specs.Walks.{Stopped, Failed}
 use Rattle.log_check.proofs.Differences.{Known, differs, differs_at_once}
 
 -- ---- what is known of the script
@@ -172,31 +172,6 @@ begun_after setup version phases bytes entries (Ok count) checked =
     complete_is_begun phases entries (subst (IsCompleteFor phases) checked.same checked.log.complete)
 begun_after setup version phases bytes entries (Err fault) checked = checked.begun
 
-pub legal_after :
-    (setup : Setup) (version : ℕ) (phases : List (List Statement)) (bytes : List ℕ) (entries : List Entry)
-    (result : Result ℕ CheckFault) →
-    MatchResult result (IsCheckedLog setup version phases bytes entries) (Failed setup version phases bytes entries) →
-    IsLegal setup entries
-legal_after setup version phases bytes entries (Ok count) checked =
-    subst (IsLegal setup) checked.same checked.log.legal
-legal_after setup version phases bytes entries (Err fault) checked = checked.legal
-
-pub stands_after :
-    (setup : Setup) (version : ℕ) (phases : List (List Statement)) (bytes : List ℕ) (entries : List Entry)
-    (result : Result ℕ CheckFault) →
-    MatchResult result (IsCheckedLog setup version phases bytes entries) (Failed setup version phases bytes entries) →
-    IfErr result (StandsAfter version bytes entries)
-stands_after setup version phases bytes entries (Ok count) checked = tt
-stands_after setup version phases bytes entries (Err fault) checked = checked.stands
-
-pub log_after :
-    (setup : Setup) (version : ℕ) (phases : List (List Statement)) (bytes : List ℕ) (entries : List Entry)
-    (result : Result ℕ CheckFault) →
-    MatchResult result (IsCheckedLog setup version phases bytes entries) (Failed setup version phases bytes entries) →
-    IfOk result (IsCheckedLog setup version phases bytes entries)
-log_after setup version phases bytes entries (Ok count) checked = checked
-log_after setup version phases bytes entries (Err fault) checked = tt
-
 pub exactly :
     (setup : Setup) (version : ℕ) (phases : List (List Statement)) (bytes : List ℕ) (entries : List Entry)
     (result : Result ℕ CheckFault) →
@@ -210,13 +185,3 @@ exactly setup version phases bytes entries (Ok count) checked log =
     inl (ap Ok (checked.count_is ∙ own ∙ sym other))
 exactly setup version phases bytes entries (Err (Differs line)) checked log = absurd (checked.refused.other log)
 exactly setup version phases bytes entries (Err NoMemory) checked log = inr refl
-
-pub refused_at :
-    (setup : Setup) (version : ℕ) (phases : List (List Statement)) (bytes : List ℕ) (entries : List Entry)
-    (result : Result ℕ CheckFault) →
-    MatchResult result (IsCheckedLog setup version phases bytes entries) (Failed setup version phases bytes entries) →
-    (line : ℕ) → result ≡ Err (Differs line) → DiffersAt setup version phases bytes line
-refused_at setup version phases bytes entries (Ok count) checked line is = cc
-refused_at setup version phases bytes entries (Err (Differs place)) checked line is =
-    let same : place ≡ line = cc in subst (DiffersAt setup version phases bytes) same checked.refused
-refused_at setup version phases bytes entries (Err NoMemory) checked line is = cc

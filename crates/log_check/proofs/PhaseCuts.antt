@@ -1,9 +1,8 @@
 -- Phases that are done, and what follows them.
-use Rattle.std.proofs.Common.{ℕ, ◌≡◌, ◌+◌, ◌<◌, ◌≤◌, List, [], ◌∷◌, ◌++◌, length, take, drop, min, refl, sym, ap, ◌∙◌, subst, inl, inr, length-append, arith}
+use Rattle.std.proofs.Common.{◌≡◌, ◌+◌, ◌<◌, ◌≤◌, List, [], ◌∷◌, ◌++◌, length, take, drop, min, sym, ◌∙◌, subst, inl, inr, length-append, arith}
 use Rattle.std.proofs.lemmas.List.{take-append-le, drop-append-le, length-take, take_all}
-use Rattle.board_spec.specs.declared.event.Event.{Event}
 use Rattle.board_spec.specs.declared.event.Statement.{Statement}
-use Rattle.board_spec.specs.Orders.{events_by, BeginsWith, IsWholePhase, IsFrontOfPhase, HasPhases, HasPhasesSoFar}
+use Rattle.board_spec.specs.Orders.{events_by, IsWholePhase, IsFrontOfPhase, HasPhases, HasPhasesSoFar}
 use Rattle.board_spec.proofs.GoesOnProofs.{whole_front, nothing_left}
 use Rattle.std.proofs.lemmas.List.{append-nil}
 

@@ -1,11 +1,11 @@
 -- The steps of a walk within a phase.
-use Rattle.std.proofs.Common.{ℕ, ◌≡◌, ◌≢◌, ◌+◌, ◌<◌, ◌≤◌, List, [], ◌∷◌, ◌++◌, length, All, refl, sym, ap, ◌∙◌, subst, inl, inr, append_assoc, append-nil, length-append, arith}
+use Rattle.std.proofs.Common.{ℕ, ◌≡◌, ◌≢◌, ◌+◌, ◌<◌, ◌≤◌, List, [], ◌∷◌, ◌++◌, length, All, sym, ap, ◌∙◌, subst, inl, inr, append_assoc, append-nil, length-append, arith}
 use Rattle.std.proofs.lemmas.Bool.{cases_eq}
 use Rattle.std.proofs.lemmas.List.{append_cancel_left}
 use Rattle.board_spec.specs.declared.event.Event.{Event}
 use Rattle.board_spec.specs.declared.event.Entry.{Entry}
 use Rattle.board_spec.specs.declared.event.Statement.{Statement}
-use Rattle.board_spec.specs.Orders.{statement_of, statements_of, events_by, IsWholePhase, IsFrontOfPhase, HasPhases, HasPhasesSoFar, IsBegunFor, IsCompleteFor}
+use Rattle.board_spec.specs.Orders.{statement_of, statements_of, events_by, IsFrontOfPhase, HasPhases, HasPhasesSoFar, IsBegunFor, IsCompleteFor}
 use Rattle.board_spec.proofs.OrderLawProofs.{statements-newest}
 use Rattle.log_check.specs.Phases.{IsTyped}
 use Rattle.log_check.specs.Walks.{Place, IsWithin}

@@ -1,5 +1,5 @@
 -- A text is cut at a byte, and a line of a log names its processor.
-use Rattle.std.proofs.Common.{ℕ, zero, suc, ◌≡◌, ◌≢◌, ◌+◌, ◌-◌, ◌<◌, ◌≤◌, Bool, true, false, not, cond, eqb, ltb, List, [], ◌∷◌, ◌++◌, length, take, drop, All, Option, Some, None, Result, Ok, Err, refl, sym, ap, ◌∙◌, inl, inr, append_assoc, add-one, subst, MatchOption, length-append, length-drop, arith}
+use Rattle.std.proofs.Common.{ℕ, suc, ◌≡◌, ◌≢◌, ◌+◌, ◌-◌, ◌<◌, true, cond, ltb, List, [], ◌∷◌, ◌++◌, length, take, drop, All, Option, Some, None, Result, Ok, Err, refl, sym, ap, ◌∙◌, inl, append_assoc, add-one, subst, MatchOption, length-append, length-drop, arith}
 use Rattle.std.specs.Prelude.{decimal, codes, MatchResult, ◌==◌}
 use Rattle.std.specs.List.{position, position_or_len}
 use Rattle.std.specs.Result.{result_ok}
@@ -15,7 +15,7 @@ use Rattle.board_spec.specs.declared.event.Entry.{Entry}
 use Rattle.board_spec.specs.Text.{space, line_feed}
 use Rattle.board_spec.specs.LogText.{event_text, value_bytes, reply_text, line_text}
 use Rattle.script_spec.specs.Lines.{IsOneLine}
-use Rattle.script_spec.proofs.Digits.{lacks, value_of_decimal}
+use Rattle.script_spec.proofs.Digits.{lacks}
 use Rattle.script_spec.proofs.Fields.{front, back, front-field, back-field, lacks-first, lacks-later, lacks-decimal}
 use Rattle.script_spec.proofs.PlainText.{lacks-word, decimal_word}
 use Rattle.script_spec.proofs.CheckLaws.{lacks-line}
@@ -66,7 +66,7 @@ cut_behind mark at bytes before after apart is found =
     let next : at + 1 ≡ suc (length before) = ap (λ (n : ℕ). n + 1) place ∙ add-one (length before) in (
       ap (λ (n : ℕ). take n bytes) place ∙ ap (take (length before)) is ∙ take-append_seam before (mark ∷ after),
       take_rest (at + 1) bytes ∙ ap (λ (n : ℕ). drop n bytes) next ∙ ap (drop (suc (length before))) is
-      ∙ drop_behind mark before after,
+          ∙ drop_behind mark before after,
     )
 
 pub not_lost :
@@ -117,9 +117,9 @@ pub cut_line :
     line ++ line_feed ∷ after ≡ other ++ line_feed ∷ rest → (line ≡ other) × (after ≡ rest)
 cut_line line other after rest one two same = (
   sym (front-field line_feed line after (lacks-line line one)) ∙ ap (front line_feed) same
-  ∙ front-field line_feed other rest (lacks-line other two),
+      ∙ front-field line_feed other rest (lacks-line other two),
   sym (back-field line_feed line after (lacks-line line one)) ∙ ap (back line_feed) same
-  ∙ back-field line_feed other rest (lacks-line other two),
+      ∙ back-field line_feed other rest (lacks-line other two),
 )
 
 -- the processor of an entry stands behind the number of its line

@@ -1,5 +1,5 @@
 -- The phases of a script as the program keeps them.
-use Rattle.std.specs.Prelude.{ℕ, ◌<◌, List, map}
+use Rattle.std.specs.Prelude.{◌<◌, List, map}
 use Rattle.std.specs.declared.vec.Vec.{Vec}
 use Rattle.std.specs.Global.{Global}
 use Rattle.board_spec.specs.declared.event.Event.{Event}

@@ -1,7 +1,6 @@
 //! The walk over a log, line by line, phase by phase.
 
 ghost use Rattle.std.specs.Prelude.{◌≡◌, ◌+◌, ◌<◌, ◌≤◌, ◌++◌, ◌∷◌, ◌⊎◌, ℕ, [], List, All, length, Ok, Err, IfOk, IfErr, OnOk, MatchResult};
-ghost use Rattle.board_spec.specs.declared.event.Statement.{Statement as Said};
 ghost use Rattle.board_spec.specs.Legal.{IsLegal};
 ghost use Rattle.board_spec.specs.LogText.{log_text};
 ghost use Rattle.board_spec.specs.Orders.{IsBegunFor, IsCompleteFor};
@@ -40,10 +39,10 @@ fn check_line<'a>(
     ensures walked { (place : Place) → IsWithin place front.old.phase.now (left_of front.old) board.old.entries
         → IsPast place board.old.entries rest.now → place.count < length front.old.phase.now
         → MatchResult result
-          (λ after. IsWithin (record place { count = place.count + 1 }) front.old.phase.now (left_of front.new) board.new.entries
-            × IsPast place board.new.entries after.now)
-          (λ fault. Stopped board.old.setup place.version (place.done ++ front.old.phase.now ∷ place.later) place.bytes
-            board.new.entries fault) }
+        (λ after. IsWithin (record place { count = place.count + 1 }) front.old.phase.now (left_of front.new) board.new.entries
+        × IsPast place board.new.entries after.now)
+        (λ fault. Stopped board.old.setup place.version (place.done ++ front.old.phase.now ∷ place.later) place.bytes
+        board.new.entries fault) }
 {
     let line = board.history().len() + 2;
     let Some(actor) = processor(rest) else {
@@ -72,9 +71,9 @@ fn check_phase<'a>(
     ensures spare { OnOk result (board.new.spare + length phase.now ≡ board.old.spare) }
     ensures walked { (place : Place) → IsCompleteFor place.done board.old.entries → IsPast place board.old.entries rest.now
         → MatchResult result
-          (λ after. IsCompleteFor (place.done ++ phase.now ∷ []) board.new.entries × IsPast place board.new.entries after.now)
-          (λ fault. Stopped board.old.setup place.version (place.done ++ phase.now ∷ place.later) place.bytes
-            board.new.entries fault) }
+        (λ after. IsCompleteFor (place.done ++ phase.now ∷ []) board.new.entries × IsPast place board.new.entries after.now)
+        (λ fault. Stopped board.old.setup place.version (place.done ++ phase.now ∷ place.later) place.bytes
+        board.new.entries fault) }
 {
     let mut front = Front::new(phase);
     let mut left = rest;
@@ -98,9 +97,9 @@ fn check_phases<'a>(
     ensures setup { board.new.setup ≡ board.old.setup }
     ensures walked { (version : ℕ) (bytes : List ℕ) → bytes ≡ log_text version [] ++ rest.now
         → MatchResult result
-          (λ after. IsCompleteFor (listed phases.now) board.new.entries
-            × (bytes ≡ log_text version board.new.entries ++ after.now))
-          (λ fault. Stopped board.old.setup version (listed phases.now) bytes board.new.entries fault) }
+        (λ after. IsCompleteFor (listed phases.now) board.new.entries
+        × (bytes ≡ log_text version board.new.entries ++ after.now))
+        (λ fault. Stopped board.old.setup version (listed phases.now) bytes board.new.entries fault) }
 {
     let mut left = rest;
     for phase in phases {

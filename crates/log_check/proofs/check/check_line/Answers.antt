@@ -1,10 +1,9 @@
-use Rattle.std.proofs.Common.{ℕ, ◌≡◌, ◌≢◌, ◌+◌, ◌∷◌, ◌<◌, ◌++◌, List, [], Option, Some, None, length, refl, sym, ap, ◌∙◌, subst, arith}
+use Rattle.std.proofs.Common.{ℕ, ◌≡◌, ◌+◌, ◌∷◌, List, [], Some, None, length, refl, sym, ap, ◌∙◌, subst}
 use Rattle.std.specs.Prelude.{MatchResult}
 use Rattle.std.proofs.lemmas.List.Elements.{All-head}
 use Rattle.board_spec.specs.declared.event.Entry.{Entry}
 use Rattle.board_spec.specs.declared.event.Statement.{Statement}
 use Rattle.board_spec.specs.InRange.{IsInRange}
-use Rattle.board_spec.specs.LogText.{line_text}
 use Rattle.board_core.specs.Kept.{next_entry}
 use Rattle.log_check.specs.Fronts.{left_of}
 use Rattle.log_check.proofs.LineSteps.{stops_unnamed, stops_idle, stops_without_memory, past_line, handed_on, phases_of, next_place}
@@ -24,8 +23,8 @@ returns-in_default-clause-walked c = λ place within past short.
       short = short;
     })
     (λ n entry after small text.
-      let lost : None ≡ Some entry.actor = sym c.in_default.is ∙ c.processor.ensures.named n entry after small text in
-      cc)
+    let lost : None ≡ Some entry.actor = sym c.in_default.is ∙ c.processor.ensures.named n entry after small text in
+    cc)
     (ap (λ (n : ℕ). n + 2) (c.len-line.ensures.length ∙ ap (λ history. length history.entries) c.history.ensures.history))
 
 pub returns-in_default-next-clause-walked : goal.returns-in_default-next-clause-walked
@@ -40,8 +39,8 @@ returns-in_default-next-clause-walked c = λ place within past short.
       short = short;
     })
     (λ n entry after small text.
-      let same : Some c.in-Some.actor ≡ Some entry.actor = c.in-Some.ensures.named n entry after small text in
-      cc)
+    let same : Some c.in-Some.actor ≡ Some entry.actor = c.in-Some.ensures.named n entry after small text in
+    cc)
     c.in_default-next.ensures.taken
     (ap (λ (n : ℕ). n + 2) (c.len-line.ensures.length ∙ ap (λ history. length history.entries) c.history.ensures.history))
 
@@ -101,9 +100,9 @@ returns-clause-walked c = λ place within past short.
       others = λ other apart. c.next.ensures.others other (λ same. apart (same ∙ sym taken.0));
     })
     (λ n other behind small text.
-      let same : Some c.in-Some.actor ≡ Some other.actor = c.in-Some.ensures.named n other behind small text in
-      let actor : c.in-Some.actor ≡ other.actor = cc in
-      taken.0 ∙ actor)
+    let same : Some c.in-Some.actor ≡ Some other.actor = c.in-Some.ensures.named n other behind small text in
+    let actor : c.in-Some.actor ≡ other.actor = cc in
+    taken.0 ∙ actor)
     (c.deref.ensures ∙ c.in_ok-print_newest.ensures.printed entry c.args.board.now.entries
     (ap (λ history. history.entries) c.history-2.ensures.history
     ∙ ap (λ board. board.entries) c.step.ensures.entry))

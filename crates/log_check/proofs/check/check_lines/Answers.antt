@@ -1,9 +1,8 @@
-use Rattle.std.proofs.Common.{ℕ, ◌≡◌, ◌++◌, [], List, length, refl, sym, ap, ◌∙◌, subst, arith}
+use Rattle.std.proofs.Common.{ℕ, ◌++◌, List, length, sym, ap, ◌∙◌, subst}
 use Rattle.board_spec.specs.declared.event.Statement.{Statement}
 use Rattle.board_spec.specs.Setup.{Setup}
 use Rattle.board_spec.specs.Legal.{IsLegal}
-use Rattle.board_spec.specs.LogText.{log_text}
-use Rattle.log_check.specs.declared.fault.CheckFault.TheVariants.{Differs, NoMemory}
+use Rattle.log_check.specs.declared.fault.CheckFault.TheVariants.{NoMemory}
 use Rattle.log_check.specs.Phases.{listed}
 use Rattle.log_check.specs.Walks.{Failed}
 use Rattle.log_check.proofs.LineSteps.{handed_on}

@@ -1,7 +1,6 @@
-use Rattle.std.proofs.Common.{ℕ, ◌≡◌, ◌+◌, ◌++◌, ◌∷◌, ◌<◌, List, All, length, refl, sym, ap, ◌∙◌, subst, add-zero, arith}
+use Rattle.std.proofs.Common.{◌+◌, ◌++◌, ◌∷◌, ◌<◌, List, All, length, refl, sym, ◌∙◌, subst, add-zero, arith}
 use Rattle.board_spec.specs.declared.event.Statement.{Statement}
 use Rattle.board_spec.specs.Setup.{Setup}
-use Rattle.board_core.specs.Steps.{AreInRange}
 use Rattle.log_check.specs.Phases.{IsTyped}
 use Rattle.log_check.specs.Fronts.{left_of}
 use Rattle.log_check.specs.Walks.{Place, IsWithin, Stopped}

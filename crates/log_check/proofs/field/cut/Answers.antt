@@ -1,4 +1,4 @@
-use Rattle.std.proofs.Common.{sym, ◌∙◌}
+use Rattle.std.proofs.Common.{sym}
 use Rattle.log_check.proofs.TextCuts.{cut_behind, not_lost}
 use Rattle.log_check.proofs.field.cut.Goals as goal
 

@@ -1,6 +1,5 @@
-use Rattle.std.proofs.Common.{ℕ, ◌≡◌, ◌∷◌, ◌++◌, List, sym, ◌∙◌, ap, arith}
+use Rattle.std.proofs.Common.{◌∙◌}
 use Rattle.std.specs.Prelude.{decimal}
-use Rattle.board_spec.specs.Text.{space}
 use Rattle.log_check.proofs.TextCuts.{named, number_apart, decimal_apart}
 use Rattle.log_check.proofs.field.processor.Goals as goal
 

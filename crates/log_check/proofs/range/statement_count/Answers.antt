@@ -1,6 +1,4 @@
-use Rattle.std.proofs.Common.{◌≡◌, ◌+◌, ◌≤◌, length, take, drop, ap, arith}
-use Rattle.board_spec.specs.OrderLaws.{in_file_order}
-use Rattle.log_check.specs.Phases.{listed}
+use Rattle.std.proofs.Common.{arith}
 use Rattle.log_check.proofs.PhaseLists.{few_so_far}
 use Rattle.log_check.proofs.range.statement_count.Goals as goal
 
