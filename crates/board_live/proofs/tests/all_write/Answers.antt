@@ -1,0 +1,13 @@
+use Rattle.std.proofs.Common.{rules, ◌≡◌, List, sym, subst, ap}
+use Rattle.board_live.specs.declared.cpu.Cpu.{Cpu}
+use Rattle.board_live.specs.Callers.{IsCallerOf, IsSameCaller}
+use Rattle.board_live.proofs.Opening.{all_again}
+use Rattle.board_live.proofs.tests.all_write.Goals as goal
+
+pub returns-clause-all : goal.returns-clause-all
+returns-clause-all g c =
+    all_again c.args.live.now _ _ (search rules)
+    (λ i d h.
+      let at' = (c.for_each_mut.ensures i d h).1 in
+      subst (λ (z : Cpu × Cpu). IsCallerOf c.args.live.now z.1 × IsSameCaller z.0 z.1) (λ k. (at'.argument_is k, at'.left k)) at'.call)
+    c.requires.all
