@@ -166,7 +166,12 @@ fn all_write<R: Threads + Wait + Sync>(rt: &R, live: &Live, cpus: &mut [Cpu], ti
 }
 
 /// The board that so many callers shared, each of which wrote some times.
-fn shared_by<R: Threads + Wait + Sync>(rt: &R, alloc: Global, n: u8, times: u8) -> Result<Board, Fail>
+fn shared_by<R: Threads + Wait + Sync>(
+    rt: &R,
+    alloc: Global,
+    n: u8,
+    times: u8,
+) -> Result<Board, Fail>
     requires few { (1 ≤ n) × (n ≤ 8) }
 {
     let board = open_board(alloc)?;
