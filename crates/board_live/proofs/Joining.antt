@@ -81,12 +81,12 @@ caught_up pass cpu now same none later =
     let grown : Extends (seen_of now) (reverse (seen_in pass)) = extends_prefix (seen_in now.pass) (seen_in pass) later in
     let writes : Extends (known_of now) (map_writes_of (setup_of cpu) (reverse (seen_in pass))) =
     subst (λ (w : List MapChange). Extends w (map_writes_of (setup_of cpu) (reverse (seen_in pass)))) (sym none.known)
-        (writes_extend (setup_of cpu) (seen_of now) (reverse (seen_in pass)) grown) in
+    (writes_extend (setup_of cpu) (seen_of now) (reverse (seen_in pass)) grown) in
     let entries : entries_by cpu.number (reverse (seen_in now.pass)) ≡ entries_by cpu.number (reverse (seen_in cpu.pass)) =
     ap (λ (n : ℕ). entries_by n (reverse (seen_in now.pass))) (sym same.number) ∙ none.mine in
     let mine : own_by by_actor cpu.number (seen_in now.pass) ≡ own_by by_actor cpu.number (opened_by cpu.pass) ++ mine_in now.pass =
     subst (λ (z : ℕ × List Entry). own_by by_actor z.0 (seen_in now.pass) ≡ own_by by_actor z.0 z.1 ++ mine_in now.pass)
-        (λ k. (same.number k, same.opened k)) now.passed.mine in (
+    (λ k. (same.number k, same.opened k)) now.passed.mine in (
       extends_trans (seen_of cpu) (seen_of now) (reverse (seen_in pass)) none.begins grown,
       extends_trans (known_of cpu) (known_of now) (map_writes_of (setup_of cpu) (reverse (seen_in pass))) none.meets writes,
       (now.passed.number ∙ same.number, sym mine ∙ own_back cpu.number (seen_in now.pass) (seen_in cpu.pass) entries),
@@ -127,10 +127,10 @@ closes pass done cpu own begins meets has is later opens same part =
     subst (λ (h : List Entry). Extends (reverse (seen_in pass)) h) (reverse-reverse history) (extends_prefix (seen_in pass) (reverse history) later) in
     let known : Extends (known_of cpu) (map_writes_of (setup_of cpu) history) =
     extends_trans (known_of cpu) (map_writes_of (setup_of cpu) (reverse (seen_in pass))) (map_writes_of (setup_of cpu) history) meets
-        (writes_extend (setup_of cpu) (reverse (seen_in pass)) history grown) in
+    (writes_extend (setup_of cpu) (reverse (seen_in pass)) history grown) in
     let mine : own_by by_actor cpu.number (reverse history) ≡ own_by by_actor cpu.number (opened_by pass) ++ own.1 =
     own_in cpu.number (opened_by pass) (reverse history) own.1 opens
-        (subst (λ (n : ℕ). own_by by_actor n (drop (length (opened_by pass)) (reverse history)) ≡ own.1) has.0 is) in
+    (subst (λ (n : ℕ). own_by by_actor n (drop (length (opened_by pass)) (reverse history)) ≡ own.1) has.0 is) in
     let all : own_by by_actor cpu.number (reverse history) ≡ own_by by_actor cpu.number (seen_in cpu.pass) =
     mine ∙ (ap (λ (w : List Entry). own_by by_actor cpu.number w ++ own.1) (sym same) ∙ has.1) in
     record {

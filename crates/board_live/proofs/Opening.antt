@@ -1,8 +1,8 @@
 -- Callers of a board that was just opened.
-use Rattle.std.proofs.Common.{◌≡◌, ℕ, zero, suc, ◌+◌, ◌<◌, Option, Some, List, [], ◌∷◌, ◌++◌, length, map, refl, sym, ap, ◌∙◌, subst, arith, All, Any}
+use Rattle.std.proofs.Common.{◌≡◌, ℕ, zero, suc, ◌+◌, ◌<◌, Option, Some, List, [], ◌∷◌, ◌++◌, length, get_or, map, refl, sym, ap, ◌∙◌, subst, arith, All, Any}
 use Rattle.std.specs.Prelude.{reverse}
 use Rattle.std.specs.List.{range_with_len}
-use Rattle.std.proofs.lemmas.List.{map-append, reverse-reverse}
+use Rattle.std.proofs.lemmas.List.{map-append, reverse-reverse, get_or_default}
 use Rattle.std.proofs.lemmas.List.Elements.{All-nil}
 use Rattle.bus_turn.specs.Passes.{opened_of as opened_by, part_of}
 use Rattle.board_spec.specs.declared.event.Entry.{Entry}
@@ -12,6 +12,7 @@ use Rattle.map_publish.specs.declared.front.Front.{Front}
 use Rattle.board_spec.specs.Setup.{Setup}
 use Rattle.board_spec.specs.MapWrites.{map_writes_of}
 use Rattle.board_live.specs.declared.cpu.Cpu.{Cpu}
+use Rattle.board_live.specs.declared.live.Live.{Live}
 use Rattle.board_live.specs.declared.shared.Origin.{Origin}
 use Rattle.board_live.specs.Known.{Opens, oldest}
 use Rattle.board_live.specs.Origins.{origin, origin_in}
@@ -19,7 +20,7 @@ use Rattle.board_live.specs.Passes.{SharedPass, IsViewerFor, setup_in, callers_i
 use Rattle.board_live.specs.declared.shared.Shared.{Shared}
 use Rattle.board_live.specs.Steps.{opened_with}
 use Rattle.board_live.proofs.Histories.{oldest_whole}
-use Rattle.board_live.specs.Callers.{IsNewOf, seen_of, known_of}
+use Rattle.board_live.specs.Callers.{IsCallerOf, IsSameCaller, AreAllOf, IsNewOf, seen_of, known_of}
 
 -- a pass that was opened with the same has the same viewers and the same callers
 pub viewer_for : (one other : SharedPass) (viewer : Viewer) → opened_by other ≡ opened_by one → part_of other ≡ part_of one → IsViewerFor one viewer → IsViewerFor other viewer
@@ -85,3 +86,22 @@ any_numbered a (cpu ∷ later) is (suc number) below =
     let rest : map (λ (c : Cpu). c.number) later ≡ range_with_len (a + 1) (length later) = cc (is) in
     let (k, other, within, at', has) = any_numbered (a + 1) later rest number (omega (arith, below)) in
     (suc k, other, omega (arith, within), at', omega (arith, has))
+
+-- ---- callers on threads of their own
+
+-- all callers, after each has gone on
+pub all_again :
+    (live : Live) (old new : List Cpu) → length new ≡ length old →
+    ((i : ℕ) (d : Cpu) → i < length old → IsCallerOf live (get_or new i d) × IsSameCaller (get_or old i d) (get_or new i d)) →
+    AreAllOf live old → AreAllOf live new
+all_again live old new size went all = record {
+  opened = all.opened;
+  own = λ k d below. (went k d (omega (arith, below, size))).0;
+  same = λ k d below. let within : k < length old = omega (arith, below, size) in (went k d within).1.part ∙ all.same k d within;
+  count = size ∙ all.count;
+  some = omega (arith, size, all.some);
+  each = λ number below.
+      let (k, x, within, at', is) = all.each number (omega (arith, below, size)) in
+      let inside : k < length new = omega (arith, within, size) in
+      (k, get_or new k x, inside, get_or_default new k (get_or new k x) x inside, (went k x within).1.number ∙ (ap (λ (cpu : Cpu). cpu.number) at' ∙ is));
+}

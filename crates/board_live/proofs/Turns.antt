@@ -107,7 +107,7 @@ finds actor book pass log held passed begins opens own part meets =
     let opened : opened_in pass ≡ oldest held.opened history = ap (λ (o : Option Origin). (origin_in o).entries) both in
     let listed : own_by by_actor actor (reverse history) ≡ own_by by_actor actor (opened_by pass) ++ mine_in pass =
     own_in actor (opened_by pass) (reverse history) (mine_in pass) opens
-        (subst (λ (n : ℕ). own_by by_actor n (drop (length (opened_by pass)) (reverse history)) ≡ mine_in pass) passed.number own) in
+    (subst (λ (n : ℕ). own_by by_actor n (drop (length (opened_by pass)) (reverse history)) ≡ mine_in pass) passed.number own) in
     let known : Extends (known_after (setup_in pass) (opened_in pass) log) (known_after (setup_in pass) (opened_in pass) held.publisher.front.seen.log) =
     known_extend (setup_in pass) (opened_in pass) log held.publisher.front.seen.log meets in
     record {

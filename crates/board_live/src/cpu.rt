@@ -28,8 +28,7 @@ pub struct Cpu {
     pub viewer: Viewer,
     pub ghost passed: { IsPassOf number viewer.front.seen.book pass } by { IsPassOf-prop number viewer.front.seen.book pass },
     pub ghost idle: { IsIdle pass },
-    pub ghost opens: { Opens (setup_in pass) (opened_in pass) (opened_of viewer.front.seen.log) }
-        by { Opens-prop (setup_in pass) (opened_in pass) (opened_of viewer.front.seen.log) },
+    pub ghost opens: { Opens (setup_in pass) (opened_in pass) (opened_of viewer.front.seen.log) } by { Opens-prop (setup_in pass) (opened_in pass) (opened_of viewer.front.seen.log) },
 }
 
 /// Lets a viewer meet a note of the publisher, and asks with a new one until it does.
@@ -48,12 +47,7 @@ fn meet<R: Wait>(rt: &R, publisher: &mut Publisher, viewer: &mut Viewer)
 }
 
 /// Takes the turn, and lets the viewer meet a note.
-fn enter<R: Wait>(
-    live: &Live,
-    rt: &R,
-    pass: &mut Pass<Shared>,
-    viewer: &mut Viewer,
-) -> Held<Shared>
+fn enter<R: Wait>(live: &Live, rt: &R, pass: &mut Pass<Shared>, viewer: &mut Viewer) -> Held<Shared>
     requires own { IsOf live.now.turn pass.old }
     requires idle { IsIdle pass.old }
     requires part { part_of pass.old ≡ Some (origin (setup_in pass.old) (callers_in pass.old) (opened_in pass.old) viewer.old.front.seen.book) }
@@ -122,12 +116,7 @@ impl Cpu {
     /// Does an event at the shared board, in one turn. It waits for the turn, and for viewers that look at an older map.
     /// The event is in range and is no look, and the caller has fewer than 250,000 entries. Refused for want of memory;
     /// then no entry was added, and nothing was published.
-    pub fn bus<R: Wait>(
-        &mut self,
-        live: &Live,
-        rt: &R,
-        event: &Event,
-    ) -> Result<Answered, NoMemory>
+    pub fn bus<R: Wait>(&mut self, live: &Live, rt: &R, event: &Event) -> Result<Answered, NoMemory>
         requires own { IsCallerOf live.now self.old }
         requires event { IsInRange (setup_of self.old) event.now }
         requires no_look { IsNoLook event.now }

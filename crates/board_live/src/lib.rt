@@ -5,7 +5,6 @@ mod cpu;
 mod live;
 pub mod sends;
 mod shared;
-
 #[cfg(test)]
 mod tests;
 

@@ -46,8 +46,7 @@ pub struct Shared {
     pub ghost within: { opened ≤ length board.entries },
     pub ghost few: { AreFew callers board.entries } by { AreFew-prop callers board.entries },
     pub ghost published: { ArePublished board.setup opened board.entries publisher.front.seen.log },
-    pub ghost opens: { Opens board.setup (oldest opened board.entries) (opened_of publisher.front.seen.log) }
-        by { Opens-prop board.setup (oldest opened board.entries) (opened_of publisher.front.seen.log) },
+    pub ghost opens: { Opens board.setup (oldest opened board.entries) (opened_of publisher.front.seen.log) } by { Opens-prop board.setup (oldest opened board.entries) (opened_of publisher.front.seen.log) },
 }
 
 impl Kept for Shared {

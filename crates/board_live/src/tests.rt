@@ -60,7 +60,7 @@ fn is_right(entry: &Entry) -> bool {
     if entry.seq % 2 == 1 {
         return entry.event == select() && entry.reply == written(Target::Device(Dev::Confadd));
     }
-    let value = (entry.seq / 2).wrapping_sub(1) as u8;
+    let value = ((entry.seq / 2).wrapping_sub(1) % 256) as u8;
     entry.event == pam0(value) && entry.reply == written(pam)
 }
 
@@ -160,13 +160,18 @@ fn all_write<R: Threads + Wait + Sync>(rt: &R, live: &Live, cpus: &mut [Cpu], ti
         count,
         &|_i: usize, cpu: &mut Cpu|
             requires { IsCallerOf live.now cpu.old × (mine_of cpu.old ≡ []) }
-            ensures { IsCallerOf live.now cpu.new × IsSameCaller cpu.old cpu.new }
+            ensures { IsCallerOf live.entry.now cpu.new × IsSameCaller cpu.old cpu.new }
         { write_often(cpu, live, rt, times) },
     );
 }
 
 /// The board that so many callers shared, each of which wrote some times.
-fn shared_by<R: Threads + Wait + Sync>(rt: &R, alloc: Global, n: u8, times: u8) -> Result<Board, Fail>
+fn shared_by<R: Threads + Wait + Sync>(
+    rt: &R,
+    alloc: Global,
+    n: u8,
+    times: u8,
+) -> Result<Board, Fail>
     requires few { (1 ≤ n) × (n ≤ 8) }
 {
     let board = open_board(alloc)?;

@@ -35,18 +35,19 @@ commit-requires-clause-adds g c =
     let held = c.enter-held.result.value in
     let entry : Entry = next_entry held.board.entries cpu.number c.args.event.now c.in-Ok.answered.reply in
     let entries : c.step.new.self.board.entries ≡ entry ∷ held.board.entries = search rules in
-    let list : seen_in c.enter-held.new.pass ≡ reverse held.board.entries = c.enter-held.ensures.list in
-    (entry,
+    let list : seen_in c.enter-held.new.pass ≡ reverse held.board.entries = c.enter-held.ensures.list in (
+      entry,
       ap reverse entries ∙ (reverse-append (entry ∷ []) held.board.entries ∙ ap (λ (w : List Entry). w ++ entry ∷ []) (sym list)),
-      search rules)
+      search rules,
+    )
 
 pub leave-requires-clause-begins : goal.leave-requires-clause-begins
 leave-requires-clause-begins g c =
     let viewer : c.enter-held.new.viewer.front.seen.log ≡ c.args.self.now.viewer.front.seen.log = search rules in
     let now : c.commit.new.held.value.publisher.front.seen.log ≡ c.step.new.self.publisher.front.seen.log = search rules in
     subst (λ (z : List Mark × List Mark). IsPrefix z.0 z.1) (λ k. (sym viewer k, sym now k))
-        (prefix_trans c.args.self.now.viewer.front.seen.log c.enter-held.result.value.publisher.front.seen.log c.step.new.self.publisher.front.seen.log
-        c.enter-held.ensures.meets c.step.ensures.later)
+    (prefix_trans c.args.self.now.viewer.front.seen.log c.enter-held.result.value.publisher.front.seen.log c.step.new.self.publisher.front.seen.log
+    c.enter-held.ensures.meets c.step.ensures.later)
 
 pub invariant_of-self : goal.invariant_of-self
 invariant_of-self g c =

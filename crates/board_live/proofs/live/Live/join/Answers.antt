@@ -27,8 +27,8 @@ loop-cpu-preserved g c =
     let fewer : length items ≡ length rest + 1 = ap length is ∙ length-append rest (cpu ∷ []) in
     let before : All (IsJoined pass) (drop (length items) whole) =
     All-weaker (IsJoined c.loop-cpu.pass) (IsJoined pass)
-        (λ other has. joined_more c.loop-cpu.pass pass ((number_of now.pass, mine_in now.pass) ∷ joined_of now.pass) other c.join.ensures.seen.0 added has)
-        (drop (length items) whole) i.joined in
+    (λ other has. joined_more c.loop-cpu.pass pass ((number_of now.pass, mine_in now.pass) ∷ joined_of now.pass) other c.join.ensures.seen.0 added has)
+    (drop (length items) whole) i.joined in
     let this : IsJoined pass cpu = joined_new c.loop-cpu.pass pass cpu now c.catch_up.ensures.same c.catch_up.ensures.seen c.join.ensures.seen.1 added in
     record {
       own = c.join.ensures.own;

@@ -28,7 +28,7 @@ shared-requires-clause-opens g c =
     let map : opened_of c.in-Ok-open.publisher.front.seen.log ≡ c.map.result.now = search rules in
     let version : c.map.result.now.version ≡ length (map_writes_of board.setup board.entries) = c.map.ensures.version in
     subst (λ (m : Mapped). Opens board.setup board.entries m) (sym map)
-        (record { stands = stands_after board.setup board.entries c.map.result.now.regs c.map.ensures.stands; version = version })
+    (record { stands = stands_after board.setup board.entries c.map.result.now.regs c.map.ensures.stands; version = version })
 
 pub callers-cpus-requires-clause-viewers : goal.callers-cpus-requires-clause-viewers
 callers-cpus-requires-clause-viewers g c =
@@ -40,7 +40,7 @@ callers-cpus-requires-clause-viewers g c =
     let none : changes_of shared.publisher.front.seen.log ≡ [] = search rules in
     let fronts : All (λ (viewer : Viewer). viewer.front ≡ shared.publisher.front) c.in-Ok-open.viewers.items = search rules in
     All-weaker (λ (viewer : Viewer). viewer.front ≡ shared.publisher.front) (IsViewerFor pass)
-        (λ viewer front. opened_viewer pass shared viewer part opened count front none) c.in-Ok-open.viewers.items fronts
+    (λ viewer front. opened_viewer pass shared viewer part opened count front none) c.in-Ok-open.viewers.items fronts
 
 pub returns-in-Ok-open-2-clause-opened : goal.returns-in-Ok-open-2-clause-opened
 returns-in-Ok-open-2-clause-opened g c =
