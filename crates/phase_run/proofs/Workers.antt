@@ -93,6 +93,7 @@ all_again live board n cpus cpus1 jobs jobs1 phase before o are_cpus are_cpus1 s
       own = to_cpus (IsCallerOf live) jobs1 cpus1 are_cpus1 (λ k d less. (run k d less).own);
       same = to_cpus (λ cpu. part_of cpu.pass ≡ Some o.all.opened) jobs1 cpus1 are_cpus1 (λ k d less. (run k d less).same);
       count = size ∙ o.all.count;
+      some = omega (arith, size, o.all.some);
       each = λ number less. same_numbers number_by cpus cpus1 number numbers (o.all.each number (subst (λ (m : ℕ). number < m) size less));
     }
 
