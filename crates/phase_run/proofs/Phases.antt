@@ -1,7 +1,7 @@
 -- A phase, as the history of the run takes it in.
 use Rattle.std.proofs.Common.{◌≡◌, ℕ, ◌+◌, ◌-◌, ◌<◌, ◌≤◌, List, [], ◌∷◌, ◌++◌, map, length, take, drop, flat_map, All, Vec, Global, sym, ◌∙◌, ap, subst, arith}
 use Rattle.std.specs.Prelude.{reverse, slice_index_or}
-use Rattle.std.proofs.lemmas.List.{reverse-append, reverse-reverse, length-reverse, length-append, length-map, map-append, append-nil, take_all, take_more, take-append-drop}
+use Rattle.std.proofs.lemmas.List.{reverse-append, reverse-reverse, length-append, length-map, map-append, append-nil, take_all, take_more, take-append-drop}
 use Rattle.std.proofs.lemmas.Grind.{flat_map-append}
 use Rattle.std.proofs.Math.Seq.{drop-append_seam}
 use Rattle.std.proofs.lemmas.List.Elements.{All-take, All-drop}

@@ -1,5 +1,5 @@
 -- What the workers of a phase leave, put together.
-use Rattle.std.proofs.Common.{◌≡◌, ℕ, ◌+◌, ◌<◌, ◌≤◌, ◌==◌, false, List, [], ◌∷◌, ◌++◌, map, length, All, Option, Some, refl, sym, ◌∙◌, ap, subst, arith, inl, inr}
+use Rattle.std.proofs.Common.{◌≡◌, ℕ, ◌+◌, ◌<◌, ◌≤◌, ◌==◌, false, List, [], ◌∷◌, map, length, All, Option, Some, refl, sym, ◌∙◌, ap, subst, arith, inl, inr}
 use Rattle.std.specs.Prelude.{reverse}
 use Rattle.std.specs.List.{Any, range_with_len}
 use Rattle.std.proofs.lemmas.Bool.{cases_lt}
@@ -18,7 +18,7 @@ use Rattle.board_core.specs.Kept.{Standing}
 use Rattle.board_live.specs.declared.cpu.Cpu.{Cpu}
 use Rattle.board_live.specs.declared.live.Live.{Live}
 use Rattle.board_live.specs.declared.shared.Origin.{Origin}
-use Rattle.board_live.specs.Callers.{IsCallerOf, IsNew, AreAllOf, AreOpened, Closes, mine_of, seen_of, known_of, setup_of}
+use Rattle.board_live.specs.Callers.{IsCallerOf, IsNew, AreAllOf, AreOpened, Closes, seen_of, known_of}
 use Rattle.run_order.specs.declared.done.Done.{Done}
 use Rattle.run_order.specs.declared.done.Done.TheVariants.{Went, Looked}
 use Rattle.run_order.specs.Placing.{done_by}
@@ -93,6 +93,7 @@ all_again live board n cpus cpus1 jobs jobs1 phase before o are_cpus are_cpus1 s
       own = to_cpus (IsCallerOf live) jobs1 cpus1 are_cpus1 (λ k d less. (run k d less).own);
       same = to_cpus (λ cpu. part_of cpu.pass ≡ Some o.all.opened) jobs1 cpus1 are_cpus1 (λ k d less. (run k d less).same);
       count = size ∙ o.all.count;
+      some = omega (arith, size, o.all.some);
       each = λ number less. same_numbers number_by cpus cpus1 number numbers (o.all.each number (subst (λ (m : ℕ). number < m) size less));
     }
 

@@ -1,5 +1,4 @@
 use Rattle.std.proofs.Common.{rules, ◌≡◌, ℕ, ◌<◌, length, sym, subst}
-use Rattle.std.specs.Prelude.{slice_index_or}
 use Rattle.phase_run.specs.declared.jobs.Job.{Job}
 use Rattle.phase_run.specs.Jobs.{CanRun, Runs}
 use Rattle.phase_run.proofs.Pairs.{map_pairs}

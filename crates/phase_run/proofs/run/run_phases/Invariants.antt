@@ -1,5 +1,5 @@
-use Rattle.std.proofs.Common.{◌≡◌, ℕ, ◌<◌, ◌≤◌, List, length, map, take, flat_map, All}
-use Rattle.board_spec.specs.Legal.{IsLegal, entries_by}
+use Rattle.std.proofs.Common.{◌≡◌, length, map, take, flat_map}
+use Rattle.board_spec.specs.Legal.{IsLegal}
 use Rattle.board_spec.specs.Orders.{statements_of, HasPhases}
 use Rattle.run_order.specs.PhaseRun.{bare}
 use Rattle.phase_run.specs.Jobs.{AreAsked}

@@ -1,7 +1,6 @@
-use Rattle.std.proofs.Common.{rules, ◌≡◌, ℕ, ◌+◌, ◌<◌, ◌≤◌, List, All, length, map, sym, ◌∙◌, ap, subst, arith, false, Some}
-use Rattle.std.specs.Prelude.{reverse, take, drop}
+use Rattle.std.proofs.Common.{rules, ◌≡◌, ℕ, ◌<◌, List, All, length, map, sym, ◌∙◌, ap, subst, arith, false, Some}
+use Rattle.std.specs.Prelude.{reverse}
 use Rattle.board_spec.specs.declared.event.Entry.{Entry}
-use Rattle.board_spec.specs.InRange.{IsInRange}
 use Rattle.board_live.specs.declared.cpu.Cpu.{Cpu}
 use Rattle.phase_run.specs.declared.worker.Work.{Work}
 use Rattle.phase_run.specs.declared.jobs.Job.{Job}
