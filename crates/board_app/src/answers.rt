@@ -6,17 +6,21 @@ ghost use Rattle.board_app.specs.Words.{is_own, is_own_word};
 const HELP: &str = "\
 board: the PC chipset behind many virtual machines, with a log of every access
 
-usage: board replay FILE, map FILE
+usage: board replay FILE, run FILE, map FILE, check FILE LOG, make N
 
-  replay FILE   runs the script FILE, with the BIOS ROM that it names, and writes its access log
-                to standard output
-  map FILE      runs it too, and writes the address map that it leaves: a line a range, with what
-                a fetch, a read and a write reach outside SMM, and then in SMM
-  --help        writes this text
-  --version     writes the version
+  replay FILE     does the statements of the script FILE in the order of the file, with the BIOS
+                  ROM and the disk that it names, and writes the access log to standard output
+  run FILE        runs it with a thread for each processor, and writes the log of what happened
+  map FILE        writes the address map after the replay: a line a range, with what a fetch, a
+                  read and a write reach outside SMM, and then in SMM
+  check FILE LOG  says whether LOG is the log of a run of the script, or names the first line
+                  that is not
+  make N          replays a script of its own with N rounds, 1 to 20,000, and writes a summary
+  --help          writes this text
+  --version       writes the version
 
 Exit status: 0 done, 1 usage, 2 read fault, 3 write fault, 4 too long, 5 bad script,
-6 bad image, 8 no memory. The reason is one line on standard error.
+6 bad image, 7 differs, 8 no memory. The reason is one line on standard error.
 ";
 
 const VERSION: &str = "board 0.1\n";
