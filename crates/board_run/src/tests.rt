@@ -56,7 +56,7 @@ const NO_COMMANDS: [&[&str]; 13] = [
     &[],
     &["replay"],
     &["replay", "s", "s"],
-    &["map"],
+    &["run"],
     &["map", "s", "s"],
     &["look", "s"],
     &["s", "map"],
@@ -350,6 +350,20 @@ fn logs_of_two_processors(rt: HostRuntime) -> Result<(), Fail> {
         Status::Done
     );
     assert_eq!(rt; out.bytes.as_slice(), IN_FILE_ORDER.as_bytes());
+    let mut out = SafeSink::new(alloc);
+    assert_eq!(rt;
+        answered(
+            &rt,
+            alloc,
+            &["run", "s"],
+            TWO_PROCESSORS,
+            ROM_SIZE,
+            &mut out
+        )?,
+        Status::Done
+    );
+    let written = out.bytes.as_slice();
+    assert!(rt; written == IN_FILE_ORDER.as_bytes() || written == LOOKED_FIRST.as_bytes());
     let cases = [
         (IN_FILE_ORDER, Status::Done),
         (LOOKED_FIRST, Status::Done),
