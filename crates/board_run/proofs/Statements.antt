@@ -1,5 +1,15 @@
 -- The statements of a script in the order of its file.
-use Rattle.std.proofs.Common.{◌≡◌}
+use Rattle.std.proofs.Common.{◌≡◌, ℕ, ◌+◌, List, take, drop, get_or, subst, All}
+use Rattle.std.specs.Prelude.{slice_index_or}
+use Rattle.std.specs.declared.vec.Vec.{Vec}
+use Rattle.std.specs.Global.{Global}
+use Rattle.std.proofs.lemmas.List.{get_or_default}
+use Rattle.board_spec.specs.declared.event.Statement.{Statement}
+use Rattle.board_spec.specs.InRange.{IsScripted}
+use Rattle.board_spec.specs.OrderLaws.{in_file_order}
+use Rattle.phase_run.specs.Jobs.{IsStatement}
+use Rattle.log_check.specs.Phases.{listed}
+use Rattle.log_check.proofs.PhaseLists.{phases_cut, all_of_phase}
 use Rattle.board_spec.specs.Setup.{Setup}
 use Rattle.board_core.specs.Steps.{AreInRange}
 use Rattle.script_spec.specs.ScriptText.{Script as Said}
@@ -9,3 +19,16 @@ pub in_range :
     (setup : Setup) (script : Said) → IsInRangeScript script → setup.cards ≡ script.cards →
     AreInRange setup (statements_in script)
 in_range setup script range same i d within = (range.each setup same i d within).event
+
+-- the statements of each phase are in range
+pub phases_in_range :
+    (setup : Setup) (version cpus : ℕ) (phases : List (Vec Statement Global)) → All (IsScripted setup version cpus) (in_file_order (listed phases)) →
+    All (λ phase. All (IsStatement setup cpus) phase.items) phases
+phases_in_range setup version cpus phases all i d within =
+    let phase : Vec Statement Global = get_or phases i d in
+    let own : All (IsScripted setup version cpus) phase.items =
+    all_of_phase (IsScripted setup version cpus) (listed (take i phases)) phase.items (listed (drop (i + 1) phases))
+    (subst (λ (ps : List (List Statement)). All (IsScripted setup version cpus) (in_file_order ps))
+    (phases_cut phases i phase within (get_or_default phases i d phase within)) all) in
+    λ k e inside. let is : IsScripted setup version cpus (slice_index_or phase.items k e) = own k e inside in
+    record { actor = is.actor; event = is.event }

@@ -24,6 +24,8 @@ pub use run::run_script;
 pub use status::{Status, Which, exit_code};
 
 #[cfg(test)]
+mod holding_gate;
+#[cfg(test)]
 mod rows;
 #[cfg(test)]
 mod tests;

@@ -1,4 +1,6 @@
 use super::*;
+use crate::holding_gate::HoldingGate;
+use crate::holding_gate::Moment::{After, Before};
 use crate::rows::*;
 use board_base::{MemShelf, MemSink, QuietGate, SafeShelf, SafeSink};
 use std::alloc::Global;
@@ -333,6 +335,60 @@ access log 1
 2 1.1 look r 000F0000 = 1 000F0000 000FFFFF shadow:0
 3 0.2 out b 0CFD 10 = - config:00.0.59 -
 ";
+
+/// Runs a script of two processors with a gate, which must not hold anybody in vain.
+fn run_with_gate<R: Threads + Wait + Sync + Abort>(
+    rt: &R,
+    alloc: Global,
+    script: &str,
+    gate: &HoldingGate,
+    out: &mut SafeSink,
+) -> Result<(), Fail> {
+    let words = words_of(alloc, &["run", "s"])?;
+    let mut shelf = SafeShelf {
+        files: files_of(alloc, script, ROM_SIZE)?,
+    };
+    assert_eq!(rt; board(rt, alloc, &words, &mut shelf, out, gate), Status::Done);
+    assert!(rt; gate.is_passed());
+    Ok(())
+}
+
+#[test]
+fn a_gate_forces_each_order(rt: HostRuntime) -> Result<(), Fail> {
+    let alloc = rt.alloc();
+    let mut out = SafeSink::new(alloc);
+    let gate = HoldingGate::new(&[(After(0, 2), Before(1, 1))]);
+    run_with_gate(&rt, alloc, TWO_PROCESSORS, &gate, &mut out)?;
+    assert_eq!(rt; out.bytes.as_slice(), IN_FILE_ORDER.as_bytes());
+    let mut out = SafeSink::new(alloc);
+    let gate = HoldingGate::new(&[(After(1, 1), Before(0, 2))]);
+    run_with_gate(&rt, alloc, TWO_PROCESSORS, &gate, &mut out)?;
+    assert_eq!(rt; out.bytes.as_slice(), LOOKED_FIRST.as_bytes());
+    Ok(())
+}
+
+/// Two processors that do the same, and look first.
+const SIDE_BY_SIDE: &str = "\
+board 1
+cpus 2
+memory 8
+rom r64
+phase
+0 look r 000F0000
+1 look r 000F0000
+0 r b 000F0001
+1 r b 000F0002
+";
+
+#[test]
+fn workers_run_side_by_side(rt: HostRuntime) -> Result<(), Fail> {
+    let alloc = rt.alloc();
+    let mut out = SafeSink::new(alloc);
+    let gate = HoldingGate::new(&[(Before(0, 1), Before(1, 1)), (Before(1, 1), Before(0, 1))]);
+    run_with_gate(&rt, alloc, SIDE_BY_SIDE, &gate, &mut out)?;
+    let gate = HoldingGate::new(&[(After(1, 1), Before(0, 1))]);
+    run_with_gate(&rt, alloc, SIDE_BY_SIDE, &gate, &mut out)
+}
 
 #[test]
 fn logs_of_two_processors(rt: HostRuntime) -> Result<(), Fail> {

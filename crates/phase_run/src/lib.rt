@@ -12,6 +12,3 @@ pub use caller::Caller;
 pub use jobs::Job;
 pub use run::{Run, run_phases};
 pub use worker::Work;
-
-#[cfg(test)]
-mod tests;
