@@ -1,6 +1,6 @@
 -- The statements of a script in the order of its file.
-use Rattle.std.proofs.Common.{◌≡◌, ℕ, ◌+◌, List, take, drop, get_or, subst, All}
-use Rattle.std.specs.Prelude.{slice_index_or}
+use Rattle.std.proofs.Common.{◌≡◌, ℕ, ◌+◌, ◌++◌, List, [], ◌∷◌, take, drop, get_or, refl, ap, subst, All}
+use Rattle.std.specs.Prelude.{slice_index_or, flat_map}
 use Rattle.std.specs.declared.vec.Vec.{Vec}
 use Rattle.std.specs.Global.{Global}
 use Rattle.std.proofs.lemmas.List.{get_or_default}
@@ -32,3 +32,8 @@ phases_in_range setup version cpus phases all i d within =
     (phases_cut phases i phase within (get_or_default phases i d phase within)) all) in
     λ k e inside. let is : IsScripted setup version cpus (slice_index_or phase.items k e) = own k e inside in
     record { actor = is.actor; event = is.event }
+
+pub listed_one_by_one :
+    (phases : List (Vec Statement Global)) → in_file_order (listed phases) ≡ flat_map (λ phase. phase.items) phases
+listed_one_by_one [] = refl
+listed_one_by_one (phase ∷ later) = ap (λ (rest : List Statement). phase.items ++ rest) (listed_one_by_one later)

@@ -2,6 +2,6 @@ use Rattle.std.proofs.Common.{rules, refl}
 use Rattle.board_run.proofs.Refusals.{refuses_with}
 use Rattle.board_run.proofs.texts.run.Goals as goal
 
-pub returns-in_err-tuple-clause-refused : goal.returns-in_err-tuple-clause-refused
-returns-in_err-tuple-clause-refused g c =
-    refuses_with _ _ _ c.in_err-tuple.field-0.0 (search rules) (c.in_err-tuple.ensures.refused _ refl)
+pub returns-in_err-script-clause-refused : goal.returns-in_err-script-clause-refused
+returns-in_err-script-clause-refused g c =
+    refuses_with _ _ _ c.in_err-script.field-0.0 (search rules) (c.in_err-script.ensures.refused _ refl)

@@ -1,0 +1,24 @@
+use Rattle.std.proofs.Common.{ℕ, ◌≡◌, ◌++◌, List, ap, ◌∙◌}
+use Rattle.std.specs.Prelude.{reverse}
+use Rattle.std.proofs.lemmas.List.{reverse-reverse}
+use Rattle.board_spec.specs.declared.event.Entry.{Entry}
+use Rattle.board_spec.specs.LogText.{log_text}
+use Rattle.board_run.proofs.run.log_of_run.Goals as goal
+
+pub returns : goal.returns
+returns g c =
+    let version : ℕ = c.args.script.now.version in
+    let history : List Entry = c.in_ok-history.history.entries in
+    record {
+      text = record {
+        history = history;
+        legal = c.in_ok-history.ensures.legal;
+        complete = c.in_ok-history.ensures.complete;
+        locked = c.law_lock.ensures.kept c.args.board.setup history c.in_ok-history.ensures.legal;
+        log =
+            c.in_ok-push_log.ensures.appended
+            ∙ ap (λ (front : List ℕ). front ++ log_text version (reverse c.entries.result.now)) c.new-text.ensures.bytes
+            ∙ ap (λ (entries : List Entry). log_text version (reverse entries)) c.entries.ensures.entries
+            ∙ ap (log_text version) (reverse-reverse history);
+      };
+    }
