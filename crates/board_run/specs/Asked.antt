@@ -109,7 +109,7 @@ abbrev pub OfLog : Command → (List ℕ → Type 0) → Type 0
 OfLog (Check name log) P = P log
 OfLog _ P = ⊥
 
--- the words and the files ask for this status. They ask for at most one (`law_one_status`)
+-- the words and the files ask for this status. They ask for at most one
 abbrev pub AsksFor : Command → Files → Status → Type 0
 AsksFor command files Done = CanBeDone command files
 AsksFor command files (TooLong which) = ReadsFile command files which (λ name bytes. limit_of which < length bytes)
