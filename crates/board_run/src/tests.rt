@@ -348,7 +348,10 @@ fn run_with_gate<R: Threads + Wait + Sync + Abort>(
     let mut shelf = SafeShelf {
         files: files_of(alloc, script, ROM_SIZE)?,
     };
-    assert_eq!(rt; board(rt, alloc, &words, &mut shelf, out, gate), Status::Done);
+    assert_eq!(rt;
+        board(rt, alloc, &words, &mut shelf, out, gate),
+        Status::Done
+    );
     assert!(rt; gate.is_passed());
     Ok(())
 }

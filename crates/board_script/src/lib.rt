@@ -16,13 +16,13 @@ mod target;
 mod words;
 
 pub use board_spec::{Entry, Event, Look, Reply, Statement};
-pub use hex::push_hex_long;
 pub use fault::LogFault;
+pub use hex::push_hex_long;
 pub use line::Line;
 pub use log::{log_line, push_line, push_log};
 pub use map::push_range;
-pub use words::{push_decimal, push_words};
 pub use read::{Log, read_log};
+pub use words::{push_decimal, push_words};
 
 #[cfg(test)]
 mod read_tests;
