@@ -291,7 +291,6 @@ one_status command files status other one two =
 
 -- ---- a command that has a text can be done
 
--- where the log that it reads is within its limit
 pub done_of_text :
     (command : Command) (files : Files) (text : List ℕ) →
     IsCommandText command files text → AsksFor command files Done

@@ -229,14 +229,6 @@ pub refuses_with :
 refuses_with {T = T} command call result status is refused =
     subst (λ (result' : Result T Status). IfErr result' (IsRefused command call)) (sym is) refused
 
--- no fault of the shelf is passed over
-pub hides_none :
-    {T : Type 0} (before now : ℕ) (result : Result T Status) (status : Status) → result ≡ Err status →
-    (((of : Which) → status ≢ ReadFault of) → now ≡ before) →
-    IfErr result (λ status'. ((of : Which) → status' ≢ ReadFault of) → now ≡ before)
-hides_none {T = T} before now result status is quiet =
-    subst (λ (result' : Result T Status). IfErr result' (λ status'. ((of : Which) → status' ≢ ReadFault of) → now ≡ before)) (sym is) quiet
-
 module _ (told : Option Files) (name log : List ℕ) (script : Said) (setup : Setup) (ready : OfFiles told (λ files. IsReady files name script setup)) where
   abbrev Checks : Command
   Checks = Check name log

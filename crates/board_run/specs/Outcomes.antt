@@ -82,7 +82,7 @@ Stopped _ before now Front = Keeps before now
 
 -- ---- the causes of each status
 
--- a command without words to its name
+-- the words are a command, of which this holds
 abbrev pub FailsWith : (Command → Type 0) → Option Command → Type 0
 FailsWith P None = ⊥
 FailsWith P (Some command) = P command
