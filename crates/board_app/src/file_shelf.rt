@@ -40,6 +40,8 @@ impl<R: Files> Shelf for FileShelf<'_, R> {
 
     ghost failed_name = { λ shelf. shelf.failed_name.items };
 
+    ghost fetches = { λ _. None };
+
     fn fetch(&mut self, name: &str, at: u64, into: &mut [u8]) -> Result<usize, Failed> {
         match read_at(self.rt, &mut self.opened, name, at, into) {
             Ok(count) => Ok(count),

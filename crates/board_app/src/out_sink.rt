@@ -37,6 +37,8 @@ impl<W: Write> Sink for OutSink<W> {
 
     ghost faults = { λ sink. sink.faults };
 
+    ghost puts = { λ _. None };
+
     fn put(&mut self, piece: &[u8]) -> Result<usize, PutFault> {
         match self.out.write(piece) {
             Ok(count) if count > 0 => Ok(count),

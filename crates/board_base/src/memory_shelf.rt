@@ -61,6 +61,8 @@ impl Shelf for MemShelf {
 
     ghost failed_name = { λ shelf. shelf.last.items };
 
+    ghost fetches = { λ _. None };
+
     // More than a shelf has to promise: when it fails, and that it otherwise fills what it can.
     fn fetch(&mut self, name: &str, at: u64, into: &mut [u8]) -> Result<usize, Failed>
         ensures calls { self.new.calls ≡ next_call self.old.calls }
@@ -102,6 +104,8 @@ impl Shelf for SafeShelf {
     ghost faults = { λ _. 0 };
 
     ghost failed_name = { λ _. [] };
+
+    ghost fetches = { λ _. None };
 
     // More than a shelf has to promise: it never fails, and fills what it can.
     fn fetch(&mut self, name: &str, at: u64, into: &mut [u8]) -> Result<usize, Failed>

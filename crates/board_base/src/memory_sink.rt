@@ -1,6 +1,6 @@
 //! Sinks in memory: one that can be made to fail, and one that never does.
 
-ghost use Rattle.std.specs.Prelude.{◌≡◌, ◌≢◌, ◌++◌, IsErrOf, IsOkUnless, ◌≤◌, ◌↔◌, [], Some, length, IfOk, OnOk, OnErr, Contains};
+ghost use Rattle.std.specs.Prelude.{◌≡◌, ◌≢◌, ◌++◌, IsErrOf, IsOkUnless, ◌≤◌, ◌↔◌, [], Some, None, length, IfOk, OnOk, OnErr, Contains};
 ghost use Rattle.board_base.specs.Counts.{next_call, next_fault};
 
 use crate::fault::PutFault;
@@ -39,6 +39,8 @@ impl Sink for MemSink {
     ghost taken = { λ sink. Some sink.bytes.items };
 
     ghost faults = { λ sink. sink.faults };
+
+    ghost puts = { λ _. None };
 
     // More than a sink has to promise: when it fails, and that it otherwise takes the whole piece.
     fn put(&mut self, piece: &[u8]) -> Result<usize, PutFault>
@@ -81,6 +83,8 @@ impl Sink for SafeSink {
     ghost taken = { λ sink. Some sink.bytes.items };
 
     ghost faults = { λ _. 0 };
+
+    ghost puts = { λ _. None };
 
     // More than a sink has to promise: want of memory alone keeps it from the whole piece.
     fn put(&mut self, piece: &[u8]) -> Result<usize, PutFault>

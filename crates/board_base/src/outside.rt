@@ -1,8 +1,9 @@
 //! The outside: where bytes come from, where they go, and what watches a run.
 
 ghost use Rattle.std.specs.Prelude.{◌≡◌, ◌<◌, ◌≤◌, ℕ, List, Option, length, take, drop, IfOk, IfErr, OnOk, OnErr};
+ghost use Rattle.std.specs.Result.{result_ok};
 ghost use Rattle.std.specs.Io.KnownBytes.{Appends, Keeps};
-ghost use Rattle.board_base.specs.Outside.{Rose, OfFile};
+ghost use Rattle.board_base.specs.Outside.{Rose, OfFile, Fetch, Put, Made};
 
 use crate::fault::{Failed, PutFault};
 
@@ -15,6 +16,9 @@ pub trait Shelf {
     ghost faults: { Self → ℕ };
 
     ghost failed_name: { Self → List ℕ };
+
+    // The fetches made of the shelf, the latest first, where it tells them.
+    ghost fetches: { Self → Option (List Fetch) };
 
     /// Reads bytes of a file, from its byte `at` on, into the front of `into`, and answers how
     /// many. It answers 0 only at the end of the file or past it.
@@ -30,7 +34,9 @@ pub trait Shelf {
         ensures failed { OnErr result (Rose (faults self.old) (faults self.new)) }
         ensures quiet { OnOk result (faults self.new ≡ faults self.old) }
         ensures names { OnErr result (failed_name self.new ≡ take 255 name.now) }
-        ensures still { OnOk result (failed_name self.new ≡ failed_name self.old) };
+        ensures still { OnOk result (failed_name self.new ≡ failed_name self.old) }
+        ensures told { Made (fetches self.old) (fetches self.new)
+            (record { name = name.now; at = at; came = result_ok result }) };
 }
 
 /// Takes bytes in pieces. A sink counts its faults.
@@ -39,6 +45,9 @@ pub trait Sink {
     ghost taken: { Self → Option (List ℕ) };
 
     ghost faults: { Self → ℕ };
+
+    // The puts made into the sink, the latest first, where it tells them.
+    ghost puts: { Self → Option (List Put) };
 
     /// Takes bytes from the front of a piece, at least one, and answers how many. Where it does
     /// not answer Ok it takes none.
@@ -53,7 +62,8 @@ pub trait Sink {
             Rose (faults self.old) (faults self.new)) }
         ensures quiet { OnOk result (faults self.new ≡ faults self.old) }
         ensures no_fault { IfErr result (λ fault. fault ≡ PutFault.NoMemory →
-            faults self.new ≡ faults self.old) };
+            faults self.new ≡ faults self.old) }
+        ensures told { Made (puts self.old) (puts self.new) (record { took = result_ok result }) };
 }
 
 /// Is told when an actor begins and ends its `k`-th statement, from 1 on, and may hold it up there.

@@ -36,6 +36,8 @@ impl Shelf for SlowShelf {
 
     ghost failed_name = { λ shelf. shelf.inner.last.items };
 
+    ghost fetches = { λ _. None };
+
     // More than a shelf has to promise: what the inner one answers where it is given only so much room.
     #[tactic(auto, using(crate::proofs::SliceLemmas::beyond_in_front))]
     fn fetch(&mut self, name: &str, at: u64, into: &mut [u8]) -> Result<usize, Failed>

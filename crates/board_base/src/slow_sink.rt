@@ -1,7 +1,7 @@
 //! A sink in memory that takes few bytes a call.
 
 ghost use Rattle.std.specs.Prelude.{◌≡◌, ◌≢◌, ◌++◌, ◌<◌, ◌≤◌, ◌↔◌, length, take, min, Contains};
-ghost use Rattle.std.specs.Prelude.{Some, IfOk, OnErr, IsErrOf};
+ghost use Rattle.std.specs.Prelude.{Some, None, IfOk, OnErr, IsErrOf};
 ghost use Rattle.board_base.specs.Counts.{next_call, next_fault};
 
 use crate::fault::PutFault;
@@ -33,6 +33,8 @@ impl Sink for SlowSink {
     ghost taken = { λ sink. Some sink.inner.bytes.items };
 
     ghost faults = { λ sink. sink.inner.faults };
+
+    ghost puts = { λ _. None };
 
     // More than a sink has to promise: what the inner one answers to a piece cut so short.
     fn put(&mut self, piece: &[u8]) -> Result<usize, PutFault>
