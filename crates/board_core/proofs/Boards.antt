@@ -8,7 +8,7 @@ use Rattle.board_spec.specs.declared.event.Reply.{Reply}
 use Rattle.board_spec.specs.declared.event.Entry.{Entry}
 use Rattle.board_spec.specs.Setup.{Setup, IsSetup, IsDisk}
 use Rattle.board_spec.specs.InRange.{IsInRange}
-use Rattle.board_spec.specs.Legal.{entries_by, IsLegal}
+use Rattle.board_spec.specs.Legal.{entries_by, IsLegal, next_entry}
 use Rattle.board_spec.specs.Answer.{IsAnswer}
 use Rattle.board_stores.specs.Puts.{HasStores}
 use Rattle.ata_pio.specs.declared.ata.AtaOpen.{AtaOpen}
@@ -17,7 +17,7 @@ use Rattle.board_devices.specs.Devices.{AreDevicesOf}
 use Rattle.board_devices.proofs.DeviceLemmas.{refused_length}
 use Rattle.access_history.specs.Past.{Past, most}
 use Rattle.board_core.specs.declared.chipset.Chipset.{Chipset}
-use Rattle.board_core.specs.Kept.{HasRegisters, CanDo, IsChipset, IsChipsetOf, IsKept, next_entry}
+use Rattle.board_core.specs.Kept.{HasRegisters, CanDo, IsChipset, IsChipsetOf, IsKept}
 
 -- ---- a new board
 

@@ -64,7 +64,3 @@ pub record Standing : Type 0 where
   pub entries : List Entry
   pub spare : ℕ
 
--- the entry that a step adds
-abbrev pub next_entry : List Entry → ℕ → Event → Reply → Entry
-next_entry history actor event reply =
-    record { actor = actor; seq = length (entries_by actor history) + 1; event = event; reply = reply }

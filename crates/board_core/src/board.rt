@@ -5,14 +5,14 @@ ghost use Rattle.board_spec.specs.declared.event.Entry.{Entry};
 ghost use Rattle.board_spec.specs.Setup.{IsCardList, IsDisk, IsRomSize, memory_of_cards};
 ghost use Rattle.board_spec.specs.InRange.{IsInRange};
 ghost use Rattle.board_spec.specs.Answer.{IsAnswer};
-ghost use Rattle.board_spec.specs.Legal.{IsLegal};
+ghost use Rattle.board_spec.specs.Legal.{IsLegal, next_entry};
 ghost use Rattle.board_spec.specs.Orders.{statements_of, IsReplayOf};
 ghost use Rattle.board_spec.specs.Registers.{byte_of};
 ghost use Rattle.board_spec.specs.MapWrites.{map_change_of, version_of};
 ghost use Rattle.board_spec.specs.FlatMap.{IsFlatMapOf};
 ghost use Rattle.addr_decode.specs.MapRegs.{StandsFor};
 ghost use Rattle.access_history.specs.Past.{most};
-ghost use Rattle.board_core.specs.Kept.{CanDo, IsChipsetOf, next_entry};
+ghost use Rattle.board_core.specs.Kept.{CanDo, IsChipsetOf};
 ghost use Rattle.board_core.specs.Steps.{AreInRange};
 
 use crate::chipset::Chipset;

@@ -11,20 +11,10 @@ use Rattle.board_spec.specs.MapWrites.{has_rom, reg_after, map_writes_of, regist
 use Rattle.board_spec.specs.RegisterNames.{bridge, isa, card_register, base_register, expansion_rom}
 use Rattle.board_spec.specs.Registers.{byte_of}
 use Rattle.board_spec.proofs.MapWriteLaws.{map_writes_decide}
+use Rattle.board_spec.proofs.MapByteLaws.{third, fourth}
 use Rattle.pci_bars.specs.Cards.{CardBytes, DecodesAs, HoldsRom}
 use Rattle.pci_bars.proofs.CardLemmas.{holds-same}
 use Rattle.addr_decode.specs.MapRegs.{MapBytes, StandsFor}
-
-third : (a b fitted is d : Bool) → fitted ≡ true → is ≡ true → (a || b || fitted && true && is || d) ≡ true
-third true b fitted is d h k = refl
-third false true fitted is d h k = refl
-third false false fitted is d h k = rw (h, k) refl
-
-fourth : (a b c rom is : Bool) → rom ≡ true → is ≡ true → (a || b || c || rom && true && is) ≡ true
-fourth true b c rom is h k = refl
-fourth false true c rom is h k = refl
-fourth false false true rom is h k = refl
-fourth false false false rom is h k = rw (h, k) refl
 
 module _ (setup : Setup) (bytes other : Bytes) (same : SameMapBytes setup bytes other) where
   bridge_same : (off : ℕ) → is_within 0x59 0x68 off ≡ true → bytes (bridge off) ≡ other (bridge off)

@@ -8,9 +8,8 @@ use Rattle.board_spec.specs.declared.event.Entry.{Entry}
 use Rattle.board_spec.specs.declared.map_change.MapChange.{MapChange}
 use Rattle.board_spec.specs.Setup.{Setup}
 use Rattle.board_spec.specs.Answer.{IsAnswer}
-use Rattle.board_spec.specs.Legal.{entries_by}
+use Rattle.board_spec.specs.Legal.{entries_by, next_entry}
 use Rattle.board_spec.specs.MapWrites.{map_writes_of}
-use Rattle.board_core.specs.Kept.{next_entry}
 use Rattle.map_publish.specs.Laws.{IsLookAfter}
 use Rattle.board_live.specs.declared.shared.Answered.{Answered}
 use Rattle.board_live.specs.declared.cpu.Cpu.{Cpu}

@@ -2,7 +2,8 @@
 use Rattle.std.specs.Prelude.{ℕ, ◌≡◌, ◌∷◌, length}
 use Rattle.board_spec.specs.declared.event.Event.{Event}
 use Rattle.board_spec.specs.Answer.{IsAnswer}
-use Rattle.board_core.specs.Kept.{Standing, next_entry}
+use Rattle.board_spec.specs.Legal.{next_entry}
+use Rattle.board_core.specs.Kept.{Standing}
 use Rattle.board_live.specs.declared.shared.Answered.{Answered}
 use Rattle.board_live.specs.declared.shared.Shared.{Shared}
 use Rattle.board_live.specs.declared.shared.Origin.{Origin}

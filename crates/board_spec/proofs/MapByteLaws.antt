@@ -33,12 +33,12 @@ or_right : (a b : Bool) → b ≡ true → (a || b) ≡ true
 or_right true b h = refl
 or_right false b h = h
 
-third : (a b fitted is d : Bool) → fitted ≡ true → is ≡ true → (a || b || fitted && true && is || d) ≡ true
+pub third : (a b fitted is d : Bool) → fitted ≡ true → is ≡ true → (a || b || fitted && true && is || d) ≡ true
 third true b fitted is d h k = refl
 third false true fitted is d h k = refl
 third false false fitted is d h k = rw (h, k) refl
 
-fourth : (a b c rom is : Bool) → rom ≡ true → is ≡ true → (a || b || c || rom && true && is) ≡ true
+pub fourth : (a b c rom is : Bool) → rom ≡ true → is ≡ true → (a || b || c || rom && true && is) ≡ true
 fourth true b c rom is h k = refl
 fourth false true c rom is h k = refl
 fourth false false true rom is h k = refl

@@ -69,7 +69,7 @@ shorter_phase phase first later front = record {
       (subst (BeginsWith (events_by actor phase)) (events-append actor first later) (front.each actor));
 }
 
-whole_is_front : (phase : List Statement) (part : List Statement) → IsWholePhase phase part → IsFrontOfPhase phase part
+pub whole_is_front : (phase : List Statement) (part : List Statement) → IsWholePhase phase part → IsFrontOfPhase phase part
 whole_is_front phase part whole = record {
   size = let s = whole.size in omega arith;
   each = λ actor. record { rest = []; whole = sym (whole.each actor) ∙ sym (append-nil (events_by actor part)) };

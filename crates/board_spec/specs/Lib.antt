@@ -16,7 +16,6 @@ pub mod Stored
 pub mod InRange
 pub mod Devices
 pub mod Interrupts
-pub mod ToCome
 pub mod Answer
 pub mod Legal
 pub mod Orders

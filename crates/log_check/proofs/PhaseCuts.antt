@@ -4,6 +4,7 @@ use Rattle.std.proofs.lemmas.List.{take-append-le, drop-append-le, length-take, 
 use Rattle.board_spec.specs.declared.event.Statement.{Statement}
 use Rattle.board_spec.specs.Orders.{events_by, IsWholePhase, IsFrontOfPhase, HasPhases, HasPhasesSoFar}
 use Rattle.board_spec.proofs.GoesOnProofs.{whole_front, nothing_left}
+use Rattle.board_spec.proofs.OrderLawProofs.{whole_is_front}
 use Rattle.std.proofs.lemmas.List.{append-nil}
 
 pub phase_fits :
@@ -75,12 +76,6 @@ begun_left (phase ∷ done) later before tail whole some (inr more) =
     (subst (HasPhasesSoFar (done ++ later)) (left_again phase before tail whole.0) more.1)
 
 -- ---- one phase
-
-whole_is_front : (phase part : List Statement) → IsWholePhase phase part → IsFrontOfPhase phase part
-whole_is_front phase part whole = record {
-  size = let s = whole.size in omega arith;
-  each = λ actor. record { rest = []; whole = sym (whole.each actor) ∙ sym (append-nil (events_by actor part)) };
-}
 
 -- statements that do not go past the first phase are a front of it
 pub in_first_phase :

@@ -9,10 +9,10 @@ use Rattle.board_spec.specs.declared.event.Reply.TheVariants.{Saw}
 use Rattle.board_spec.specs.declared.event.Entry.{Entry}
 use Rattle.board_spec.specs.Setup.{Setup}
 use Rattle.board_spec.specs.MapWrites.{map_writes_of, version_of}
-use Rattle.board_spec.specs.Legal.{IsNext, IsLegal}
+use Rattle.board_spec.specs.Legal.{IsNext, IsLegal, next_entry}
 use Rattle.run_order.specs.declared.done.Done.{Done}
 use Rattle.run_order.specs.declared.done.Done.TheVariants.{Went, Looked}
-use Rattle.run_order.specs.Placing.{is_look, next_entry, with_looks, left_after, with_all_looks, all_left, done_by, without_first, passed, placed}
+use Rattle.run_order.specs.Placing.{is_look, with_looks, left_after, with_all_looks, all_left, done_by, without_first, passed, placed}
 use Rattle.run_order.specs.Places.{without_lower, IsPlaceOf, IsInPlace, AreInPlace}
 use Rattle.run_order.specs.PhaseRun.{bare, AnswersAreBlind}
 use Rattle.run_order.proofs.Histories.{onto, version_step}

@@ -14,10 +14,10 @@ use Rattle.board_spec.specs.declared.event.Entry.{Entry}
 use Rattle.board_spec.specs.Setup.{Setup}
 use Rattle.board_spec.specs.MapWrites.{version_of}
 use Rattle.board_spec.specs.Answer.{IsAnswer}
-use Rattle.board_spec.specs.Legal.{IsNext, IsLegal}
+use Rattle.board_spec.specs.Legal.{IsNext, IsLegal, next_entry}
 use Rattle.run_order.specs.declared.done.Done.{Done}
 use Rattle.run_order.specs.declared.done.Done.TheVariants.{Went, Looked}
-use Rattle.run_order.specs.Placing.{is_look, next_entry, with_looks, left_after, with_all_looks, all_left, without_first, passed, done_by, noted, placed}
+use Rattle.run_order.specs.Placing.{is_look, with_looks, left_after, with_all_looks, all_left, without_first, passed, done_by, noted, placed}
 use Rattle.run_order.specs.PhaseRun.{bare, AnswersAreBlind}
 use Rattle.run_order.proofs.Histories.{onto}
 use Rattle.run_order.proofs.Fitting.{Due, Headed, Fits}

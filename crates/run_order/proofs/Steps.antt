@@ -6,7 +6,8 @@ use Rattle.std.proofs.lemmas.List.Elements.{All-get_or}
 use Rattle.board_spec.specs.declared.event.Entry.{Entry}
 use Rattle.run_order.specs.declared.done.Done.{Done}
 use Rattle.run_order.specs.declared.done.Done.TheVariants.{Went, Looked}
-use Rattle.run_order.specs.Placing.{next_entry, left_after, with_all_looks, all_left, done_by, without_first, passed, noted, placed}
+use Rattle.board_spec.specs.Legal.{next_entry}
+use Rattle.run_order.specs.Placing.{left_after, with_all_looks, all_left, done_by, without_first, passed, noted, placed}
 use Rattle.run_order.specs.Room.{Entries, looks_in, all_looks_in}
 use Rattle.run_order.proofs.Counts.{count_set}
 

@@ -10,10 +10,10 @@ use Rattle.board_spec.specs.declared.event.Entry.{Entry}
 use Rattle.board_spec.specs.Setup.{Setup}
 use Rattle.board_spec.specs.MapWrites.{version_of}
 use Rattle.board_spec.specs.Answer.{IsAnswer}
-use Rattle.board_spec.specs.Legal.{entries_by}
+use Rattle.board_spec.specs.Legal.{entries_by, next_entry}
 use Rattle.run_order.specs.declared.done.Done.{Done}
 use Rattle.run_order.specs.declared.done.Done.TheVariants.{Went, Looked}
-use Rattle.run_order.specs.Placing.{event_of, next_entry, with_looks, left_after, with_all_looks, all_left, without_first, passed, done_by, placed}
+use Rattle.run_order.specs.Placing.{event_of, with_looks, left_after, with_all_looks, all_left, without_first, passed, done_by, placed}
 use Rattle.run_order.proofs.Histories.{onto, own_entry, other_entry}
 use Rattle.run_order.proofs.Fitting.{Due, Headed, Fits}
 use Rattle.run_order.proofs.Legality.{Each, Beside, pass, same_test, own_head, noted_is, few_left, few_passed}

@@ -6,7 +6,7 @@ use Rattle.board_spec.specs.declared.event.Event.TheVariants.{Look as LookAt}
 use Rattle.board_spec.specs.declared.event.Reply.{Reply}
 use Rattle.board_spec.specs.declared.event.Reply.TheVariants.{Saw}
 use Rattle.board_spec.specs.declared.event.Entry.{Entry}
-use Rattle.board_spec.specs.Legal.{entries_by}
+use Rattle.board_spec.specs.Legal.{entries_by, next_entry}
 use Rattle.run_order.specs.declared.done.Done.{Done}
 use Rattle.run_order.specs.declared.done.Done.TheVariants.{Went, Looked}
 
@@ -18,11 +18,6 @@ is_look _ = false
 abbrev pub event_of : Done → Event
 event_of (Went event version) = event
 event_of (Looked kind addr smm look) = LookAt kind addr smm
-
--- an entry after a history, numbered as its processor's next
-abbrev pub next_entry : List Entry → ℕ → Event → Reply → Entry
-next_entry history actor event reply =
-    record { actor = actor; seq = length (entries_by actor history) + 1; event = event; reply = reply }
 
 -- the looks that come first in what a processor did enter a history, in their order, as far as they are of this version
 -- or before

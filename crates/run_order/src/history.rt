@@ -5,9 +5,9 @@ ghost use Rattle.board_spec.specs.declared.event.Entry.{Entry};
 ghost use Rattle.board_spec.specs.declared.event.Statement.{Statement};
 ghost use Rattle.board_spec.specs.Setup.{Setup};
 ghost use Rattle.board_spec.specs.MapWrites.{version_of};
-ghost use Rattle.board_spec.specs.Legal.{IsLegal};
+ghost use Rattle.board_spec.specs.Legal.{IsLegal, next_entry};
 ghost use Rattle.run_order.specs.PhaseRun.{bare, IsPhaseRun, IsPlaced};
-ghost use Rattle.run_order.specs.Placing.{next_entry, with_looks, left_after, with_all_looks, all_left, placed};
+ghost use Rattle.run_order.specs.Placing.{with_looks, left_after, with_all_looks, all_left, placed};
 ghost use Rattle.run_order.specs.Room.{Entries, most, looks_in, all_looks_in};
 
 use crate::done::Done;

@@ -3,7 +3,8 @@
 ghost use Rattle.std.specs.Prelude.{◌≡◌, [], ◌∷◌, ◌+◌, ◌<◌, ◌≤◌, ℕ, List, length, IfSome, MatchOption};
 ghost use Rattle.board_spec.specs.declared.event.Entry.{Entry};
 ghost use Rattle.board_spec.specs.declared.event.Reply.TheVariants.{Saw};
-ghost use Rattle.run_order.specs.Placing.{next_entry, with_looks, left_after, without_first, noted};
+ghost use Rattle.board_spec.specs.Legal.{next_entry};
+ghost use Rattle.run_order.specs.Placing.{with_looks, left_after, without_first, noted};
 ghost use Rattle.run_order.specs.Room.{looks_in};
 
 use crate::done::Done;

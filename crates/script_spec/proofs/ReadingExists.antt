@@ -255,11 +255,11 @@ record LastPhase (items : List Item) : Type 0 where
 abbrev Run : List Item → Type 0
 Run items = ((list_any is_phase items ≡ false) × (run_of items ≡ [])) ⊎ LastPhase items
 
-reverse_more : (item : Item) (items : List Item) → reverse (item ∷ items) ≡ reverse items ++ item ∷ []
+pub reverse_more : (item : Item) (items : List Item) → reverse (item ∷ items) ≡ reverse items ++ item ∷ []
 reverse_more item items = reverse-append (item ∷ []) items
 
 -- the phases with one more
-phases_more : (front : List (List Statement)) (last : List Statement) →
+pub phases_more : (front : List (List Statement)) (last : List Statement) →
     phase_items (front ++ last ∷ []) ≡ phase_items front ++ (BeginPhase ∷ map Ask last)
 phases_more front last =
     flat_map-append (λ phase. BeginPhase ∷ map Ask phase) front (last ∷ [])

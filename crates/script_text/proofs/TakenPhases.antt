@@ -11,21 +11,12 @@ use Rattle.script_spec.specs.Grammar.{Item, BeginPhase, Ask}
 use Rattle.script_spec.specs.Reasons.{is_phase, is_statement, is_setup, has_setup, pulses_of, pulses_of_event, passes_limits}
 use Rattle.script_spec.specs.ScriptText.{phase_items}
 use Rattle.script_spec.proofs.GoodItems.{NoReason, no_reason}
+use Rattle.script_spec.proofs.ReadingExists.{reverse_more, phases_more}
 use Rattle.script_text.specs.declared.reading.Reading.{Reading}
 use Rattle.script_text.specs.Reading.{lists_of, Takes}
 
-reverse_more : (item : Item) (items : List Item) → reverse (item ∷ items) ≡ reverse items ++ item ∷ []
-reverse_more item items = reverse-append (item ∷ []) items
-
 abbrev list_of : Vec Statement Global → List Statement
 list_of phase = phase.items
-
--- the phases with one more
-phases_more : (front : List (List Statement)) (last : List Statement) →
-    phase_items (front ++ last ∷ []) ≡ phase_items front ++ (BeginPhase ∷ map Ask last)
-phases_more front last =
-    flat_map-append (λ phase. BeginPhase ∷ map Ask phase) front (last ∷ [])
-    ∙ ap (λ (items : List Item). phase_items front ++ BeginPhase ∷ items) (append-nil (map Ask last))
 
 -- the last phase with one statement more
 statements_more : (front : List (List Statement)) (last : List Statement) (statement : Statement) →

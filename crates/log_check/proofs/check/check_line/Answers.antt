@@ -4,7 +4,7 @@ use Rattle.std.proofs.lemmas.List.Elements.{All-head}
 use Rattle.board_spec.specs.declared.event.Entry.{Entry}
 use Rattle.board_spec.specs.declared.event.Statement.{Statement}
 use Rattle.board_spec.specs.InRange.{IsInRange}
-use Rattle.board_core.specs.Kept.{next_entry}
+use Rattle.board_spec.specs.Legal.{next_entry}
 use Rattle.log_check.specs.Fronts.{left_of}
 use Rattle.log_check.proofs.LineSteps.{stops_unnamed, stops_idle, stops_without_memory, past_line, handed_on, phases_of, next_place}
 use Rattle.log_check.specs.declared.fault.CheckFault.TheVariants.{NoMemory}

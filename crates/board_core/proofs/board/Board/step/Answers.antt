@@ -2,7 +2,8 @@ use Rattle.std.proofs.Common.{◌≡◌, ◌∙◌, ◌+◌, ◌<◌, ◌^◌, �
 use Rattle.std.specs.Prelude.{slice_index}
 use Rattle.board_spec.specs.Setup.{Setup}
 use Rattle.board_spec.specs.InRange.{IsInRange}
-use Rattle.board_core.specs.Kept.{Standing, next_entry}
+use Rattle.board_spec.specs.Legal.{next_entry}
+use Rattle.board_core.specs.Kept.{Standing}
 use Rattle.board_core.proofs.Boards.{can_do, count_fits, stepped_by}
 use Rattle.board_core.proofs.board.Board.step.Goals as goal
 

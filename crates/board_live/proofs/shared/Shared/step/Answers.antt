@@ -4,7 +4,8 @@ use Rattle.board_spec.specs.declared.event.Entry.{Entry}
 use Rattle.board_spec.specs.declared.map_change.MapChange.{MapChange}
 use Rattle.board_spec.specs.Setup.{Setup}
 use Rattle.board_spec.specs.MapWrites.{map_change_of, version_of}
-use Rattle.board_core.specs.Kept.{Standing, next_entry}
+use Rattle.board_spec.specs.Legal.{next_entry}
+use Rattle.board_core.specs.Kept.{Standing}
 use Rattle.map_publish.specs.Lists.{opened_of, changes_of, version_after}
 use Rattle.board_live.specs.Known.{oldest}
 use Rattle.board_live.proofs.Histories.{oldest_added, writes_few}
