@@ -105,7 +105,7 @@ failed_within setup version phases bytes entries NoMemory known stopped = record
   stands = (stopped.by.0, inr stopped.by.1);
 }
 
--- ---- behind all lines
+-- ---- after all lines
 
 pub nothing_left : (rest : List ℕ) → (length rest == 0) ≡ true → rest ≡ []
 nothing_left [] empty = refl

@@ -72,7 +72,7 @@ lines-all history =
     ap lines_text (sym (reverse-reverse history) ∙ sym (append-nil (reverse (reverse history))))
     ∙ lines-joined (reverse history) []
 
--- where a log goes on behind that of a history, so do the lines
+-- where a log goes on after that of a history, so do the lines
 pub lines_behind :
     (version : ℕ) (whole history : List Entry) (rest : List ℕ) →
     log_text version whole ≡ log_text version history ++ rest → lines_text whole ≡ lines_text history ++ rest

@@ -51,7 +51,7 @@ whole_behind (phase ∷ done) later before tail whole more = (
       (whole_behind done later (drop (length phase) before) tail whole.1 more),
 )
 
--- what stands behind the phases that are done has the phases that follow
+-- what stands after the phases that are done has the phases that follow
 pub whole_left :
     (done later : List (List Statement)) (before tail : List Statement) → HasPhases done before →
     HasPhases (done ++ later) (before ++ tail) → HasPhases later tail

@@ -122,7 +122,7 @@ cut_line line other after rest one two same = (
       ∙ back-field line_feed other rest (lacks-line other two),
 )
 
--- the processor of an entry stands behind the number of its line
+-- the processor of an entry stands after the number of its line
 pub record Named (n : ℕ) (entry : Entry) (after : List ℕ) : Type 0 where
   pub later : List ℕ
   pub is : line_text n entry ++ after ≡ decimal n ++ space ∷ (decimal entry.actor ++ 0x2E ∷ later)

@@ -1,4 +1,4 @@
--- Statements that are read one after the other behind a setup and a phase.
+-- Statements that are read in turn after a setup and a phase.
 use Rattle.std.proofs.Common.{ℕ, ◌≡◌, ◌+◌, ◌*◌, ◌<◌, ◌≤◌, Bool, true, false, ◌&&◌, ◌||◌, not, ltb, None, List, [], ◌∷◌, ◌++◌, length, map, filter, reverse, sum_by, All, refl, sym, ap, ◌∙◌, inl, inr, append_assoc, append-nil, arith}
 use Rattle.std.specs.Prelude.{option_map, decimal}
 use Rattle.std.specs.List.{find, list_any, AllZip, onto_first, list_all}
@@ -77,7 +77,7 @@ same : (text : List ℕ) → AllZip StandsFor text text
 same [] = tt
 same (c ∷ text) = (inl refl, same text)
 
--- ---- behind a setup of two processors, a phase and so many statements
+-- ---- after a setup of two processors, a phase and so many statements
 
 pub record AreBehind (count : ℕ) (before : List Item) : Type 0 where
   pub begun : list_any is_phase before ≡ true

@@ -35,7 +35,7 @@ unfolding lines_of_rounds
 text-begun text begun =
     begun ∙ ap (λ (ls : List (List ℕ)). text_of_lines ls) (sym (append-nil (setup_lines ++ opening_lines)))
 
--- what is kept behind words that were appended
+-- what is kept after words that were appended
 pub kept-twice :
     {T E : Type 0} (r : Result T E) (old first middle new : List ℕ) → middle ≡ old ++ first
     → OnErr r (IsFront middle new) → OnErr r (IsFront old new)

@@ -7,7 +7,7 @@ pub fn law_make_text()
     ensures says { MakeTextIsScript }
 {}
 
-/// The made script is in range, and has eleven statements a round behind the first 47.
+/// The made script is in range, and has eleven statements a round after the first 47.
 pub fn law_made_script()
     ensures range { MadeIsInRange }
     ensures count { StatementCount }

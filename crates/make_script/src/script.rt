@@ -71,7 +71,7 @@ const OPENING: &str = "\
 0 in d 01F0
 ";
 
-// The statements of a round behind its accesses to DRAM and to the base of card 2.
+// The statements of a round after its accesses to DRAM and to the base of card 2.
 const ROUND_END: &str = "\
 1 r b 000A0000
 0 r b 000A0000 smm

@@ -29,7 +29,7 @@ use Rattle.script_lines.proofs.EventBack.{read_spelled, write_spelled, in_spelle
 use Rattle.script_lines.proofs.MomentBack.{moment_back}
 use Rattle.script_lines.proofs.FieldTexts.{lacks_decimal, lacks_hex, lacks_moment, plain_moment}
 
--- the fields of an event behind the processor's number, which are read as it
+-- the fields of an event after the processor's number, which are read as it
 pub record IsReadBack (version actor : ℕ) (event : Event) : Type 0 where
   pub verb : List ℕ
   pub words : List (List ℕ)

@@ -133,7 +133,7 @@ hex_digit_read c d small stands = elim (cases_lt d 10) [
 next_value : (q high b : ℕ) → high ≡ q / 256 → b ≡ q % 256 → (high * 16 + b / 16) * 16 + b % 16 ≡ q
 next_value q high b one two = omega (arith, one, two)
 
--- behind the digits that made what stands above so many bytes
+-- after the digits that made what stands above so many bytes
 pub hex_after : (k high n : ℕ) (field : List ℕ) → high ≡ n / 256 ^ k → Spells field (hex_number k n) → number_after 16 high field ≡ Some n
 unfolding number_after
 hex_after zero high n [] is spells = let same : high ≡ n = omega (arith, is) in ap (λ (x : ℕ). Some x) same

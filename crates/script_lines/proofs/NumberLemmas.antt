@@ -21,7 +21,7 @@ number_fits base high digit i n limit lt lt' le fits =
 pub power_within : (base i n : ℕ) → 0 < base → i ≤ n → base ^ i ≤ base ^ n
 power_within base i n some le = pow-le-pow_right some le
 
--- the digit at a place, and the rest behind it
+-- the digit at a place, and the rest after it
 step : (base high i : ℕ) (field : List ℕ) → i < length field
     → number_after base high (drop i field) ≡ option_and_then (λ digit. number_after base (high * base + digit) (drop (i + 1) field)) (digit_of base (get_or field i 0))
 unfolding number_after

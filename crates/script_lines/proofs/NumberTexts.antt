@@ -154,7 +154,7 @@ below_power n p some none =
       | inr le ↦ let one : 1 ≤ n / p = (le-div_iff_mul-le some).1 (omega (arith, le)) in absurd (omega (arith, one, none))
     ]
 
--- so many digits behind those that made `high`
+-- so many digits after those that made `high`
 hex_digits : (k high n : ℕ) (field : List ℕ) → length field ≡ k + k → number_after 16 high field ≡ Some n
     → (n / 256 ^ k ≡ high) × AllZip StandsFor field (hex_number k n)
 unfolding number_after

@@ -86,7 +86,7 @@ disk_back version name line form is =
 
 -- ---- cards
 
--- the words of a card behind its kind
+-- the words of a card after its kind
 abbrev tail_words : List Base → Option ℕ → List (List ℕ)
 tail_words bases rom = map base_word bases ++ rom_words rom
 

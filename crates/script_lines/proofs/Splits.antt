@@ -51,7 +51,7 @@ abbrev pub Lack : List (List ℕ) → Type 0
 Lack [] = Unit {0}
 Lack (text ∷ later) = (lacks space text ≡ true) × Lack later
 
--- a line that is cut before a space, where what stands behind it has its fields
+-- a line that is cut before a space, where what stands after it has its fields
 split_at : (line front rest text next : List ℕ) (texts : List (List ℕ)) → lacks space text ≡ true
     → ((later : List ℕ) → Spells later (join_with_byte space (next ∷ texts)) → Reads (fields_of later) (next ∷ texts)) → line ≡ front ++ rest
     → Spells front text → Spells rest (space ∷ join_with_byte space (next ∷ texts)) → Reads (fields_of line) (text ∷ next ∷ texts)

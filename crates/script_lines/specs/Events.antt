@@ -1,4 +1,4 @@
--- What a statement asks, by the fields of its line behind the processor's number: the reader's way through the forms.
+-- What a statement asks, by the fields of its line after the processor's number: the reader's way through the forms.
 use Rattle.std.specs.Prelude.{ℕ, ◌*◌, ◌%◌, ◌≡◌, ◌⊎◌, ◌==◌, Bool, true, false, not, ◌&&◌, ◌||◌, List, [], ◌∷◌, if◌then◌else◌, Option, Some, None, codes, bytes_eq}
 use Rattle.std.specs.Option.{option_and_then}
 use Rattle.board_base.specs.declared.access.Width.{Width}
@@ -60,7 +60,7 @@ memory_event version kind bytes addr value smm =
     then Wide (record { kind = kind; addr = addr; bytes = bytes; smm = smm; value = value })
     else Memory (record { kind = kind; addr = addr; width = width_with bytes; smm = smm; value = value })
 
--- `W ADDR`, behind `r` or `f`
+-- `W ADDR`, after `r` or `f`
 unfoldable pub read_of : (version : ℕ) → Kind → List (List ℕ) → Option Event
 read_of version kind [] = None
 read_of version kind (_ ∷ []) = None
@@ -70,7 +70,7 @@ read_of version kind (size ∷ addr ∷ flags) = do
   smm ← smm_of flags
   Some (memory_event version kind bytes addr 0 smm)
 
--- `W ADDR VALUE`, behind `w`
+-- `W ADDR VALUE`, after `w`
 unfoldable pub write_of : (version : ℕ) → List (List ℕ) → Option Event
 write_of version [] = None
 write_of version (_ ∷ []) = None
@@ -84,7 +84,7 @@ write_of version (size ∷ addr ∷ value ∷ flags) = do
 
 -- ---- ports
 
--- `W PORT`, behind `in`
+-- `W PORT`, after `in`
 unfoldable pub in_of : List (List ℕ) → Option Event
 in_of [] = None
 in_of (_ ∷ []) = None
@@ -94,7 +94,7 @@ in_of (width ∷ port ∷ []) = do
   Some (Port (record { write = false; port = port; width = width; value = 0 }))
 in_of (_ ∷ _ ∷ _ ∷ _) = None
 
--- `W PORT VALUE`, behind `out`
+-- `W PORT VALUE`, after `out`
 unfoldable pub out_of : List (List ℕ) → Option Event
 out_of [] = None
 out_of (_ ∷ []) = None
@@ -108,7 +108,7 @@ out_of (_ ∷ _ ∷ _ ∷ _ ∷ _) = None
 
 -- ---- others
 
--- `K ADDR`, behind `look`
+-- `K ADDR`, after `look`
 unfoldable pub look_of : List (List ℕ) → Option Event
 look_of [] = None
 look_of (_ ∷ []) = None

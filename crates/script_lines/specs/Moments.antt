@@ -4,7 +4,7 @@ use Rattle.board_base.specs.declared.moment.Moment.{Moment}
 use Rattle.board_base.specs.Calendar.{moment_of}
 use Rattle.script_lines.specs.Numbers.{two_digits_of, behind, ◌>>=◌}
 
--- two digits behind a mark, and what follows
+-- two digits after a mark, and what follows
 unfoldable pub part_of : (mark : ℕ) → List ℕ → Option (ℕ × List ℕ)
 part_of mark text = do
   digits ← behind mark text

@@ -51,7 +51,7 @@ two_digits_of (high ∷ low ∷ rest) = do
   low ← digit_of 10 low
   Some (high * 10 + low, rest)
 
--- what stands behind a byte
+-- what stands after a byte
 unfoldable pub behind : ℕ → List ℕ → Option (List ℕ)
 behind mark [] = None
 behind mark (byte ∷ rest) = if byte == mark then Some rest else None

@@ -120,7 +120,7 @@ fn tail_of(version: u8, fields: &[&[u8]]) -> Option<Tail>
     Some(tail)
 }
 
-/// The card of a line, by its fields behind `card`.
+/// The card of a line, by its fields after `card`.
 #[tactic(auto, unfolding(crate::specs::Cards::card_of))]
 pub(crate) fn card_of(version: u8, words: &[&[u8]]) -> Option<CardFields>
     ensures card { option_map card_said result ≡ card_of version (map (λ field. field.now) words.now) }

@@ -1,4 +1,4 @@
-//! What a statement asks, read from the fields of its line behind the processor's number.
+//! What a statement asks, read from the fields of its line after the processor's number.
 
 ghost use Rattle.std.specs.Prelude.{◌≡◌, ◌*◌, ◌<◌, ◌^◌, map, IfSome};
 ghost use Rattle.board_base.specs.Access.{bytes_of};
@@ -53,7 +53,7 @@ fn kind_of(field: &[u8]) -> Option<Kind>
     }
 }
 
-/// Whether the access is made in system management mode, by the fields behind the others.
+/// Whether the access is made in system management mode, by the fields after the others.
 #[tactic(auto, unfolding(crate::specs::Events::smm_of))]
 fn smm_of(flags: &[&[u8]]) -> Option<bool>
     ensures smm { result ≡ smm_of (map (λ field. field.now) flags.now) }
@@ -125,7 +125,7 @@ fn port_of(field: &[u8]) -> Option<u16>
     Some(port as u16)
 }
 
-/// `W ADDR` and the flag, behind the word for a read or a fetch.
+/// `W ADDR` and the flag, after the word for a read or a fetch.
 #[tactic(auto, unfolding(crate::specs::Events::read_of))]
 fn read_of(version: u8, kind: Kind, words: &[&[u8]]) -> Option<Event>
     ensures event { result ≡ read_of version kind (map (λ field. field.now) words.now) }
@@ -139,7 +139,7 @@ fn read_of(version: u8, kind: Kind, words: &[&[u8]]) -> Option<Event>
     Some(memory_event(version, kind, bytes, addr, 0, smm))
 }
 
-/// `W ADDR VALUE` and the flag, behind the word for a write.
+/// `W ADDR VALUE` and the flag, after the word for a write.
 #[tactic(auto, unfolding(crate::specs::Events::write_of))]
 fn write_of(version: u8, words: &[&[u8]]) -> Option<Event>
     ensures event { result ≡ write_of version (map (λ field. field.now) words.now) }
@@ -154,7 +154,7 @@ fn write_of(version: u8, words: &[&[u8]]) -> Option<Event>
     Some(memory_event(version, Kind::Write, bytes, addr, value, smm))
 }
 
-/// `W PORT`, behind `in`.
+/// `W PORT`, after `in`.
 #[tactic(auto, unfolding(crate::specs::Events::in_of))]
 fn in_of(words: &[&[u8]]) -> Option<Event>
     ensures event { result ≡ in_of (map (λ field. field.now) words.now) }
@@ -180,7 +180,7 @@ fn value_of(width: Width, field: &[u8]) -> Option<u32>
     Some(value as u32)
 }
 
-/// `W PORT VALUE`, behind `out`.
+/// `W PORT VALUE`, after `out`.
 #[tactic(auto, unfolding(crate::specs::Events::out_of))]
 fn out_of(words: &[&[u8]]) -> Option<Event>
     ensures event { result ≡ out_of (map (λ field. field.now) words.now) }
@@ -199,7 +199,7 @@ fn out_of(words: &[&[u8]]) -> Option<Event>
     }))
 }
 
-/// `K ADDR` and the flag, behind `look`.
+/// `K ADDR` and the flag, after `look`.
 #[tactic(auto, unfolding(crate::specs::Events::look_of))]
 fn look_of(words: &[&[u8]]) -> Option<Event>
     ensures event { result ≡ look_of (map (λ field. field.now) words.now) }
@@ -249,7 +249,7 @@ fn sector_of(words: &[&[u8]]) -> Option<Event>
     Some(Event::BadSector(sector))
 }
 
-/// What a statement asks that is no moment and sets no line, by its verb and the fields behind it.
+/// What a statement asks that is no moment and sets no line, by its verb and the fields after it.
 #[tactic(auto, unfolding(crate::specs::Events::event_of))]
 pub(crate) fn event_of(version: u8, verb: &[u8], words: &[&[u8]]) -> Option<Event>
     ensures event { result ≡ event_of version verb.now (map (λ field. field.now) words.now) }

@@ -8,7 +8,7 @@ use arrayvec::ArrayVec;
 /// No form has more fields: a card with six bases and an expansion ROM has ten.
 pub const MOST_FIELDS: usize = 10;
 
-/// The first field, and what stands behind the space that ends it. None where the text is one field.
+/// The first field, and what stands after the space that ends it. None where the text is one field.
 fn split_field(text: &[u8]) -> Option<(&[u8], &[u8])>
     ensures cases { MatchOption result (fields_of text.now ≡ text.now ∷ []) (λ p. fields_of text.now ≡ p.0.now ∷ fields_of p.1.now) }
     ensures shorter { IfSome result (λ p. length p.1.now < length text.now) }

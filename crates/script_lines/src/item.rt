@@ -126,7 +126,7 @@ fn asked_with<'a>(version: u8, actor: u32, verb: &[u8], words: &[&'a [u8]]) -> O
     other_event(version, actor, verb, words)
 }
 
-/// What a statement asks, by the fields of its line behind the processor's number.
+/// What a statement asks, by the fields of its line after the processor's number.
 #[tactic(auto, unfolding(crate::specs::Items::asked_of))]
 fn asked_of<'a>(version: u8, actor: u32, words: &[&'a [u8]]) -> Option<Item<'a>>
     ensures item { option_map line_said result ≡ asked_of version actor (map (λ field. field.now) words.now) }

@@ -17,7 +17,7 @@ pub struct MomentFields {
     pub second: u8,
 }
 
-/// Two digits behind a mark, and what follows.
+/// Two digits after a mark, and what follows.
 #[tactic(auto, unfolding(crate::specs::Moments::part_of))]
 fn part_of(mark: u8, text: &[u8]) -> Option<(u8, &[u8])>
     ensures part { option_map (λ p. (p.0, p.1.now)) result ≡ part_of mark text.now }

@@ -78,7 +78,7 @@ pub fn decimal_of(field: &[u8]) -> Option<u32>
     Some(number as u32)
 }
 
-/// The number of two decimal digits, and what stands behind them.
+/// The number of two decimal digits, and what stands after them.
 #[tactic(auto, unfolding(crate::specs::Numbers::two_digits_of))]
 pub(crate) fn two_digits_of(text: &[u8]) -> Option<(u8, &[u8])>
     ensures number { option_map (λ p. (p.0, p.1.now)) result ≡ two_digits_of text.now }
@@ -92,7 +92,7 @@ pub(crate) fn two_digits_of(text: &[u8]) -> Option<(u8, &[u8])>
     Some(((high * TEN + low) as u8, rest))
 }
 
-/// What stands behind a byte.
+/// What stands after a byte.
 #[tactic(auto, unfolding(crate::specs::Numbers::behind))]
 pub(crate) fn behind(mark: u8, text: &[u8]) -> Option<&[u8]>
     ensures rest { option_map (λ rest. rest.now) result ≡ behind mark text.now }

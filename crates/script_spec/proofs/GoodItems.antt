@@ -9,7 +9,7 @@ use Rattle.script_spec.specs.Grammar.{Item, IsForm}
 use Rattle.script_spec.specs.Reasons.{reason, is_phase, is_misplaced, is_repeated, lacks_setup, is_in_range, is_placed, is_there, passes_limits, least_reason}
 use Rattle.script_spec.specs.ScriptText.{AreRead}
 
--- there is no reason to refuse an item behind these
+-- there is no reason to refuse an item after these
 pub record NoReason (before : List Item) (item : Item) : Type 0 where
   pub place : is_misplaced before item ≡ false
   pub first : is_repeated before item ≡ false

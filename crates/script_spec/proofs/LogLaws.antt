@@ -94,7 +94,7 @@ event_in _ = Ack
 abbrev event_of : (version : ℕ) → List ℕ → Event
 event_of version text = event_in (statement_of version 0 (lowered (but_last (front 0x3D text))))
 
--- from the text behind an entry's own number on
+-- from the text after an entry's own number on
 abbrev last_of : (version actor seq : ℕ) → List ℕ → Entry
 last_of version actor seq text = record {
   actor = actor;

@@ -132,7 +132,7 @@ abbrev front_of : List ℕ → ℕ
 front_of (c ∷ cs) = c
 front_of [] = 0
 
--- what stands behind `card:`
+-- what stands after `card:`
 abbrev card_of : List ℕ → Target
 card_of fields =
     targets.Card (digits_value 10 (front 0x2E fields)) (digits_value 10 (front 0x3A (back 0x2E fields)))

@@ -37,7 +37,7 @@ RepeatedCpus = IsBadAt (codes "board 1" ∷ codes "cpus 1" ∷ codes "cpus 1" �
 unfoldable pub EndTooEarly : Type 0
 EndTooEarly = IsBadAt (codes "board 1" ∷ codes "cpus 1" ∷ []) 3 6
 
--- a sixth line behind a setup and a phase
+-- a sixth line after a setup and a phase
 abbrev pub small_setup : List (List ℕ)
 small_setup = codes "cpus 1" ∷ codes "memory 8" ∷ codes "rom r64" ∷ codes "phase" ∷ []
 

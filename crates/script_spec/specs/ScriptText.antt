@@ -19,7 +19,7 @@ pub record Script : Type 0 where
   pub cards : List FittedCard
   pub phases : List (List Statement)
 
--- ---- one line after the first, behind these items
+-- ---- one line after the first, after these items
 
 abbrev pub most_bytes : ℕ
 most_bytes = 120

@@ -47,7 +47,7 @@ pub fn seven_digits()
     ensures refused { SevenDigits }
 {}
 
-/// A setup line behind a phase.
+/// A setup line after a phase.
 #[tactic(auto, using(crate::proofs::ExampleRuns::setup_after_phase))]
 pub fn setup_after_phase()
     ensures refused { SetupAfterPhase }

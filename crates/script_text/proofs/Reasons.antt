@@ -99,7 +99,7 @@ setup_place items item false setup e = rw e (neither (is_phase item) (is_stateme
 pub begun_setup : (items : List Item) (item : Item) → is_setup item ≡ true → (is_phase item && lacks_setup items) ≡ false
 begun_setup items item setup = rw (neither (is_phase item) (is_statement item) setup).0 refl
 
--- a statement behind it
+-- a statement after it
 pub statement_place :
     (items : List Item) (item : Item) (any : Bool) → is_setup item ≡ false → is_statement item ≡ true →
     list_any is_phase items ≡ any → is_misplaced items item ≡ not any

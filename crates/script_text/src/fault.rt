@@ -14,7 +14,7 @@ pub(crate) enum Reason {
     TooLong,
     /// It has none of the forms of the version.
     NoForm,
-    /// A line of the setup behind the first phase, or a statement before it.
+    /// A line of the setup after the first phase, or a statement before it.
     Misplaced,
     /// A line of the setup of its kind, for cards of its device, came before.
     Repeated,

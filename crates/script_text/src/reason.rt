@@ -1,4 +1,4 @@
-//! Whether an item can stand behind those before it, and the least reason if not.
+//! Whether an item can stand after those before it, and the least reason if not.
 
 ghost use Rattle.std.specs.Prelude.{◌≡◌, ◌≤◌, ◌<◌, ◌+◌, ◌&&◌, ◌||◌, nat_lt, true, is_some, ℕ, List, length, sum_by, IfOk, IsTrue};
 ghost use Rattle.std.specs.List.{list_any};
@@ -106,7 +106,7 @@ impl Reading {
         }
     }
 
-    /// Refuses a line of the setup behind the first phase, or where one of its kind came before.
+    /// Refuses a line of the setup after the first phase, or where one of its kind came before.
     fn judge_setup(&self, came: bool) -> Result<(), Reason>
         ensures judged { (items : List Said) (item : Said) → IsReadingOf items self.now → is_setup item ≡ true
             → is_repeated items item ≡ came → Stands items item result }
@@ -226,7 +226,7 @@ impl Reading {
         })
     }
 
-    /// The item of a line, where it can stand behind those before it, and otherwise the least reason to refuse it.
+    /// The item of a line, where it can stand after those before it, and otherwise the least reason to refuse it.
     pub(crate) fn judge<'a>(&self, version: u8, item: Item<'a>) -> Result<ValidItem<'a>, Reason>
         requires form { IsForm version (line_said item) }
         requires limits { IsWithinLimits self.now }

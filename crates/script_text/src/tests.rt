@@ -74,7 +74,7 @@ const SETUP: &str = "board 1\ncpus 1\nmemory 8\nrom r64\nphase\n";
 /// The same in version 2.
 const SETUP_2: &str = "board 2\ncpus 1\nmemory 8\nrom r64\nphase\n";
 
-/// Line 6 behind the setup, and the reason for which it is refused; 0 where it is not.
+/// Line 6 after the setup, and the reason for which it is refused; 0 where it is not.
 const SIXTH_LINES: [(&str, u8); 30] = [
     ("0 r b 0000000", 3),
     ("memory 8", 4),
@@ -148,7 +148,7 @@ fn version_two_has_wide_accesses(rt: HostRuntime) -> Result<(), Fail> {
     Ok(())
 }
 
-/// Lines 5 and on, behind `board 2`, `cpus 1`, `memory 8` and `rom r64`.
+/// Lines 5 and on, after `board 2`, `cpus 1`, `memory 8` and `rom r64`.
 const CARD_LINES: [(&str, u32, u8); 24] = [
     ("card 2 vga", 0, 0),
     ("card 1 plain", 5, 7),
