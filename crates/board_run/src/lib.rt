@@ -26,6 +26,8 @@ pub use status::{Status, Which, exit_code};
 #[cfg(test)]
 mod holding_gate;
 #[cfg(test)]
+mod made_maps;
+#[cfg(test)]
 mod rows;
 #[cfg(test)]
 mod tests;

@@ -17,7 +17,7 @@ use script_text::{Script, ScriptFault, read_script};
 use std::alloc::Global;
 
 /// The script of so many rounds, read from its text.
-fn made_script(alloc: Global, rounds: u32) -> Result<Script, NoMemory>
+pub fn made_script(alloc: Global, rounds: u32) -> Result<Script, NoMemory>
     requires some { 1 ≤ rounds }
     requires most { rounds ≤ 20_000 }
     ensures says { IfOk result (λ script. IsScriptText (make_text rounds) (said_of script)) }
@@ -33,7 +33,7 @@ fn made_script(alloc: Global, rounds: u32) -> Result<Script, NoMemory>
 }
 
 /// The board that the script is made for, with the images that are made.
-fn made_board(alloc: Global, script: &Script) -> Result<Board, NoMemory>
+pub fn made_board(alloc: Global, script: &Script) -> Result<Board, NoMemory>
     requires in_range { IsInRangeScript (said_of script.now) }
     ensures fresh { IfOk result (λ board. board ≡ record {
       setup = made_setup_of (said_of script.now);
