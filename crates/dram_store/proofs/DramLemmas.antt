@@ -1,5 +1,5 @@
 -- The DRAM after a history, and after one entry more.
-use Rattle.std.proofs.Common.{◌≡◌, ℕ, ◌+◌, ◌-◌, ◌<◌, true, false, ◌&&◌, List, [], ◌∷◌, length, Option, Some, None, inl, inr, ◌∙◌, refl, sym, ap, subst, arith}
+use Rattle.std.proofs.Common.{◌≡◌, ℕ, ◌+◌, ◌-◌, ◌<◌, true, false, ◌&&◌, List, [], ◌∷◌, length, Option, Some, None, inl, inr, ◌∙◌, refl, sym, ap, arith}
 use Rattle.std.specs.Prelude.{slice_index, nat_le, nat_lt, if◌then◌else◌, replicate, unwrap_or}
 use Rattle.std.specs.Option.{option_or}
 use Rattle.std.proofs.lemmas.List.{length-replicate, get_or-replicate}
@@ -7,14 +7,11 @@ use Rattle.std.proofs.lemmas.Bool.{cases_lt, le-leb, lt-leb, lt-ltb, le-ltb}
 use Rattle.board_base.specs.declared.access.Width.{Width}
 use Rattle.board_base.specs.declared.target.Target.TheVariants.{Dram}
 use Rattle.board_base.specs.Access.{bytes_of}
-use Rattle.board_base.specs.declared.access.Access.{Access}
 use Rattle.board_spec.specs.declared.event.Entry.{Entry}
-use Rattle.board_spec.specs.declared.event.Part.{Part}
 use Rattle.board_spec.specs.Setup.{Setup, installed}
 use Rattle.board_spec.specs.Bits.{byte}
-use Rattle.board_spec.specs.Stored.{DramCell, stored_of, byte_put, memory_put, entry_put, parts_put}
+use Rattle.board_spec.specs.Stored.{DramCell, stored_of, byte_put, entry_put}
 use Rattle.dram_store.specs.Dram.{dram_at, IsDramOf}
-use Rattle.dram_store.proofs.ByteLemmas.{IsWritten}
 use Rattle.dram_store.proofs.ByteLemmas.{IsWritten}
 
 pub zeros : (setup : Setup) (dram : List ℕ) → dram ≡ replicate (installed setup) 0 → IsDramOf setup [] dram
@@ -37,9 +34,6 @@ put_as put other old new same has = record {
   size = has.size;
   each = λ at within. has.each at within ∙ ap (λ (byte : Option ℕ). unwrap_or byte (slice_index old at)) (sym (same at));
 }
-
-pub put_nothing : (dram : List ℕ) → HasPut (λ at. None) dram dram
-put_nothing dram = record { size = refl; each = λ at within. refl }
 
 later_first : (later first : Option ℕ) (old : ℕ) → unwrap_or later (unwrap_or first old) ≡ unwrap_or (option_or later first) old
 later_first None first old = refl
@@ -105,12 +99,6 @@ put_by_entry setup history entry old new kept has = record {
       has.each at before ∙ ap (λ (byte : ℕ). unwrap_or (entry_put entry.event entry.reply (DramCell at)) byte) (kept.each at before);
 }
 
--- an entry that puts no byte into the DRAM leaves it as it is
-pub unwritten : (setup : Setup) (history : List Entry) (entry : Entry) (dram : List ℕ) → IsDramOf setup history dram →
-    ((at : ℕ) → entry_put entry.event entry.reply (DramCell at) ≡ None) → IsDramOf setup (entry ∷ history) dram
-unwritten setup history entry dram kept none =
-    put_by_entry setup history entry dram dram kept (put_as (λ at. None) _ dram dram none (put_nothing dram))
-
 pub stored : (setup : Setup) (history : List Entry) (entry : Entry) (old : List ℕ) (addr : ℕ) (width : Width) (value : ℕ) (new : List ℕ) →
     IsWritten old addr width value new → length new ≡ length old → IsDramOf setup history old →
     ((at : ℕ) → entry_put entry.event entry.reply (DramCell at) ≡ byte_put (Dram 0) addr width value (DramCell at)) →
@@ -118,27 +106,3 @@ pub stored : (setup : Setup) (history : List Entry) (entry : Entry) (old : List 
 stored setup history entry old addr width value new is_written same kept put =
     put_by_entry setup history entry old new kept
     (put_as (λ at. byte_put (Dram 0) addr width value (DramCell at)) _ old new put (put_written old new addr width value is_written same))
-
--- ---- the parts of a wide access, which make one entry
-
--- the DRAM before and after the parts with these replies, one after the other
-abbrev pub HasParts : List Access → List Part → List ℕ → List ℕ → Type 0
-HasParts (part ∷ parts) (reply ∷ replies) old new =
-    (mid : List ℕ) × HasPut (λ at. memory_put part reply.target (DramCell at)) old mid × HasParts parts replies mid new
-HasParts _ _ old new = new ≡ old
-
-pub put_parts : (parts : List Access) (replies : List Part) (old new : List ℕ) → HasParts parts replies old new →
-    HasPut (λ at. parts_put parts replies (DramCell at)) old new
-unfolding parts_put
-put_parts [] replies old new is = subst (HasPut (λ at. None) old) (sym is) (put_nothing old)
-put_parts (part ∷ parts) [] old new is = subst (HasPut (λ at. None) old) (sym is) (put_nothing old)
-put_parts (part ∷ parts) (reply ∷ replies) old new (mid, first, later) =
-    put_then (λ at. memory_put part reply.target (DramCell at)) (λ at. parts_put parts replies (DramCell at)) old mid new
-    first (put_parts parts replies mid new later)
-
-pub parts_stored : (setup : Setup) (history : List Entry) (entry : Entry) (parts : List Access) (replies : List Part) (old new : List ℕ) →
-    ((at : ℕ) → entry_put entry.event entry.reply (DramCell at) ≡ parts_put parts replies (DramCell at)) →
-    HasParts parts replies old new → IsDramOf setup history old → IsDramOf setup (entry ∷ history) new
-parts_stored setup history entry parts replies old new put is kept =
-    put_by_entry setup history entry old new kept
-    (put_as (λ at. parts_put parts replies (DramCell at)) _ old new put (put_parts parts replies old new is))

@@ -1,55 +1,70 @@
 //! The DRAM as plain bytes.
-ghost use Rattle.std.specs.Prelude.{◌≡◌, ◌≤◌, ◌<◌, ◌+◌, ◌-◌, ◌*◌, ◌%◌, ◌&&◌, nat_le, nat_lt, if◌then◌else◌, ℕ, List, [], ◌∷◌, length, replicate, IfOk};
+ghost use Rattle.std.specs.Prelude.{◌≡◌, ◌≤◌, ◌<◌, ◌+◌, ◌-◌, ◌*◌, ◌%◌, ◌&&◌, nat_le, nat_lt, if◌then◌else◌, ℕ, List, [], ◌∷◌, ◌++◌, length, replicate, vec_capacity, IfOk};
 ghost use Rattle.board_base.specs.Access.{bytes_of, largest_of};
 ghost use Rattle.board_base.specs.declared.target.Target.TheVariants.{Dram as DramTarget};
 ghost use Rattle.board_spec.specs.declared.event.Entry.{Entry};
 ghost use Rattle.board_spec.specs.Setup.{Setup, installed};
 ghost use Rattle.board_spec.specs.Bits.{byte, wide};
 ghost use Rattle.board_spec.specs.Stored.{DramCell, byte_put, entry_put, dram_byte};
-ghost use Rattle.dram_store.specs.Dram.{dram_at, IsDramOf};
+ghost use Rattle.dram_store.specs.Dram.{dram_at, page_end, IsDramOf};
 
 use board_base::{NoMemory, Width};
 use board_spec::wide::{read_at, write_at};
-use std::alloc::{AllocError, Global};
+use std::alloc::Global;
 use std::marker::Model;
 
 /// The bytes of a mebibyte.
 const MIB: usize = 0x10_0000;
 
+/// The bytes of a page.
+const PAGE: usize = 0x1_0000;
+
 /// The installed DRAM, in whole MiB, up to 64. Contracts see the list of its bytes.
+///
+/// Only a front of it is kept, in whole pages, and it ends with the highest page that was written. The bytes
+/// above are 0 and take no time. So one write at the top fills all pages below it, once.
 #[derive(Drop)]
 pub struct Dram {
-    bytes: Vec<u8>,
+    /// The bytes that are kept, from address 0 on. There is room for the whole memory.
+    kept: Vec<u8>,
+    /// The installed bytes.
+    size: usize,
 }
 
 impl Model for Dram {
-    ghost use Rattle.std.specs.Prelude.{ℕ, List, length};
-    ghost use Rattle.dram_store.specs.Dram.{IsDramSize};
+    ghost use Rattle.std.specs.Prelude.{ℕ, List, length, vec_capacity};
+    ghost use Rattle.dram_store.specs.Dram.{IsKept, memory_of};
 
     ghost Value = { List ℕ };
 
-    ghost view = { λ dram. dram.bytes.items };
+    ghost view = { λ dram. memory_of dram.kept.items dram.size };
 
-    ghost invariant = { λ dram. IsDramSize (length dram.bytes.items) };
+    ghost invariant = { λ dram. IsKept (length dram.kept.items) dram.size (vec_capacity dram.kept) };
 }
 
-/// So many bytes, all 0.
-fn zeros(alloc: Global, count: usize) -> Result<Vec<u8>, AllocError>
-    ensures zeros { IfOk result (λ bytes. bytes.items ≡ replicate count 0) }
+/// Keeps all pages up to that of an address. New bytes are 0.
+fn keep_page(kept: &mut Vec<u8>, addr: usize)
+    requires room { page_end addr ≤ vec_capacity kept.old }
+    ensures bytes { kept.new.items ≡ kept.old.items ++ replicate (page_end addr - length kept.old.items) 0 }
+    ensures room { vec_capacity kept.old ≤ vec_capacity kept.new }
 {
-    vec![in alloc; 0; count]
+    let end = (addr / PAGE + 1) * PAGE;
+    if kept.len() < end {
+        kept.resize(end, 0).unwrap();
+    }
 }
 
 impl Dram {
-    /// A DRAM of `mib` MiB, 1 to 64, all zeros.
+    /// A DRAM of `mib` MiB, 1 to 64, all zeros. No later call takes memory.
     pub fn open(alloc: Global, mib: u32) -> Result<Dram, NoMemory>
         requires some { 1 ≤ mib }
         requires most { mib ≤ 64 }
         ensures zeros { IfOk result (λ dram. (setup : Setup) → setup.mib ≡ mib → dram ≡ replicate (installed setup) 0) }
         ensures fresh { IfOk result (λ dram. (setup : Setup) → setup.mib ≡ mib → IsDramOf setup [] dram) }
     {
-        let bytes = zeros(alloc, mib as usize * MIB)?;
-        Ok(Dram { bytes })
+        let size = mib as usize * MIB;
+        let kept = Vec::with_capacity(alloc, size)?;
+        Ok(Dram { kept, size })
     }
 
     /// Reads the bytes from an address on, which is a multiple of the width, the low byte first. At and
@@ -60,8 +75,11 @@ impl Dram {
         ensures stored { (setup : Setup) (history : List Entry) → IsDramOf setup history self.now
             → result ≡ wide (λ at. dram_byte setup history at) addr width }
     {
-        if self.holds(addr, width) {
-            read_at(&self.bytes, addr as usize, width)
+        let addr = addr as usize;
+        if addr + width.bytes() as usize <= self.kept.len() {
+            read_at(&self.kept, addr, width)
+        } else if addr < self.size {
+            0
         } else {
             width.largest()
         }
@@ -81,16 +99,11 @@ impl Dram {
             ≡ byte_put (DramTarget 0) addr width value (DramCell at))
             → IsDramOf setup (entry ∷ history) self.new }
     {
-        if self.holds(addr, width) {
-            write_at(&mut self.bytes, addr as usize, width, value);
+        let addr = addr as usize;
+        if addr < self.size {
+            keep_page(&mut self.kept, addr);
+            write_at(&mut self.kept, addr, width, value);
         }
-    }
-
-    /// Whether all bytes of an access are installed. Of an aligned access either all are, or none.
-    fn holds(&self, addr: u32, width: Width) -> bool
-        ensures holds { result ≡ nat_le (addr + bytes_of width) (length self.now) }
-    {
-        addr as usize + width.bytes() as usize <= self.bytes.len()
     }
 }
 
@@ -103,7 +116,7 @@ mod tests {
     /// An access of a test: its address, its width, and the value that is written or wanted.
     type Access = (u32, Width, u32);
 
-    /// What is written, and what is read next.
+    /// What is written to a DRAM of 1 MiB, and what is read next.
     const STEPS: [(Access, Access); 10] = [
         ((0x100, Four, 0x1122_3344), (0x100, One, 0x44)),
         ((0x104, One, 0x00), (0x102, Two, 0x1122)),
@@ -115,6 +128,75 @@ mod tests {
         ((0x10_0000, Two, 0x5555), (0x10_0000, Four, 0xFFFF_FFFF)),
         ((0x20_0000, One, 0x55), (0x0, Four, 0x0)),
         ((0xFFFF_FFFC, Four, 0x0), (0xF_FFFC, Four, 0xDEAD_BEEF)),
+    ];
+
+    /// What is written to a DRAM of 3 MiB, and what is read next: at the ends of pages, of mebibytes and of
+    /// the memory, above what is kept, and again where earlier rows wrote.
+    const GROWTH: [(Access, [Access; 3]); 8] = [
+        (
+            (0x30_0000, One, 0x11),
+            [
+                (0x0, Four, 0x0),
+                (0x2F_FFFC, Four, 0x0),
+                (0x30_0000, Two, 0xFFFF),
+            ],
+        ),
+        (
+            (0x0, One, 0xA1),
+            [
+                (0x0, Four, 0xA1),
+                (0xFFFC, Four, 0x0),
+                (0x1_0000, Four, 0x0),
+            ],
+        ),
+        (
+            (0xFFFE, Two, 0xB2B3),
+            [
+                (0xFFFC, Four, 0xB2B3_0000),
+                (0x1_0000, Two, 0x0),
+                (0x0, One, 0xA1),
+            ],
+        ),
+        (
+            (0x1_0000, Four, 0xC4C5_C6C7),
+            [
+                (0x1_0000, One, 0xC7),
+                (0x1_FFFC, Four, 0x0),
+                (0xFFFE, Two, 0xB2B3),
+            ],
+        ),
+        (
+            (0x8_FFFF, One, 0xD8),
+            [
+                (0x8_FFFC, Four, 0xD800_0000),
+                (0x9_0000, Four, 0x0),
+                (0x7_FFFC, Four, 0x0),
+            ],
+        ),
+        (
+            (0xF_FFFC, Four, 0xE9EA_EBEC),
+            [
+                (0xF_FFFF, One, 0xE9),
+                (0x10_0000, Four, 0x0),
+                (0x8_FFFF, One, 0xD8),
+            ],
+        ),
+        (
+            (0x2F_FFFE, Two, 0xFDFE),
+            [
+                (0x2F_FFFC, Four, 0xFDFE_0000),
+                (0x30_0000, One, 0xFF),
+                (0x1F_FFFC, Four, 0x0),
+            ],
+        ),
+        (
+            (0x10_0000, Two, 0x1112),
+            [
+                (0x10_0000, Four, 0x1112),
+                (0xF_FFFC, Four, 0xE9EA_EBEC),
+                (0x0, Two, 0xA1),
+            ],
+        ),
     ];
 
     fn write(rt: &impl Abort, dram: &mut Dram, access: Access) {
@@ -141,11 +223,14 @@ mod tests {
     }
 
     #[test]
-    fn a_new_dram_is_zeros(rt: HostRuntime) -> Result<(), NoMemory> {
-        let dram = Dram::open(rt.alloc(), 2)?;
-        assert_eq!(rt; dram.read(0, Four), 0);
-        assert_eq!(rt; dram.read(0x1F_FFFC, Four), 0);
-        assert_eq!(rt; dram.read(0x20_0000, Four), 0xFFFF_FFFF);
+    fn bytes_above_those_kept_are_zeros(rt: HostRuntime) -> Result<(), NoMemory> {
+        let mut dram = Dram::open(rt.alloc(), 3)?;
+        for (written, wanted) in GROWTH {
+            write(&rt, &mut dram, written);
+            for access in wanted {
+                read(&rt, &dram, access);
+            }
+        }
         Ok(())
     }
 }
