@@ -1,22 +1,28 @@
 -- The DRAM after a history, and after one entry more.
-use Rattle.std.proofs.Common.{◌≡◌, ℕ, ◌+◌, ◌-◌, ◌<◌, true, false, ◌&&◌, List, [], ◌∷◌, length, Option, Some, None, inl, inr, ◌∙◌, refl, sym, ap, arith}
+use Rattle.std.proofs.Common.{◌≡◌, ℕ, ◌+◌, ◌-◌, ◌<◌, ◌≤◌, true, false, ◌&&◌, List, [], ◌∷◌, length, Option, Some, None, inl, inr, ◌∙◌, refl, sym, ap, arith}
 use Rattle.std.specs.Prelude.{slice_index, nat_le, nat_lt, if◌then◌else◌, replicate, unwrap_or}
 use Rattle.std.specs.Option.{option_or}
 use Rattle.std.proofs.lemmas.List.{length-replicate, get_or-replicate}
 use Rattle.std.proofs.lemmas.Bool.{cases_lt, le-leb, lt-leb, lt-ltb, le-ltb}
+use Rattle.std.proofs.lemmas.Bool.Decides.{nat_tests}
 use Rattle.board_base.specs.declared.access.Width.{Width}
 use Rattle.board_base.specs.declared.target.Target.TheVariants.{Dram}
-use Rattle.board_base.specs.Access.{bytes_of}
+use Rattle.board_base.specs.declared.access.Width.TheVariants.{One, Two, Four}
+use Rattle.board_base.specs.Access.{bytes_of, largest_of}
 use Rattle.board_spec.specs.declared.event.Entry.{Entry}
 use Rattle.board_spec.specs.Setup.{Setup, installed}
-use Rattle.board_spec.specs.Bits.{byte}
-use Rattle.board_spec.specs.Stored.{DramCell, stored_of, byte_put, entry_put}
+use Rattle.board_spec.specs.Bits.{byte, wide}
+use Rattle.board_spec.specs.Stored.{DramCell, stored_of, byte_put, entry_put, dram_byte}
 use Rattle.dram_store.specs.Dram.{dram_at, IsDramOf}
-use Rattle.dram_store.proofs.ByteLemmas.{IsWritten}
 
-pub zeros : (setup : Setup) (dram : List ℕ) → dram ≡ replicate (installed setup) 0 → IsDramOf setup [] dram
+-- the bytes of a DRAM after a value was written to it from an address on, as `write` says
+abbrev pub IsWritten : List ℕ → ℕ → Width → ℕ → List ℕ → Type 0
+IsWritten old addr width value new =
+    (at : ℕ) → dram_at new at ≡ (if nat_le addr at && nat_lt at (addr + bytes_of width) && nat_lt at (length old) then byte value (at - addr) else dram_at old at)
+
+pub fresh : (setup : Setup) (dram : List ℕ) → dram ≡ replicate (installed setup) 0 → IsDramOf setup [] dram
 unfolding stored_of
-zeros setup dram is = record {
+fresh setup dram is = record {
   size = rw is (length-replicate {A = ℕ} (installed setup) 0);
   each = λ addr within. rw is (get_or-replicate (installed setup) addr 0 0 (omega (arith, length-replicate {A = ℕ} (installed setup) 0, ap (λ (d : List ℕ). length d) is)));
 }
@@ -86,6 +92,10 @@ put_written old new addr width value is_written same = record {
       sym (here new at (omega arith)) ∙ is_written at ∙ put_cell old addr width value at (slice_index old at) within refl;
 }
 
+-- a value written past the end is lost
+pub lost : (dram : List ℕ) (addr : ℕ) (width : Width) (value : ℕ) → length dram ≤ addr → IsWritten dram addr width value dram
+lost dram addr width value past at = grind (arith, nat_tests)
+
 -- ---- one entry more
 
 -- an entry that puts the bytes which were put
@@ -106,3 +116,29 @@ pub stored : (setup : Setup) (history : List Entry) (entry : Entry) (old : List 
 stored setup history entry old addr width value new is_written same kept put =
     put_by_entry setup history entry old new kept
     (put_as (λ at. byte_put (Dram 0) addr width value (DramCell at)) _ old new put (put_written old new addr width value is_written same))
+
+-- ---- values that are read
+
+at_stored : (setup : Setup) (history : List Entry) (dram : List ℕ) (at : ℕ) → IsDramOf setup history dram → dram_at dram at ≡ dram_byte setup history at
+at_stored setup history dram at is =
+    elim (cases_lt at (length dram)) [
+      | inl within ↦
+          let exists : nat_lt at (length dram) ≡ true = lt-ltb _ _ within in
+          rw (← is.size, exists) (is.each at within)
+      | inr past ↦
+          let nowhere : nat_lt at (length dram) ≡ false = le-ltb _ _ past in
+          rw (← is.size, nowhere) refl
+    ]
+
+-- the bytes of a DRAM are those of its history
+pub read_stored : (setup : Setup) (history : List Entry) (dram : List ℕ) (addr : ℕ) (width : Width) → IsDramOf setup history dram →
+    wide (λ at. dram_at dram at) addr width ≡ wide (λ at. dram_byte setup history at) addr width
+read_stored setup history dram addr One is = at_stored setup history dram addr is
+read_stored setup history dram addr Two is = rw (at_stored setup history dram addr is, at_stored setup history dram (addr + 1) is) refl
+read_stored setup history dram addr Four is =
+    rw (at_stored setup history dram addr is, at_stored setup history dram (addr + 1) is, at_stored setup history dram (addr + 2) is, at_stored setup history dram (addr + 3) is) refl
+
+pub read_past : (dram : List ℕ) (addr : ℕ) (width : Width) → length dram ≤ addr → largest_of width ≡ wide (λ at. dram_at dram at) addr width
+read_past dram addr One past = grind (arith, nat_tests)
+read_past dram addr Two past = grind (arith, nat_tests)
+read_past dram addr Four past = grind (arith, nat_tests)

@@ -1,8 +1,9 @@
 -- The DRAM is the list of its bytes, from address 0 on.
-use Rattle.std.specs.Prelude.{ℕ, ◌≡◌, ◌≤◌, ◌<◌, ◌+◌, ◌-◌, ◌*◌, ◌/◌, ◌%◌, nat_lt, if◌then◌else◌, List, ◌++◌, length, replicate, slice_index}
+use Rattle.std.specs.Prelude.{ℕ, ◌≡◌, ◌≤◌, ◌<◌, ◌*◌, nat_lt, if◌then◌else◌, List, All, length, slice_index}
 use Rattle.board_spec.specs.declared.event.Entry.{Entry}
 use Rattle.board_spec.specs.Setup.{Setup, installed}
 use Rattle.board_spec.specs.Stored.{DramCell, stored_of}
+use Rattle.dram_store.specs.Bank.{IsBank}
 
 -- the DRAM of a setup, up to 64 MiB
 pub record IsDramSize (size : ℕ) : Type 0 where
@@ -10,20 +11,10 @@ pub record IsDramSize (size : ℕ) : Type 0 where
   pub whole : size ≡ installed setup
   pub most : setup.mib ≤ 64
 
--- where the page of an address ends, and the next begins
-abbrev pub page_end : ℕ → ℕ
-page_end addr = (addr / 0x1_0000 + 1) * 0x1_0000
-
--- so many bytes of memory, of which these are kept from address 0 on, and the others are 0
-abbrev pub memory_of : List ℕ → ℕ → List ℕ
-memory_of kept size = kept ++ replicate (size - length kept) 0
-
--- a DRAM of so many bytes of which so many are kept, in whole pages, with room for all
-pub record IsKept (kept size capacity : ℕ) : Type 0 where
-  pub dram : IsDramSize size
-  pub pages : kept % 0x1_0000 ≡ 0
-  pub within : kept ≤ size
-  pub room : size ≤ capacity
+-- the banks of a DRAM, one for each MiB
+pub record AreBanks (banks : List (List ℕ)) : Type 0 where
+  pub size : IsDramSize (length banks * 0x10_0000)
+  pub each : All IsBank banks
 
 -- the byte at an address, FFh at and past the end
 abbrev pub dram_at : List ℕ → ℕ → ℕ

@@ -1,57 +1,35 @@
 //! The DRAM as plain bytes.
-ghost use Rattle.std.specs.Prelude.{◌≡◌, ◌≤◌, ◌<◌, ◌+◌, ◌-◌, ◌*◌, ◌%◌, ◌&&◌, nat_le, nat_lt, if◌then◌else◌, ℕ, List, [], ◌∷◌, ◌++◌, length, replicate, vec_capacity, IfOk};
+ghost use Rattle.std.specs.Prelude.{◌≡◌, ◌≤◌, ◌<◌, ◌+◌, ◌-◌, ◌*◌, ◌%◌, ◌&&◌, nat_le, nat_lt, if◌then◌else◌, ℕ, List, [], ◌∷◌, length, replicate, IfOk};
 ghost use Rattle.board_base.specs.Access.{bytes_of, largest_of};
 ghost use Rattle.board_base.specs.declared.target.Target.TheVariants.{Dram as DramTarget};
 ghost use Rattle.board_spec.specs.declared.event.Entry.{Entry};
 ghost use Rattle.board_spec.specs.Setup.{Setup, installed};
 ghost use Rattle.board_spec.specs.Bits.{byte, wide};
 ghost use Rattle.board_spec.specs.Stored.{DramCell, byte_put, entry_put, dram_byte};
-ghost use Rattle.dram_store.specs.Dram.{dram_at, page_end, IsDramOf};
+ghost use Rattle.dram_store.specs.Dram.{dram_at, IsDramOf};
 
+use crate::bank::{BANK, Bank};
 use board_base::{NoMemory, Width};
-use board_spec::wide::{read_at, write_at};
 use std::alloc::Global;
 use std::marker::Model;
 
-/// The bytes of a mebibyte.
-const MIB: usize = 0x10_0000;
-
-/// The bytes of a page.
-const PAGE: usize = 0x1_0000;
-
 /// The installed DRAM, in whole MiB, up to 64. Contracts see the list of its bytes.
-///
-/// Only a front of it is kept, in whole pages, and it ends with the highest page that was written. The bytes
-/// above are 0 and take no time. So one write at the top fills all pages below it, once.
 #[derive(Drop)]
 pub struct Dram {
-    /// The bytes that are kept, from address 0 on. There is room for the whole memory.
-    kept: Vec<u8>,
-    /// The installed bytes.
-    size: usize,
+    /// A bank for each MiB.
+    banks: Vec<Bank>,
 }
 
 impl Model for Dram {
-    ghost use Rattle.std.specs.Prelude.{ℕ, List, length, vec_capacity};
-    ghost use Rattle.dram_store.specs.Dram.{IsKept, memory_of};
+    ghost use Rattle.std.specs.Prelude.{ℕ, List};
+    ghost use Rattle.std.specs.List.{concat};
+    ghost use Rattle.dram_store.specs.Dram.{AreBanks};
 
     ghost Value = { List ℕ };
 
-    ghost view = { λ dram. memory_of dram.kept.items dram.size };
+    ghost view = { λ dram. concat dram.banks.items };
 
-    ghost invariant = { λ dram. IsKept (length dram.kept.items) dram.size (vec_capacity dram.kept) };
-}
-
-/// Keeps all pages up to that of an address. New bytes are 0.
-fn keep_page(kept: &mut Vec<u8>, addr: usize)
-    requires room { page_end addr ≤ vec_capacity kept.old }
-    ensures bytes { kept.new.items ≡ kept.old.items ++ replicate (page_end addr - length kept.old.items) 0 }
-    ensures room { vec_capacity kept.old ≤ vec_capacity kept.new }
-{
-    let end = (addr / PAGE + 1) * PAGE;
-    if kept.len() < end {
-        kept.resize(end, 0).unwrap();
-    }
+    ghost invariant = { λ dram. AreBanks dram.banks.items };
 }
 
 impl Dram {
@@ -62,9 +40,11 @@ impl Dram {
         ensures zeros { IfOk result (λ dram. (setup : Setup) → setup.mib ≡ mib → dram ≡ replicate (installed setup) 0) }
         ensures fresh { IfOk result (λ dram. (setup : Setup) → setup.mib ≡ mib → IsDramOf setup [] dram) }
     {
-        let size = mib as usize * MIB;
-        let kept = Vec::with_capacity(alloc, size)?;
-        Ok(Dram { kept, size })
+        let mut banks = Vec::with_capacity(alloc, mib as usize)?;
+        for _ in 0..mib {
+            banks.push(Bank::open(alloc)?)?;
+        }
+        Ok(Dram { banks })
     }
 
     /// Reads the bytes from an address on, which is a multiple of the width, the low byte first. At and
@@ -75,13 +55,9 @@ impl Dram {
         ensures stored { (setup : Setup) (history : List Entry) → IsDramOf setup history self.now
             → result ≡ wide (λ at. dram_byte setup history at) addr width }
     {
-        let addr = addr as usize;
-        if addr + width.bytes() as usize <= self.kept.len() {
-            read_at(&self.kept, addr, width)
-        } else if addr < self.size {
-            0
-        } else {
-            width.largest()
+        match self.banks.get(addr as usize / BANK) {
+            Some(bank) => bank.read(addr as usize % BANK, width),
+            None => width.largest(),
         }
     }
 
@@ -99,10 +75,8 @@ impl Dram {
             ≡ byte_put (DramTarget 0) addr width value (DramCell at))
             → IsDramOf setup (entry ∷ history) self.new }
     {
-        let addr = addr as usize;
-        if addr < self.size {
-            keep_page(&mut self.kept, addr);
-            write_at(&mut self.kept, addr, width, value);
+        if let Some(bank) = self.banks.get_mut(addr as usize / BANK) {
+            bank.write(addr as usize % BANK, width, value);
         }
     }
 }

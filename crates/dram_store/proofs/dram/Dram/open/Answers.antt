@@ -1,15 +1,27 @@
-use Rattle.std.proofs.Common.{ℕ, ap, [], None, replicate, arith, refl}
-use Rattle.dram_store.proofs.DramLemmas.{zeros}
+use Rattle.std.proofs.Common.{ℕ, ◌≡◌, [], None, replicate, ◌∙◌, ap, arith}
+use Rattle.std.specs.List.{concat}
+use Rattle.board_spec.specs.Setup.{Setup, installed}
+use Rattle.dram_store.proofs.ConcatLemmas.{zero_banks}
+use Rattle.dram_store.proofs.DramLemmas.{fresh}
 use Rattle.dram_store.proofs.dram.Dram.open.Goals as goal
 
+all_zeros : (c : goal.After-loop) (setup : Setup) → setup.mib ≡ c.args.mib → concat c.loop.banks.items ≡ replicate (installed setup) 0
+all_zeros c setup same =
+    zero_banks c.loop.banks.items c.loop.invariant.each c.loop.invariant.zeros
+    ∙ ap (λ (count : ℕ). replicate count 0) (omega (arith, c.loop.invariant.count))
+
+pub returns-clause-zeros : goal.returns-clause-zeros
+returns-clause-zeros c = all_zeros c
+
 pub returns-clause-fresh : goal.returns-clause-fresh
-returns-clause-fresh c = λ setup same.
-    zeros setup _ (rw (c.in_ok-kept.ensures.items, same) (ap (λ (count : ℕ). replicate count 0) (omega arith)))
+returns-clause-fresh c = λ setup same. fresh setup (concat c.loop.banks.items) (all_zeros c setup same)
 
 pub invariant_of-result : goal.invariant_of-result
 invariant_of-result c = record {
-  dram = record { setup = record { mib = c.args.mib; cards = []; rom = []; disk = None }; whole = refl; most = c.requires.most };
-  pages = rw c.in_ok-kept.ensures.items refl;
-  within = rw c.in_ok-kept.ensures.items (omega arith);
-  room = c.in_ok-kept.ensures.capacity;
+  size = record {
+    setup = record { mib = c.args.mib; cards = []; rom = []; disk = None };
+    whole = omega (arith, c.loop.invariant.count);
+    most = c.requires.most;
+  };
+  each = c.loop.invariant.each;
 }
