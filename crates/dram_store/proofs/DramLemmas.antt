@@ -3,7 +3,7 @@ use Rattle.std.proofs.Common.{◌≡◌, ℕ, ◌+◌, ◌-◌, ◌<◌, ◌≤�
 use Rattle.std.specs.Prelude.{slice_index, nat_le, nat_lt, if◌then◌else◌, replicate, unwrap_or}
 use Rattle.std.specs.Option.{option_or}
 use Rattle.std.proofs.lemmas.List.{length-replicate, get_or-replicate}
-use Rattle.std.proofs.lemmas.Bool.{cases_lt, le-leb, lt-leb, lt-ltb, le-ltb}
+use Rattle.std.proofs.lemmas.Bool.{cases_lt, lt-ltb, le-ltb}
 use Rattle.std.proofs.lemmas.Bool.Decides.{nat_tests}
 use Rattle.board_base.specs.declared.access.Width.{Width}
 use Rattle.board_base.specs.declared.target.Target.TheVariants.{Dram}
@@ -60,25 +60,7 @@ put_then first later old mid new before after = record {
 put_cell : (old : List ℕ) (addr : ℕ) (width : Width) (value at was : ℕ) → at < length old → slice_index old at ≡ was →
     (if nat_le addr at && nat_lt at (addr + bytes_of width) && nat_lt at (length old) then byte value (at - addr) else dram_at old at)
     ≡ unwrap_or (byte_put (Dram 0) addr width value (DramCell at)) was
-put_cell old addr width value at was within is =
-    let exists : nat_lt at (length old) ≡ true = lt-ltb _ _ within in
-    elim (cases_lt at addr) [
-      | inl below ↦
-          let not_from : nat_le addr at ≡ false = lt-leb _ _ below in
-          rw (not_from, exists) is
-      | inr from ↦
-          let is_from : nat_le addr at ≡ true = le-leb _ _ from in
-          elim (cases_lt at (addr + bytes_of width)) [
-            | inl inside ↦
-                let is_inside : nat_lt at (addr + bytes_of width) ≡ true = lt-ltb _ _ inside in
-                let near : nat_lt (at - addr) (bytes_of width) ≡ true = lt-ltb _ _ (omega arith) in
-                rw (is_from, is_inside, exists, near) refl
-            | inr past ↦
-                let not_inside : nat_lt at (addr + bytes_of width) ≡ false = le-ltb _ _ past in
-                let far : nat_lt (at - addr) (bytes_of width) ≡ false = le-ltb _ _ (omega arith) in
-                rw (is_from, not_inside, exists, far) is
-          ]
-    ]
+put_cell old addr width value at was within is = grind (arith, nat_tests)
 
 here : (dram : List ℕ) (at : ℕ) → at < length dram → dram_at dram at ≡ slice_index dram at
 here dram at within = let exists : nat_lt at (length dram) ≡ true = lt-ltb _ _ within in rw exists refl

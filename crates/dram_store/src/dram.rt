@@ -104,73 +104,23 @@ mod tests {
         ((0xFFFF_FFFC, Four, 0x0), (0xF_FFFC, Four, 0xDEAD_BEEF)),
     ];
 
-    /// What is written to a DRAM of 3 MiB, and what is read next: at the ends of pages, of mebibytes and of
-    /// the memory, above what is kept, and again where earlier rows wrote.
-    const GROWTH: [(Access, [Access; 3]); 8] = [
-        (
-            (0x30_0000, One, 0x11),
-            [
-                (0x0, Four, 0x0),
-                (0x2F_FFFC, Four, 0x0),
-                (0x30_0000, Two, 0xFFFF),
-            ],
-        ),
-        (
-            (0x0, One, 0xA1),
-            [
-                (0x0, Four, 0xA1),
-                (0xFFFC, Four, 0x0),
-                (0x1_0000, Four, 0x0),
-            ],
-        ),
-        (
-            (0xFFFE, Two, 0xB2B3),
-            [
-                (0xFFFC, Four, 0xB2B3_0000),
-                (0x1_0000, Two, 0x0),
-                (0x0, One, 0xA1),
-            ],
-        ),
-        (
-            (0x1_0000, Four, 0xC4C5_C6C7),
-            [
-                (0x1_0000, One, 0xC7),
-                (0x1_FFFC, Four, 0x0),
-                (0xFFFE, Two, 0xB2B3),
-            ],
-        ),
-        (
-            (0x8_FFFF, One, 0xD8),
-            [
-                (0x8_FFFC, Four, 0xD800_0000),
-                (0x9_0000, Four, 0x0),
-                (0x7_FFFC, Four, 0x0),
-            ],
-        ),
-        (
-            (0xF_FFFC, Four, 0xE9EA_EBEC),
-            [
-                (0xF_FFFF, One, 0xE9),
-                (0x10_0000, Four, 0x0),
-                (0x8_FFFF, One, 0xD8),
-            ],
-        ),
-        (
-            (0x2F_FFFE, Two, 0xFDFE),
-            [
-                (0x2F_FFFC, Four, 0xFDFE_0000),
-                (0x30_0000, One, 0xFF),
-                (0x1F_FFFC, Four, 0x0),
-            ],
-        ),
-        (
-            (0x10_0000, Two, 0x1112),
-            [
-                (0x10_0000, Four, 0x1112),
-                (0xF_FFFC, Four, 0xE9EA_EBEC),
-                (0x0, Two, 0xA1),
-            ],
-        ),
+    /// The same of 3 MiB: at the ends of pages, of mebibytes and of the memory, above the highest byte that
+    /// was written, and again where earlier rows wrote.
+    const GROWTH: [(Access, Access); 14] = [
+        ((0x30_0000, One, 0x11), (0x2F_FFFC, Four, 0x0)),
+        ((0x0, One, 0xA1), (0xFFFC, Four, 0x0)),
+        ((0x4, Two, 0xA2A3), (0x1_0000, Four, 0x0)),
+        ((0xFFFE, Two, 0xB2B3), (0xFFFC, Four, 0xB2B3_0000)),
+        ((0x1_0000, Four, 0xC4C5_C6C7), (0xFFFC, Four, 0xB2B3_0000)),
+        ((0x1_FFFF, One, 0xC8), (0x1_0000, Four, 0xC4C5_C6C7)),
+        ((0x8_FFFF, One, 0xD8), (0x7_FFFC, Four, 0x0)),
+        ((0x8_0000, One, 0xD9), (0x8_FFFC, Four, 0xD800_0000)),
+        ((0xF_FFFC, Four, 0xE9EA_EBEC), (0x10_0000, Four, 0x0)),
+        ((0x2F_FFFE, Two, 0xFDFE), (0x2F_FFFC, Four, 0xFDFE_0000)),
+        ((0x30_0000, Two, 0x1111), (0x30_0000, One, 0xFF)),
+        ((0x10_0000, Two, 0x1112), (0xF_FFFC, Four, 0xE9EA_EBEC)),
+        ((0x10_0002, Two, 0x1314), (0x10_0000, Four, 0x1314_1112)),
+        ((0x2, One, 0xA4), (0x0, Four, 0x00A4_00A1)),
     ];
 
     fn write(rt: &impl Abort, dram: &mut Dram, access: Access) {
@@ -186,25 +136,29 @@ mod tests {
         assert_eq!(rt; dram.read(addr, width), value, "at {addr}");
     }
 
-    #[test]
-    fn bytes_stand_where_they_were_written(rt: HostRuntime) -> Result<(), NoMemory> {
-        let mut dram = Dram::open(rt.alloc(), 1)?;
-        for (written, wanted) in STEPS {
-            write(&rt, &mut dram, written);
-            read(&rt, &dram, wanted);
+    fn check(
+        rt: &(impl Abort + AllocGlobal),
+        mib: u32,
+        steps: &[(Access, Access)],
+    ) -> Result<(), NoMemory>
+        requires some { 1 ≤ mib }
+        requires most { mib ≤ 64 }
+    {
+        let mut dram = Dram::open(rt.alloc(), mib)?;
+        for (written, wanted) in steps {
+            write(rt, &mut dram, *written);
+            read(rt, &dram, *wanted);
         }
         Ok(())
     }
 
     #[test]
-    fn bytes_above_those_kept_are_zeros(rt: HostRuntime) -> Result<(), NoMemory> {
-        let mut dram = Dram::open(rt.alloc(), 3)?;
-        for (written, wanted) in GROWTH {
-            write(&rt, &mut dram, written);
-            for access in wanted {
-                read(&rt, &dram, access);
-            }
-        }
-        Ok(())
+    fn bytes_stand_where_they_were_written(rt: HostRuntime) -> Result<(), NoMemory> {
+        check(&rt, 1, &STEPS)
+    }
+
+    #[test]
+    fn bytes_above_those_written_are_zeros(rt: HostRuntime) -> Result<(), NoMemory> {
+        check(&rt, 3, &GROWTH)
     }
 }
