@@ -1,4 +1,4 @@
-//! The DRAM as plain bytes.
+//! The installed DRAM: a bank for each MiB.
 ghost use Rattle.std.specs.Prelude.{◌≡◌, ◌≤◌, ◌<◌, ◌+◌, ◌-◌, ◌*◌, ◌%◌, ◌&&◌, nat_le, nat_lt, if◌then◌else◌, ℕ, List, [], ◌∷◌, length, replicate, IfOk};
 ghost use Rattle.board_base.specs.Access.{bytes_of, largest_of};
 ghost use Rattle.board_base.specs.declared.target.Target.TheVariants.{Dram as DramTarget};
