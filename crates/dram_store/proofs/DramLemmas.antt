@@ -1,25 +1,28 @@
 -- The DRAM after a history, and after one entry more.
-use Rattle.std.proofs.Common.{◌≡◌, ℕ, ◌+◌, ◌-◌, ◌<◌, true, false, ◌&&◌, List, [], ◌∷◌, length, Option, Some, None, inl, inr, ◌∙◌, refl, sym, ap, subst, arith}
+use Rattle.std.proofs.Common.{◌≡◌, ℕ, ◌+◌, ◌-◌, ◌<◌, ◌≤◌, true, false, ◌&&◌, List, [], ◌∷◌, length, Option, Some, None, inl, inr, ◌∙◌, refl, sym, ap, arith}
 use Rattle.std.specs.Prelude.{slice_index, nat_le, nat_lt, if◌then◌else◌, replicate, unwrap_or}
 use Rattle.std.specs.Option.{option_or}
 use Rattle.std.proofs.lemmas.List.{length-replicate, get_or-replicate}
-use Rattle.std.proofs.lemmas.Bool.{cases_lt, le-leb, lt-leb, lt-ltb, le-ltb}
+use Rattle.std.proofs.lemmas.Bool.{cases_lt, lt-ltb, le-ltb}
+use Rattle.std.proofs.lemmas.Bool.Decides.{nat_tests}
 use Rattle.board_base.specs.declared.access.Width.{Width}
 use Rattle.board_base.specs.declared.target.Target.TheVariants.{Dram}
-use Rattle.board_base.specs.Access.{bytes_of}
-use Rattle.board_base.specs.declared.access.Access.{Access}
+use Rattle.board_base.specs.declared.access.Width.TheVariants.{One, Two, Four}
+use Rattle.board_base.specs.Access.{bytes_of, largest_of}
 use Rattle.board_spec.specs.declared.event.Entry.{Entry}
-use Rattle.board_spec.specs.declared.event.Part.{Part}
 use Rattle.board_spec.specs.Setup.{Setup, installed}
-use Rattle.board_spec.specs.Bits.{byte}
-use Rattle.board_spec.specs.Stored.{DramCell, stored_of, byte_put, memory_put, entry_put, parts_put}
+use Rattle.board_spec.specs.Bits.{byte, wide}
+use Rattle.board_spec.specs.Stored.{DramCell, stored_of, byte_put, entry_put, dram_byte}
 use Rattle.dram_store.specs.Dram.{dram_at, IsDramOf}
-use Rattle.dram_store.proofs.ByteLemmas.{IsWritten}
-use Rattle.dram_store.proofs.ByteLemmas.{IsWritten}
 
-pub zeros : (setup : Setup) (dram : List ℕ) → dram ≡ replicate (installed setup) 0 → IsDramOf setup [] dram
+-- the bytes of a DRAM after a value was written to it from an address on, as `write` says
+abbrev pub IsWritten : List ℕ → ℕ → Width → ℕ → List ℕ → Type 0
+IsWritten old addr width value new =
+    (at : ℕ) → dram_at new at ≡ (if nat_le addr at && nat_lt at (addr + bytes_of width) && nat_lt at (length old) then byte value (at - addr) else dram_at old at)
+
+pub fresh : (setup : Setup) (dram : List ℕ) → dram ≡ replicate (installed setup) 0 → IsDramOf setup [] dram
 unfolding stored_of
-zeros setup dram is = record {
+fresh setup dram is = record {
   size = rw is (length-replicate {A = ℕ} (installed setup) 0);
   each = λ addr within. rw is (get_or-replicate (installed setup) addr 0 0 (omega (arith, length-replicate {A = ℕ} (installed setup) 0, ap (λ (d : List ℕ). length d) is)));
 }
@@ -37,9 +40,6 @@ put_as put other old new same has = record {
   size = has.size;
   each = λ at within. has.each at within ∙ ap (λ (byte : Option ℕ). unwrap_or byte (slice_index old at)) (sym (same at));
 }
-
-pub put_nothing : (dram : List ℕ) → HasPut (λ at. None) dram dram
-put_nothing dram = record { size = refl; each = λ at within. refl }
 
 later_first : (later first : Option ℕ) (old : ℕ) → unwrap_or later (unwrap_or first old) ≡ unwrap_or (option_or later first) old
 later_first None first old = refl
@@ -60,25 +60,7 @@ put_then first later old mid new before after = record {
 put_cell : (old : List ℕ) (addr : ℕ) (width : Width) (value at was : ℕ) → at < length old → slice_index old at ≡ was →
     (if nat_le addr at && nat_lt at (addr + bytes_of width) && nat_lt at (length old) then byte value (at - addr) else dram_at old at)
     ≡ unwrap_or (byte_put (Dram 0) addr width value (DramCell at)) was
-put_cell old addr width value at was within is =
-    let exists : nat_lt at (length old) ≡ true = lt-ltb _ _ within in
-    elim (cases_lt at addr) [
-      | inl below ↦
-          let not_from : nat_le addr at ≡ false = lt-leb _ _ below in
-          rw (not_from, exists) is
-      | inr from ↦
-          let is_from : nat_le addr at ≡ true = le-leb _ _ from in
-          elim (cases_lt at (addr + bytes_of width)) [
-            | inl inside ↦
-                let is_inside : nat_lt at (addr + bytes_of width) ≡ true = lt-ltb _ _ inside in
-                let near : nat_lt (at - addr) (bytes_of width) ≡ true = lt-ltb _ _ (omega arith) in
-                rw (is_from, is_inside, exists, near) refl
-            | inr past ↦
-                let not_inside : nat_lt at (addr + bytes_of width) ≡ false = le-ltb _ _ past in
-                let far : nat_lt (at - addr) (bytes_of width) ≡ false = le-ltb _ _ (omega arith) in
-                rw (is_from, not_inside, exists, far) is
-          ]
-    ]
+put_cell old addr width value at was within is = grind (arith, nat_tests)
 
 here : (dram : List ℕ) (at : ℕ) → at < length dram → dram_at dram at ≡ slice_index dram at
 here dram at within = let exists : nat_lt at (length dram) ≡ true = lt-ltb _ _ within in rw exists refl
@@ -91,6 +73,10 @@ put_written old new addr width value is_written same = record {
   each = λ at within.
       sym (here new at (omega arith)) ∙ is_written at ∙ put_cell old addr width value at (slice_index old at) within refl;
 }
+
+-- a value written past the end is lost
+pub lost : (dram : List ℕ) (addr : ℕ) (width : Width) (value : ℕ) → length dram ≤ addr → IsWritten dram addr width value dram
+lost dram addr width value past at = grind (arith, nat_tests)
 
 -- ---- one entry more
 
@@ -105,12 +91,6 @@ put_by_entry setup history entry old new kept has = record {
       has.each at before ∙ ap (λ (byte : ℕ). unwrap_or (entry_put entry.event entry.reply (DramCell at)) byte) (kept.each at before);
 }
 
--- an entry that puts no byte into the DRAM leaves it as it is
-pub unwritten : (setup : Setup) (history : List Entry) (entry : Entry) (dram : List ℕ) → IsDramOf setup history dram →
-    ((at : ℕ) → entry_put entry.event entry.reply (DramCell at) ≡ None) → IsDramOf setup (entry ∷ history) dram
-unwritten setup history entry dram kept none =
-    put_by_entry setup history entry dram dram kept (put_as (λ at. None) _ dram dram none (put_nothing dram))
-
 pub stored : (setup : Setup) (history : List Entry) (entry : Entry) (old : List ℕ) (addr : ℕ) (width : Width) (value : ℕ) (new : List ℕ) →
     IsWritten old addr width value new → length new ≡ length old → IsDramOf setup history old →
     ((at : ℕ) → entry_put entry.event entry.reply (DramCell at) ≡ byte_put (Dram 0) addr width value (DramCell at)) →
@@ -119,26 +99,28 @@ stored setup history entry old addr width value new is_written same kept put =
     put_by_entry setup history entry old new kept
     (put_as (λ at. byte_put (Dram 0) addr width value (DramCell at)) _ old new put (put_written old new addr width value is_written same))
 
--- ---- the parts of a wide access, which make one entry
+-- ---- values that are read
 
--- the DRAM before and after the parts with these replies, one after the other
-abbrev pub HasParts : List Access → List Part → List ℕ → List ℕ → Type 0
-HasParts (part ∷ parts) (reply ∷ replies) old new =
-    (mid : List ℕ) × HasPut (λ at. memory_put part reply.target (DramCell at)) old mid × HasParts parts replies mid new
-HasParts _ _ old new = new ≡ old
+at_stored : (setup : Setup) (history : List Entry) (dram : List ℕ) (at : ℕ) → IsDramOf setup history dram → dram_at dram at ≡ dram_byte setup history at
+at_stored setup history dram at is =
+    elim (cases_lt at (length dram)) [
+      | inl within ↦
+          let exists : nat_lt at (length dram) ≡ true = lt-ltb _ _ within in
+          rw (← is.size, exists) (is.each at within)
+      | inr past ↦
+          let nowhere : nat_lt at (length dram) ≡ false = le-ltb _ _ past in
+          rw (← is.size, nowhere) refl
+    ]
 
-pub put_parts : (parts : List Access) (replies : List Part) (old new : List ℕ) → HasParts parts replies old new →
-    HasPut (λ at. parts_put parts replies (DramCell at)) old new
-unfolding parts_put
-put_parts [] replies old new is = subst (HasPut (λ at. None) old) (sym is) (put_nothing old)
-put_parts (part ∷ parts) [] old new is = subst (HasPut (λ at. None) old) (sym is) (put_nothing old)
-put_parts (part ∷ parts) (reply ∷ replies) old new (mid, first, later) =
-    put_then (λ at. memory_put part reply.target (DramCell at)) (λ at. parts_put parts replies (DramCell at)) old mid new
-    first (put_parts parts replies mid new later)
+-- the bytes of a DRAM are those of its history
+pub read_stored : (setup : Setup) (history : List Entry) (dram : List ℕ) (addr : ℕ) (width : Width) → IsDramOf setup history dram →
+    wide (λ at. dram_at dram at) addr width ≡ wide (λ at. dram_byte setup history at) addr width
+read_stored setup history dram addr One is = at_stored setup history dram addr is
+read_stored setup history dram addr Two is = rw (at_stored setup history dram addr is, at_stored setup history dram (addr + 1) is) refl
+read_stored setup history dram addr Four is =
+    rw (at_stored setup history dram addr is, at_stored setup history dram (addr + 1) is, at_stored setup history dram (addr + 2) is, at_stored setup history dram (addr + 3) is) refl
 
-pub parts_stored : (setup : Setup) (history : List Entry) (entry : Entry) (parts : List Access) (replies : List Part) (old new : List ℕ) →
-    ((at : ℕ) → entry_put entry.event entry.reply (DramCell at) ≡ parts_put parts replies (DramCell at)) →
-    HasParts parts replies old new → IsDramOf setup history old → IsDramOf setup (entry ∷ history) new
-parts_stored setup history entry parts replies old new put is kept =
-    put_by_entry setup history entry old new kept
-    (put_as (λ at. parts_put parts replies (DramCell at)) _ old new put (put_parts parts replies old new is))
+pub read_past : (dram : List ℕ) (addr : ℕ) (width : Width) → length dram ≤ addr → largest_of width ≡ wide (λ at. dram_at dram at) addr width
+read_past dram addr One past = grind (arith, nat_tests)
+read_past dram addr Two past = grind (arith, nat_tests)
+read_past dram addr Four past = grind (arith, nat_tests)

@@ -1,2 +1,3 @@
-pub mod ByteLemmas
+pub mod BankLemmas
+pub mod ConcatLemmas
 pub mod DramLemmas

@@ -1,4 +1,4 @@
-//! The DRAM as plain bytes.
+//! The installed DRAM: a bank for each MiB.
 ghost use Rattle.std.specs.Prelude.{◌≡◌, ◌≤◌, ◌<◌, ◌+◌, ◌-◌, ◌*◌, ◌%◌, ◌&&◌, nat_le, nat_lt, if◌then◌else◌, ℕ, List, [], ◌∷◌, length, replicate, IfOk};
 ghost use Rattle.board_base.specs.Access.{bytes_of, largest_of};
 ghost use Rattle.board_base.specs.declared.target.Target.TheVariants.{Dram as DramTarget};
@@ -8,48 +8,43 @@ ghost use Rattle.board_spec.specs.Bits.{byte, wide};
 ghost use Rattle.board_spec.specs.Stored.{DramCell, byte_put, entry_put, dram_byte};
 ghost use Rattle.dram_store.specs.Dram.{dram_at, IsDramOf};
 
+use crate::bank::{BANK, Bank};
 use board_base::{NoMemory, Width};
-use board_spec::wide::{read_at, write_at};
-use std::alloc::{AllocError, Global};
+use std::alloc::Global;
 use std::marker::Model;
-
-/// The bytes of a mebibyte.
-const MIB: usize = 0x10_0000;
 
 /// The installed DRAM, in whole MiB, up to 64. Contracts see the list of its bytes.
 #[derive(Drop)]
 pub struct Dram {
-    bytes: Vec<u8>,
+    /// A bank for each MiB.
+    banks: Vec<Bank>,
 }
 
 impl Model for Dram {
-    ghost use Rattle.std.specs.Prelude.{ℕ, List, length};
-    ghost use Rattle.dram_store.specs.Dram.{IsDramSize};
+    ghost use Rattle.std.specs.Prelude.{ℕ, List};
+    ghost use Rattle.std.specs.List.{concat};
+    ghost use Rattle.dram_store.specs.Dram.{AreBanks};
 
     ghost Value = { List ℕ };
 
-    ghost view = { λ dram. dram.bytes.items };
+    ghost view = { λ dram. concat dram.banks.items };
 
-    ghost invariant = { λ dram. IsDramSize (length dram.bytes.items) };
-}
-
-/// So many bytes, all 0.
-fn zeros(alloc: Global, count: usize) -> Result<Vec<u8>, AllocError>
-    ensures zeros { IfOk result (λ bytes. bytes.items ≡ replicate count 0) }
-{
-    vec![in alloc; 0; count]
+    ghost invariant = { λ dram. AreBanks dram.banks.items };
 }
 
 impl Dram {
-    /// A DRAM of `mib` MiB, 1 to 64, all zeros.
+    /// A DRAM of `mib` MiB, 1 to 64, all zeros. No later call takes memory.
     pub fn open(alloc: Global, mib: u32) -> Result<Dram, NoMemory>
         requires some { 1 ≤ mib }
         requires most { mib ≤ 64 }
         ensures zeros { IfOk result (λ dram. (setup : Setup) → setup.mib ≡ mib → dram ≡ replicate (installed setup) 0) }
         ensures fresh { IfOk result (λ dram. (setup : Setup) → setup.mib ≡ mib → IsDramOf setup [] dram) }
     {
-        let bytes = zeros(alloc, mib as usize * MIB)?;
-        Ok(Dram { bytes })
+        let mut banks = Vec::with_capacity(alloc, mib as usize)?;
+        for _ in 0..mib {
+            banks.push(Bank::open(alloc)?)?;
+        }
+        Ok(Dram { banks })
     }
 
     /// Reads the bytes from an address on, which is a multiple of the width, the low byte first. At and
@@ -60,10 +55,9 @@ impl Dram {
         ensures stored { (setup : Setup) (history : List Entry) → IsDramOf setup history self.now
             → result ≡ wide (λ at. dram_byte setup history at) addr width }
     {
-        if self.holds(addr, width) {
-            read_at(&self.bytes, addr as usize, width)
-        } else {
-            width.largest()
+        match self.banks.get(addr as usize / BANK) {
+            Some(bank) => bank.read(addr as usize % BANK, width),
+            None => width.largest(),
         }
     }
 
@@ -81,16 +75,9 @@ impl Dram {
             ≡ byte_put (DramTarget 0) addr width value (DramCell at))
             → IsDramOf setup (entry ∷ history) self.new }
     {
-        if self.holds(addr, width) {
-            write_at(&mut self.bytes, addr as usize, width, value);
+        if let Some(bank) = self.banks.get_mut(addr as usize / BANK) {
+            bank.write(addr as usize % BANK, width, value);
         }
-    }
-
-    /// Whether all bytes of an access are installed. Of an aligned access either all are, or none.
-    fn holds(&self, addr: u32, width: Width) -> bool
-        ensures holds { result ≡ nat_le (addr + bytes_of width) (length self.now) }
-    {
-        addr as usize + width.bytes() as usize <= self.bytes.len()
     }
 }
 
@@ -103,7 +90,7 @@ mod tests {
     /// An access of a test: its address, its width, and the value that is written or wanted.
     type Access = (u32, Width, u32);
 
-    /// What is written, and what is read next.
+    /// What is written to a DRAM of 1 MiB, and what is read next.
     const STEPS: [(Access, Access); 10] = [
         ((0x100, Four, 0x1122_3344), (0x100, One, 0x44)),
         ((0x104, One, 0x00), (0x102, Two, 0x1122)),
@@ -115,6 +102,25 @@ mod tests {
         ((0x10_0000, Two, 0x5555), (0x10_0000, Four, 0xFFFF_FFFF)),
         ((0x20_0000, One, 0x55), (0x0, Four, 0x0)),
         ((0xFFFF_FFFC, Four, 0x0), (0xF_FFFC, Four, 0xDEAD_BEEF)),
+    ];
+
+    /// The same of 3 MiB: at the ends of pages, of mebibytes and of the memory, above the highest byte that
+    /// was written, and again where earlier rows wrote.
+    const GROWTH: [(Access, Access); 14] = [
+        ((0x30_0000, One, 0x11), (0x2F_FFFC, Four, 0x0)),
+        ((0x0, One, 0xA1), (0xFFFC, Four, 0x0)),
+        ((0x4, Two, 0xA2A3), (0x1_0000, Four, 0x0)),
+        ((0xFFFE, Two, 0xB2B3), (0xFFFC, Four, 0xB2B3_0000)),
+        ((0x1_0000, Four, 0xC4C5_C6C7), (0xFFFC, Four, 0xB2B3_0000)),
+        ((0x1_FFFF, One, 0xC8), (0x1_0000, Four, 0xC4C5_C6C7)),
+        ((0x8_FFFF, One, 0xD8), (0x7_FFFC, Four, 0x0)),
+        ((0x8_0000, One, 0xD9), (0x8_FFFC, Four, 0xD800_0000)),
+        ((0xF_FFFC, Four, 0xE9EA_EBEC), (0x10_0000, Four, 0x0)),
+        ((0x2F_FFFE, Two, 0xFDFE), (0x2F_FFFC, Four, 0xFDFE_0000)),
+        ((0x30_0000, Two, 0x1111), (0x30_0000, One, 0xFF)),
+        ((0x10_0000, Two, 0x1112), (0xF_FFFC, Four, 0xE9EA_EBEC)),
+        ((0x10_0002, Two, 0x1314), (0x10_0000, Four, 0x1314_1112)),
+        ((0x2, One, 0xA4), (0x0, Four, 0x00A4_00A1)),
     ];
 
     fn write(rt: &impl Abort, dram: &mut Dram, access: Access) {
@@ -130,22 +136,29 @@ mod tests {
         assert_eq!(rt; dram.read(addr, width), value, "at {addr}");
     }
 
-    #[test]
-    fn bytes_stand_where_they_were_written(rt: HostRuntime) -> Result<(), NoMemory> {
-        let mut dram = Dram::open(rt.alloc(), 1)?;
-        for (written, wanted) in STEPS {
-            write(&rt, &mut dram, written);
-            read(&rt, &dram, wanted);
+    fn check(
+        rt: &(impl Abort + AllocGlobal),
+        mib: u32,
+        steps: &[(Access, Access)],
+    ) -> Result<(), NoMemory>
+        requires some { 1 ≤ mib }
+        requires most { mib ≤ 64 }
+    {
+        let mut dram = Dram::open(rt.alloc(), mib)?;
+        for (written, wanted) in steps {
+            write(rt, &mut dram, *written);
+            read(rt, &dram, *wanted);
         }
         Ok(())
     }
 
     #[test]
-    fn a_new_dram_is_zeros(rt: HostRuntime) -> Result<(), NoMemory> {
-        let dram = Dram::open(rt.alloc(), 2)?;
-        assert_eq!(rt; dram.read(0, Four), 0);
-        assert_eq!(rt; dram.read(0x1F_FFFC, Four), 0);
-        assert_eq!(rt; dram.read(0x20_0000, Four), 0xFFFF_FFFF);
-        Ok(())
+    fn bytes_stand_where_they_were_written(rt: HostRuntime) -> Result<(), NoMemory> {
+        check(&rt, 1, &STEPS)
+    }
+
+    #[test]
+    fn bytes_above_those_written_are_zeros(rt: HostRuntime) -> Result<(), NoMemory> {
+        check(&rt, 3, &GROWTH)
     }
 }

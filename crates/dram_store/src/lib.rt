@@ -1,6 +1,7 @@
-//! The DRAM of the board: one array of bytes, from address 0 to the end of the installed memory.
+//! The DRAM of the board: its bytes from address 0 to the end of the installed memory.
 #![tactic(auto)]
 
+mod bank;
 mod dram;
 
 pub use dram::Dram;

@@ -1,19 +1,27 @@
-use Rattle.std.proofs.Common.{ℕ, ap, sym, ◌∙◌, [], None, List, length, replicate}
-use Rattle.std.proofs.lemmas.List.{length-replicate}
+use Rattle.std.proofs.Common.{ℕ, ◌≡◌, [], None, replicate, ◌∙◌, ap, arith}
+use Rattle.std.specs.List.{concat}
 use Rattle.board_spec.specs.Setup.{Setup, installed}
-use Rattle.dram_store.proofs.DramLemmas.{zeros}
+use Rattle.dram_store.proofs.ConcatLemmas.{zero_banks}
+use Rattle.dram_store.proofs.DramLemmas.{fresh}
 use Rattle.dram_store.proofs.dram.Dram.open.Goals as goal
 
--- a setup with so much memory
-abbrev of_mib : ℕ → Setup
-of_mib mib = record { mib = mib; cards = []; rom = []; disk = None }
+all_zeros : (c : goal.After-loop) (setup : Setup) → setup.mib ≡ c.args.mib → concat c.loop.banks.items ≡ replicate (installed setup) 0
+all_zeros c setup same =
+    zero_banks c.loop.banks.items c.loop.invariant.each c.loop.invariant.zeros
+    ∙ ap (λ (count : ℕ). replicate count 0) (omega (arith, c.loop.invariant.count))
+
+pub returns-clause-zeros : goal.returns-clause-zeros
+returns-clause-zeros c = all_zeros c
 
 pub returns-clause-fresh : goal.returns-clause-fresh
-returns-clause-fresh c = λ setup same. zeros setup c.in_ok-bytes.bytes.items (c.in_ok-bytes.ensures.zeros ∙ ap (λ mib. replicate (installed (of_mib mib)) 0) (sym same))
+returns-clause-fresh c = λ setup same. fresh setup (concat c.loop.banks.items) (all_zeros c setup same)
 
 pub invariant_of-result : goal.invariant_of-result
 invariant_of-result c = record {
-  setup = of_mib c.args.mib;
-  whole = ap (λ (bytes : List ℕ). length bytes) c.in_ok-bytes.ensures.zeros ∙ length-replicate {A = ℕ} (installed (of_mib c.args.mib)) 0;
-  most = c.requires.most;
+  size = record {
+    setup = record { mib = c.args.mib; cards = []; rom = []; disk = None };
+    whole = omega (arith, c.loop.invariant.count);
+    most = c.requires.most;
+  };
+  each = c.loop.invariant.each;
 }

@@ -1,26 +1,40 @@
-use Rattle.std.proofs.Common.{◌≡◌, ◌+◌, ◌≤◌, ℕ, List, length, take, drop, ◌++◌, refl, arith}
-use Rattle.std.proofs.lemmas.Bool.Decides.{nat_tests}
-use Rattle.board_base.specs.Access.{bytes_of}
-use Rattle.dram_store.proofs.ByteLemmas.{written, lost, wholly_past, lent_back}
-use Rattle.dram_store.proofs.DramLemmas.{stored}
+use Rattle.std.proofs.Common.{◌≡◌, ◌≤◌, ◌<◌, ◌/◌, ℕ, [], length, refl, ◌∙◌, arith}
+use Rattle.std.specs.List.{concat}
+use Rattle.std.proofs.lemmas.List.{get_or_read}
+use Rattle.std.proofs.lemmas.List.Elements.{All-get_or}
+use Rattle.dram_store.specs.Bank.{IsBank}
+use Rattle.dram_store.proofs.ConcatLemmas.{bank_at, banks_length, same_length, changed}
+use Rattle.dram_store.proofs.DramLemmas.{IsWritten, lost, stored}
 use Rattle.dram_store.proofs.dram.Dram.write.Goals as goal
+use Rattle.dram_store.proofs.dram.Dram.write.Goals.{in-Some, in_default}
 
-pub returns-then-holds-clause-stored : goal.returns-then-holds-clause-stored
-returns-then-holds-clause-stored c =
-    let items : List ℕ = c.self.inside.bytes.items in
-    let lent : c.deref_mut.result.now ≡ items = c.deref_mut.ensures.value in
-    let within : c.args.addr + bytes_of c.args.width ≤ length items = grind (arith, nat_tests) in
-    let same : length c.write_at.new.bytes ≡ length items = rw (← lent) c.write_at.ensures.length in
-    let back : take c.self.inside.bytes.len (c.write_at.new.bytes ++ drop (length c.write_at.new.bytes) items) ≡ c.write_at.new.bytes =
-    lent_back c.write_at.new.bytes items c.self.inside.bytes.len (omega arith) same in
-    rw (back, ← c.self.view_is)
-    (λ setup history entry. stored setup history entry items c.args.addr c.args.width c.args.value c.write_at.new.bytes
-    (written items c.write_at.new.bytes c.args.addr c.args.width c.args.value same within (rw (← lent) c.write_at.ensures.bytes)) same)
+-- the bytes after the write, and how many they are
+written : (c : goal.Joined-get_mut) → IsWritten c.args.self.now c.args.addr c.args.width c.args.value (concat c.match-get_mut.self-inside.banks.items)
+    × (length (concat c.match-get_mut.self-inside.banks.items) ≡ length c.args.self.now)
+written c =
+    let banks = c.self.inside.banks.items in
+    let bank : ℕ = c.args.addr / 0x10_0000 in
+    elim c.match-get_mut.branch [
+      | in-Some w ↦
+          let inside : bank < length banks = omega (arith, w.in-Some.ensures.variant.0 refl) in
+          let found : w.in-Some.bank.now ≡ bank_at banks c.args.addr = get_or_read banks bank w.in-Some.bank.now inside w.in-Some.ensures.value [] in
+          let is : IsBank w.write.new.self = w.write.ensures.length ∙ rw found (All-get_or IsBank banks bank [] inside c.self.invariant.each) in
+          rw (w.self-inside-is, ← c.self.view_is) (
+            changed banks w.write.new.self c.args.addr c.args.width c.args.value c.self.invariant.each is inside c.requires.aligned (rw (← found) w.write.ensures.bytes),
+            same_length banks c.args.addr w.write.new.self c.self.invariant.each is,
+          )
+      | in_default w ↦
+          let none : length banks ≤ bank = w.in_default.ensures.item.3 in
+          let past : length (concat banks) ≤ c.args.addr = omega (arith, none, banks_length banks c.self.invariant.each) in
+          rw (w.self-inside-is, ← c.self.view_is) (lost (concat banks) c.args.addr c.args.width c.args.value past, refl)
+    ]
 
-pub returns-else-holds-clause-stored : goal.returns-else-holds-clause-stored
-returns-else-holds-clause-stored c =
-    let items : List ℕ = c.self.inside.bytes.items in
-    let past : length items ≤ c.args.addr = wholly_past c.args.width c.args.addr (length items) c.self.invariant c.requires.aligned (grind (arith, nat_tests)) in
-    rw (← c.self.view_is)
-    (λ setup history entry. stored setup history entry items c.args.addr c.args.width c.args.value items
-    (lost items c.args.addr c.args.width c.args.value past) refl)
+pub returns-clause-bytes : goal.returns-clause-bytes
+returns-clause-bytes c = (written c).0
+
+pub returns-clause-size : goal.returns-clause-size
+returns-clause-size c = (written c).1
+
+pub returns-clause-stored : goal.returns-clause-stored
+returns-clause-stored c = λ setup history entry.
+    stored setup history entry c.args.self.now c.args.addr c.args.width c.args.value (concat c.match-get_mut.self-inside.banks.items) (written c).0 (written c).1

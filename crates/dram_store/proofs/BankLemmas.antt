@@ -1,0 +1,38 @@
+-- The bytes of a bank that are kept, and the zeros above them.
+use Rattle.std.proofs.Common.{◌≡◌, ℕ, ◌+◌, ◌-◌, ◌&&◌, List, ◌++◌, length, replicate, inl, inr, ◌∙◌, refl, sym, ap, arith}
+use Rattle.std.specs.Prelude.{slice_index, nat_le, nat_lt, if◌then◌else◌}
+use Rattle.std.proofs.lemmas.List.{length-replicate, get_or_append_left, get_or-append_right, get_or_past, get_or-replicate}
+use Rattle.std.proofs.lemmas.Bool.{cases_lt}
+use Rattle.board_base.specs.declared.access.Width.{Width}
+use Rattle.board_base.specs.Access.{bytes_of}
+use Rattle.board_spec.specs.Bits.{byte}
+use Rattle.dram_store.specs.Bank.{bank_of}
+
+zero_at : (count at : ℕ) → slice_index (replicate count 0) at ≡ 0
+zero_at count at =
+    elim (cases_lt at count) [
+      | inl below ↦ get_or-replicate count at 0 0 below
+      | inr above ↦ get_or_past (replicate count 0) at 0 (omega (arith, length-replicate {A = ℕ} count 0))
+    ]
+
+-- a list that is read past its end gives 0, as the bytes do that are not kept
+pub same_byte : (kept : List ℕ) (count at : ℕ) → slice_index (kept ++ replicate count 0) at ≡ slice_index kept at
+same_byte kept count at =
+    elim (cases_lt at (length kept)) [
+      | inl below ↦ get_or_append_left kept (replicate count 0) 0 at below
+      | inr above ↦
+          get_or-append_right kept (replicate count 0) (length kept) at 0 refl above
+          ∙ zero_at count (at - length kept) ∙ sym (get_or_past kept at 0 above)
+    ]
+
+-- a value put into a list of bytes
+abbrev pub IsPut : List ℕ → ℕ → Width → ℕ → List ℕ → Type 0
+IsPut old from width value new =
+    (at : ℕ) → slice_index new at ≡ (if nat_le from at && nat_lt at (from + bytes_of width) then byte value (at - from) else slice_index old at)
+
+-- so many more bytes are kept, and then a value is put into the kept ones
+pub put_in_kept : (kept new : List ℕ) (count from : ℕ) (width : Width) (value : ℕ) →
+    IsPut (kept ++ replicate count 0) from width value new → IsPut (bank_of kept) from width value (bank_of new)
+put_in_kept kept new count from width value put at =
+    rw (same_byte new (0x10_0000 - length new) at, same_byte kept (0x10_0000 - length kept) at)
+    (put at ∙ ap (λ b. if nat_le from at && nat_lt at (from + bytes_of width) then byte value (at - from) else b) (same_byte kept count at))

@@ -1,0 +1,148 @@
+-- The bytes of banks that follow one another.
+use Rattle.std.proofs.Common.{◌≡◌, ◌≢◌, ℕ, suc, ◌+◌, ◌-◌, ◌*◌, ◌/◌, ◌%◌, ◌<◌, true, false, ◌&&◌, List, [], ◌∷◌, length, set, replicate, inl, inr, ◌∙◌, refl, ap, arith}
+use Rattle.std.specs.Prelude.{slice_index, nat_le, nat_lt, All}
+use Rattle.std.specs.List.{concat}
+use Rattle.std.proofs.Math.ListN.{get_or}
+use Rattle.std.proofs.lemmas.List.{length-append, length-set, get_or_append_left, get_or-append_right, get_or_past, get_or-set_same, get_or-set_other}
+use Rattle.std.proofs.lemmas.List.Elements.{All-head, All-tail, All-set}
+use Rattle.std.proofs.Math.Bool.{and-true}
+use Rattle.std.proofs.lemmas.Bool.{and_right, cases_lt, cases_eq, lt-ltb, le-ltb}
+use Rattle.std.proofs.lemmas.Bool.Decides.{nat_tests}
+use Rattle.board_base.specs.declared.access.Width.{Width}
+use Rattle.board_base.specs.declared.access.Width.TheVariants.{One, Two, Four}
+use Rattle.board_base.specs.Access.{bytes_of}
+use Rattle.board_spec.specs.Bits.{byte, wide}
+use Rattle.dram_store.specs.Bank.{IsBank, IsZero}
+use Rattle.dram_store.specs.Dram.{dram_at}
+use Rattle.dram_store.proofs.BankLemmas.{IsPut}
+use Rattle.dram_store.proofs.DramLemmas.{IsWritten}
+
+-- the bank of an address, empty past the last, and the banks with another in its place
+abbrev pub bank_at : List (List ℕ) → ℕ → List ℕ
+bank_at banks addr = get_or banks (addr / 0x10_0000) []
+
+abbrev pub with_bank : List (List ℕ) → ℕ → List ℕ → List (List ℕ)
+with_bank banks addr bank = set banks (addr / 0x10_0000) bank
+
+pub banks_length : (banks : List (List ℕ)) → All IsBank banks → length (concat banks) ≡ length banks * 0x10_0000
+banks_length [] each = refl
+banks_length (bank ∷ later) each =
+    let here : length bank ≡ 0x10_0000 = All-head IsBank bank later each in
+    let rest = banks_length later (All-tail IsBank bank later each) in
+    omega (arith, length-append bank (concat later), here, rest)
+
+pub same_length : (banks : List (List ℕ)) (addr : ℕ) (new : List ℕ) → All IsBank banks → IsBank new →
+    length (concat (with_bank banks addr new)) ≡ length (concat banks)
+same_length banks addr new each is =
+    let all : All IsBank (with_bank banks addr new) = All-set IsBank banks (addr / 0x10_0000) new is each in
+    omega (arith, banks_length banks each, banks_length (with_bank banks addr new) all, length-set banks (addr / 0x10_0000) new)
+
+-- each byte is its bank's
+pub bank_byte : (banks : List (List ℕ)) (at : ℕ) → All IsBank banks →
+    slice_index (concat banks) at ≡ slice_index (bank_at banks at) (at % 0x10_0000)
+bank_byte [] at each = refl
+bank_byte (bank ∷ later) at each =
+    let here : length bank ≡ 0x10_0000 = All-head IsBank bank later each in
+    elim (cases_lt at 0x10_0000) [
+      | inl below ↦
+          let first : at / 0x10_0000 ≡ 0 = omega arith in
+          let place : at % 0x10_0000 ≡ at = omega arith in
+          rw (first, place) (get_or_append_left bank (concat later) 0 at (omega arith))
+      | inr above ↦
+          let next : at / 0x10_0000 ≡ suc ((at - 0x10_0000) / 0x10_0000) = omega arith in
+          let place : at % 0x10_0000 ≡ (at - 0x10_0000) % 0x10_0000 = omega arith in
+          let rest = bank_byte later (at - 0x10_0000) (All-tail IsBank bank later each) in
+          rw (next, place) (get_or-append_right bank (concat later) 0x10_0000 at 0 here above ∙ rest)
+    ]
+
+-- ---- a value that is written to the bank of its address
+
+-- a place of that bank is written where it is in the bank
+is_written_here : (addr at count : ℕ) → at / 0x10_0000 ≡ addr / 0x10_0000 →
+    (nat_le (addr % 0x10_0000) (at % 0x10_0000) && nat_lt (at % 0x10_0000) (addr % 0x10_0000 + count))
+    ≡ (nat_le addr at && nat_lt at (addr + count))
+is_written_here addr at count here =
+    let from : nat_le (addr % 0x10_0000) (at % 0x10_0000) ≡ nat_le addr at = grind (arith, nat_tests) in
+    let to : nat_lt (at % 0x10_0000) (addr % 0x10_0000 + count) ≡ nat_lt at (addr + count) = grind (arith, nat_tests) in
+    rw (from, to) refl
+
+-- no place of another bank is written
+not_written_there : (addr at : ℕ) (width : Width) → addr % bytes_of width ≡ 0 → at / 0x10_0000 ≢ addr / 0x10_0000 →
+    (nat_le addr at && nat_lt at (addr + bytes_of width)) ≡ false
+not_written_there addr at One aligned there = grind (arith, nat_tests)
+not_written_there addr at Two aligned there = grind (arith, nat_tests)
+not_written_there addr at Four aligned there = grind (arith, nat_tests)
+
+put_byte : (banks : List (List ℕ)) (new : List ℕ) (addr : ℕ) (width : Width) (value : ℕ) → All IsBank banks → IsBank new →
+    addr / 0x10_0000 < length banks → addr % bytes_of width ≡ 0 → IsPut (bank_at banks addr) (addr % 0x10_0000) width value new →
+    IsPut (concat banks) addr width value (concat (with_bank banks addr new))
+put_byte banks new addr width value each is inside aligned put at =
+    let all : All IsBank (with_bank banks addr new) = All-set IsBank banks (addr / 0x10_0000) new is each in
+    let old_byte = bank_byte banks at each in
+    let new_byte = bank_byte (with_bank banks addr new) at all in
+    elim (cases_eq (at / 0x10_0000) (addr / 0x10_0000)) [
+      | inl here ↦
+          let apart : at % 0x10_0000 - addr % 0x10_0000 ≡ at - addr = omega arith in
+          let found : bank_at (with_bank banks addr new) addr ≡ new = get_or-set_same banks (addr / 0x10_0000) new [] inside in
+          let written = put (at % 0x10_0000) in
+          rw (new_byte, old_byte, here, found, ← is_written_here addr at (bytes_of width) here, ← apart) written
+      | inr there ↦
+          let kept : bank_at (with_bank banks addr new) at ≡ bank_at banks at =
+          get_or-set_other banks (addr / 0x10_0000) (at / 0x10_0000) new [] there in
+          rw (new_byte, old_byte, not_written_there addr at width aligned there, kept) refl
+    ]
+
+pub changed : (banks : List (List ℕ)) (new : List ℕ) (addr : ℕ) (width : Width) (value : ℕ) → All IsBank banks → IsBank new →
+    addr / 0x10_0000 < length banks → addr % bytes_of width ≡ 0 → IsPut (bank_at banks addr) (addr % 0x10_0000) width value new →
+    IsWritten (concat banks) addr width value (concat (with_bank banks addr new))
+changed banks new addr width value each is inside aligned put at =
+    let same = same_length banks addr new each is in
+    elim (cases_lt at (length (concat banks))) [
+      | inl within ↦
+          let exists : nat_lt at (length (concat banks)) ≡ true = lt-ltb _ _ within in
+          rw (same, exists, and-true (nat_le addr at && nat_lt at (addr + bytes_of width)))
+          (put_byte banks new addr width value each is inside aligned put at)
+      | inr past ↦
+          let nowhere : nat_lt at (length (concat banks)) ≡ false = le-ltb _ _ past in
+          rw (same, nowhere, and_right (nat_le addr at && nat_lt at (addr + bytes_of width)) false refl) refl
+    ]
+
+-- ---- a value that is read from the bank of its address
+
+byte_at : (banks : List (List ℕ)) (addr at place : ℕ) → All IsBank banks → addr / 0x10_0000 < length banks →
+    at / 0x10_0000 ≡ addr / 0x10_0000 → at % 0x10_0000 ≡ place → slice_index (bank_at banks addr) place ≡ dram_at (concat banks) at
+byte_at banks addr at place each inside here is =
+    let exists : nat_lt at (length (concat banks)) ≡ true = lt-ltb _ _ (omega (arith, banks_length banks each)) in
+    rw (exists, bank_byte banks at each, here, is) refl
+
+pub read_here : (banks : List (List ℕ)) (addr : ℕ) (width : Width) → All IsBank banks → addr / 0x10_0000 < length banks →
+    addr % bytes_of width ≡ 0 →
+    wide (slice_index (bank_at banks addr)) (addr % 0x10_0000) width ≡ wide (λ at. dram_at (concat banks) at) addr width
+read_here banks addr One each inside aligned = byte_at banks addr addr (addr % 0x10_0000) each inside refl refl
+read_here banks addr Two each inside aligned =
+    let byte0 = byte_at banks addr addr (addr % 0x10_0000) each inside refl refl in
+    let byte1 = byte_at banks addr (addr + 1) (addr % 0x10_0000 + 1) each inside (omega arith) (omega arith) in
+    rw (byte0, byte1) refl
+read_here banks addr Four each inside aligned =
+    let byte0 = byte_at banks addr addr (addr % 0x10_0000) each inside refl refl in
+    let byte1 = byte_at banks addr (addr + 1) (addr % 0x10_0000 + 1) each inside (omega arith) (omega arith) in
+    let byte2 = byte_at banks addr (addr + 2) (addr % 0x10_0000 + 2) each inside (omega arith) (omega arith) in
+    let byte3 = byte_at banks addr (addr + 3) (addr % 0x10_0000 + 3) each inside (omega arith) (omega arith) in
+    rw (byte0, byte1, byte2, byte3) refl
+
+-- ---- banks of zeros
+
+all_zeros : (bytes : List ℕ) → ((at : ℕ) → slice_index bytes at ≡ 0) → bytes ≡ replicate (length bytes) 0
+all_zeros [] zero = refl
+all_zeros (byte ∷ later) zero = rw (zero 0, ← all_zeros later (λ at. zero (suc at))) refl
+
+zero_at : (banks : List (List ℕ)) (at : ℕ) → All IsBank banks → All IsZero banks → slice_index (concat banks) at ≡ 0
+zero_at banks at each zeros =
+    bank_byte banks at each ∙ elim (cases_lt (at / 0x10_0000) (length banks)) [
+      | inl inside ↦ zeros (at / 0x10_0000) [] inside (at % 0x10_0000)
+      | inr past ↦ ap (λ (bank : List ℕ). slice_index bank (at % 0x10_0000)) (get_or_past banks (at / 0x10_0000) [] past)
+    ]
+
+pub zero_banks : (banks : List (List ℕ)) → All IsBank banks → All IsZero banks → concat banks ≡ replicate (length banks * 0x10_0000) 0
+zero_banks banks each zeros =
+    all_zeros (concat banks) (λ at. zero_at banks at each zeros) ∙ ap (λ (count : ℕ). replicate count 0) (banks_length banks each)

@@ -1,0 +1,87 @@
+//! A mebibyte of the DRAM, of which only the bytes up to the highest page written are kept.
+ghost use Rattle.std.specs.Prelude.{◌≡◌, ◌≤◌, ◌<◌, ◌+◌, ◌-◌, ◌%◌, ◌&&◌, ℕ, ◌++◌, nat_le, nat_lt, if◌then◌else◌, length, replicate, slice_index, vec_capacity, IfOk};
+ghost use Rattle.board_base.specs.Access.{bytes_of, largest_of};
+ghost use Rattle.board_spec.specs.Bits.{byte, wide};
+ghost use Rattle.dram_store.specs.Bank.{IsBank, IsZero, page_end};
+
+use board_base::{NoMemory, Width};
+use board_spec::wide::{read_at, write_at};
+use std::alloc::Global;
+use std::marker::Model;
+
+/// The bytes of a bank.
+pub(crate) const BANK: usize = 0x10_0000;
+
+/// The bytes of a page.
+const PAGE: usize = 0x1_0000;
+
+/// A mebibyte of memory. Contracts see the list of its bytes.
+///
+/// Its front is kept, up to the highest page that was written. The bytes above are 0 and cost no time, so one
+/// write fills at most a mebibyte with zeros, and no byte is filled twice.
+#[derive(Drop)]
+pub(crate) struct Bank {
+    /// The bytes that are kept, in whole pages, with room for all.
+    kept: Vec<u8>,
+}
+
+impl Model for Bank {
+    ghost use Rattle.std.specs.Prelude.{ℕ, List, length, vec_capacity};
+    ghost use Rattle.dram_store.specs.Bank.{IsKept, bank_of};
+
+    ghost Value = { List ℕ };
+
+    ghost view = { λ bank. bank_of bank.kept.items };
+
+    ghost invariant = { λ bank. IsKept (length bank.kept.items) (vec_capacity bank.kept) };
+}
+
+impl Bank {
+    /// A bank of zeros, with room for all its bytes. No later call takes memory.
+    pub(crate) fn open(alloc: Global) -> Result<Bank, NoMemory>
+        ensures size { IfOk result IsBank }
+        ensures zeros { IfOk result IsZero }
+    {
+        let kept = Vec::with_capacity(alloc, BANK)?;
+        Ok(Bank { kept })
+    }
+
+    /// Reads the bytes from a place on, which is a multiple of the width, the low byte first.
+    pub(crate) fn read(&self, at: usize, width: Width) -> u32
+        requires inside { at < 0x10_0000 }
+        requires aligned { at % bytes_of width ≡ 0 }
+        ensures value { result ≡ wide (slice_index self.now) at width }
+    {
+        if at < self.kept.len() {
+            read_at(&self.kept, at, width)
+        } else {
+            0
+        }
+    }
+
+    /// Writes a value that fits the width to the bytes from a place on, which is a multiple of the width, the
+    /// low byte first.
+    pub(crate) fn write(&mut self, at: usize, width: Width, value: u32)
+        requires inside { at < 0x10_0000 }
+        requires aligned { at % bytes_of width ≡ 0 }
+        requires fits { value ≤ largest_of width }
+        ensures length { length self.new ≡ length self.old }
+        ensures bytes { (k : ℕ) → slice_index self.new k
+            ≡ (if nat_le at k && nat_lt k (at + bytes_of width) then byte value (k - at) else slice_index self.old k) }
+    {
+        keep_page(&mut self.kept, at);
+        write_at(&mut self.kept, at, width, value);
+    }
+}
+
+/// Keeps all bytes up to the end of the page of a place. New bytes are 0.
+fn keep_page(kept: &mut Vec<u8>, at: usize)
+    requires room { page_end at ≤ vec_capacity kept.old }
+    ensures bytes { kept.new.items ≡ kept.old.items ++ replicate (page_end at - length kept.old.items) 0 }
+    ensures room { vec_capacity kept.old ≤ vec_capacity kept.new }
+{
+    let end = (at / PAGE + 1) * PAGE;
+    if kept.len() < end {
+        kept.resize(end, 0).unwrap();
+    }
+}
