@@ -192,6 +192,13 @@ fn publisher_of<R: Wait>(
         writer.take(rt);
         return Err(refused);
     }
+    // Once more: two wait at most to be made in both copies, and for these there is room from here on. A change that was
+    // refused for want of memory would have lengthened the list, and every later one would be refused.
+    let (writer, result) = named(rt, writer, shown(map, &front));
+    if let Err(refused) = result {
+        writer.take(rt);
+        return Err(refused);
+    }
     Ok(Publisher {
         writer,
         head,

@@ -1,11 +1,13 @@
 //! Standard output as a sink.
 
-ghost use Rattle.std.specs.Prelude.{◌≡◌, ◌≤◌, None};
+ghost use Rattle.std.specs.Prelude.{◌≡◌, ◌≤◌, length, IfOk, None};
 ghost use Rattle.board_base.specs.Counts.{next_fault};
 ghost use Rattle.board_base.specs.Outside.{Rose};
 
+use crate::file_shelf::TRIES;
 use board_base::{PutFault, Sink};
-use std::io::Write;
+use std::io;
+use std::io::{ErrorKind, Write};
 
 /// Standard output, which is written in pieces as large as they come. A write that fails, also since
 /// nobody reads any more, and one that takes nothing are faults. What it took it does not tell.
@@ -32,6 +34,19 @@ impl<W: Write> OutSink<W> {
     }
 }
 
+// Writes, and again where a signal interrupted it.
+fn write_on<W: Write>(out: &mut W, piece: &[u8]) -> io::Result<usize>
+    ensures fits { IfOk result (λ k. k ≤ length piece.now) }
+{
+    for _ in 0..TRIES {
+        match out.write(piece) {
+            Err(error) if error.kind() == ErrorKind::Interrupted => {}
+            result => return result,
+        }
+    }
+    Err(io::Error::from(ErrorKind::Interrupted))
+}
+
 impl<W: Write> Sink for OutSink<W> {
     ghost taken = { λ _. None };
 
@@ -40,7 +55,7 @@ impl<W: Write> Sink for OutSink<W> {
     ghost puts = { λ _. None };
 
     fn put(&mut self, piece: &[u8]) -> Result<usize, PutFault> {
-        match self.out.write(piece) {
+        match write_on(&mut self.out, piece) {
             Ok(count) if count > 0 => Ok(count),
             _ => Err(self.fail()),
         }

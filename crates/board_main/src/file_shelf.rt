@@ -12,6 +12,9 @@ use std::rt::Files;
 /// How many bytes a path has at most.
 const PATH_LIMIT: usize = 4096;
 
+/// How often a read or a write is made where signals interrupt it.
+pub const TRIES: usize = 64;
+
 /// Real files by their paths. Each refusal of the system is a fault, also that of a file that is not
 /// there. What a file holds it does not tell.
 #[derive(Drop)]
@@ -78,10 +81,23 @@ fn read_at<R: Files>(
         Some(opened) if opened.at == at && opened.path.as_slice() == name.as_bytes() => opened,
         _ => open_at(rt, name, at)?,
     };
-    let count = opened.file.read(into)?;
+    let count = read_on(&mut opened.file, into)?;
     opened.at = at.saturating_add(count as u64);
     *kept = Some(opened);
     Ok(count)
+}
+
+// Reads, and again where a signal interrupted it.
+fn read_on<F: Read>(file: &mut F, into: &mut [u8]) -> io::Result<usize>
+    ensures fits { IfOk result (λ k. k ≤ length into.new) }
+{
+    for _ in 0..TRIES {
+        match file.read(into) {
+            Err(error) if error.kind() == ErrorKind::Interrupted => {}
+            result => return result,
+        }
+    }
+    Err(io::Error::from(ErrorKind::Interrupted))
 }
 
 fn open_at<R: Files>(rt: &R, name: &str, at: u64) -> io::Result<Opened<R::File>> {

@@ -1,7 +1,7 @@
 //! What the program answers of itself, without the board.
 
 ghost use Rattle.std.specs.Prelude.{◌≡◌, map, is_some, string_bytes};
-ghost use Rattle.board_app.specs.Words.{is_own, is_own_word};
+ghost use Rattle.board_main.specs.Words.{is_own, is_own_word};
 
 const HELP: &str = "\
 board: the PC chipset behind many virtual machines, with a log of every access

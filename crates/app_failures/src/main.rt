@@ -1,0 +1,82 @@
+//! Commands over real files, nearly all of which fail, each with its exit code and what is said of it. After them comes
+//! the command of this program's own words, as `board` does it.
+#![tactic(auto)]
+
+use board_base::NoMemory;
+use board_main::{answer, run_program};
+use board_run::{Status, exit_code, fault_text};
+use std::alloc::Global;
+use std::fs::File;
+use std::io::Write;
+use std::process::ExitCode;
+use std::rt::Files;
+use std::sync::Wait;
+use std::thread::Threads;
+
+/// The words of each command, cut at spaces.
+const COMMANDS: [&str; 14] = [
+    "make 1",
+    "",
+    "replay",
+    "make 0",
+    "replay nothing",
+    "replay .",
+    "run no-rom",
+    "map no-disk",
+    "check short-rom nothing",
+    "replay /dev/zero",
+    "run bad",
+    "map short-rom",
+    "replay short-disk",
+    "check good bad",
+];
+
+/// Words of commands whose output is a full disk.
+const FULL: [&str; 4] = ["replay good", "map good", "make 1", "--version"];
+
+/// The words of a line.
+fn words_of(alloc: Global, line: &str) -> Result<Vec<String>, NoMemory> {
+    let mut words = Vec::new(alloc);
+    for word in line.split(' ') {
+        words.push(word.to_string(alloc)?)?;
+    }
+    Ok(words)
+}
+
+/// How a command ends whose output goes to a file.
+fn status_of<R: Files + AllocGlobal + Threads + Wait + Sync>(
+    rt: &R,
+    line: &str,
+    output: &str,
+) -> Status {
+    let Ok(words) = words_of(rt.alloc(), line) else {
+        return Status::NoMemory;
+    };
+    match File::create(rt, output) {
+        Ok(file) => answer(rt, &words, file),
+        Err(_) => Status::WriteFault,
+    }
+}
+
+/// Does a command, and writes its words, its exit code and what is said of it.
+fn tell<R: Files + AllocGlobal + Threads + Wait + Sync, W: Write>(
+    rt: &R,
+    out: &mut W,
+    line: &str,
+    output: &str,
+) {
+    let status = status_of(rt, line, output);
+    if let Ok(text) = fault_text(rt.alloc(), &status) {
+        let _ = writeln!(out, "{line}: {} {}", exit_code(&status), text.as_str());
+    }
+}
+
+fn main(rt: HostRuntime) -> ExitCode {
+    for line in COMMANDS {
+        tell(&rt, &mut rt.stdout(), line, "/dev/null");
+    }
+    for line in FULL {
+        tell(&rt, &mut rt.stdout(), line, "/dev/full");
+    }
+    run_program(&rt, rt.stdout(), rt.stderr())
+}

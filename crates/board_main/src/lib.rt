@@ -1,0 +1,10 @@
+//! The program `board` as a library: the commands of `board_run` over real files and an output.
+#![tactic(auto)]
+
+mod answers;
+mod file_shelf;
+mod out_sink;
+mod program;
+mod words;
+
+pub use program::{answer, run_program};

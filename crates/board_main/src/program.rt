@@ -1,0 +1,65 @@
+//! The program: its words, and how it ends.
+
+use crate::answers::own_answer;
+use crate::file_shelf::FileShelf;
+use crate::out_sink::OutSink;
+use crate::words::words_of;
+use board_base::QuietGate;
+use board_run::{Status, board, exit_code, fault_text};
+use std::alloc::Global;
+use std::env::Env;
+use std::io::Write;
+use std::process::ExitCode;
+use std::rt::Files;
+use std::sync::Wait;
+use std::thread::Threads;
+
+/// Does what the words of the command line ask for, with real files and this output. What is said where it is not
+/// done goes to `errors`. It tells the exit code.
+pub fn run_program<R, W, E>(rt: &R, output: W, errors: E) -> ExitCode
+where
+    R: Env + Files + AllocGlobal + Threads + Wait + Sync,
+    W: Write + Drop,
+    E: Write + Drop,
+{
+    let status = match words_of(rt) {
+        Ok(words) => answer(rt, &words, output),
+        Err(status) => status,
+    };
+    tell(rt.alloc(), errors, &status);
+    ExitCode::from(exit_code(&status))
+}
+
+/// Does what the words ask for, with real files and this output.
+pub fn answer<R, W>(rt: &R, words: &[String], output: W) -> Status
+where
+    R: Files + AllocGlobal + Threads + Wait + Sync,
+    W: Write + Drop,
+{
+    match own_answer(words) {
+        Some(text) => write_own(output, text),
+        None => {
+            let mut shelf = FileShelf::new(rt);
+            let mut out = OutSink::new(output);
+            board(rt, rt.alloc(), words, &mut shelf, &mut out, &QuietGate)
+        }
+    }
+}
+
+fn write_own<W: Write + Drop>(mut output: W, text: &str) -> Status {
+    match output.write_all(text.as_bytes()) {
+        Ok(()) => Status::Done,
+        Err(_) => Status::WriteFault,
+    }
+}
+
+// Says why the command was not done. Where there is no memory for that text, or `errors` does not take it, the exit
+// code alone says it.
+fn tell<E: Write + Drop>(alloc: Global, mut errors: E, status: &Status) {
+    if *status == Status::Done {
+        return;
+    }
+    if let Ok(text) = fault_text(alloc, status) {
+        let _ = writeln!(errors, "{}", text.as_str());
+    }
+}
