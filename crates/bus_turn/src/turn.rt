@@ -85,6 +85,19 @@ impl<T: Kept> Turn<T> {
         self.table.shared.split_seat::<Branch>(pass)
     }
 
+    // Waits until nobody holds the turn or has a ticket for it. Whoever draws a ticket then is running, so that no others
+    // wait for a thread that the system has put aside.
+    fn wait_until_free<R: Wait>(&self, rt: &R) {
+        let mut spins = SPINS;
+        for _ in rt.forever() {
+            let serving = self.table.shared.peek(SERVING);
+            if self.table.shared.peek(TICKET) == serving {
+                return;
+            }
+            spins = wait_a_little(spins);
+        }
+    }
+
     /// Waits for the turn, and hands out the value. Its list begins with all that the pass has seen.
     pub fn take<R: Wait>(&self, rt: &R, pass: &mut Pass<T>) -> Held<T>
         requires own { IsOf self.now pass.old }
@@ -98,6 +111,7 @@ impl<T: Kept> Turn<T> {
         ensures part { part_of pass.old ≡ Some (T.fixed result.value) }
         ensures same { IsSameCaller pass.old pass.new × HasSameJoined pass.old pass.new × (mine_of pass.new ≡ mine_of pass.old) }
     {
+        self.wait_until_free(rt);
         let ticket = self.table.shared.fetch_add::<Draw>(pass, TICKET, 1);
         let mut spins = SPINS;
         for _ in rt.forever() {
