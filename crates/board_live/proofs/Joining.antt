@@ -117,12 +117,12 @@ opened_same cpu other same =
 pub closes :
     (pass : SharedPass) (done : Shared) (cpu : Cpu) (own : ℕ × List Entry) → Extends (seen_of cpu) (reverse (seen_in pass)) →
     Extends (known_of cpu) (map_writes_of (setup_of cpu) (reverse (seen_in pass))) → HasOwn cpu own →
-    own_by by_actor own.0 (drop (length (opened_by pass)) (reverse done.board.entries)) ≡ own.1 →
-    IsPrefix (seen_in pass) (reverse done.board.entries) → IsPrefix (opened_by pass) (reverse done.board.entries) →
-    opened_by cpu.pass ≡ opened_by pass → part_of cpu.pass ≡ Some (opened_with done) → Closes done.board cpu
+    own_by by_actor own.0 (drop (length (opened_by pass)) (reverse done.board.value.entries)) ≡ own.1 →
+    IsPrefix (seen_in pass) (reverse done.board.value.entries) → IsPrefix (opened_by pass) (reverse done.board.value.entries) →
+    opened_by cpu.pass ≡ opened_by pass → part_of cpu.pass ≡ Some (opened_with done) → Closes done.board.value cpu
 closes pass done cpu own begins meets has is later opens same part =
-    let history = done.board.entries in
-    let setup : setup_of cpu ≡ done.board.setup = ap (λ (o : Option Origin). (origin_in o).setup) part in
+    let history = done.board.value.entries in
+    let setup : setup_of cpu ≡ done.board.value.setup = ap (λ (o : Option Origin). (origin_in o).setup) part in
     let grown : Extends (reverse (seen_in pass)) history =
     subst (λ (h : List Entry). Extends (reverse (seen_in pass)) h) (reverse-reverse history) (extends_prefix (seen_in pass) (reverse history) later) in
     let known : Extends (known_of cpu) (map_writes_of (setup_of cpu) history) =
@@ -143,11 +143,11 @@ closes pass done cpu own begins meets has is later opens same part =
 -- and of a caller whose pass was joined
 pub closes_joined :
     (pass : SharedPass) (done : Shared) (cpu : Cpu) → IsJoined pass cpu →
-    All (λ other. own_by by_actor other.0 (drop (length (opened_by pass)) (reverse done.board.entries)) ≡ other.1) (joined_of pass) →
-    IsPrefix (seen_in pass) (reverse done.board.entries) → IsPrefix (opened_by pass) (reverse done.board.entries) →
-    opened_by cpu.pass ≡ opened_by pass → part_of cpu.pass ≡ Some (opened_with done) → Closes done.board cpu
+    All (λ other. own_by by_actor other.0 (drop (length (opened_by pass)) (reverse done.board.value.entries)) ≡ other.1) (joined_of pass) →
+    IsPrefix (seen_in pass) (reverse done.board.value.entries) → IsPrefix (opened_by pass) (reverse done.board.value.entries) →
+    opened_by cpu.pass ≡ opened_by pass → part_of cpu.pass ≡ Some (opened_with done) → Closes done.board.value cpu
 closes_joined pass done cpu joined each later opens same part =
     let (k, own, below, at', has) = joined.own in
-    let is : own_by by_actor own.0 (drop (length (opened_by pass)) (reverse done.board.entries)) ≡ own.1 =
-    subst (λ (o : ℕ × List Entry). own_by by_actor o.0 (drop (length (opened_by pass)) (reverse done.board.entries)) ≡ o.1) at' (each k own below) in
+    let is : own_by by_actor own.0 (drop (length (opened_by pass)) (reverse done.board.value.entries)) ≡ own.1 =
+    subst (λ (o : ℕ × List Entry). own_by by_actor o.0 (drop (length (opened_by pass)) (reverse done.board.value.entries)) ≡ o.1) at' (each k own below) in
     closes pass done cpu own joined.begins joined.meets has is later opens same part

@@ -61,14 +61,14 @@ numbers_more cpus all cpu is number before =
 -- ---- what a board is opened with
 
 pub opened_viewer :
-    (pass : SharedPass) (shared : Shared) (viewer : Viewer) → part_of pass ≡ Some (opened_with shared) → opened_by pass ≡ reverse shared.board.entries →
-    shared.opened ≡ length shared.board.entries → viewer.front ≡ shared.publisher.front → changes_of shared.publisher.front.seen.log ≡ [] → IsViewerFor pass viewer
+    (pass : SharedPass) (shared : Shared) (viewer : Viewer) → part_of pass ≡ Some (opened_with shared) → opened_by pass ≡ reverse shared.board.value.entries →
+    shared.opened ≡ length shared.board.value.entries → viewer.front ≡ shared.publisher.front → changes_of shared.publisher.front.seen.log ≡ [] → IsViewerFor pass viewer
 opened_viewer pass shared viewer part opened count front none =
-    let setup : shared.board.setup ≡ setup_in pass = sym (ap (λ (o : Option Origin). (origin_in o).setup) part) in
+    let setup : shared.board.value.setup ≡ setup_in pass = sym (ap (λ (o : Option Origin). (origin_in o).setup) part) in
     let callers : shared.callers ≡ callers_in pass = sym (ap (λ (o : Option Origin). (origin_in o).callers) part) in
-    let whole : oldest shared.opened shared.board.entries ≡ opened_in pass =
-    ap (λ (n : ℕ). oldest n shared.board.entries) count
-    ∙ (oldest_whole shared.board.entries ∙ sym (ap reverse opened ∙ reverse-reverse shared.board.entries)) in
+    let whole : oldest shared.opened shared.board.value.entries ≡ opened_in pass =
+    ap (λ (n : ℕ). oldest n shared.board.value.entries) count
+    ∙ (oldest_whole shared.board.value.entries ∙ sym (ap reverse opened ∙ reverse-reverse shared.board.value.entries)) in
     let back : shared.publisher.front ≡ viewer.front = sym front in
     record {
       part = part ∙ λ k. Some (origin (setup k) (callers k) (whole k) (back k).seen.book);

@@ -80,30 +80,30 @@ opens_again before now map map' same maps opens =
 
 -- the shared board as a caller finds it, who has this pass and knows this published list
 pub record Finds (number : ℕ) (pass : SharedPass) (log : List Mark) (held : Shared) : Type 0 where
-  pub setup : setup_in pass ≡ held.board.setup
-  pub opened : opened_in pass ≡ oldest held.opened held.board.entries
-  pub begins : Extends (reverse (seen_in pass)) held.board.entries
-  pub own : entries_by number held.board.entries ≡ entries_by number (reverse (seen_in pass))
-  pub listed : own_by by_actor number (reverse held.board.entries) ≡ own_by by_actor number (opened_by pass) ++ mine_in pass
-  pub meets : Extends (known_after (setup_in pass) (opened_in pass) log) (map_writes_of (setup_in pass) held.board.entries)
+  pub setup : setup_in pass ≡ held.board.value.setup
+  pub opened : opened_in pass ≡ oldest held.opened held.board.value.entries
+  pub begins : Extends (reverse (seen_in pass)) held.board.value.entries
+  pub own : entries_by number held.board.value.entries ≡ entries_by number (reverse (seen_in pass))
+  pub listed : own_by by_actor number (reverse held.board.value.entries) ≡ own_by by_actor number (opened_by pass) ++ mine_in pass
+  pub meets : Extends (known_after (setup_in pass) (opened_in pass) log) (map_writes_of (setup_in pass) held.board.value.entries)
 
 -- what is known of the published list is all map writes of the history
 pub known_all :
-    (pass : SharedPass) (held : Shared) → setup_in pass ≡ held.board.setup → opened_in pass ≡ oldest held.opened held.board.entries →
-    known_after (setup_in pass) (opened_in pass) held.publisher.front.seen.log ≡ map_writes_of (setup_in pass) held.board.entries
+    (pass : SharedPass) (held : Shared) → setup_in pass ≡ held.board.value.setup → opened_in pass ≡ oldest held.opened held.board.value.entries →
+    known_after (setup_in pass) (opened_in pass) held.publisher.front.seen.log ≡ map_writes_of (setup_in pass) held.board.value.entries
 known_all pass held setup opened =
     (λ k. known_after (setup k) (opened k) held.publisher.front.seen.log)
-    ∙ (sym held.published ∙ ap (λ (s : Setup). map_writes_of s held.board.entries) (sym setup))
+    ∙ (sym held.published ∙ ap (λ (s : Setup). map_writes_of s held.board.value.entries) (sym setup))
 
 pub finds :
     (actor : ℕ) (book : Book) (pass : SharedPass) (log : List Mark) (held : Shared) → IsPassOf actor book pass →
-    IsPrefix (seen_in pass) (reverse held.board.entries) → IsPrefix (opened_by pass) (reverse held.board.entries) →
-    own_by by_actor (number_of pass) (drop (length (opened_by pass)) (reverse held.board.entries)) ≡ mine_in pass →
+    IsPrefix (seen_in pass) (reverse held.board.value.entries) → IsPrefix (opened_by pass) (reverse held.board.value.entries) →
+    own_by by_actor (number_of pass) (drop (length (opened_by pass)) (reverse held.board.value.entries)) ≡ mine_in pass →
     part_of pass ≡ Some (opened_with held) → IsPrefix log held.publisher.front.seen.log → Finds actor pass log held
 finds actor book pass log held passed begins opens own part meets =
-    let history = held.board.entries in
+    let history = held.board.value.entries in
     let both : Some (origin (setup_in pass) (callers_in pass) (opened_in pass) book) ≡ Some (opened_with held) = sym passed.part ∙ part in
-    let setup : setup_in pass ≡ held.board.setup = ap (λ (o : Option Origin). (origin_in o).setup) part in
+    let setup : setup_in pass ≡ held.board.value.setup = ap (λ (o : Option Origin). (origin_in o).setup) part in
     let opened : opened_in pass ≡ oldest held.opened history = ap (λ (o : Option Origin). (origin_in o).entries) both in
     let listed : own_by by_actor actor (reverse history) ≡ own_by by_actor actor (opened_by pass) ++ mine_in pass =
     own_in actor (opened_by pass) (reverse history) (mine_in pass) opens
@@ -124,7 +124,7 @@ finds actor book pass log held passed begins opens own part meets =
 -- and the same of the caller's pass after it has learnt that list
 pub known_left :
     (before now : SharedPass) (held : Shared) (log : List Mark) → IsSamePass before now → log ≡ held.publisher.front.seen.log →
-    setup_in before ≡ held.board.setup → opened_in before ≡ oldest held.opened held.board.entries →
-    known_after (setup_in now) (opened_in now) log ≡ map_writes_of (setup_in before) held.board.entries
+    setup_in before ≡ held.board.value.setup → opened_in before ≡ oldest held.opened held.board.value.entries →
+    known_after (setup_in now) (opened_in now) log ≡ map_writes_of (setup_in before) held.board.value.entries
 known_left before now held log same learnt setup opened =
     (λ k. known_after (origin_in (same.2 k)).setup (reverse (same.1 k)) (learnt k)) ∙ known_all before held setup opened

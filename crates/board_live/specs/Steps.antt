@@ -13,12 +13,12 @@ use Rattle.board_live.specs.Origins.{origin}
 -- what a shared board was opened with
 abbrev pub opened_with : Shared → Origin
 opened_with shared =
-    origin shared.board.setup shared.callers (oldest shared.opened shared.board.entries) shared.publisher.front.seen.book
+    origin shared.board.value.setup shared.callers (oldest shared.opened shared.board.value.entries) shared.publisher.front.seen.book
 
 -- the same board, publisher and callers
 pub record IsSameBoard (before now : Shared) : Type 0 where
-  pub setup : now.board.setup ≡ before.board.setup
-  pub opened : oldest now.opened now.board.entries ≡ oldest before.opened before.board.entries
+  pub setup : now.board.value.setup ≡ before.board.value.setup
+  pub opened : oldest now.opened now.board.value.entries ≡ oldest before.opened before.board.value.entries
   pub callers : now.callers ≡ before.callers
   pub book : now.publisher.front.seen.book ≡ before.publisher.front.seen.book
 

@@ -55,10 +55,10 @@ fn enter<R: Wait>(live: &Live, rt: &R, pass: &mut Pass<Shared>, viewer: &mut Vie
     ensures holds { IsHolding pass.new }
     ensures same { IsSamePass pass.old pass.new × HasSameJoined pass.old pass.new × (mine_in pass.new ≡ mine_in pass.old) }
     ensures viewer { viewer.new ≡ viewer.old }
-    ensures list { seen_in pass.new ≡ reverse result.value.board.entries }
-    ensures begins { IsPrefix (seen_in pass.old) (reverse result.value.board.entries) }
-    ensures opened { IsPrefix (opened_by pass.old) (reverse result.value.board.entries) }
-    ensures mine { own_by (λ entry. entry.actor) (number_of pass.old) (drop (length (opened_by pass.old)) (reverse result.value.board.entries)) ≡ mine_in pass.old }
+    ensures list { seen_in pass.new ≡ reverse result.value.board.value.entries }
+    ensures begins { IsPrefix (seen_in pass.old) (reverse result.value.board.value.entries) }
+    ensures opened { IsPrefix (opened_by pass.old) (reverse result.value.board.value.entries) }
+    ensures mine { own_by (λ entry. entry.actor) (number_of pass.old) (drop (length (opened_by pass.old)) (reverse result.value.board.value.entries)) ≡ mine_in pass.old }
     ensures part { part_of pass.old ≡ Some (opened_with result.value) }
     ensures copies { result.value.publisher.front.seen.book ≡ viewer.old.front.seen.book }
     ensures meets { IsPrefix viewer.old.front.seen.log result.value.publisher.front.seen.log }
@@ -72,7 +72,7 @@ fn enter<R: Wait>(live: &Live, rt: &R, pass: &mut Pass<Shared>, viewer: &mut Vie
 fn leave(live: &Live, pass: &mut Pass<Shared>, viewer: &mut Viewer, held: Held<Shared>)
     requires own { IsOf live.now.turn pass.old }
     requires holds { IsHolding pass.old }
-    requires list { seen_in pass.old ≡ reverse held.value.board.entries }
+    requires list { seen_in pass.old ≡ reverse held.value.board.value.entries }
     requires part { part_of pass.old ≡ Some (opened_with held.value) }
     requires copies { held.value.publisher.front.seen.book ≡ viewer.old.front.seen.book }
     requires begins { IsPrefix viewer.old.front.seen.log held.value.publisher.front.seen.log }

@@ -14,7 +14,7 @@ use crate::shared::Shared;
 use board_core::Board;
 use bus_turn::{Pass, Turn, TurnOpen};
 use map_publish::{Publisher, Viewer};
-use std::alloc::Global;
+use std::alloc::{AllocFailed, Global};
 use std::sync::Wait;
 
 /// A board that callers share by turns.
@@ -28,15 +28,25 @@ pub struct LiveOpen {
     pub board: Board,
 }
 
+impl LiveOpen {
+    fn of(board: Box<Board>) -> LiveOpen
+        ensures board { result.board ≡ board.value }
+    {
+        LiveOpen {
+            board: Box::into_inner(board),
+        }
+    }
+}
+
 /// What the callers of a board share.
-fn shared(board: Board, publisher: Publisher, callers: u8) -> Shared
-    requires few { AreFew callers board.entries }
-    requires opens { Opens board.setup board.entries (opened_of publisher.front.seen.log) }
+fn shared(board: Box<Board>, publisher: Publisher, callers: u8) -> Shared
+    requires few { AreFew callers board.value.entries }
+    requires opens { Opens board.value.setup board.value.entries (opened_of publisher.front.seen.log) }
     requires none { changes_of publisher.front.seen.log ≡ [] }
     ensures board { result.board ≡ board }
     ensures publisher { result.publisher ≡ publisher }
     ensures callers { result.callers ≡ callers }
-    ensures opened { result.opened ≡ length board.entries }
+    ensures opened { result.opened ≡ length board.value.entries }
 {
     let opened = board.history().len();
     Shared {
@@ -49,7 +59,7 @@ fn shared(board: Board, publisher: Publisher, callers: u8) -> Shared
 
 /// Ends the published copies, and gives the board.
 fn unshared<R: Wait>(rt: &R, shared: Shared) -> Board
-    ensures board { result ≡ shared.board }
+    ensures board { result ≡ shared.board.value }
 {
     let Shared {
         board,
@@ -58,7 +68,7 @@ fn unshared<R: Wait>(rt: &R, shared: Shared) -> Board
         callers: _callers,
     } = shared;
     publisher.close(rt);
-    board
+    Box::into_inner(board)
 }
 
 /// Where the caller stands that has number 0.
@@ -91,13 +101,17 @@ impl Live {
         ensures opened { IfOk result (λ opened. AreOpened board n opened.0 opened.1.items) }
         ensures refused { IfErr result (λ refused. refused.board ≡ board) }
     {
+        let board = match Box::new(alloc, board) {
+            Ok(board) => board,
+            Err(AllocFailed { value: board }) => return Err(LiveOpen { board }),
+        };
         let Ok(cpus) = Vec::with_capacity(alloc, usize::from(n)) else {
-            return Err(LiveOpen { board });
+            return Err(LiveOpen::of(board));
         };
         let map = board.map().copy();
         let Ok((publisher, viewers)) = map_publish::open(rt, alloc, map, u32::from(n)) else {
             cpus.destroy_empty();
-            return Err(LiveOpen { board });
+            return Err(LiveOpen::of(board));
         };
         match Turn::open(alloc, shared(board, publisher, n)) {
             Err(TurnOpen { value }) => {

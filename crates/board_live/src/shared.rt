@@ -37,16 +37,17 @@ pub struct Origin {
 /// The board, with the publisher of its map, for 1 to 8 callers. Each caller has at most 250,000 entries. It is not
 /// `Drop`, as its publisher is not.
 pub struct Shared {
-    pub board: Board,
+    /// On the heap, since a turn moves this value and a board is large.
+    pub board: Box<Board>,
     pub publisher: Publisher,
     /// How many entries the board had when it was opened.
     pub opened: u32,
     /// How many callers there are.
     pub callers: u8,
-    pub ghost within: { opened ≤ length board.entries },
-    pub ghost few: { AreFew callers board.entries } by { AreFew-prop callers board.entries },
-    pub ghost published: { ArePublished board.setup opened board.entries publisher.front.seen.log },
-    pub ghost opens: { Opens board.setup (oldest opened board.entries) (opened_of publisher.front.seen.log) } by { Opens-prop board.setup (oldest opened board.entries) (opened_of publisher.front.seen.log) },
+    pub ghost within: { opened ≤ length board.value.entries },
+    pub ghost few: { AreFew callers board.value.entries } by { AreFew-prop callers board.value.entries },
+    pub ghost published: { ArePublished board.value.setup opened board.value.entries publisher.front.seen.log },
+    pub ghost opens: { Opens board.value.setup (oldest opened board.value.entries) (opened_of publisher.front.seen.log) } by { Opens-prop board.value.setup (oldest opened board.value.entries) (opened_of publisher.front.seen.log) },
 }
 
 impl Kept for Shared {
@@ -56,7 +57,7 @@ impl Kept for Shared {
 
     ghost use Rattle.board_live.specs.Steps.{opened_with};
 
-    ghost entries = { λ shared. reverse shared.board.entries };
+    ghost entries = { λ shared. reverse shared.board.value.entries };
 
     ghost actor = { λ entry. entry.actor };
 
@@ -98,11 +99,11 @@ impl Shared {
         event: &Event,
     ) -> Result<Answered, NoMemory>
         requires number { number < self.old.callers }
-        requires few { length (entries_by number self.old.board.entries) < most_each }
-        requires event { IsInRange self.old.board.setup event.now }
+        requires few { length (entries_by number self.old.board.value.entries) < most_each }
+        requires event { IsInRange self.old.board.value.setup event.now }
         ensures same { IsSameBoard self.old self.new }
-        ensures steps { IfOk result (λ answered. Steps number event.now answered self.old.board self.new.board) }
-        ensures refused { OnErr result (self.new.board.entries ≡ self.old.board.entries) }
+        ensures steps { IfOk result (λ answered. Steps number event.now answered self.old.board.value self.new.board.value) }
+        ensures refused { OnErr result (self.new.board.value.entries ≡ self.old.board.value.entries) }
         ensures later { IsPrefix self.old.publisher.front.seen.log self.new.publisher.front.seen.log }
         ensures unpublished { OnErr result (self.new.publisher.front.seen.log ≡ self.old.publisher.front.seen.log) }
     {

@@ -24,6 +24,9 @@ const COUNT: usize = 2;
 // A caller spins this often before it gives the processor away between loads.
 const SPINS: u32 = 4;
 
+// A caller that finds the turn taken looks again this often before it draws a ticket all the same.
+const MOST_TRIES: u32 = 100_000;
+
 /// A value that callers share by turns. The slot has the value, or nothing while a caller holds the turn.
 #[derive(Drop)]
 pub struct Turn<T: Kept> {
@@ -85,6 +88,19 @@ impl<T: Kept> Turn<T> {
         self.table.shared.split_seat::<Branch>(pass)
     }
 
+    // Waits, but not without end, until nobody holds the turn or has a ticket for it. Whoever draws a ticket then is
+    // running, so that no others wait for a thread that the system has put aside.
+    fn wait_for_free_turn(&self) {
+        let mut spins = SPINS;
+        for _ in 0..MOST_TRIES {
+            let serving = self.table.shared.peek(SERVING);
+            if self.table.shared.peek(TICKET) == serving {
+                return;
+            }
+            spins = wait_a_little(spins);
+        }
+    }
+
     /// Waits for the turn, and hands out the value. Its list begins with all that the pass has seen.
     pub fn take<R: Wait>(&self, rt: &R, pass: &mut Pass<T>) -> Held<T>
         requires own { IsOf self.now pass.old }
@@ -98,6 +114,7 @@ impl<T: Kept> Turn<T> {
         ensures part { part_of pass.old ≡ Some (T.fixed result.value) }
         ensures same { IsSameCaller pass.old pass.new × HasSameJoined pass.old pass.new × (mine_of pass.new ≡ mine_of pass.old) }
     {
+        self.wait_for_free_turn();
         let ticket = self.table.shared.fetch_add::<Draw>(pass, TICKET, 1);
         let mut spins = SPINS;
         for _ in rt.forever() {

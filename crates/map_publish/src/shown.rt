@@ -27,4 +27,9 @@ impl Absorb<Shown> for Shown {
         self.front = next.front.again();
         Ok(())
     }
+
+    fn absorb_second(&mut self, next: Shown, _other: &Shown) -> Result<(), Shown> {
+        *self = next;
+        Ok(())
+    }
 }

@@ -55,7 +55,7 @@ impl Viewer {
         self.front.begins(&note.front)
     }
 
-    /// Takes in the map that was published when the note was told.
+    /// Takes in the map that was published when the note was told. It is copied where the note's list is longer.
     pub fn learn(&mut self, note: Note, map: &FlatMap)
         requires own { note.front.seen.book ≡ self.old.front.seen.book }
         requires begins { IsPrefix self.old.front.seen.log note.front.seen.log }
@@ -63,7 +63,9 @@ impl Viewer {
         ensures learnt { self.new.front ≡ note.front }
         ensures opened { opened_of self.new.front.seen.log ≡ opened_of self.old.front.seen.log }
     {
-        self.map = map.copy();
+        if self.front.count < note.front.count {
+            self.map = map.copy();
+        }
         self.front = note.front;
     }
 

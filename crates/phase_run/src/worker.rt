@@ -95,9 +95,9 @@ impl Work {
             if statement.actor == number {
                 self.asked += 1;
                 gate.before(number, self.asked);
-                let done = perform(cpu, shared, rt, &statement.event)?;
+                let done = perform(cpu, shared, rt, &statement.event);
                 gate.after(number, self.asked);
-                self.done.push(done)?;
+                self.done.push(done?)?;
             }
         }
         Ok(())

@@ -32,11 +32,11 @@ pub commit-requires-clause-adds : goal.commit-requires-clause-adds
 commit-requires-clause-adds g c =
     let cpu = c.args.self.now in
     let held = c.enter-held.result.value in
-    let entry : Entry = next_entry held.board.entries cpu.number c.args.event.now c.in-Ok.answered.reply in
-    let entries : c.step.new.self.board.entries ≡ entry ∷ held.board.entries = search rules in
-    let list : seen_in c.enter-held.new.pass ≡ reverse held.board.entries = c.enter-held.ensures.list in (
+    let entry : Entry = next_entry held.board.value.entries cpu.number c.args.event.now c.in-Ok.answered.reply in
+    let entries : c.step.new.self.board.value.entries ≡ entry ∷ held.board.value.entries = search rules in
+    let list : seen_in c.enter-held.new.pass ≡ reverse held.board.value.entries = c.enter-held.ensures.list in (
       entry,
-      ap reverse entries ∙ (reverse-append (entry ∷ []) held.board.entries ∙ ap (λ (w : List Entry). w ++ entry ∷ []) (sym list)),
+      ap reverse entries ∙ (reverse-append (entry ∷ []) held.board.value.entries ∙ ap (λ (w : List Entry). w ++ entry ∷ []) (sym list)),
       search rules,
     )
 
@@ -58,10 +58,10 @@ invariant_of-self g c =
     let same : IsSamePass pass now = search rules in
     let found : Finds cpu.number pass cpu.viewer.front.seen.log held =
     finds cpu.number cpu.viewer.front.seen.book pass cpu.viewer.front.seen.log held cpu.passed e.begins e.opened e.mine e.part e.meets in
-    let entry : Entry = next_entry held.board.entries cpu.number c.args.event.now c.in-Ok.answered.reply in
-    let entries : c.step.new.self.board.entries ≡ entry ∷ held.board.entries = search rules in
-    let list = reverse held.board.entries in
-    let whole : reverse c.step.new.self.board.entries ≡ list ++ entry ∷ [] = ap reverse entries ∙ reverse-append (entry ∷ []) held.board.entries in
+    let entry : Entry = next_entry held.board.value.entries cpu.number c.args.event.now c.in-Ok.answered.reply in
+    let entries : c.step.new.self.board.value.entries ≡ entry ∷ held.board.value.entries = search rules in
+    let list = reverse held.board.value.entries in
+    let whole : reverse c.step.new.self.board.value.entries ≡ list ++ entry ∷ [] = ap reverse entries ∙ reverse-append (entry ∷ []) held.board.value.entries in
     let seen : seen_in now ≡ list ++ entry ∷ [] = search (rules, whole) in
     let mine : mine_in now ≡ mine_in pass ++ drop (length list) (list ++ entry ∷ []) = search (rules, whole) in
     let opened : opened_of c.leave.new.viewer.front.seen.log ≡ opened_of cpu.viewer.front.seen.log = search rules in
@@ -84,7 +84,7 @@ invariant_of-self-in-Err g c =
     let same : IsSamePass pass now = search rules in
     let found : Finds cpu.number pass cpu.viewer.front.seen.log held =
     finds cpu.number cpu.viewer.front.seen.book pass cpu.viewer.front.seen.log held cpu.passed e.begins e.opened e.mine e.part e.meets in
-    let seen : seen_in now ≡ reverse held.board.entries = search rules in
+    let seen : seen_in now ≡ reverse held.board.value.entries = search rules in
     let mine : mine_in now ≡ mine_in pass = search rules in
     let opened : opened_of c.leave-in-Err.new.viewer.front.seen.log ≡ opened_of cpu.viewer.front.seen.log = search rules in
     record {
@@ -106,24 +106,24 @@ returns-in-Ok-clause-added g c =
     finds cpu.number cpu.viewer.front.seen.book pass cpu.viewer.front.seen.log held cpu.passed e.begins e.opened e.mine e.part e.meets in
     let same : IsSamePass pass now = search rules in
     let stepped : IsSameBoard held c.step.new.self = c.step.ensures.same in
-    let entry : Entry = next_entry held.board.entries cpu.number c.args.event.now c.in-Ok.answered.reply in
-    let entries : c.step.new.self.board.entries ≡ entry ∷ held.board.entries = search rules in
-    let listed : seen_in now ≡ reverse c.step.new.self.board.entries = search rules in
-    let seen : reverse (seen_in now) ≡ entry ∷ held.board.entries = ap reverse listed ∙ (reverse-reverse c.step.new.self.board.entries ∙ entries) in
+    let entry : Entry = next_entry held.board.value.entries cpu.number c.args.event.now c.in-Ok.answered.reply in
+    let entries : c.step.new.self.board.value.entries ≡ entry ∷ held.board.value.entries = search rules in
+    let listed : seen_in now ≡ reverse c.step.new.self.board.value.entries = search rules in
+    let seen : reverse (seen_in now) ≡ entry ∷ held.board.value.entries = ap reverse listed ∙ (reverse-reverse c.step.new.self.board.value.entries ∙ entries) in
     let log : c.leave.new.viewer.front.seen.log ≡ c.step.new.self.publisher.front.seen.log = search rules in
-    let known : known_after (setup_in now) (opened_in now) c.leave.new.viewer.front.seen.log ≡ map_writes_of (setup_in pass) c.step.new.self.board.entries =
+    let known : known_after (setup_in now) (opened_in now) c.leave.new.viewer.front.seen.log ≡ map_writes_of (setup_in pass) c.step.new.self.board.value.entries =
     known_left pass now c.step.new.self c.leave.new.viewer.front.seen.log same log (found.setup ∙ sym stepped.setup) (found.opened ∙ sym stepped.opened) in
-    let place : c.in-Ok.answered.place ≡ length held.board.entries = search rules in
-    let answer : IsAnswer held.board.setup held.board.entries c.args.event.now c.in-Ok.answered.reply = search rules in
+    let place : c.in-Ok.answered.place ≡ length held.board.value.entries = search rules in
+    let answer : IsAnswer held.board.value.setup held.board.value.entries c.args.event.now c.in-Ok.answered.reply = search rules in
     record {
-      list = held.board.entries;
+      list = held.board.value.entries;
       begins = found.begins;
       own = found.own;
       meets = found.meets;
       place = place;
-      answer = subst (λ (setup : Setup). IsAnswer setup held.board.entries c.args.event.now c.in-Ok.answered.reply) (sym found.setup) answer;
+      answer = subst (λ (setup : Setup). IsAnswer setup held.board.value.entries c.args.event.now c.in-Ok.answered.reply) (sym found.setup) answer;
       seen = seen;
-      mine = ap (entries_by cpu.number) seen ∙ (own_first cpu.number entry held.board.entries refl ∙ ap (λ (w : List Entry). entry ∷ w) found.own);
+      mine = ap (entries_by cpu.number) seen ∙ (own_first cpu.number entry held.board.value.entries refl ∙ ap (λ (w : List Entry). entry ∷ w) found.own);
       known = known ∙ ap (map_writes_of (setup_in pass)) (entries ∙ sym seen);
     }
 
@@ -137,10 +137,10 @@ returns-in-Err-clause-refused g c =
     let found : Finds cpu.number pass cpu.viewer.front.seen.log held =
     finds cpu.number cpu.viewer.front.seen.book pass cpu.viewer.front.seen.log held cpu.passed e.begins e.opened e.mine e.part e.meets in
     let same : IsSamePass pass now = search rules in
-    let listed : seen_in now ≡ reverse held.board.entries = search rules in
-    let seen : reverse (seen_in now) ≡ held.board.entries = ap reverse listed ∙ reverse-reverse held.board.entries in
+    let listed : seen_in now ≡ reverse held.board.value.entries = search rules in
+    let seen : reverse (seen_in now) ≡ held.board.value.entries = ap reverse listed ∙ reverse-reverse held.board.value.entries in
     let log : c.leave-in-Err.new.viewer.front.seen.log ≡ held.publisher.front.seen.log = search rules in
-    let known : known_after (setup_in now) (opened_in now) c.leave-in-Err.new.viewer.front.seen.log ≡ map_writes_of (setup_in pass) held.board.entries =
+    let known : known_after (setup_in now) (opened_in now) c.leave-in-Err.new.viewer.front.seen.log ≡ map_writes_of (setup_in pass) held.board.value.entries =
     known_left pass now held c.leave-in-Err.new.viewer.front.seen.log same log found.setup found.opened in
     record {
       begins = subst (λ (h : List Entry). Extends (reverse (seen_in pass)) h) (sym seen) found.begins;

@@ -23,7 +23,7 @@ invariant_of-self g c =
     let same : IsSamePass pass now = search rules in
     let found : Finds cpu.number pass cpu.viewer.front.seen.log held =
     finds cpu.number cpu.viewer.front.seen.book pass cpu.viewer.front.seen.log held cpu.passed e.begins e.opened e.mine e.part e.meets in
-    let seen : seen_in now ≡ reverse held.board.entries = search rules in
+    let seen : seen_in now ≡ reverse held.board.value.entries = search rules in
     let mine : mine_in now ≡ mine_in pass = search rules in
     let opened : opened_of c.leave.new.viewer.front.seen.log ≡ opened_of cpu.viewer.front.seen.log = search rules in
     record {
@@ -44,10 +44,10 @@ returns-clause-seen g c =
     let found : Finds cpu.number pass cpu.viewer.front.seen.log held =
     finds cpu.number cpu.viewer.front.seen.book pass cpu.viewer.front.seen.log held cpu.passed e.begins e.opened e.mine e.part e.meets in
     let same : IsSamePass pass now = search rules in
-    let listed : seen_in now ≡ reverse held.board.entries = search rules in
-    let seen : reverse (seen_in now) ≡ held.board.entries = ap reverse listed ∙ reverse-reverse held.board.entries in
+    let listed : seen_in now ≡ reverse held.board.value.entries = search rules in
+    let seen : reverse (seen_in now) ≡ held.board.value.entries = ap reverse listed ∙ reverse-reverse held.board.value.entries in
     let log : c.leave.new.viewer.front.seen.log ≡ held.publisher.front.seen.log = search rules in
-    let known : known_after (setup_in now) (opened_in now) c.leave.new.viewer.front.seen.log ≡ map_writes_of (setup_in pass) held.board.entries =
+    let known : known_after (setup_in now) (opened_in now) c.leave.new.viewer.front.seen.log ≡ map_writes_of (setup_in pass) held.board.value.entries =
     known_left pass now held c.leave.new.viewer.front.seen.log same log found.setup found.opened in
     record {
       begins = subst (λ (h : List Entry). Extends (reverse (seen_in pass)) h) (sym seen) found.begins;

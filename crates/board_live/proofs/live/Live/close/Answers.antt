@@ -43,19 +43,19 @@ returns-clause-cpus g c =
     let seen : IsPrefix (seen_in now.pass) (seen_in pass) = c.join.ensures.seen in
     let has = caught_up pass first now c.catch_up.ensures.same c.catch_up.ensures.seen seen in
     let mines : mine_in pass ≡ mine_in now.pass = search rules in
-    let own : own_by (λ (entry : Entry). entry.actor) (number_of now.pass) (drop (length (opened_by pass)) (reverse done.board.entries)) ≡ mine_in now.pass =
-    subst (λ (z : ℕ × List Entry). own_by (λ (entry : Entry). entry.actor) z.0 (drop (length (opened_by pass)) (reverse done.board.entries)) ≡ z.1)
+    let own : own_by (λ (entry : Entry). entry.actor) (number_of now.pass) (drop (length (opened_by pass)) (reverse done.board.value.entries)) ≡ mine_in now.pass =
+    subst (λ (z : ℕ × List Entry). own_by (λ (entry : Entry). entry.actor) z.0 (drop (length (opened_by pass)) (reverse done.board.value.entries)) ≡ z.1)
     (λ k. (same.0 k, mines k)) c.close.ensures.mine in
-    let firstly : Closes done.board first =
+    let firstly : Closes done.board.value first =
     closes pass done first (number_of now.pass, mine_in now.pass) has.0 has.1 has.2 own c.close.ensures.begins c.close.ensures.opened opened_first (first_part ∙ part) in
-    let others : All (Closes done.board) rest =
+    let others : All (Closes done.board.value) rest =
     λ k d within.
     let cpu = get_or rest k d in
     let its_part : part_of cpu.pass ≡ Some opened = rest_part k d within in
     closes_joined pass done cpu (c.join.ensures.joined k d within) c.close.ensures.joined c.close.ensures.begins c.close.ensures.opened
     (opened_same cpu first (its_part ∙ sym first_part) ∙ opened_first) (its_part ∙ part) in
-    let all : All (Closes done.board) items =
-    All-permutation (Closes done.board) (first ∷ remove items place) items
+    let all : All (Closes done.board.value) items =
+    All-permutation (Closes done.board.value) (first ∷ remove items place) items
     (IsPermutation-sym items (first ∷ remove items place) (IsPermutation-remove items place first below is))
-    (All-cons (Closes done.board) first (remove items place) firstly (subst (λ (w : List Cpu). All (Closes done.board) w) left others)) in
+    (All-cons (Closes done.board.value) first (remove items place) firstly (subst (λ (w : List Cpu). All (Closes done.board.value) w) left others)) in
     subst (λ (b : Standing). All (Closes b) items) (sym c.unshared.ensures.board) all

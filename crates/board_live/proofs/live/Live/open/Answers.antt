@@ -7,7 +7,7 @@ use Rattle.bus_turn.specs.Passes.{opened_of as opened_by, part_of}
 use Rattle.board_spec.specs.declared.event.Entry.{Entry}
 use Rattle.board_spec.specs.Setup.{Setup}
 use Rattle.board_spec.specs.MapWrites.{map_writes_of}
-use Rattle.addr_decode.specs.MapRegs.{MapBytes}
+use Rattle.board_core.specs.Kept.{Standing}
 use Rattle.map_builder.specs.Map.{Mapped}
 use Rattle.map_publish.specs.declared.viewer.Viewer.{Viewer}
 use Rattle.map_publish.specs.Lists.{opened_of, changes_of}
@@ -24,19 +24,20 @@ use Rattle.board_live.proofs.live.Live.open.Goals as goal
 
 pub shared-requires-clause-opens : goal.shared-requires-clause-opens
 shared-requires-clause-opens g c =
-    let board = c.args.board in
+    let board = c.deref.result.now in
     let map : opened_of c.in-Ok-open.publisher.front.seen.log ≡ c.map.result.now = search rules in
     let version : c.map.result.now.version ≡ length (map_writes_of board.setup board.entries) = c.map.ensures.version in
-    subst (λ (m : Mapped). Opens board.setup board.entries m) (sym map)
-    (record { stands = stands_after board.setup board.entries c.map.result.now.regs c.map.ensures.stands; version = version })
+    subst (λ (b : Standing). Opens b.setup b.entries (opened_of c.in-Ok-open.publisher.front.seen.log)) c.deref.ensures
+    (subst (λ (m : Mapped). Opens board.setup board.entries m) (sym map)
+    (record { stands = stands_after board.setup board.entries c.map.result.now.regs c.map.ensures.stands; version = version }))
 
 pub callers-cpus-requires-clause-viewers : goal.callers-cpus-requires-clause-viewers
 callers-cpus-requires-clause-viewers g c =
     let pass = c.in-Ok-open-2.pass in
     let shared = c.shared.result in
     let part : part_of pass ≡ Some (opened_with shared) = search rules in
-    let opened : opened_by pass ≡ reverse shared.board.entries = search rules in
-    let count : shared.opened ≡ length shared.board.entries = search rules in
+    let opened : opened_by pass ≡ reverse shared.board.value.entries = search rules in
+    let count : shared.opened ≡ length shared.board.value.entries = search rules in
     let none : changes_of shared.publisher.front.seen.log ≡ [] = search rules in
     let fronts : All (λ (viewer : Viewer). viewer.front ≡ shared.publisher.front) c.in-Ok-open.viewers.items = search rules in
     All-weaker (λ (viewer : Viewer). viewer.front ≡ shared.publisher.front) (IsViewerFor pass)
@@ -53,7 +54,7 @@ returns-in-Ok-open-2-clause-opened g c =
     let history : opened_in pass ≡ board.entries = ap reverse opened ∙ reverse-reverse board.entries in
     let callers : shared.callers ≡ c.args.n = search rules in
     let many : callers_in pass ≡ c.args.n = ap (λ (o : Option Origin). (origin_in o).callers) part ∙ callers in
-    let its : shared.board.setup ≡ board.setup = search rules in
+    let its : shared.board.value.setup ≡ board.setup = search rules in
     let setup : setup_in pass ≡ board.setup = ap (λ (o : Option Origin). (origin_in o).setup) part ∙ its in
     let numbers : map (λ (cpu : Cpu). cpu.number) cpus ≡ range_with_len 0 c.args.n = c.callers-cpus.ensures.numbers ∙ ap (range_with_len 0) many in
     let count : length cpus ≡ c.args.n = sym (length-map cpus (λ (cpu : Cpu). cpu.number)) ∙ (ap length numbers ∙ length-range_with_len 0 c.args.n) in
