@@ -29,3 +29,5 @@ mod holding_gate;
 mod rows;
 #[cfg(test)]
 mod tests;
+#[cfg(test)]
+mod told;
