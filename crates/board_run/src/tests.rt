@@ -530,6 +530,7 @@ fn maps_behind_a_replay(rt: HostRuntime) -> Result<(), Fail> {
 
 /// A script, read in pieces of this size, which fetch and which put fail, what becomes of it, the name that the shelf
 /// keeps, and how many bytes are put.
+#[derive(Clone, Copy)]
 struct FaultCase<'a> {
     script: &'a [u8],
     piece: usize,
