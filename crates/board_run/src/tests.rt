@@ -99,11 +99,13 @@ fn rom_of(alloc: Global, size: usize) -> Result<Vec<u8>, Fail> {
 
 /// The files of a command: a script, a ROM of this size, and a disk of four sectors.
 fn files_of(alloc: Global, script: &str, rom: usize) -> Result<Vec<(String, Vec<u8>)>, Fail> {
+    files_with(alloc, script.as_bytes(), rom)
+}
+
+/// Those files, with these bytes for a script.
+fn files_with(alloc: Global, script: &[u8], rom: usize) -> Result<Vec<(String, Vec<u8>)>, Fail> {
     let mut files = Vec::new(alloc);
-    files.push((
-        String::from_str(alloc, "s")?,
-        script.as_bytes().to_vec(alloc)?,
-    ))?;
+    files.push((String::from_str(alloc, "s")?, script.to_vec(alloc)?))?;
     files.push((String::from_str(alloc, "r64")?, rom_of(alloc, rom)?))?;
     files.push((String::from_str(alloc, "d4")?, vec![in alloc; 7; 2048]?))?;
     Ok(files)
@@ -548,8 +550,7 @@ fn expect_fault<R: Threads + Wait + Sync + Abort>(
     case: &FaultCase<'_>,
 ) -> Result<(), Fail> {
     let words = words_of(alloc, &["replay", "s"])?;
-    let mut files = files_of(alloc, "", ROM_SIZE)?;
-    files[0].1.extend_from_slice(case.script)?;
+    let files = files_with(alloc, case.script, ROM_SIZE)?;
     let inner = MemShelf::new(files, [case.fetch].to_vec(alloc)?);
     let mut shelf = SlowShelf::new(inner, case.piece.max(1));
     let mut out = SlowSink::new(MemSink::new(alloc, [case.put].to_vec(alloc)?), 1);
@@ -558,10 +559,8 @@ fn expect_fault<R: Threads + Wait + Sync + Abort>(
         case.status
     );
     assert_eq!(rt; shelf.inner.last.as_slice(), case.name.as_bytes());
-    assert_eq!(rt;
-        out.inner.bytes.as_slice(),
-        &EMPTY_LOG.as_bytes()[..case.count]
-    );
+    assert_eq!(rt; out.inner.bytes.len(), case.count);
+    assert!(rt; EMPTY_LOG.as_bytes().starts_with(out.inner.bytes.as_slice()));
     Ok(())
 }
 
