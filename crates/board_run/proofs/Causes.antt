@@ -49,11 +49,12 @@ module _ (command : Command) (shelf : ShelfCall) (sink : SinkCall) where
 
   -- a command was refused before it had its text, and nothing was put
   pub caused_refusal :
-      (status : Status) → IsRefused command shelf status → HidesNoFault shelf status → Keeps sink.taken_before sink.taken_now →
-      IsCaused status (Some command) shelf sink
-  caused_refusal status refused quiet keeps = record {
+      (status : Status) → IsRefused command shelf status → HidesNoFault shelf status → sink.faults_now ≡ sink.faults_before →
+      Keeps sink.taken_before sink.taken_now → IsCaused status (Some command) shelf sink
+  caused_refusal status refused quiet calm keeps = record {
     cause = refusal_cause status refused;
     no_fault_hidden = quiet;
+    no_put_fault_hidden = λ _. calm;
     stopped = refusal_stopped status refused keeps;
   }
 
@@ -71,21 +72,26 @@ module _ (command : Command) (shelf : ShelfCall) (sink : SinkCall) where
     pub caused_put_fault :
         (fault : PutFault) → AppendsFront sink.taken_before sink.taken_now text →
         (fault ≡ Failed → Rose sink.faults_before sink.faults_now) →
+        (fault ≡ NoMemoryForPut → sink.faults_now ≡ sink.faults_before) →
         IsCaused (status_of_put_fault fault) (Some command) shelf sink
-    caused_put_fault Failed taken rose = record {
+    caused_put_fault Failed taken rose calm = record {
       cause = rose refl;
       no_fault_hidden = λ _. quiet;
+      no_put_fault_hidden = λ other. absurd (other refl);
       stopped = front_put taken;
     }
-    caused_put_fault NoMemoryForPut taken rose = record {
+    caused_put_fault NoMemoryForPut taken rose calm = record {
       cause = tt;
       no_fault_hidden = λ _. quiet;
+      no_put_fault_hidden = λ _. calm refl;
       stopped = inr (front_put taken);
     }
 
     -- the sink took the whole text
-    pub caused_done : Appends sink.taken_before sink.taken_now text → IsCaused Done (Some command) shelf sink
-    caused_done taken = record {
+    pub caused_done :
+        Appends sink.taken_before sink.taken_now text → sink.faults_now ≡ sink.faults_before →
+        IsCaused Done (Some command) shelf sink
+    caused_done taken calm = record {
       cause =
           of_files shelf.files (PutsText sink.taken_before sink.taken_now command)
           (λ files is. record {
@@ -94,14 +100,20 @@ module _ (command : Command) (shelf : ShelfCall) (sink : SinkCall) where
             taken = taken;
           });
       no_fault_hidden = λ _. quiet;
+      no_put_fault_hidden = λ _. calm;
       stopped = tt;
     }
 
 -- words that are no command
 pub caused_usage :
     (command : Option Command) (shelf : ShelfCall) (sink : SinkCall) → command ≡ None → shelf.faults_now ≡ shelf.faults_before →
-    Keeps sink.taken_before sink.taken_now → IsCaused Usage command shelf sink
-caused_usage command shelf sink none quiet keeps = record { cause = none; no_fault_hidden = λ _. quiet; stopped = keeps }
+    sink.faults_now ≡ sink.faults_before → Keeps sink.taken_before sink.taken_now → IsCaused Usage command shelf sink
+caused_usage command shelf sink none quiet calm keeps = record {
+  cause = none;
+  no_fault_hidden = λ _. quiet;
+  no_put_fault_hidden = λ _. calm;
+  stopped = keeps;
+}
 
 pub refusal_of : (command : Command) (shelf : ShelfCall) (status : Status) → IsRefused command shelf status → IsRefusal status
 refusal_of command shelf Done refused = refused

@@ -4,6 +4,7 @@ pub mod MapLemmas
 pub mod Statements
 pub mod Refusals
 pub mod MadeScripts
+pub mod CallLemmas
 pub mod Causes
 pub mod OneStatus
 pub mod Exact

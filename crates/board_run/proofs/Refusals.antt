@@ -20,6 +20,7 @@ use Rattle.board_run.specs.Words.{Command, Check, script_name}
 use Rattle.board_run.specs.Texts.{IsLegalText, IsCommandText}
 use Rattle.board_run.specs.Asked.{Files, limit_of, disk_of, fitted, setup_of, SaysScript, IsGood, HasScript, ComesTo, ReadsFile, IsLength, Fits, AsksFor}
 use Rattle.board_run.specs.Outcomes.{ShelfCall, OfFiles, name_in_words, FailsAt}
+use Rattle.board_run.specs.Calls.{Reaches}
 use Rattle.board_run.specs.Statuses.{status_of_script_fault, status_of_board_fault, status_of_check_fault, IsNotTaken, IsRefused, FitsDisk, IsDiskNotTaken, IsNotOpened, IsReady}
 
 -- ---- where the shelf tells its files
@@ -50,13 +51,8 @@ module _ (told : Option Files) (before now : ℕ) (kept : List ℕ) where
   Call = record { files = told; faults_before = before; faults_now = now; failed_name = kept }
 
   module _ (command : Command) (which : Which) (name : List ℕ) where
-    -- the command comes to the file
-    pub record Comes : Type 0 where
-      pub comes : OfFiles told (λ files. ComesTo command files which name)
-      pub in_words : (other : List ℕ) → name_in_words command which ≡ Some other → other ≡ name
-
     reads :
-        (P : (name bytes : List ℕ) → Type 0) → Comes → ((files : Files) → told ≡ Some files → P name (files name)) →
+        (P : (name bytes : List ℕ) → Type 0) → Reaches command told which name → ((files : Files) → told ≡ Some files → P name (files name)) →
         OfFiles told (λ files. ReadsFile command files which P)
     reads P at holds =
         of_files told (λ files. ReadsFile command files which P)
@@ -66,14 +62,14 @@ module _ (told : Option Files) (before now : ℕ) (kept : List ℕ) where
           holds = holds files is;
         })
 
-    fails : Comes → Rose before now → kept ≡ take 255 name → FailsAt which Call command
+    fails : Reaches command told which name → Rose before now → kept ≡ take 255 name → FailsAt which Call command
     fails at rose names = record {
       rose = rose;
       in_words = λ other is. names ∙ ap (take 255) (sym (at.in_words other is));
       comes = reads (λ name' _. kept ≡ take 255 name') at (λ files is. names);
     }
 
-    taken : (status : Status) → Comes → IsNotTaken which name Call status → IsRefused command Call status
+    taken : (status : Status) → Reaches command told which name → IsNotTaken which name Call status → IsRefused command Call status
     taken Done at is = is
     taken Usage at is = is
     taken WriteFault at is = is
@@ -97,7 +93,7 @@ module _ (told : Option Files) (before now : ℕ) (kept : List ℕ) where
 -- a file was not taken, after none of the fetches before had failed
 pub not_taken :
     (told : Option Files) (before between now : ℕ) (kept : List ℕ) (command : Command) (which : Which) (name : List ℕ) (status : Status) →
-    between ≡ before → Comes told before now kept command which name →
+    between ≡ before → Reaches command told which name →
     IsNotTaken which name (Call told between now kept) status → IsRefused command (Call told before now kept) status
 not_taken told before between now kept command which name status same at is =
     taken told before now kept command which name status at
@@ -127,30 +123,15 @@ rom_size told name rom whole size =
     of_files told (λ files. IsRomSize (length (files name)))
     (λ files is. subst (λ (file : List ℕ). IsRomSize (length file)) (at_file told files name (λ file. rom ≡ file) is whole) size)
 
-module _ (told : Option Files) (before now : ℕ) (kept : List ℕ) (command : Command) (name : List ℕ) where
-  pub comes_to_script : script_name command ≡ Some name → Comes told before now kept command Script name
+module _ (told : Option Files) (command : Command) (name : List ℕ) where
+  pub comes_to_script : script_name command ≡ Some name → Reaches command told Script name
   comes_to_script named = record {
     comes = of_files told (λ files. ComesTo command files Script name) (λ files is. named);
     in_words = λ other is. some_same other name (sym is ∙ named);
   }
 
-  pub script_refused :
-      (fault : ScriptFault) (bytes given : List ℕ) → script_name command ≡ Some name → OfFile told name (λ file. bytes ≡ file) →
-      length bytes ≤ limit_of Script → given ≡ bytes → OnBad fault (IsScriptBad given) →
-      IsRefused command (Call told before now kept) (status_of_script_fault fault)
-  script_refused (BadLine line why) bytes given named whole fits same bad =
-      reads told before now kept command Script name (λ name' bytes'. Fits Script (λ file. IsScriptBad file line why) name' bytes')
-      (comes_to_script named)
-      (λ files is.
-      let read : bytes ≡ files name = at_file told files name (λ file. bytes ≡ file) is whole in
-      record {
-        fits = subst (λ (file : List ℕ). length file ≤ limit_of Script) read fits;
-        holds = subst (λ (file : List ℕ). IsScriptBad file line why) (same ∙ read) bad;
-      })
-  script_refused NoMemoryForScript bytes given named whole fits same bad = tt
-
   module _ (script : Said) (named : script_name command ≡ Some name) (says : OfFiles told (λ files. SaysScript files name script)) where
-    pub comes_to_rom : Comes told before now kept command Rom script.rom
+    pub comes_to_rom : Reaches command told Rom script.rom
     comes_to_rom = record {
       comes =
           of_files told (λ files. ComesTo command files Rom script.rom)
@@ -165,7 +146,7 @@ module _ (told : Option Files) (before now : ℕ) (kept : List ℕ) (command : C
 
     pub comes_to_disk :
         (disk : List ℕ) → OfFiles told (λ files. IsRomSize (length (files script.rom))) → script.disk ≡ Some disk →
-        Comes told before now kept command Disk disk
+        Reaches command told Disk disk
     comes_to_disk disk size is = record {
       comes =
           of_files told (λ files. ComesTo command files Disk disk)
@@ -182,13 +163,30 @@ module _ (told : Option Files) (before now : ℕ) (kept : List ℕ) (command : C
       in_words = λ other same. absurd cc;
     }
 
+module _ (told : Option Files) (before now : ℕ) (kept : List ℕ) (command : Command) (name : List ℕ) where
+  pub script_refused :
+      (fault : ScriptFault) (bytes given : List ℕ) → script_name command ≡ Some name → OfFile told name (λ file. bytes ≡ file) →
+      length bytes ≤ limit_of Script → given ≡ bytes → OnBad fault (IsScriptBad given) →
+      IsRefused command (Call told before now kept) (status_of_script_fault fault)
+  script_refused (BadLine line why) bytes given named whole fits same bad =
+      reads told before now kept command Script name (λ name' bytes'. Fits Script (λ file. IsScriptBad file line why) name' bytes')
+      (comes_to_script told command name named)
+      (λ files is.
+      let read : bytes ≡ files name = at_file told files name (λ file. bytes ≡ file) is whole in
+      record {
+        fits = subst (λ (file : List ℕ). length file ≤ limit_of Script) read fits;
+        holds = subst (λ (file : List ℕ). IsScriptBad file line why) (same ∙ read) bad;
+      })
+  script_refused NoMemoryForScript bytes given named whole fits same bad = tt
+
+  module _ (script : Said) (named : script_name command ≡ Some name) (says : OfFiles told (λ files. SaysScript files name script)) where
     pub disk_refused :
         (disk : Option (List ℕ)) (status : Status) (between : ℕ) → between ≡ before →
         OfFiles told (λ files. IsRomSize (length (files script.rom))) → script.disk ≡ disk →
         IsDiskNotTaken disk (Call told between now kept) status → IsRefused command (Call told before now kept) status
     disk_refused None status between same size is refused = absurd refused
     disk_refused (Some disk) status between same size is refused =
-        not_taken told before between now kept command Disk disk status same (comes_to_disk disk size is) refused
+        not_taken told before between now kept command Disk disk status same (comes_to_disk told command name script named says disk size is) refused
 
     bad_disk :
         (disk : Option (List ℕ)) (fitted : Option (List ℕ)) (files : Files) → told ≡ Some files →
@@ -201,7 +199,7 @@ module _ (told : Option Files) (before now : ℕ) (kept : List ℕ) (command : C
         let same : disk ≡ files file = some_same disk (files file) read in
         record {
           name = file;
-          comes = at_files told files (λ files'. ComesTo command files' Disk file) told_is (comes_to_disk file size is).comes;
+          comes = at_files told files (λ files'. ComesTo command files' Disk file) told_is (comes_to_disk told command name script named says file size is).comes;
           holds = record {
             fits = subst (λ (bytes : List ℕ). length bytes ≤ limit_of Disk) same fits;
             holds = subst (λ (bytes : List ℕ). ¬ IsDiskSize (length bytes)) same bad;
@@ -241,8 +239,8 @@ module _ (told : Option Files) (name log : List ℕ) (script : Said) (setup : Se
     holds = (at_files told files (λ files'. IsReady files' name script setup) is ready).good;
   }
 
-  pub comes_to_log : (before now : ℕ) (kept : List ℕ) → Comes told before now kept Checks Log log
-  comes_to_log before now kept = record {
+  pub comes_to_log : Reaches Checks told Log log
+  comes_to_log = record {
     comes = of_files told (λ files. ComesTo Checks files Log log) (λ files is. (refl, good files is));
     in_words = λ other is. some_same other log (sym is);
   }

@@ -7,4 +7,5 @@ pub mod Texts
 pub mod Files
 pub mod Output
 pub mod Outcomes
+pub mod Calls
 pub mod Statuses

@@ -100,6 +100,8 @@ pub record IsCaused (status : Status) (command : Option Command) (shelf : ShelfC
   pub cause : HasCause status command shelf sink
   -- no fault of the shelf is passed over: where it counted one, the status is a read fault
   pub no_fault_hidden : ((which : Which) → status ≢ ReadFault which) → shelf.faults_now ≡ shelf.faults_before
+  -- and none of the sink: where it counted one, the status is a write fault
+  pub no_put_fault_hidden : status ≢ WriteFault → sink.faults_now ≡ sink.faults_before
   -- what was put before it came, where it is not done
   pub stopped :
       Stopped status sink.taken_before sink.taken_now

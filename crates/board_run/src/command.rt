@@ -7,6 +7,7 @@ ghost use Rattle.board_run.specs.Words.{asked};
 ghost use Rattle.board_run.specs.Commands.{said_by, IsCalled};
 ghost use Rattle.board_run.specs.Statuses.{status_of, IsRefusal};
 ghost use Rattle.board_run.specs.Outcomes.{IsCaused, IsExact};
+ghost use Rattle.board_run.specs.Calls.{OfCalls, FetchesOf, AreFetchesOf, ArePutsOf};
 
 use crate::output::put_all;
 use crate::status::Status;
@@ -32,6 +33,8 @@ fn run_command<R: Threads + Wait + Sync, S: Shelf, K: Sink, G: Gate>(
         (record { faults_before = K.faults out.old; faults_now = K.faults out.new; taken_before = K.taken out.old; taken_now = K.taken out.new }) }
     ensures only { IfErr result IsRefusal }
     ensures same_files { S.files shelf.new ≡ S.files shelf.old }
+    ensures fetches { OfCalls (S.fetches shelf.old) (S.fetches shelf.new) (FetchesOf (said_by command.entry) (S.files shelf.old)) }
+    ensures puts { OfCalls (K.puts out.old) (K.puts out.new) (ArePutsOf (status_of result)) }
 {
     let text = command_text(rt, alloc, command, shelf, gate)?;
     put_all(out, text.as_bytes())?;
@@ -52,6 +55,8 @@ fn run_words<R: Threads + Wait + Sync, S: Shelf, K: Sink, G: Gate>(
         (record { files = S.files shelf.old; faults_before = S.faults shelf.old; faults_now = S.faults shelf.new; failed_name = S.failed_name shelf.new })
         (record { faults_before = K.faults out.old; faults_now = K.faults out.new; taken_before = K.taken out.old; taken_now = K.taken out.new }) }
     ensures same_files { S.files shelf.new ≡ S.files shelf.old }
+    ensures fetches { OfCalls (S.fetches shelf.old) (S.fetches shelf.new) (AreFetchesOf (asked words.now) (S.files shelf.old)) }
+    ensures puts { OfCalls (K.puts out.old) (K.puts out.new) (ArePutsOf result) }
 {
     let Some(command) = command_of(words) else {
         return Status::Usage;
@@ -82,6 +87,8 @@ pub fn board<R: Threads + Wait + Sync, S: Shelf, K: Sink, G: Gate>(
     ensures exact { IsExact result (asked words.now) (S.files shelf.old)
         (¬ Rose (S.faults shelf.old) (S.faults shelf.new)) (¬ Rose (K.faults out.old) (K.faults out.new)) }
     ensures same_files { S.files shelf.new ≡ S.files shelf.old }
+    ensures fetches { OfCalls (S.fetches shelf.old) (S.fetches shelf.new) (AreFetchesOf (asked words.now) (S.files shelf.old)) }
+    ensures puts { OfCalls (K.puts out.old) (K.puts out.new) (ArePutsOf result) }
 {
     run_words(rt, alloc, words, shelf, out, gate)
 }

@@ -7,6 +7,7 @@ ghost use Rattle.board_run.specs.declared.status.Which.{Which};
 ghost use Rattle.board_run.specs.declared.status.Status.{Status};
 ghost use Rattle.board_run.specs.Asked.{limit_of};
 ghost use Rattle.board_run.specs.Statuses.{IsNotTaken};
+ghost use Rattle.board_run.specs.Calls.{OfCalls, ReadsBy};
 
 use crate::files::{FileFault, read_file};
 use crate::status::{Status, Which};
@@ -50,6 +51,7 @@ pub fn fetch<S: Shelf>(
     ensures quiet { OnOk result (S.faults shelf.new ≡ S.faults shelf.old) }
     ensures no_fault { IfErr result (λ status. ((of : Which) → status ≢ Status.ReadFault of) → S.faults shelf.new ≡ S.faults shelf.old) }
     ensures same_files { S.files shelf.new ≡ S.files shelf.old }
+    ensures fetches { OfCalls (S.fetches shelf.old) (S.fetches shelf.new) (ReadsBy result name.now (limit_of which)) }
 {
     match read_file(alloc, shelf, name, limit_of(which)) {
         Ok(bytes) => Ok(bytes),
@@ -68,6 +70,7 @@ pub fn fetch_rom<S: Shelf>(alloc: Global, shelf: &mut S, name: &str) -> Result<V
     ensures quiet { OnOk result (S.faults shelf.new ≡ S.faults shelf.old) }
     ensures no_fault { IfErr result (λ status. ((of : Which) → status ≢ Status.ReadFault of) → S.faults shelf.new ≡ S.faults shelf.old) }
     ensures same_files { S.files shelf.new ≡ S.files shelf.old }
+    ensures fetches { OfCalls (S.fetches shelf.old) (S.fetches shelf.new) (ReadsBy result name.now (limit_of Which.Rom)) }
 {
     let rom = fetch(alloc, shelf, Which::Rom, name)?;
     if is_rom_size(rom.len()) {

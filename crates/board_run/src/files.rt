@@ -3,6 +3,7 @@
 ghost use Rattle.std.specs.Prelude.{◌≡◌, ◌≢◌, ◌<◌, ◌≤◌, ◌+◌, ◌++◌, ◌^◌, length, take, IfOk, IfErr, OnOk, vec_len};
 ghost use Rattle.board_base.specs.Outside.{Rose, OfFile};
 ghost use Rattle.board_run.specs.Files.{IsLongerFront};
+ghost use Rattle.board_run.specs.Calls.{OfCalls, FetchesOnce, ReadsBy};
 
 use board_base::{Failed, Shelf};
 use std::alloc::{AllocError, Global};
@@ -75,6 +76,7 @@ fn read_on<S: Shelf>(
     ensures quiet { OnOk result (S.faults shelf.new ≡ S.faults shelf.old) }
     ensures no_fault { IfErr result (λ fault. fault ≢ FileFault.Failed → S.faults shelf.new ≡ S.faults shelf.old) }
     ensures same_files { S.files shelf.new ≡ S.files shelf.old }
+    ensures once { FetchesOnce (S.fetches shelf.old) (S.fetches shelf.new) name.now (vec_len bytes.old) result }
 {
     let taken = shelf.fetch(name, bytes.len() as u64, piece)?;
     append(bytes, &piece[..taken])?;
@@ -102,6 +104,7 @@ pub fn read_file<S: Shelf>(
     ensures quiet { OnOk result (S.faults shelf.new ≡ S.faults shelf.old) }
     ensures no_fault { IfErr result (λ fault. fault ≢ FileFault.Failed → S.faults shelf.new ≡ S.faults shelf.old) }
     ensures same_files { S.files shelf.new ≡ S.files shelf.old }
+    ensures fetches { OfCalls (S.fetches shelf.old) (S.fetches shelf.new) (ReadsBy result name.now limit) }
 {
     let mut bytes = Vec::new(alloc);
     let mut piece = zeros(alloc, PIECE)?;

@@ -31,3 +31,5 @@ mod made_maps;
 mod rows;
 #[cfg(test)]
 mod tests;
+#[cfg(test)]
+mod told;

@@ -4,6 +4,7 @@ ghost use Rattle.std.specs.Prelude.{◌≡◌, ◌≤◌, drop, length, IfErr, O
 ghost use Rattle.std.specs.Io.KnownBytes.{Appends};
 ghost use Rattle.board_base.specs.Outside.{Rose};
 ghost use Rattle.board_run.specs.Output.{AppendsFront};
+ghost use Rattle.board_run.specs.Calls.{OfCalls, PutsBy};
 
 use board_base::{PutFault, Sink};
 
@@ -21,6 +22,9 @@ pub fn put_all<K: Sink>(out: &mut K, text: &[u8]) -> Result<(), PutFault>
     ensures front { OnErr result (AppendsFront (K.taken out.old) (K.taken out.new) text.now) }
     ensures failed { IfErr result (λ fault. fault ≡ PutFault.Failed → Rose (K.faults out.old) (K.faults out.new)) }
     ensures later { K.faults out.old ≤ K.faults out.new }
+    ensures quiet { OnOk result (K.faults out.new ≡ K.faults out.old) }
+    ensures no_fault { IfErr result (λ fault. fault ≡ PutFault.NoMemory → K.faults out.new ≡ K.faults out.old) }
+    ensures puts { OfCalls (K.puts out.old) (K.puts out.new) (PutsBy result) }
 {
     let mut rest = text;
     while !rest.is_empty() {

@@ -9,6 +9,7 @@ ghost use Rattle.board_run.specs.declared.status.Status.{Status};
 ghost use Rattle.board_run.specs.Words.{Command, script_name};
 ghost use Rattle.board_run.specs.Asked.{fitted};
 ghost use Rattle.board_run.specs.Outcomes.{OfFiles};
+ghost use Rattle.board_run.specs.Calls.{OfCalls, ReadsDiskBy, FetchesForBoard};
 ghost use Rattle.board_run.specs.Statuses.{IsRefused, FitsDisk, IsDiskNotTaken, IsNotOpened, IsReady};
 
 use crate::fetch::{fetch, fetch_rom};
@@ -41,6 +42,7 @@ fn fetch_disk<S: Shelf>(
     ensures quiet { OnOk result (S.faults shelf.new ≡ S.faults shelf.old) }
     ensures no_fault { IfErr result (λ status. ((of : Which) → status ≢ Status.ReadFault of) → S.faults shelf.new ≡ S.faults shelf.old) }
     ensures same_files { S.files shelf.new ≡ S.files shelf.old }
+    ensures fetches { OfCalls (S.fetches shelf.old) (S.fetches shelf.new) (ReadsDiskBy result name.now) }
 {
     let Some(name) = name else {
         return Ok(None);
@@ -100,6 +102,8 @@ pub fn prepare<S: Shelf>(alloc: Global, shelf: &mut S, name: &str) -> Result<Pre
     ensures quiet { OnOk result (S.faults shelf.new ≡ S.faults shelf.old) }
     ensures no_fault { IfErr result (λ status. ((of : Which) → status ≢ Status.ReadFault of) → S.faults shelf.new ≡ S.faults shelf.old) }
     ensures same_files { S.files shelf.new ≡ S.files shelf.old }
+    ensures fetches { (command : Command) → script_name command ≡ Some name.now
+        → OfCalls (S.fetches shelf.old) (S.fetches shelf.new) (FetchesForBoard result command (S.files shelf.old)) }
 {
     let bytes = fetch(alloc, shelf, Which::Script, name)?;
     let script = read_script(alloc, &bytes)?;

@@ -1,15 +1,16 @@
 //! What the commands do on the board of a script, and the texts that come of it.
 
-ghost use Rattle.std.specs.Prelude.{◌≡◌, ◌∷◌, ◌++◌, ◌≤◌, ℕ, [], Err, length, map, flat_map, string_bytes, codes, decimal, IfOk, OnOk, OnErr};
-ghost use Rattle.board_spec.specs.Orders.{IsReplayOf};
+ghost use Rattle.std.specs.Prelude.{◌≡◌, ◌∷◌, ◌++◌, ◌≤◌, ◌⊎◌, ℕ, [], Ok, Err, length, map, flat_map, string_bytes, codes, decimal, IfOk, IfErr, OnOk, OnErr};
+ghost use Rattle.board_spec.specs.Legal.{IsLegal};
+ghost use Rattle.board_spec.specs.Orders.{IsReplayOf, IsBegunFor};
 ghost use Rattle.board_spec.specs.Text.{line_feed};
 ghost use Rattle.board_spec.specs.MapText.{map_text};
 ghost use Rattle.map_builder.specs.Map.{range_of};
 ghost use Rattle.script_spec.specs.ScriptRange.{IsInRangeScript, statements_in};
-ghost use Rattle.script_spec.specs.Checks.{DiffersAt};
+ghost use Rattle.script_spec.specs.Checks.{IsLogOf, DiffersAt};
 ghost use Rattle.script_text.specs.Script.{said_of};
 ghost use Rattle.log_check.specs.declared.fault.CheckFault.{CheckFault};
-ghost use Rattle.log_check.specs.Checked.{IsCheckedLog};
+ghost use Rattle.log_check.specs.Checked.{IsCheckedLog, StandsAfter};
 ghost use Rattle.board_run.specs.declared.status.Which.{Which};
 ghost use Rattle.board_run.specs.Asked.{limit_of};
 ghost use Rattle.board_run.specs.Texts.{IsReplayText, IsMapText, IsLegalText};
@@ -41,7 +42,8 @@ pub fn replay_script(board: &mut Board, script: &Script) -> Result<(), NoMemory>
 }
 
 /// Checks whether bytes are the log of a legal and complete history of a script, on a fresh board with its setup: line by
-/// line, so that the first line is named which no such log has after the same lines.
+/// line, so that the first line is named which no such log has after the same lines. The board goes through the statements
+/// of the lines before the named one, and perhaps through that of the named line.
 pub fn check_log(
     alloc: Global,
     board: &mut Board,
@@ -55,6 +57,12 @@ pub fn check_log(
         bytes.now board.new.entries count) }
     ensures differs { (line : ℕ) → result ≡ Err (CheckFault.Differs line)
         → DiffersAt board.old.setup (said_of script.now).version (said_of script.now).phases bytes.now line }
+    ensures exactly { (log : IsLogOf board.old.setup (said_of script.now).version (said_of script.now).phases bytes.now)
+        → (result ≡ Ok (length log.history)) ⊎ (result ≡ Err CheckFault.NoMemory) }
+    ensures setup { board.new.setup ≡ board.old.setup }
+    ensures legal { IsLegal board.new.setup board.new.entries }
+    ensures begun { IsBegunFor (said_of script.now).phases board.new.entries }
+    ensures stands { IfErr result (StandsAfter (said_of script.now).version bytes.now board.new.entries) }
 {
     log_check::check_log(alloc, board, script.version, &script.phases, bytes)
 }

@@ -2,7 +2,8 @@ use super::*;
 use crate::holding_gate::HoldingGate;
 use crate::holding_gate::Moment::{After, Before};
 use crate::rows::*;
-use board_base::{MemShelf, MemSink, QuietGate, SafeShelf, SafeSink};
+use crate::told::{ToldShelf, ToldSink};
+use board_base::{MemShelf, MemSink, QuietGate, SafeShelf, SafeSink, SlowShelf, SlowSink};
 use std::alloc::Global;
 use std::process::Abort;
 use std::sync::Wait;
@@ -98,11 +99,13 @@ fn rom_of(alloc: Global, size: usize) -> Result<Vec<u8>, Fail> {
 
 /// The files of a command: a script, a ROM of this size, and a disk of four sectors.
 fn files_of(alloc: Global, script: &str, rom: usize) -> Result<Vec<(String, Vec<u8>)>, Fail> {
+    files_with(alloc, script.as_bytes(), rom)
+}
+
+/// Those files, with these bytes for a script.
+fn files_with(alloc: Global, script: &[u8], rom: usize) -> Result<Vec<(String, Vec<u8>)>, Fail> {
     let mut files = Vec::new(alloc);
-    files.push((
-        String::from_str(alloc, "s")?,
-        script.as_bytes().to_vec(alloc)?,
-    ))?;
+    files.push((String::from_str(alloc, "s")?, script.to_vec(alloc)?))?;
     files.push((String::from_str(alloc, "r64")?, rom_of(alloc, rom)?))?;
     files.push((String::from_str(alloc, "d4")?, vec![in alloc; 7; 2048]?))?;
     Ok(files)
@@ -433,7 +436,8 @@ fn logs_of_two_processors(rt: HostRuntime) -> Result<(), Fail> {
     for (log, status) in cases {
         let mut files = files_of(alloc, TWO_PROCESSORS, ROM_SIZE)?;
         files.push((String::from_str(alloc, "l")?, log.as_bytes().to_vec(alloc)?))?;
-        let mut shelf = SafeShelf { files };
+        // byte by byte
+        let mut shelf = SlowShelf::new(MemShelf::new(files, Vec::new(alloc)), 1);
         let mut out = SafeSink::new(alloc);
         assert_eq!(rt;
             board(&rt, alloc, &words, &mut shelf, &mut out, &QuietGate),
@@ -526,32 +530,162 @@ fn maps_behind_a_replay(rt: HostRuntime) -> Result<(), Fail> {
     Ok(())
 }
 
-/// Whether the ROM is there, which fetch and which put fail, and what becomes of it, with the name that the shelf keeps.
-/// Each file takes two fetches: its bytes, and its end.
-const FAULTS: [(bool, u32, u32, Status, &str); 4] = [
-    (true, 1, 9, Status::ReadFault(Which::Script), "s"),
-    (true, 3, 9, Status::ReadFault(Which::Rom), "r64"),
-    (false, 9, 9, Status::ReadFault(Which::Rom), "r64"),
-    (true, 9, 1, Status::WriteFault, ""),
+/// A script, read in pieces of this size, which fetch and which put fail, what becomes of it, the name that the shelf
+/// keeps, and how many bytes are put.
+#[derive(Clone, Copy)]
+struct FaultCase<'a> {
+    script: &'a [u8],
+    piece: usize,
+    fetch: u32,
+    put: u32,
+    status: Status,
+    name: &'a str,
+    count: usize,
+}
+
+/// Replays the script of a case, with a sink that takes a byte a call.
+fn expect_fault<R: Threads + Wait + Sync + Abort>(
+    rt: &R,
+    alloc: Global,
+    case: &FaultCase<'_>,
+) -> Result<(), Fail> {
+    let words = words_of(alloc, &["replay", "s"])?;
+    let files = files_with(alloc, case.script, ROM_SIZE)?;
+    let inner = MemShelf::new(files, [case.fetch].to_vec(alloc)?);
+    let mut shelf = SlowShelf::new(inner, case.piece.max(1));
+    let mut out = SlowSink::new(MemSink::new(alloc, [case.put].to_vec(alloc)?), 1);
+    assert_eq!(rt;
+        board(rt, alloc, &words, &mut shelf, &mut out, &QuietGate),
+        case.status
+    );
+    assert_eq!(rt; shelf.inner.last.as_slice(), case.name.as_bytes());
+    assert_eq!(rt; out.inner.bytes.len(), case.count);
+    assert!(rt; EMPTY_LOG.as_bytes().starts_with(out.inner.bytes.as_slice()));
+    Ok(())
+}
+
+#[test]
+fn each_call_of_the_outside_fails(rt: HostRuntime) -> Result<(), Fail> {
+    let done = FaultCase {
+        script: SETUP.as_bytes(),
+        piece: ROM_SIZE,
+        fetch: 0,
+        put: 0,
+        status: Status::Done,
+        name: "",
+        count: 13,
+    };
+    // the 33rd fetch of a byte finds the end of the script
+    for fetch in 1..=34 {
+        let (which, name) = if fetch == 34 {
+            (Which::Rom, "r64")
+        } else {
+            (Which::Script, "s")
+        };
+        let case = FaultCase {
+            piece: 1,
+            fetch,
+            status: Status::ReadFault(which),
+            name,
+            count: 0,
+            ..done
+        };
+        expect_fault(&rt, rt.alloc(), &case)?;
+    }
+    for put in 1..=13 {
+        let case = FaultCase {
+            put,
+            status: Status::WriteFault,
+            count: put as usize - 1,
+            ..done
+        };
+        expect_fault(&rt, rt.alloc(), &case)?;
+    }
+    expect_fault(&rt, rt.alloc(), &FaultCase { put: 14, ..done })
+}
+
+/// Scripts that are cut short, and what becomes of them.
+const CUT_SHORT: [(&str, Status); 5] = [
+    ("board 1\ncpus 1\nmemory 8\nrom r64", Status::Done),
+    (
+        "board 1\ncpus 1\nmemory 8\nrom r6",
+        Status::ReadFault(Which::Rom),
+    ),
+    (
+        "board 1\ncpus 1\nmemory 8\nrom ",
+        Status::BadScript { line: 4, why: 3 },
+    ),
+    (
+        "board 1\ncpus 1\nmemory 8",
+        Status::BadScript { line: 4, why: 6 },
+    ),
+    ("boar", Status::BadScript { line: 1, why: 1 }),
 ];
 
 #[test]
-fn faults_of_the_outside(rt: HostRuntime) -> Result<(), Fail> {
+fn scripts_of_other_lengths(rt: HostRuntime) -> Result<(), Fail> {
+    let too_long = vec![in rt.alloc(); 0; 0x100_0001]?;
+    let mut case = FaultCase {
+        script: &too_long,
+        piece: ROM_SIZE,
+        fetch: 0,
+        put: 0,
+        status: Status::TooLong(Which::Script),
+        name: "",
+        count: 0,
+    };
+    expect_fault(&rt, rt.alloc(), &case)?;
+    for (script, status) in CUT_SHORT {
+        case.script = script.as_bytes();
+        case.status = status;
+        case.name = if status == Status::ReadFault(Which::Rom) {
+            "r6"
+        } else {
+            ""
+        };
+        case.count = if status == Status::Done { 13 } else { 0 };
+        expect_fault(&rt, rt.alloc(), &case)?;
+    }
+    Ok(())
+}
+
+/// The fetches of a replay in pieces of 24 KiB: the file, the place, and how many bytes came. The latest comes first.
+const FETCHES: [(&str, u64, usize); 6] = [
+    ("r64", 0x1_0000, 0),
+    ("r64", 0xC000, 0x4000),
+    ("r64", 0x6000, 0x6000),
+    ("r64", 0, 0x6000),
+    ("s", 32, 0),
+    ("s", 0, 32),
+];
+
+#[test]
+fn the_calls_of_a_replay(rt: HostRuntime) -> Result<(), Fail> {
     let alloc = rt.alloc();
     let words = words_of(alloc, &["replay", "s"])?;
-    for (with_rom, failing_fetch, failing_put, status, name) in FAULTS {
-        let mut files = files_of(alloc, SETUP, ROM_SIZE)?;
-        if !with_rom {
-            files.truncate(1);
-        }
-        let mut shelf = MemShelf::new(files, [failing_fetch].to_vec(alloc)?);
-        let mut out = MemSink::new(alloc, [failing_put].to_vec(alloc)?);
+    let inner = MemShelf::new(files_of(alloc, SETUP, ROM_SIZE)?, Vec::new(alloc));
+    let mut shelf = ToldShelf {
+        inner: SlowShelf::new(inner, 0x6000),
+        made: Vec::new(alloc),
+        rt: &rt,
+        alloc,
+    };
+    let mut out = ToldSink {
+        inner: SlowSink::new(MemSink::new(alloc, Vec::new(alloc)), 5),
+        made: Vec::new(alloc),
+        rt: &rt,
+    };
+    assert_eq!(rt;
+        board(&rt, alloc, &words, &mut shelf, &mut out, &QuietGate),
+        Status::Done
+    );
+    assert_eq!(rt; shelf.made.len(), FETCHES.len());
+    for (made, (name, at, came)) in shelf.made.iter().zip(FETCHES) {
         assert_eq!(rt;
-            board(&rt, alloc, &words, &mut shelf, &mut out, &QuietGate),
-            status
+            (made.name.as_str(), made.at, made.came),
+            (name, at, Some(came))
         );
-        assert_eq!(rt; shelf.last.as_slice(), name.as_bytes());
-        assert_eq!(rt; out.bytes.len(), 0);
     }
+    assert_eq!(rt; out.made.as_slice(), [Some(3), Some(5), Some(5)].as_slice());
     Ok(())
 }

@@ -9,6 +9,8 @@ ghost use Rattle.board_run.specs.Words.{Replay, Run, Map, Check};
 ghost use Rattle.board_run.specs.Commands.{said_by, IsCalled, WaitsForNobody};
 ghost use Rattle.board_run.specs.Texts.{IsCommandText};
 ghost use Rattle.board_run.specs.Outcomes.{OfFiles};
+ghost use Rattle.board_run.specs.Asked.{limit_of};
+ghost use Rattle.board_run.specs.Calls.{OfCalls, IsReading, FetchesOf};
 ghost use Rattle.board_run.specs.Statuses.{IsRefused, IsReady};
 
 use crate::fetch::fetch;
@@ -31,6 +33,7 @@ fn replay<S: Shelf>(alloc: Global, shelf: &mut S, name: &str) -> Result<String, 
     ensures quiet { OnOk result (S.faults shelf.new ≡ S.faults shelf.old) }
     ensures no_fault { IfErr result (λ status. ((of : Which) → status ≢ Status.ReadFault of) → S.faults shelf.new ≡ S.faults shelf.old) }
     ensures same_files { S.files shelf.new ≡ S.files shelf.old }
+    ensures fetches { OfCalls (S.fetches shelf.old) (S.fetches shelf.new) (FetchesOf (Replay name.now) (S.files shelf.old)) }
 {
     let mut prepared = prepare(alloc, shelf, name)?;
     let text = log_of_replay(alloc, &mut prepared.board, &prepared.script)?;
@@ -45,6 +48,7 @@ fn map<S: Shelf>(alloc: Global, shelf: &mut S, name: &str) -> Result<String, Sta
     ensures quiet { OnOk result (S.faults shelf.new ≡ S.faults shelf.old) }
     ensures no_fault { IfErr result (λ status. ((of : Which) → status ≢ Status.ReadFault of) → S.faults shelf.new ≡ S.faults shelf.old) }
     ensures same_files { S.files shelf.new ≡ S.files shelf.old }
+    ensures fetches { OfCalls (S.fetches shelf.old) (S.fetches shelf.new) (FetchesOf (Map name.now) (S.files shelf.old)) }
 {
     let mut prepared = prepare(alloc, shelf, name)?;
     let text = map_after_replay(alloc, &mut prepared.board, &prepared.script)?;
@@ -71,6 +75,7 @@ fn verdict<S: Shelf>(
     ensures quiet { OnOk result (S.faults shelf.new ≡ S.faults shelf.old) }
     ensures no_fault { IfErr result (λ status. ((of : Which) → status ≢ Status.ReadFault of) → S.faults shelf.new ≡ S.faults shelf.old) }
     ensures same_files { S.files shelf.new ≡ S.files shelf.old }
+    ensures fetches { OfCalls (S.fetches shelf.old) (S.fetches shelf.new) (IsReading log.now (limit_of Which.Log)) }
 {
     let bytes = fetch(alloc, shelf, Which::Log, log)?;
     let text = verdict_on_log(alloc, &mut prepared.board, &prepared.script, &bytes)?;
@@ -85,6 +90,7 @@ fn check<S: Shelf>(alloc: Global, shelf: &mut S, name: &str, log: &str) -> Resul
     ensures quiet { OnOk result (S.faults shelf.new ≡ S.faults shelf.old) }
     ensures no_fault { IfErr result (λ status. ((of : Which) → status ≢ Status.ReadFault of) → S.faults shelf.new ≡ S.faults shelf.old) }
     ensures same_files { S.files shelf.new ≡ S.files shelf.old }
+    ensures fetches { OfCalls (S.fetches shelf.old) (S.fetches shelf.new) (FetchesOf (Check name.now log.now) (S.files shelf.old)) }
 {
     let mut prepared = prepare(alloc, shelf, name)?;
     verdict(alloc, shelf, &mut prepared, log)
@@ -104,6 +110,7 @@ fn text_without_waiting<S: Shelf>(
     ensures quiet { OnOk result (S.faults shelf.new ≡ S.faults shelf.old) }
     ensures no_fault { IfErr result (λ status. ((of : Which) → status ≢ Status.ReadFault of) → S.faults shelf.new ≡ S.faults shelf.old) }
     ensures same_files { S.files shelf.new ≡ S.files shelf.old }
+    ensures fetches { OfCalls (S.fetches shelf.old) (S.fetches shelf.new) (FetchesOf (said_by command.entry) (S.files shelf.old)) }
 {
     match command {
         Command::Replay(name) => replay(alloc, shelf, name),
@@ -128,6 +135,7 @@ fn run<R: Threads + Wait + Sync, S: Shelf, G: Gate>(
     ensures quiet { OnOk result (S.faults shelf.new ≡ S.faults shelf.old) }
     ensures no_fault { IfErr result (λ status. ((of : Which) → status ≢ Status.ReadFault of) → S.faults shelf.new ≡ S.faults shelf.old) }
     ensures same_files { S.files shelf.new ≡ S.files shelf.old }
+    ensures fetches { OfCalls (S.fetches shelf.old) (S.fetches shelf.new) (FetchesOf (Run name.now) (S.files shelf.old)) }
 {
     let Prepared { script, board } = prepare(alloc, shelf, name)?;
     let text = log_of_run(rt, alloc, board, &script, gate)?;
@@ -149,6 +157,7 @@ pub fn command_text<R: Threads + Wait + Sync, S: Shelf, G: Gate>(
     ensures quiet { OnOk result (S.faults shelf.new ≡ S.faults shelf.old) }
     ensures no_fault { IfErr result (λ status. ((of : Which) → status ≢ Status.ReadFault of) → S.faults shelf.new ≡ S.faults shelf.old) }
     ensures same_files { S.files shelf.new ≡ S.files shelf.old }
+    ensures fetches { OfCalls (S.fetches shelf.old) (S.fetches shelf.new) (FetchesOf (said_by command.entry) (S.files shelf.old)) }
 {
     match command {
         Command::Run(name) => run(rt, alloc, shelf, name, gate),

@@ -1,6 +1,8 @@
 use Rattle.std.proofs.Common.{◌≡◌, ◌+◌, ◌-◌, ◌<◌, vec_len}
 use Rattle.board_base.specs.Outside.{OfFile}
 use Rattle.board_run.specs.Files.{IsFront}
+use Rattle.board_run.specs.Calls.{OfCalls}
+use Rattle.board_run.proofs.CallLemmas.{ReadTo}
 use Rattle.board_run.proofs.files.read_file.Given as goal
 
 abbrev pub invariant-loop-shelf : goal.invariant-loop-shelf
@@ -9,6 +11,7 @@ invariant-loop-shelf g l = record {
   room : 0 < vec_len l.piece;
   no_fault : g.S.Shelf.faults l.shelf ≡ g.S.Shelf.faults l.fn.shelf;
   same : g.S.Shelf.files l.shelf ≡ g.S.Shelf.files l.fn.shelf;
+  fetches : OfCalls (g.S.Shelf.fetches l.fn.shelf) (g.S.Shelf.fetches l.shelf) (ReadTo l.name l.limit (vec_len l.bytes));
 }
 
 abbrev pub decreases-loop-shelf : goal.decreases-loop-shelf

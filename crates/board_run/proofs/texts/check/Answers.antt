@@ -1,5 +1,7 @@
 use Rattle.std.proofs.Common.{rules, refl}
-use Rattle.board_run.proofs.Refusals.{refuses_with}
+use Rattle.script_text.specs.Script.{said_of}
+use Rattle.board_run.proofs.Refusals.{refuses_with, comes_to_log}
+use Rattle.board_run.proofs.CallLemmas.{fetches_for_board, log_read}
 use Rattle.board_run.proofs.texts.check.Goals as goal
 
 pub returns-in_err-prepared-clause-refused : goal.returns-in_err-prepared-clause-refused
@@ -15,3 +17,11 @@ pub returns-clause-refused : goal.returns-clause-refused
 returns-clause-refused g c =
     rw (c.prepare.ensures.same_files, c.in_ok-prepared.ensures.quiet) at
     (c.verdict.ensures.refused c.args.name.now (rw c.prepare.ensures.same_files c.in_ok-prepared.ensures.ready))
+
+pub returns-in_err-prepared-clause-fetches : goal.returns-in_err-prepared-clause-fetches
+returns-in_err-prepared-clause-fetches g c = fetches_for_board _ _ _ _ _ (c.in_err-prepared.ensures.fetches _ refl)
+
+pub returns-clause-fetches : goal.returns-clause-fetches
+returns-clause-fetches g c =
+    log_read _ _ _ (comes_to_log _ _ _ (said_of c.in_ok-prepared.prepared.script) _ c.in_ok-prepared.ensures.ready)
+    _ _ _ _ c.in_ok-prepared.prepared (c.in_ok-prepared.ensures.fetches _ refl) c.verdict.ensures.fetches

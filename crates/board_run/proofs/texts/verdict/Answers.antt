@@ -8,7 +8,7 @@ pub returns-in_err-bytes-clause-refused : goal.returns-in_err-bytes-clause-refus
 returns-in_err-bytes-clause-refused g c = λ name ready.
     refuses_with _ _ _ c.in_err-bytes.field-0.0 (search rules)
     (not_taken _ _ _ _ _ _ _ _ _ refl
-    (comes_to_log _ _ _ (said_of c.args.prepared.now.script) _ ready _ _ _)
+    (comes_to_log _ _ _ (said_of c.args.prepared.now.script) _ ready)
     c.in_err-bytes.ensures.refused)
 
 pub returns-in_err-text-clause-refused : goal.returns-in_err-text-clause-refused
