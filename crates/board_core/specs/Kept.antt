@@ -1,7 +1,6 @@
 -- What a board keeps of its history: the registers, the bytes behind its addresses, and the devices.
 use Rattle.std.specs.Prelude.{ℕ, ◌≡◌, ◌+◌, ◌<◌, List, length, slice_index}
 use Rattle.board_spec.specs.declared.event.Event.{Event}
-use Rattle.board_spec.specs.declared.event.Reply.{Reply}
 use Rattle.board_spec.specs.declared.event.Entry.{Entry}
 use Rattle.board_spec.specs.Setup.{Setup, IsSetup}
 use Rattle.board_spec.specs.InRange.{IsInRange}
@@ -63,4 +62,3 @@ pub record Standing : Type 0 where
   pub setup : Setup
   pub entries : List Entry
   pub spare : ℕ
-

@@ -25,7 +25,7 @@ pub fn access(chipset: &mut Chipset, rom: &[u8], access: &Access) -> Reply
         → entry.event ≡ Memory access.now → entry.reply ≡ result → IsChipsetOf setup (entry ∷ history) chipset.new }
 {
     law_left_alone();
-    let answer = decoded(chipset.registers.map.regs(), rom, access);
+    let answer = decoded(chipset.registers.regs(), rom, access);
     let (target, denial) = (answer.target, answer.denial);
     if access.kind.is_write() {
         write(&mut chipset.stores, access, &answer);

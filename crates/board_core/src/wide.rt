@@ -28,13 +28,14 @@ pub fn access(chipset: &mut Chipset, rom: &[u8], access: &WideAccess) -> Reply
 {
     law_left_alone();
     law_parts();
-    let cycles = cycles_of(chipset.registers.map.regs(), rom, access);
-    let parts = parts_of(&cycles);
+    let cut = cycles_of(chipset.registers.regs(), rom, access);
+    let cycles = cut.as_slice();
+    let parts = parts_of(cycles);
     if access.kind.is_write() {
-        write_cycles(&mut chipset.stores, &cycles);
+        write_cycles(&mut chipset.stores, cycles);
         return Reply::Parts { value: None, parts };
     }
-    let value = Some(read_cycles(&chipset.stores, rom, &cycles));
+    let value = Some(read_cycles(&chipset.stores, rom, cycles));
     Reply::Parts { value, parts }
 }
 

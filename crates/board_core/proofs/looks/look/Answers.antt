@@ -1,4 +1,4 @@
-use Rattle.std.proofs.Common.{◌≡◌, ℕ, Bool, Option, None, refl, ◌∙◌}
+use Rattle.std.proofs.Common.{◌≡◌, ℕ, Bool, None, refl, ◌∙◌}
 use Rattle.board_base.specs.declared.access.Kind.{Kind}
 use Rattle.board_spec.specs.declared.event.Event.TheVariants.{Look as LookAt}
 use Rattle.board_spec.specs.declared.event.Reply.{Reply}
@@ -22,6 +22,5 @@ returns-clause-answer c = λ setup history kept. record {
 
 pub returns-clause-board : goal.returns-clause-board
 returns-clause-board c = λ setup history entry kept event.
-    chipset_stays setup history entry c.args.chipset.now c.law_left_alone.ensures.left kept
-    (rw event (record { control = refl; address = refl; change = refl }))
-    (λ cell. rw event (puts_nothing c.args.kind c.args.addr c.args.smm entry.reply cell)) (rw event tt)
+    chipset_stays c.law_left_alone.ensures.left kept (rw event (record { control_is = refl; address_is = refl; store_is = refl }))
+    (rw event tt) (λ cell. rw event (puts_nothing c.args.kind c.args.addr c.args.smm entry.reply cell))

@@ -1,4 +1,4 @@
-use Rattle.std.proofs.Common.{◌≡◌, List, sym, subst, refl}
+use Rattle.std.proofs.Common.{sym, subst}
 use Rattle.board_spec.specs.RegisterTable.{reset_byte}
 use Rattle.pci_bars.specs.Cards.{AreCardsOf}
 use Rattle.addr_decode.specs.MapRegs.{MapBytes, StandsFor}
