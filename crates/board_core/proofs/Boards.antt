@@ -30,12 +30,14 @@ counted_after :
     (history : List Entry) (counts : List ℕ) (entry : Entry) → entry.actor < length counts →
     entry.seq ≡ slice_index counts entry.actor + 1 → entry.actor < 256 →
     ((who : ℕ) → who < 256 → slice_index counts who ≡ length (entries_by who history)) →
-    (who : ℕ) → who < 256 → slice_index (slice_set counts entry.actor entry.seq) who ≡ length (entries_by who (entry ∷ history))
+    (who : ℕ) → who < 256 → slice_index (slice_set counts entry.actor entry.seq) who ≡ length
+    (entries_by who (entry ∷ history))
 counted_after history counts entry within number below counted who below' =
     elim (cases_eq who entry.actor) [
       | inl same ↦
           rw (eq-eqb entry.actor who (sym same))
-          (ap (slice_index (slice_set counts entry.actor entry.seq)) same ∙ get_or-set_same counts entry.actor entry.seq 0 within
+          (ap (slice_index (slice_set counts entry.actor entry.seq)) same ∙ get_or-set_same counts entry.actor
+          entry.seq 0 within
           ∙ omega (arith, number, ap (slice_index counts) same, counted who below'))
       | inr other ↦
           rw (ne_eqb entry.actor who (λ same. other (sym same)))
@@ -44,7 +46,8 @@ counted_after history counts entry within number below counted who below' =
 
 -- a processor has no more entries than the history
 pub count_fits :
-    (setup : Setup) (history : List Entry) (spare : ℕ) (chipset : Chipset) (counts : List ℕ) (actor at : ℕ) → at ≡ actor → actor < 256 →
+    (setup : Setup) (history : List Entry) (spare : ℕ) (chipset : Chipset) (counts : List ℕ) (actor at : ℕ) →
+    at ≡ actor → actor < 256 →
     IsKept setup history spare chipset counts → slice_index counts at + 1 < 2 ^ 32
 count_fits setup history spare chipset counts actor at same below kept =
     let own : Entry → Bool = λ entry. entry.actor == actor in
@@ -53,7 +56,8 @@ count_fits setup history spare chipset counts actor at same below kept =
 
 -- ---- a step
 
-pub can_do : (setup : Setup) (history : List Entry) (spare : ℕ) (chipset : Chipset) (counts rom : List ℕ) (event : Event) → setup.rom ≡ rom →
+pub can_do : (setup : Setup) (history : List Entry) (spare : ℕ) (chipset : Chipset) (counts rom : List ℕ)
+    (event : Event) → setup.rom ≡ rom →
     IsKept setup history spare chipset counts → IsInRange setup event → CanDo chipset rom event
 can_do setup history spare chipset counts rom event image kept in_range = record {
   kept = record { setup = setup; history = history; few = omega (arith, kept.room); of = kept.board; image = image };
@@ -61,17 +65,21 @@ can_do setup history spare chipset counts rom event image kept in_range = record
 }
 
 pub stepped :
-    (setup : Setup) (history : List Entry) (counts : List ℕ) (entry : Entry) (past : Past) (spare : ℕ) (old new : Chipset) →
-    length counts ≡ 256 → entry.actor < 256 → 1 ≤ spare → past ≡ record { entries = entry ∷ history; spare = spare - 1 } →
+    (setup : Setup) (history : List Entry) (counts : List ℕ) (entry : Entry) (past : Past) (spare : ℕ)
+    (old new : Chipset) →
+    length counts ≡ 256 → entry.actor < 256 → 1 ≤ spare →
+    past ≡ record { entries = entry ∷ history; spare = spare - 1 } →
     entry.seq ≡ slice_index counts entry.actor + 1 → IsKept setup history spare old counts →
     IsAnswer setup history entry.event entry.reply → IsChipsetOf setup (entry ∷ history) new →
     IsKept setup past.entries past.spare new (slice_set counts entry.actor entry.seq)
-stepped setup history counts entry past spare old new all below some pushed number kept answer board = rw pushed (record {
-  room = omega (arith, kept.room);
-  legal = (record { number = number ∙ ap (λ (n : ℕ). n + 1) (kept.counted entry.actor below); answer = answer }, kept.legal);
-  board = board;
-  counted = counted_after history counts entry (omega arith) number below kept.counted;
-})
+stepped setup history counts entry past spare old new all below some pushed number kept answer board =
+    let is_number = number ∙ ap (λ (n : ℕ). n + 1) (kept.counted entry.actor below) in
+    rw pushed (record {
+      room = omega (arith, kept.room);
+      legal = (record { number = is_number; answer = answer }, kept.legal);
+      board = board;
+      counted = counted_after history counts entry (omega arith) number below kept.counted;
+    })
 
 -- ---- a disk that was opened
 
@@ -88,7 +96,8 @@ disk_fits (Some bytes) opened =
       | inr broken ↦ absurd (opened (refused_length (length bytes) broken))
     ]
 
-pub disk_opened : {T : Type 0} (bytes shown : Option (List ℕ)) (result : Result T AtaOpen) (devices : T) → (result ≡ Err AtaOpen.BadLength) ↔ ¬ IsDisk shown →
+pub disk_opened : {T : Type 0} (bytes shown : Option (List ℕ)) (result : Result T AtaOpen) (devices : T) →
+    (result ≡ Err AtaOpen.BadLength) ↔ ¬ IsDisk shown →
     result ≡ Ok devices → shown ≡ bytes → IsDisk bytes
 disk_opened bytes shown result devices bad opened same =
     subst IsDisk same (disk_fits shown (λ none. let no : result ≡ Err AtaOpen.BadLength = bad.1 none in cc))

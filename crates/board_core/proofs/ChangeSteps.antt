@@ -25,12 +25,14 @@ pub changes :
 unfolding map_change_of
 changes {setup} writes = ap (map_write setup) (sym (change_is writes))
 
-reset_or_none : (setup : Setup) (hard : Bool) → (if hard then Some Reset else None) ≡ map_write setup (if hard then Some Reset else None)
+reset_or_none : (setup : Setup) (hard : Bool) →
+    (if hard then Some Reset else None) ≡ map_write setup (if hard then Some Reset else None)
 reset_or_none setup true = refl
 reset_or_none setup false = refl
 
 pub by_device :
-    (setup : Setup) (history : List Entry) (access : PortAccess) (dev : Dev) (change : Option MapChange) → access.write ≡ true →
+    (setup : Setup) (history : List Entry) (access : PortAccess) (dev : Dev) (change : Option MapChange) →
+    access.write ≡ true →
     Reached setup history access (Device dev) →
     (dev ≡ ResetPort → change ≡ (if is_hard_value (reset_control history) access.value then Some Reset else None)) →
     ((dev ≡ ResetPort → ⊥) → change ≡ None) → change ≡ map_change_of setup history (Port access)
@@ -41,8 +43,10 @@ by_device setup history access dev change writes at control other =
     other (λ same. absurd (cc)) ∙ changes (writes_at setup history access (Device dev) writes at)
 
 -- an event that is no access at a port
-pub no_port : (setup : Setup) (history : List Entry) (event : Event) → ((access : PortAccess) → event ≡ Port access → ⊥) →
+pub no_port : (setup : Setup) (history : List Entry) (event : Event) →
+    ((access : PortAccess) → event ≡ Port access → ⊥) →
     None ≡ map_change_of setup history event
 no_port setup history (Port access) not = absurd (not access refl)
 no_port setup history event not =
-    let none : Writes setup history event None None None = record { control_is = refl; address_is = refl; store_is = refl } in changes none
+    let none : Writes setup history event None None None =
+    record { control_is = refl; address_is = refl; store_is = refl } in changes none

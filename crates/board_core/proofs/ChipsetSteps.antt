@@ -44,7 +44,8 @@ chipset_after law kept has south stores passes is_soft = record {
 pub chipset_put :
     {setup : Setup} {history : List Entry} {entry : Entry} {old : Chipset} {put : Cell → Option ℕ} {stores : Stores} →
     LeavesDevices → IsChipsetOf setup history old → Writes setup history entry.event None None None →
-    PassesBy entry.event (device_reached entry.reply) → ((cell : Cell) → entry_put entry.event entry.reply cell ≡ put cell) →
+    PassesBy entry.event (device_reached entry.reply) →
+    ((cell : Cell) → entry_put entry.event entry.reply cell ≡ put cell) →
     ArePut put old.stores stores → IsChipsetOf setup (entry ∷ history) (record old { stores = stores })
 chipset_put law kept none passes same is =
     chipset_after law kept (quiet none kept.registers) refl (stores_put kept.stores same is) passes (soft none)
@@ -53,7 +54,8 @@ chipset_put law kept none passes same is =
 pub chipset_stays :
     {setup : Setup} {history : List Entry} {entry : Entry} {chipset : Chipset} →
     LeavesDevices → IsChipsetOf setup history chipset → Writes setup history entry.event None None None →
-    PassesBy entry.event (device_reached entry.reply) → ((cell : Cell) → entry_put entry.event entry.reply cell ≡ None) →
+    PassesBy entry.event (device_reached entry.reply) →
+    ((cell : Cell) → entry_put entry.event entry.reply cell ≡ None) →
     IsChipsetOf setup (entry ∷ history) chipset
 chipset_stays law kept none passes puts =
     chipset_after law kept (quiet none kept.registers) refl (stores_stay kept.stores puts) passes (soft none)
@@ -67,4 +69,9 @@ pub devices_move :
     IsChipsetOf setup (entry ∷ history) (record old { devices = devices })
 devices_move kept none puts after =
     let registers = quiet none kept.registers in
-    record { fits = kept.fits; registers = registers; stores = stores_stay kept.stores puts; devices = after registers.kept.south.routes }
+    record {
+      fits = kept.fits;
+      registers = registers;
+      stores = stores_stay kept.stores puts;
+      devices = after registers.kept.south.routes;
+    }

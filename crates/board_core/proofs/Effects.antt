@@ -37,35 +37,51 @@ abbrev pub store_at : Target → PortAccess → Option MapChange
 store_at (Config reg) access = Some (Store reg access.width access.value)
 store_at _ access = None
 
-data_apart : (port : ℕ) → is_config_port port ≡ true → ((port == reset_control_port) ≡ false) × ((port == config_address_port) ≡ false)
+data_apart : (port : ℕ) → is_config_port port ≡ true →
+    ((port == reset_control_port) ≡ false) × ((port == config_address_port) ≡ false)
 data_apart port is = (grind (arith, nat_tests), grind (arith, nat_tests))
 
 abbrev pub Reached : Setup → List Entry → PortAccess → Target → Type 0
-Reached setup history access target = IsReached setup (byte_of setup history) (config_address history) access.port access.width target
+Reached setup history access target =
+    IsReached setup (byte_of setup history) (config_address history) access.port access.width target
 
 module _ (setup : Setup) (history : List Entry) (access : PortAccess) where
   pub reads_only : access.write ≡ false → Writes setup history (Port access) None None None
   reads_only reads = record { control_is = rw reads refl; address_is = rw reads refl; store_is = rw reads refl }
 
-  pub writes_beside : IsBeside setup (config_address history) access.port access.width → Writes setup history (Port access) None None None
+  pub writes_beside : IsBeside setup (config_address history) access.port access.width →
+      Writes setup history (Port access) None None None
   writes_beside by = record {
-    control_is = elim (cases_Bool access.write) [ inl writes ↦ rw (writes, by.control) refl | inr reads ↦ rw reads refl ];
-    address_is = elim (cases_Bool access.write) [ inl writes ↦ rw (writes, by.address_port) refl | inr reads ↦ rw reads refl ];
-    store_is = cond_both (access.write && is_config_port access.port) _ None (λ (store : Option MapChange). store ≡ None)
+    control_is = elim (cases_Bool access.write)
+        [ inl writes ↦ rw (writes, by.control) refl | inr reads ↦ rw reads refl ];
+    address_is = elim (cases_Bool access.write)
+        [ inl writes ↦ rw (writes, by.address_port) refl | inr reads ↦ rw reads refl ];
+    store_is = cond_both (access.write && is_config_port access.port) _ None
+        (λ (store : Option MapChange). store ≡ None)
         (λ both. rw (by.config (and_parts access.write _ both).1) refl) (λ _. refl);
   }
 
   pub writes_at : (target : Target) → access.write ≡ true → Reached setup history access target →
       Writes setup history (Port access) (control_at target access) (address_at target access) (store_at target access)
-  writes_at (Device AddressPort) writes at =
-      record { control_is = rw (writes, at.0) refl; address_is = rw (writes, at.0, at.1) refl; store_is = rw (writes, at.0) refl }
-  writes_at (Device Reset) writes at =
-      record { control_is = rw (writes, at.0, at.1) refl; address_is = rw (writes, at.0) refl; store_is = rw (writes, at.0) refl }
+  writes_at (Device AddressPort) writes at = record {
+    control_is = rw (writes, at.0) refl;
+    address_is = rw (writes, at.0, at.1) refl;
+    store_is = rw (writes, at.0) refl;
+  }
+  writes_at (Device Reset) writes at = record {
+    control_is = rw (writes, at.0, at.1) refl;
+    address_is = rw (writes, at.0) refl;
+    store_is = rw (writes, at.0) refl;
+  }
   writes_at (Device Keyboard) writes at = writes_beside at
   writes_at (Device dev) writes at = writes_beside at.0
   writes_at (Config reg) writes at =
       let apart = data_apart access.port at.0 in
-      record { control_is = rw (writes, apart.0) refl; address_is = rw (writes, apart.1) refl; store_is = rw (writes, at.0, at.1) refl }
+      record {
+        control_is = rw (writes, apart.0) refl;
+        address_is = rw (writes, apart.1) refl;
+        store_is = rw (writes, at.0, at.1) refl;
+      }
   writes_at (Card dev base off) writes at = writes_beside at.0
   writes_at Abort writes at = writes_beside at
   writes_at _ writes at = absurd at
@@ -95,15 +111,19 @@ pub record IsNamed (setup : Setup) (address port : ℕ) (reg : Reg) : Type 0 whe
 
 named_by : (setup : Setup) (address port : ℕ) (reg : Reg) →
     function_exists setup (bus_of address) (device_of address) (function_of address) ≡ true →
-    record { dev = device_of address; fun = function_of address; off = register_of address + port % 4 } ≡ reg → IsNamed setup address port reg
+    record { dev = device_of address; fun = function_of address; off = register_of address + port % 4 } ≡ reg →
+    IsNamed setup address port reg
 named_by setup address port reg exists' is =
     record { exists' = rw (← is) (and_parts (bus_of address == 0) _ exists').1; off = rw (← is) refl }
 
-pub named : (setup : Setup) (address port : ℕ) (reg : Reg) → config_register setup address port ≡ Some reg → IsNamed setup address port reg
+pub named : (setup : Setup) (address port : ℕ) (reg : Reg) → config_register setup address port ≡ Some reg →
+    IsNamed setup address port reg
 named setup address port reg is =
-    cond_both (is_enabled address && function_exists setup (bus_of address) (device_of address) (function_of address)) _ _
+    let exists' = function_exists setup (bus_of address) (device_of address) (function_of address) in
+    cond_both (is_enabled address && exists') _ _
     (λ (found : Option Reg). found ≡ Some reg → IsNamed setup address port reg)
-    (λ both same. named_by setup address port reg (and_parts (is_enabled address) _ both).1 (cc)) (λ _ none. absurd (cc)) is
+    (λ both same. named_by setup address port reg (and_parts (is_enabled address) _ both).1 (cc))
+    (λ _ none. absurd (cc)) is
 
 -- an access to a register that an address names stays within its function
 pub within_function :
@@ -111,7 +131,8 @@ pub within_function :
     config_register setup (config_address history) port ≡ Some reg → reg.off + bytes_of width ≤ 0x100
 within_function setup history port width reg aligned is =
     rw ((named setup (config_address history) port reg is).off)
-    (within_space (config_address history) port (register_of (config_address history)) (port % 4) width (address_low history) refl refl aligned)
+    (within_space (config_address history) port (register_of (config_address history)) (port % 4) width
+    (address_low history) refl refl aligned)
 
 -- ---- what an entry tells
 
@@ -123,12 +144,15 @@ target_reached setup history access target is =
     (reaches setup (byte_of setup history) (config_address history) (is_some setup.disk) access.port access.width)
 
 pub entry_reached :
-    {setup : Setup} {history : List Entry} {access : PortAccess} {target shown : Target} {entry : Entry} → target ≡ shown →
+    {setup : Setup} {history : List Entry} {access : PortAccess} {target shown : Target} {entry : Entry} →
+    target ≡ shown →
     IsEntryOf setup history access target entry → Reached setup history access shown
-entry_reached {setup} {history} {access} same is = subst (Reached setup history access) same (target_reached setup history access _ is.target_is)
+entry_reached {setup} {history} {access} same is =
+    subst (Reached setup history access) same (target_reached setup history access _ is.target_is)
 
 pub entry_writes :
-    {setup : Setup} {history : List Entry} {access : PortAccess} {target shown : Target} {entry : Entry} → target ≡ shown →
+    {setup : Setup} {history : List Entry} {access : PortAccess} {target shown : Target} {entry : Entry} →
+    target ≡ shown →
     access.write ≡ true → IsEntryOf setup history access target entry →
     Writes setup history entry.event (control_at shown access) (address_at shown access) (store_at shown access)
 entry_writes {setup} {history} {access} {target} {shown} same writes is =

@@ -38,15 +38,16 @@ use Rattle.board_core.proofs.Reach.{IsReached}
 abbrev IsClaim : Option Window → ℕ → ℕ → Type 0
 IsClaim claim dev base = (window : Window) × (claim ≡ Some window) × (window.dev ≡ dev) × (window.base ≡ base)
 
-last_line : (claim : Option Window) (dev base : ℕ) → first_of (option_map card_area claim ∷ []) AbortArea ≡ CardArea dev base → IsClaim claim dev base
+last_line : (claim : Option Window) (dev base : ℕ) →
+    first_of (option_map card_area claim ∷ []) AbortArea ≡ CardArea dev base → IsClaim claim dev base
 last_line None dev base is = cc
 last_line (Some window) dev base is = (window, refl, cc, cc)
 
 claim_line :
     (smram shadow dram rom : Bool) (row : ℕ) (claim : Option Window) (dev base : ℕ) →
     first_of
-    (line_where smram SmramArea ∷ line_where shadow (ShadowArea row) ∷ line_where dram (DramArea row) ∷ line_where rom RomArea
-    ∷ option_map card_area claim ∷ [])
+    (line_where smram SmramArea ∷ line_where shadow (ShadowArea row) ∷ line_where dram (DramArea row)
+    ∷ line_where rom RomArea ∷ option_map card_area claim ∷ [])
     AbortArea
     ≡ CardArea dev base →
     IsClaim claim dev base
@@ -57,7 +58,8 @@ claim_line false false false true row claim dev base is = cc
 claim_line false false false false row claim dev base is = last_line claim dev base is
 
 claimed :
-    (setup : Setup) (bytes : Bytes) (addr : ℕ) (kind : Kind) (smm : Bool) (dev base : ℕ) → area_of setup bytes addr kind smm ≡ CardArea dev base →
+    (setup : Setup) (bytes : Bytes) (addr : ℕ) (kind : Kind) (smm : Bool) (dev base : ℕ) →
+    area_of setup bytes addr kind smm ≡ CardArea dev base →
     IsClaim (memory_claim setup bytes addr) dev base
 unfolding area_of
 claimed setup bytes addr kind smm dev base is =
@@ -69,7 +71,8 @@ claimed setup bytes addr kind smm dev base is =
     (unwrap_or (row_of bytes addr) 0) (memory_claim setup bytes addr) dev base is
 
 -- an aligned access ends within the ROM
-rom_within : (addr size : ℕ) (width : Width) → IsRomSize size → addr % bytes_of width ≡ 0 → addr % size + bytes_of width ≤ size
+rom_within : (addr size : ℕ) (width : Width) → IsRomSize size → addr % bytes_of width ≡ 0 →
+    addr % size + bytes_of width ≤ size
 rom_within addr size One (inl is) aligned = rw is (omega arith)
 rom_within addr size Two (inl is) aligned = rw is (omega arith)
 rom_within addr size Four (inl is) aligned = rw is (omega arith)
@@ -84,14 +87,17 @@ rom_within addr size Two (inr (inr (inr is))) aligned = rw is (omega arith)
 rom_within addr size Four (inr (inr (inr is))) aligned = rw is (omega arith)
 
 lies_in_base :
-    (setup : Setup) (contents : List (List ℕ)) (window : Window) (dev base place : ℕ) (width : Width) → IsSized setup window → window.dev ≡ dev →
+    (setup : Setup) (contents : List (List ℕ)) (window : Window) (dev base place : ℕ) (width : Width) →
+    IsSized setup window → window.dev ≡ dev →
     window.base ≡ base → LiesIn contents window.dev window.base (place % 2 ^ window.bits) width →
     LiesIn contents dev base (place % 2 ^ window_bits setup dev base) width
-lies_in_base setup contents window dev base place width sized device number lies = rw (← device, ← number, ← sized.bits) lies
+lies_in_base setup contents window dev base place width sized device number lies =
+    rw (← device, ← number, ← sized.bits) lies
 
 module _ {setup : Setup} {history : List Entry} {chipset : Chipset} (kept : IsChipsetOf setup history chipset) where
   cards_fitted : AreFitted chipset.registers.map.regs.cards
-  cards_fitted = fitted_list chipset.registers.map.regs.cards setup.cards (sym kept.registers.kept.cards.0) kept.fits.cards
+  cards_fitted =
+      fitted_list chipset.registers.map.regs.cards setup.cards (sym kept.registers.kept.cards.0) kept.fits.cards
 
   held_in :
       (addr : ℕ) (width : Width) (area : Area) → addr % bytes_of width ≡ 0 →
@@ -101,33 +107,39 @@ module _ {setup : Setup} {history : List Entry} {chipset : Chipset} (kept : IsCh
   held_in addr width (CardArea dev base) aligned claim =
       let by = claim dev base refl in
       let sized : IsSized setup by.0 =
-      memory_claim_sized setup (byte_of setup history) chipset.registers.map.regs.cards addr by.0 cards_fitted.each kept.registers.kept.map.cards by.1 in
+      memory_claim_sized setup (byte_of setup history) chipset.registers.map.regs.cards addr by.0 cards_fitted.each
+      kept.registers.kept.map.cards by.1 in
       lies_in_base setup chipset.stores.contents by.0 dev base addr width sized by.2 by.3
       (lies_in_window setup history chipset.stores.contents by.0 addr width sized kept.stores.contents aligned)
   held_in addr width _ aligned claim = tt
 
   pub ready :
       {rom : List ℕ} {access : Access} {answer : Part} → setup.rom ≡ rom →
-      IsBusAccess (is_write access.kind) access.addr access.width access.value → answer ≡ part_answer setup history access →
+      IsBusAccess (is_write access.kind) access.addr access.width access.value →
+      answer ≡ part_answer setup history access →
       IsReady rom chipset.stores.contents access answer
   unfolding part_answer
   ready {rom} {access} image bus is = record {
     bus = bus;
     held = rw (is, ← image)
-        (held_in access.addr access.width (area_of setup (byte_of setup history) access.addr access.kind access.smm) bus.aligned
+        (held_in access.addr access.width (area_of setup (byte_of setup history) access.addr access.kind access.smm)
+        bus.aligned
         (λ dev base card. claimed setup (byte_of setup history) access.addr access.kind access.smm dev base card));
   }
 
   pub stored_target :
       (port : ℕ) (width : Width) (target : Target) → port % bytes_of width ≡ 0 →
       IsReached setup (byte_of setup history) (config_address history) port width target →
-      ((dev : Dev) → target ≡ Device dev → ⊥) → ((reg : Reg) → target ≡ Config reg → ⊥) → IsStored chipset.stores.contents target width
+      ((dev : Dev) → target ≡ Device dev → ⊥) → ((reg : Reg) → target ≡ Config reg → ⊥) →
+      IsStored chipset.stores.contents target width
   stored_target port width (Device dev) aligned is device config = absurd (device dev refl)
   stored_target port width (Config reg) aligned is device config = absurd (config reg refl)
   stored_target port width (Card dev base off) aligned is device config =
       let window : Window = is.1.0 in
       let sized : IsSized setup window =
-      io_claim_sized setup (byte_of setup history) chipset.registers.map.regs.cards port window cards_fitted.each kept.registers.kept.map.cards is.1.1 in
-      rw (← is.1.2, ← is.1.3, ← is.1.4) (lies_in_window setup history chipset.stores.contents window port width sized kept.stores.contents aligned)
+      io_claim_sized setup (byte_of setup history) chipset.registers.map.regs.cards port window cards_fitted.each
+      kept.registers.kept.map.cards is.1.1 in
+      rw (← is.1.2, ← is.1.3, ← is.1.4)
+      (lies_in_window setup history chipset.stores.contents window port width sized kept.stores.contents aligned)
   stored_target port width Abort aligned is device config = tt
   stored_target port width _ aligned is device config = absurd is

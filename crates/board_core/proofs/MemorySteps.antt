@@ -19,12 +19,15 @@ writes_when Read false is = refl
 writes_when Write true is = refl
 writes_when Write false is = let no = is.1 refl in absurd (cc)
 
-pub write_answer : (setup : Setup) (history : List Entry) (access : Access) (answer : Part) → is_write access.kind ≡ true →
-    answer ≡ part_answer setup history access → Bus None answer.target answer.denial ≡ memory_answer setup history access
+pub write_answer : (setup : Setup) (history : List Entry) (access : Access) (answer : Part) →
+    is_write access.kind ≡ true →
+    answer ≡ part_answer setup history access →
+    Bus None answer.target answer.denial ≡ memory_answer setup history access
 unfolding memory_answer part_answer
 write_answer setup history access answer writes is = rw (is, writes) refl
 
-pub read_answer : (setup : Setup) (history : List Entry) (access : Access) (answer : Part) (value : ℕ) → is_write access.kind ≡ false →
+pub read_answer : (setup : Setup) (history : List Entry) (access : Access) (answer : Part) (value : ℕ) →
+    is_write access.kind ≡ false →
     answer ≡ part_answer setup history access → value ≡ value_at setup history answer.target access.addr access.width →
     Bus (Some value) answer.target answer.denial ≡ memory_answer setup history access
 unfolding memory_answer part_answer

@@ -17,7 +17,8 @@ use Rattle.board_core.specs.Ports.{Writes}
 use Rattle.board_core.specs.Steps.{IsForDevices}
 use Rattle.board_core.proofs.ChipsetSteps.{soft, devices_move}
 
-writes_none : (setup : Setup) (history : List Entry) (event : Event) → IsForDevices event → Writes setup history event None None None
+writes_none : (setup : Setup) (history : List Entry) (event : Event) → IsForDevices event →
+    Writes setup history event None None None
 writes_none setup history (Memory access) is = absurd is
 writes_none setup history (Wide access) is = absurd is
 writes_none setup history (Port access) is = absurd is
@@ -35,7 +36,8 @@ puts_nothing _ reply cell is = refl
 pub told :
     {setup : Setup} {history : List Entry} {entry : Entry} {event : Event} {old : Chipset} {devices : DevicesValue} →
     entry.event ≡ event → IsForDevices event → IsChipsetOf setup history old →
-    (Asks history entry event → AreRoutesOf setup (entry ∷ history) old.registers.south.routes → AreDevicesOf setup (entry ∷ history) devices) →
+    (Asks history entry event → AreRoutesOf setup (entry ∷ history) old.registers.south.routes →
+    AreDevicesOf setup (entry ∷ history) devices) →
     IsChipsetOf setup (entry ∷ history) (record old { devices = devices })
 told {setup} {history} {entry} {event} is for_devices kept after =
     let none : Writes setup history entry.event None None None = rw is (writes_none setup history event for_devices) in
@@ -48,13 +50,15 @@ pub record IsDevice (dev : ℕ) : Type 0 where
   pub low : 2 ≤ dev
   pub high : dev ≤ 9
 
-fitted_in : (cards : List FittedCard) (dev : ℕ) → All IsCard cards → is_some (find (λ card. card.dev == dev) cards) ≡ true → IsDevice dev
+fitted_in : (cards : List FittedCard) (dev : ℕ) → All IsCard cards →
+    is_some (find (λ card. card.dev == dev) cards) ≡ true → IsDevice dev
 fitted_in [] dev each some = absurd (cc)
 fitted_in (first ∷ later) dev each some =
     elim (cases_Bool (first.dev == dev)) [
       | inl here ↦
           let is = All-head IsCard first later each in
-          let same : first.dev ≡ dev = eqb-true _ _ here in record { low = rw (← same) is.first; high = rw (← same) is.last }
+          let same : first.dev ≡ dev =
+          eqb-true _ _ here in record { low = rw (← same) is.first; high = rw (← same) is.last }
       | inr not ↦ fitted_in later dev (All-tail IsCard first later each) (rw not at some)
     ]
 

@@ -44,7 +44,8 @@ pub no_chip : (target : Target) → IsNoDevice target → is_chip (device_in tar
 no_chip (Device dev) none = absurd (none dev refl)
 no_chip _ none = refl
 
-pub beside_of : (setup : Setup) (history : List Entry) (access : PortAccess) (target : Target) → IsNoDevice target → IsNoRegister target →
+pub beside_of : (setup : Setup) (history : List Entry) (access : PortAccess) (target : Target) → IsNoDevice target →
+    IsNoRegister target →
     Reached setup history access target → IsBeside setup (config_address history) access.port access.width
 beside_of setup history access (Device dev) device config is = absurd (device dev refl)
 beside_of setup history access (Config reg) device config is = absurd (config reg refl)
@@ -57,14 +58,16 @@ pub record IsChipAt (setup : Setup) (history : List Entry) (access : PortAccess)
   pub beside : IsBeside setup (config_address history) access.port access.width
   pub port : is_port_of dev access.port (bytes_of access.width) ≡ true
 
-pub chip_at : (setup : Setup) (history : List Entry) (access : PortAccess) (dev : Dev) → dev ≢ AddressPort → dev ≢ Reset → dev ≢ Keyboard →
+pub chip_at : (setup : Setup) (history : List Entry) (access : PortAccess) (dev : Dev) → dev ≢ AddressPort →
+    dev ≢ Reset → dev ≢ Keyboard →
     Reached setup history access (Device dev) → IsChipAt setup history access dev
 chip_at setup history access AddressPort address control keyboard is = absurd (address refl)
 chip_at setup history access Reset address control keyboard is = absurd (control refl)
 chip_at setup history access Keyboard address control keyboard is = absurd (keyboard refl)
 chip_at setup history access _ address control keyboard is = record { beside = is.0; port = is.1 }
 
-pub chip_value : (setup : Setup) (history : List Entry) (dev : Dev) (port : ℕ) (width : Width) → dev ≢ AddressPort → dev ≢ Reset → dev ≢ Keyboard →
+pub chip_value : (setup : Setup) (history : List Entry) (dev : Dev) (port : ℕ) (width : Width) → dev ≢ AddressPort →
+    dev ≢ Reset → dev ≢ Keyboard →
     device_value setup history dev port width ≡ port_value setup history dev port width
 chip_value setup history AddressPort port width address control keyboard = absurd (address refl)
 chip_value setup history Reset port width address control keyboard = absurd (control refl)
@@ -78,7 +81,8 @@ module _ {setup : Setup} {history : List Entry} {access : PortAccess} {target : 
       PassesBy entry.event (device_reached entry.reply)
   passes is none = rw (is.event, is.reply) none
 
-  puts : IsEntryOf setup history access target entry → (cell : Cell) → entry_put entry.event entry.reply cell ≡ port_put access target cell
+  puts : IsEntryOf setup history access target entry →
+      (cell : Cell) → entry_put entry.event entry.reply cell ≡ port_put access target cell
   puts is cell = rw (is.event, is.reply) refl
 
   pub puts_none : IsEntryOf setup history access target entry →
@@ -89,12 +93,15 @@ module _ {setup : Setup} {history : List Entry} {access : PortAccess} {target : 
 
   -- a read that reaches no chip changes nothing
   pub read_stays : {chipset : Chipset} → LeavesDevices → access.write ≡ false → is_chip (device_in target) ≡ false →
-      IsChipsetOf setup history chipset → IsEntryOf setup history access target entry → IsChipsetOf setup (entry ∷ history) chipset
+      IsChipsetOf setup history chipset → IsEntryOf setup history access target entry →
+      IsChipsetOf setup (entry ∷ history) chipset
   read_stays law reads none kept is =
-      chipset_stays law kept (rw (is.event) (reads_only setup history access reads)) (passes is none) (λ cell. puts is cell ∙ rw reads refl)
+      chipset_stays law kept (rw (is.event) (reads_only setup history access reads)) (passes is none)
+      (λ cell. puts is cell ∙ rw reads refl)
 
   -- a write behind a base of a card, or to nobody
-  pub write_stored : {old : Chipset} {stores : Stores} → LeavesDevices → access.write ≡ true → IsNoDevice target → IsNoRegister target →
+  pub write_stored : {old : Chipset} {stores : Stores} → LeavesDevices → access.write ≡ true → IsNoDevice target →
+      IsNoRegister target →
       ArePut (byte_put target access.port access.width access.value) old.stores stores → IsChipsetOf setup history old →
       IsEntryOf setup history access target entry → IsChipsetOf setup (entry ∷ history) (record old { stores = stores })
   write_stored law writes device config put kept is =
@@ -107,25 +114,33 @@ module _ {setup : Setup} {history : List Entry} {access : PortAccess} {target : 
       IsEntryOf setup history access target entry → is_chip (device_in target) ≡ false →
       ((cell : Cell) → byte_put target access.port access.width access.value cell ≡ None) →
       HasRegisters setup (entry ∷ history) registers → registers.south ≡ old.registers.south →
-      is_hard_reset history entry.event ≡ false → IsChipsetOf setup (entry ∷ history) (record old { registers = registers })
+      is_hard_reset history entry.event ≡ false →
+      IsChipsetOf setup (entry ∷ history) (record old { registers = registers })
   registers_move law kept is none puts has south is_soft =
       chipset_after law kept has south (stores_stay kept.stores (puts_none is puts)) (passes is none) is_soft
 
 -- the devices after an access at a chip's port
 pub chip_changed :
-    {setup : Setup} {history : List Entry} {access : PortAccess} {dev : Dev} {entry : Entry} {old : Chipset} {devices : DevicesValue} →
-    IsChipAt setup history access dev → IsChipsetOf setup history old → IsEntryOf setup history access (Device dev) entry →
-    (Reaches history entry dev access → AreRoutesOf setup (entry ∷ history) old.registers.south.routes → AreDevicesOf setup (entry ∷ history) devices) →
+    {setup : Setup} {history : List Entry} {access : PortAccess} {dev : Dev} {entry : Entry} {old : Chipset}
+    {devices : DevicesValue} →
+    IsChipAt setup history access dev → IsChipsetOf setup history old →
+    IsEntryOf setup history access (Device dev) entry →
+    (Reaches history entry dev access → AreRoutesOf setup (entry ∷ history) old.registers.south.routes →
+    AreDevicesOf setup (entry ∷ history) devices) →
     IsChipsetOf setup (entry ∷ history) (record old { devices = devices })
 chip_changed {setup} {history} {access} {dev} {entry} at kept is after =
-    let none : Writes setup history entry.event None None None = rw (is.event) (writes_beside setup history access at.beside) in
-    devices_move kept none (puts_none is (λ cell. refl)) (after (record { event = is.event; device = rw (is.reply) refl; soft = soft none }))
+    let none : Writes setup history entry.event None None None =
+    rw (is.event) (writes_beside setup history access at.beside) in
+    devices_move kept none (puts_none is (λ cell. refl))
+    (after (record { event = is.event; device = rw (is.reply) refl; soft = soft none }))
 
 -- ---- the reply
 
 pub answer_is :
-    (setup : Setup) (history : List Entry) (access : PortAccess) (decoded : Decoded) (reply : Reply) → decoded ≡ reached setup history access →
-    reply ≡ bus_reply setup history access.write decoded.target decoded.denial access.port access.width → reply ≡ port_answer setup history access
+    (setup : Setup) (history : List Entry) (access : PortAccess) (decoded : Decoded) (reply : Reply) →
+    decoded ≡ reached setup history access →
+    reply ≡ bus_reply setup history access.write decoded.target decoded.denial access.port access.width →
+    reply ≡ port_answer setup history access
 unfolding port_answer
 answer_is setup history access decoded reply is same =
     same ∙ ap (λ (d : Decoded). bus_reply setup history access.write d.target d.denial access.port access.width) is

@@ -29,7 +29,8 @@ pub record IsBeside (setup : Setup) (address port : ℕ) (width : Width) : Type 
 
 abbrev pub IsClaimed : Setup → Bytes → (port dev base off : ℕ) → Type 0
 IsClaimed setup bytes port dev base off =
-    (window : Window) × (io_claim setup bytes port ≡ Some window) × (window.dev ≡ dev) × (window.base ≡ base) × (port % 2 ^ window.bits ≡ off)
+    (window : Window) × (io_claim setup bytes port ≡ Some window) × (window.dev ≡ dev) × (window.base ≡ base) ×
+    (port % 2 ^ window.bits ≡ off)
 
 module _ (setup : Setup) (bytes : Bytes) (address port : ℕ) (width : Width) where
   -- what is known of an access that has this target
@@ -45,7 +46,8 @@ module _ (setup : Setup) (bytes : Bytes) (address port : ℕ) (width : Width) wh
 
 -- ---- line by line
 
-line : {A : Type 0} (P : A → Type 0) (holds : Bool) (answer : A) (later : List (Option A)) (last : A) → (holds ≡ true → P answer) →
+line : {A : Type 0} (P : A → Type 0) (holds : Bool) (answer : A) (later : List (Option A)) (last : A) →
+    (holds ≡ true → P answer) →
     (holds ≡ false → P (first_of later last)) → P (first_of (line_where holds answer ∷ later) last)
 line P true answer later last here after = here refl
 line P false answer later last here after = after refl
@@ -53,7 +55,8 @@ line P false answer later last here after = after refl
 both_equal : (a b c d : ℕ) → (a == b && c == d) ≡ true → (a ≡ b) × (c ≡ d)
 both_equal a b c d is = (grind (arith, nat_tests), grind (arith, nat_tests))
 
-no_control_there : (port : ℕ) (width : Width) → is_config_port port ≡ true → (port == reset_control_port && bytes_of width == 1) ≡ false
+no_control_there : (port : ℕ) (width : Width) → is_config_port port ≡ true →
+    (port == reset_control_port && bytes_of width == 1) ≡ false
 no_control_there port width is = grind (arith, nat_tests)
 
 -- past the configuration ports
@@ -73,7 +76,8 @@ module _ (setup : Setup) (bytes : Bytes) (address : ℕ) (disk : Bool) (port : �
   abbrev Lands : Decoded → Type 0
   Lands decoded = IsReached setup bytes address port width decoded.target
 
-  at_config : (found : Option Reg) → is_config_port port ≡ true → (port == config_address_port && bytes_of width == 4) ≡ false →
+  at_config : (found : Option Reg) → is_config_port port ≡ true →
+      (port == config_address_port && bytes_of width == 4) ≡ false →
       config_register setup address port ≡ found → Lands (config_port address found)
   at_config (Some reg) config other is = (config, is)
   at_config None config other is =
@@ -104,7 +108,8 @@ module _ (setup : Setup) (bytes : Bytes) (address : ℕ) (disk : Bool) (port : �
 
   -- ---- what a card can claim
 
-  claimed_or : (denial : Denial) (claim : Option Window) → IsBeside setup address port width → io_claim setup bytes port ≡ claim →
+  claimed_or : (denial : Denial) (claim : Option Window) → IsBeside setup address port width →
+      io_claim setup bytes port ≡ claim →
       Lands (unwrap_or (option_map (card_port port) claim) (nobody denial))
   claimed_or denial None by is = by
   claimed_or denial (Some window) by is = (by, (window, is, refl, refl, refl))
@@ -123,7 +128,8 @@ module _ (setup : Setup) (bytes : Bytes) (address : ℕ) (disk : Bool) (port : �
 
   abbrev later_lines : List (Option Decoded)
   later_lines =
-      line_where ((port == keyboard_data_port || port == keyboard_command_port) && bytes_of width == 1) (selected_by 1 Keyboard setup bytes port)
+      line_where ((port == keyboard_data_port || port == keyboard_command_port) && bytes_of width == 1)
+      (selected_by 1 Keyboard setup bytes port)
       ∷ line_where (lies_in clock_ports port && bytes_of width == 1) (selected_by 0 Clock setup bytes port)
       ∷ line_where (is_ata_port port (bytes_of width)) (disk_port setup bytes disk port)
       ∷ []
@@ -133,25 +139,31 @@ module _ (setup : Setup) (bytes : Bytes) (address : ℕ) (disk : Bool) (port : �
       line Lands ((port == keyboard_data_port || port == keyboard_command_port) && bytes_of width == 1)
       (selected_by 1 Keyboard setup bytes port) _ (other_port setup bytes port)
       (λ _. cond_both (is_bit (bytes xbcs) 1) _ _ Lands (λ _. by) (λ _. others _ by))
-      (λ _. line Lands (lies_in clock_ports port && bytes_of width == 1) (selected_by 0 Clock setup bytes port) _ (other_port setup bytes port)
+      (λ _. line Lands (lies_in clock_ports port && bytes_of width == 1) (selected_by 0 Clock setup bytes port) _
+      (other_port setup bytes port)
       (λ is. cond_both (is_bit (bytes xbcs) 0) _ _ Lands (λ _. (by, is)) (λ _. others _ by))
-      (λ _. line Lands (is_ata_port port (bytes_of width)) (disk_port setup bytes disk port) [] (other_port setup bytes port)
+      (λ _. line Lands (is_ata_port port (bytes_of width)) (disk_port setup bytes disk port) []
+      (other_port setup bytes port)
       (λ is. at_disk disk by is) (λ _. others _ by)))
 
   past_config : IsPast setup address port width →
-      Lands (first_of ((if bytes_of width == 1 then option_map device (byte_device port) else None) ∷ later_lines) (other_port setup bytes port))
+      Lands (first_of ((if bytes_of width == 1 then option_map device (byte_device port) else None) ∷ later_lines)
+      (other_port setup bytes port))
   past_config past =
       cond_both (bytes_of width == 1) (option_map device (byte_device port)) None
       (λ (first : Option Decoded). Lands (first_of (first ∷ later_lines) (other_port setup bytes port)))
-      (λ one. by_byte (byte_device port) later_lines (other_port setup bytes port) (byte_reach (eqb-true (bytes_of width) 1 one) past)
+      (λ one. by_byte (byte_device port) later_lines (other_port setup bytes port)
+      (byte_reach (eqb-true (bytes_of width) 1 one) past)
       (λ not_reset. later (beside past (rw not_reset refl))))
       (λ other. later (beside past (and_right (port == reset_control_port) _ other)))
 
   pub reaches : Lands (port_target_of setup bytes address disk port width)
   unfolding port_target_of
   reaches =
-      line Lands (port == config_address_port && bytes_of width == 4) (device AddressPort) _ (other_port setup bytes port)
+      line Lands (port == config_address_port && bytes_of width == 4) (device AddressPort) _
+      (other_port setup bytes port)
       (λ is. both_equal port config_address_port (bytes_of width) 4 is)
-      (λ other. line Lands (is_config_port port) (config_port address (config_register setup address port)) _ (other_port setup bytes port)
+      (λ other. line Lands (is_config_port port) (config_port address (config_register setup address port)) _
+      (other_port setup bytes port)
       (λ config. at_config (config_register setup address port) config other refl)
       (λ not_config. past_config (record { address_port = other; config = not_config })))

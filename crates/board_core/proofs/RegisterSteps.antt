@@ -31,21 +31,23 @@ pub follows :
     {setup : Setup} {history : List Entry} {entry : Entry} {old new : Registers} {written address : Option ℕ}
     {store : Option MapChange} →
     Writes setup history entry.event written address store → HasRegisters setup history old →
-    new.address ≡ (if resets_hard old.control written then 0 else unwrap_or (option_map kept_address address) old.address) →
+    new.address ≡
+    (if resets_hard old.control written then 0 else unwrap_or (option_map kept_address address) old.address) →
     new.control ≡ control_after old.control written →
     AreKeptOf setup (λ reg. byte_with setup (change_by old.control written store) reg (byte_of setup history reg))
     new.map.regs new.south →
     new.map.version ≡ old.map.version + moved setup (change_by old.control written store) → IsFlat new.map →
     HasRegisters setup (entry ∷ history) new
 unfolding config_address reset_control byte_of
-follows {setup} {history} {entry} {old} {new} {written} {address} {store} writes has address_is control kept version flat =
+follows {setup} {history} {entry} {old} {new} {written} {store = store} writes has address control kept version flat =
     let change : register_change setup history entry.event ≡ change_by old.control written store =
     rw (has.control) (change_is writes) in
     record {
-      address = rw (writes.control_is, writes.address_is, ← has.control, ← has.address) address_is;
+      address = rw (writes.control_is, writes.address_is, ← has.control, ← has.address) address;
       control = rw (writes.control_is, ← has.control) control;
       kept = subst
-          (λ (c : Option MapChange). AreKeptOf setup (λ reg. byte_with setup c reg (byte_of setup history reg)) new.map.regs new.south)
+          (λ (c : Option MapChange). AreKeptOf setup (λ reg. byte_with setup c reg (byte_of setup history reg))
+          new.map.regs new.south)
           (sym change) kept;
       version = version ∙ ap (λ (n : ℕ). n + moved setup (change_by old.control written store)) has.version
           ∙ sym (version_after setup history entry _ change);
@@ -54,18 +56,21 @@ follows {setup} {history} {entry} {old} {new} {written} {address} {store} writes
 
 -- an event that writes no register
 pub quiet :
-    {setup : Setup} {history : List Entry} {entry : Entry} {old : Registers} → Writes setup history entry.event None None None →
+    {setup : Setup} {history : List Entry} {entry : Entry} {old : Registers} →
+    Writes setup history entry.event None None None →
     HasRegisters setup history old → HasRegisters setup (entry ∷ history) old
 quiet none has = follows none has refl refl has.kept (omega arith) has.flat
 
 pub registers_at_reset : (setup : Setup) (registers : Registers) → registers.address ≡ 0 → registers.control ≡ 0 →
-    AreKeptOf setup (reset_byte setup) registers.map.regs registers.south → registers.map.version ≡ 0 → IsFlat registers.map →
+    AreKeptOf setup (reset_byte setup) registers.map.regs registers.south → registers.map.version ≡ 0 →
+    IsFlat registers.map →
     HasRegisters setup [] registers
 unfolding byte_of config_address reset_control map_writes_of
 registers_at_reset setup registers address control kept version flat =
     record { address = address; control = control; kept = kept; version = version; flat = flat }
 
 -- the map has had fewer changes than a history has room for entries
-pub few_changes : (setup : Setup) (history : List Entry) (registers : Registers) → HasRegisters setup history registers →
+pub few_changes : (setup : Setup) (history : List Entry) (registers : Registers) →
+    HasRegisters setup history registers →
     length history < most → registers.map.version < most
 few_changes setup history registers has few = rw (has.version) (omega (arith, few_writes setup history))

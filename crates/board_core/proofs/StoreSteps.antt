@@ -11,8 +11,10 @@ use Rattle.board_stores.specs.Puts.{HasStores, ArePut}
 
 -- an entry puts the bytes that were put
 pub stores_put :
-    {setup : Setup} {history : List Entry} {entry : Entry} {put : Cell → Option ℕ} {old new : Stores} → HasStores setup history old →
-    ((cell : Cell) → entry_put entry.event entry.reply cell ≡ put cell) → ArePut put old new → HasStores setup (entry ∷ history) new
+    {setup : Setup} {history : List Entry} {entry : Entry} {put : Cell → Option ℕ} {old new : Stores} →
+    HasStores setup history old →
+    ((cell : Cell) → entry_put entry.event entry.reply cell ≡ put cell) → ArePut put old new →
+    HasStores setup (entry ∷ history) new
 unfolding stored_of
 stores_put {setup} {history} {entry} {put} {old} {new} has same is = record {
   dram = record {

@@ -20,7 +20,8 @@ use Rattle.board_core.specs.Kept.{IsChipsetOf}
 use Rattle.board_core.proofs.HeldTargets.{ready}
 
 -- the cycles of a wide access
-module _ {setup : Setup} {history : List Entry} {chipset : Chipset} {rom : List ℕ} (kept : IsChipsetOf setup history chipset)
+module _
+    {setup : Setup} {history : List Entry} {chipset : Chipset} {rom : List ℕ} (kept : IsChipsetOf setup history chipset)
     (image : setup.rom ≡ rom) (access : WideAccess) where
   all_ready : (cycles : List Cycle) → All (IsPart access) (accesses cycles) →
       answers cycles ≡ map (part_answer setup history) (accesses cycles) → AreReady rom chipset.stores.contents cycles
@@ -29,14 +30,16 @@ module _ {setup : Setup} {history : List Entry} {chipset : Chipset} {rom : List 
       let first = All-head (IsPart access) cycle.access (accesses later) each in
       let here : cycle.answer ≡ part_answer setup history cycle.access = cc in
       let rest : answers later ≡ map (part_answer setup history) (accesses later) = cc in
-      All-cons (λ (it : Cycle). IsReady rom chipset.stores.contents it.access it.answer) cycle later (ready kept image first.legal here)
+      All-cons (λ (it : Cycle). IsReady rom chipset.stores.contents it.access it.answer) cycle later
+      (ready kept image first.legal here)
       (all_ready later (All-tail (IsPart access) cycle.access (accesses later) each) rest)
 
   pub cycles_ready : (cycles : List Cycle) → AreParts access (parts_of access) → accesses cycles ≡ parts_of access →
       answers cycles ≡ map (part_answer setup history) (parts_of access) → AreReady rom chipset.stores.contents cycles
   cycles_ready cycles parts is told = all_ready cycles (rw is parts.each) (rw is told)
 
-pub all_write : (access : WideAccess) (cycles : List Cycle) → is_write access.kind ≡ true → All (IsPart access) (accesses cycles) →
+pub all_write : (access : WideAccess) (cycles : List Cycle) → is_write access.kind ≡ true →
+    All (IsPart access) (accesses cycles) →
     All (λ cycle. is_write cycle.access.kind ≡ true) cycles
 all_write access [] writes each = λ k d within. absurd (omega arith)
 all_write access (cycle ∷ later) writes each =
@@ -45,7 +48,8 @@ all_write access (cycle ∷ later) writes each =
     (all_write access later writes (All-tail (IsPart access) cycle.access (accesses later) each))
 
 -- parts that read put nothing
-pub parts_none : (access : WideAccess) (parts : List Access) (replies : List Part) (cell : Cell) → is_write access.kind ≡ false → All (IsPart access) parts →
+pub parts_none : (access : WideAccess) (parts : List Access) (replies : List Part) (cell : Cell) →
+    is_write access.kind ≡ false → All (IsPart access) parts →
     parts_put parts replies cell ≡ None
 unfolding parts_put
 parts_none access [] replies cell reads each = refl
@@ -55,14 +59,17 @@ parts_none access (part ∷ later) (reply ∷ replies) cell reads each =
     let here : is_write part.kind ≡ false = ap is_write first.kind ∙ reads in
     rw (here, parts_none access later replies cell reads (All-tail (IsPart access) part later each)) refl
 
-pub write_answer : (setup : Setup) (history : List Entry) (access : WideAccess) (parts : Parts) → is_write access.kind ≡ true →
+pub write_answer : (setup : Setup) (history : List Entry) (access : WideAccess) (parts : Parts) →
+    is_write access.kind ≡ true →
     parts_list parts ≡ map (part_answer setup history) (parts_of access) → IsWideAnswer setup history access None parts
 unfolding wide_value
 write_answer setup history access parts writes each = record { value_is = rw writes refl; each = each }
 
-pub read_answer : (setup : Setup) (history : List Entry) (access : WideAccess) (parts : Parts) (value : ℕ) → is_write access.kind ≡ false →
+pub read_answer : (setup : Setup) (history : List Entry) (access : WideAccess) (parts : Parts) (value : ℕ) →
+    is_write access.kind ≡ false →
     parts_list parts ≡ map (part_answer setup history) (parts_of access) →
-    value ≡ joined (λ part. value_at setup history (memory_target setup history part) part.addr part.width) (parts_of access) →
+    value ≡ joined (λ part. value_at setup history (memory_target setup history part) part.addr part.width)
+    (parts_of access) →
     IsWideAnswer setup history access (Some value) parts
 unfolding wide_value
 read_answer setup history access parts value reads each is = record { value_is = rw (reads, is) refl; each = each }

@@ -51,7 +51,8 @@ pub record CanDo (chipset : Chipset) (rom : List ℕ) (event : Event) : Type 0 w
   pub in_range : IsInRange kept.setup event
 
 -- and with the number of each processor's entries, and room for more
-pub record IsKept (setup : Setup) (history : List Entry) (spare : ℕ) (chipset : Chipset) (counts : List ℕ) : Type 0 where
+pub record IsKept (setup : Setup) (history : List Entry) (spare : ℕ) (chipset : Chipset)
+    (counts : List ℕ) : Type 0 where
   pub room : length history + spare < most
   pub legal : IsLegal setup history
   pub board : IsChipsetOf setup history chipset

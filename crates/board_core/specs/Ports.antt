@@ -28,7 +28,8 @@ pub record Reaching (chipset : Chipset) (access : PortAccess) (target : Target) 
   pub target_is : target ≡ (reached kept.setup kept.history access).target
 
 -- an entry is this access, which reached this target
-pub record IsEntryOf (setup : Setup) (history : List Entry) (access : PortAccess) (target : Target) (entry : Entry) : Type 0 where
+pub record IsEntryOf (setup : Setup) (history : List Entry) (access : PortAccess) (target : Target)
+    (entry : Entry) : Type 0 where
   pub value : Option ℕ
   pub denial : Option Denial
   pub target_is : target ≡ (reached setup history access).target
@@ -36,7 +37,8 @@ pub record IsEntryOf (setup : Setup) (history : List Entry) (access : PortAccess
   pub reply : entry.reply ≡ Bus value target denial
 
 -- an event after a history writes these to reset control and to the configuration address, and makes this store
-pub record Writes (setup : Setup) (history : List Entry) (event : Event) (control address : Option ℕ) (store : Option MapChange) : Type 0 where
+pub record Writes (setup : Setup) (history : List Entry) (event : Event) (control address : Option ℕ)
+    (store : Option MapChange) : Type 0 where
   pub control_is : control_written event ≡ control
   pub address_is : address_written event ≡ address
   pub store_is : config_store setup (config_address history) event ≡ store

@@ -9,7 +9,8 @@ use Rattle.board_core.proofs.ChipsetSteps.{chipset_stays}
 use Rattle.board_core.proofs.looks.look.Goals as goal
 
 -- a look stores nothing, whatever it sees
-puts_nothing : (kind : Kind) (addr : ℕ) (smm : Bool) (reply : Reply) (cell : Cell) → entry_put (LookAt kind addr smm) reply cell ≡ None
+puts_nothing : (kind : Kind) (addr : ℕ) (smm : Bool) (reply : Reply) (cell : Cell) →
+    entry_put (LookAt kind addr smm) reply cell ≡ None
 puts_nothing kind addr smm (Bus value target denial) cell = refl
 puts_nothing kind addr smm (Parts value parts) cell = refl
 puts_nothing kind addr smm (Saw look) cell = refl
@@ -22,5 +23,6 @@ returns-clause-answer c = λ setup history kept. record {
 
 pub returns-clause-board : goal.returns-clause-board
 returns-clause-board c = λ setup history entry kept event.
-    chipset_stays c.law_left_alone.ensures.left kept (rw event (record { control_is = refl; address_is = refl; store_is = refl }))
+    chipset_stays c.law_left_alone.ensures.left kept
+    (rw event (record { control_is = refl; address_is = refl; store_is = refl }))
     (rw event tt) (λ cell. rw event (puts_nothing c.args.kind c.args.addr c.args.smm entry.reply cell))

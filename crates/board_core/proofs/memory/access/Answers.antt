@@ -7,8 +7,11 @@ use Rattle.board_core.proofs.memory.access.Goals as goal
 pub write-requires-clause-ready : goal.write-requires-clause-ready
 write-requires-clause-ready c =
     let kept = c.requires.kept in
-    let stand = c.regs.ensures.stand kept.setup kept.history kept.of.registers in
-    (c.args.rom.now, ready kept.of kept.image c.requires.bus (c.decoded-answer.ensures.decoded kept.setup kept.history stand kept.image))
+    let stand = c.regs.ensures.stand kept.setup kept.history kept.of.registers in (
+      c.args.rom.now,
+      ready kept.of kept.image c.requires.bus
+          (c.decoded-answer.ensures.decoded kept.setup kept.history stand kept.image),
+    )
 
 pub returns-then-is_write-clause-answer : goal.returns-then-is_write-clause-answer
 returns-then-is_write-clause-answer c = λ setup history kept image.
@@ -18,14 +21,18 @@ returns-then-is_write-clause-answer c = λ setup history kept image.
 
 pub returns-then-is_write-clause-board : goal.returns-then-is_write-clause-board
 returns-then-is_write-clause-board c = λ setup history entry kept image event replied.
-    chipset_put c.law_left_alone.ensures.left kept (rw event (record { control_is = refl; address_is = refl; store_is = refl }))
+    chipset_put c.law_left_alone.ensures.left kept
+    (rw event (record { control_is = refl; address_is = refl; store_is = refl }))
     (rw event tt) (λ cell. rw (event, replied) refl) c.write.ensures.put
 
 pub read-requires : goal.read-requires
 read-requires c =
     let kept = c.requires.kept in
     let stand = c.regs.ensures.stand kept.setup kept.history kept.of.registers in
-    record { ready = ready kept.of kept.image c.requires.bus (c.decoded-answer.ensures.decoded kept.setup kept.history stand kept.image) }
+    record {
+      ready = ready kept.of kept.image c.requires.bus
+          (c.decoded-answer.ensures.decoded kept.setup kept.history stand kept.image);
+    }
 
 pub returns-clause-answer : goal.returns-clause-answer
 returns-clause-answer c = λ setup history kept image.
@@ -37,5 +44,6 @@ returns-clause-answer c = λ setup history kept image.
 pub returns-clause-board : goal.returns-clause-board
 returns-clause-board c = λ setup history entry kept image event replied.
     let reads = writes_when c.args.access.now.kind c.is_write.result c.is_write.ensures.write ∙ c.if-is_write.false in
-    chipset_stays c.law_left_alone.ensures.left kept (rw event (record { control_is = refl; address_is = refl; store_is = refl }))
+    chipset_stays c.law_left_alone.ensures.left kept
+    (rw event (record { control_is = refl; address_is = refl; store_is = refl }))
     (rw event tt) (λ cell. rw (event, replied, reads) refl)

@@ -15,7 +15,10 @@ read-requires c =
     let access = c.args.access.now in
     let at = subst (Reached kept.setup kept.history access) c.in-Config.is
     (target_reached kept.setup kept.history access c.args.target reaching.target_is) in
-    record { within = within_function kept.setup kept.history access.port access.width c.in-Config.reg reaching.bus.aligned at.1 }
+    record {
+      within = within_function kept.setup kept.history access.port access.width c.in-Config.reg
+          reaching.bus.aligned at.1;
+    }
 
 pub read-requires-in_default : goal.read-requires-in_default
 read-requires-in_default c =
@@ -37,7 +40,8 @@ returns-in-Device-clause-board c = λ setup history entry kept is.
 pub returns-in-Config-clause-value : goal.returns-in-Config-clause-value
 returns-in-Config-clause-value c = λ setup history kept is.
     let access = c.args.access.now in
-    let at = subst (Reached setup history access) c.in-Config.is (target_reached setup history access c.args.target is) in
+    let at = subst (Reached setup history access) c.in-Config.is
+    (target_reached setup history access c.args.target is) in
     rw c.in-Config.is
     (c.read.ensures.value setup history kept.registers
     (named setup (config_address history) access.port c.in-Config.reg at.1).exists')

@@ -10,7 +10,8 @@ read-requires-in_default c =
     record {
       port = (chip_at reaching.kept.setup reaching.kept.history c.args.access.now c.args.dev
           c.in_default.not-Confadd c.in_default.not-Reset c.in_default.not-Keyboard
-          (target_reached reaching.kept.setup reaching.kept.history c.args.access.now (Device c.args.dev) reaching.target_is)).port;
+          (target_reached reaching.kept.setup reaching.kept.history c.args.access.now
+          (Device c.args.dev) reaching.target_is)).port;
     }
 
 pub returns-in-Confadd-clause-board : goal.returns-in-Confadd-clause-board
@@ -32,9 +33,12 @@ returns-in_default c =
     record {
       value = λ setup history kept.
           c.read-in_default.ensures.value setup history kept.devices
-          ∙ chip_value setup history dev access.port access.width c.in_default.not-Confadd c.in_default.not-Reset c.in_default.not-Keyboard;
+          ∙ chip_value setup history dev access.port access.width c.in_default.not-Confadd c.in_default.not-Reset
+          c.in_default.not-Keyboard;
       board = λ setup history entry kept is.
           chip_changed
-          (chip_at setup history access dev c.in_default.not-Confadd c.in_default.not-Reset c.in_default.not-Keyboard (entry_reached refl is))
-          kept is (λ reaches. c.read-in_default.ensures.devices setup history entry kept.devices reaches c.requires.reads);
+          (chip_at setup history access dev c.in_default.not-Confadd c.in_default.not-Reset c.in_default.not-Keyboard
+          (entry_reached refl is))
+          kept is (λ reaches. c.read-in_default.ensures.devices setup history entry kept.devices reaches
+          c.requires.reads);
     }

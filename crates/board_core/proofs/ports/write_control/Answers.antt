@@ -14,7 +14,8 @@ overflow_cast-access c =
     let reaching = c.requires.reaching in
     let access = c.args.access.now in
     let at = target_reached reaching.kept.setup reaching.kept.history access (Device Reset) reaching.target_is in
-    let small : access.value ≤ 0xFF = fits_byte access.width access.value at.1 (rw c.requires.writes at reaching.bus.fits) in
+    let small : access.value ≤ 0xFF =
+    fits_byte access.width access.value at.1 (rw c.requires.writes at reaching.bus.fits) in
     omega arith
 
 pub write_control-requires : goal.write_control-requires

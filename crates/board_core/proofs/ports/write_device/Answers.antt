@@ -14,7 +14,8 @@ write-requires c =
     record {
       port = (chip_at reaching.kept.setup reaching.kept.history access c.args.dev
           c.in_default.not-Confadd c.in_default.not-Reset c.in_default.not-Keyboard
-          (target_reached reaching.kept.setup reaching.kept.history access (Device c.args.dev) reaching.target_is)).port;
+          (target_reached reaching.kept.setup reaching.kept.history access
+          (Device c.args.dev) reaching.target_is)).port;
       fits = rw c.requires.writes at reaching.bus.fits;
     }
 
@@ -23,7 +24,8 @@ returns-in-Confadd c = record {
   board = λ setup history entry kept is.
       let writes = entry_writes (ap (λ (dev : Dev). Device dev) c.in-Confadd.is) c.requires.writes is in
       registers_move c.law_left_alone.ensures.left kept is (rw c.in-Confadd.is refl) (λ cell. refl)
-      (c.write_address.ensures.registers setup history entry kept.registers writes) c.write_address.ensures.south (soft writes);
+      (c.write_address.ensures.registers setup history entry kept.registers writes) c.write_address.ensures.south
+      (soft writes);
 }
 
 pub returns-in-Reset : goal.returns-in-Reset
@@ -36,7 +38,8 @@ returns-in-Reset c = record {
 pub returns-in-Keyboard : goal.returns-in-Keyboard
 returns-in-Keyboard c = record {
   board = λ setup history entry kept is.
-      chipset_stays c.law_left_alone.ensures.left kept (entry_writes (ap (λ (dev : Dev). Device dev) c.in-Keyboard.is) c.requires.writes is)
+      chipset_stays c.law_left_alone.ensures.left kept
+      (entry_writes (ap (λ (dev : Dev). Device dev) c.in-Keyboard.is) c.requires.writes is)
       (passes is (rw c.in-Keyboard.is refl)) (puts_none is (λ cell. refl));
 }
 
@@ -44,7 +47,8 @@ pub returns-in_default : goal.returns-in_default
 returns-in_default c = record {
   board = λ setup history entry kept is.
       chip_changed
-      (chip_at setup history c.args.access.now c.args.dev c.in_default.not-Confadd c.in_default.not-Reset c.in_default.not-Keyboard
+      (chip_at setup history c.args.access.now c.args.dev c.in_default.not-Confadd c.in_default.not-Reset
+      c.in_default.not-Keyboard
       (entry_reached refl is))
       kept is (λ reaches. c.write.ensures.devices setup history entry kept.devices reaches c.requires.writes);
 }

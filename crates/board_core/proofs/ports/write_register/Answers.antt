@@ -18,7 +18,8 @@ store-requires-clause-within c =
 
 pub store-requires-clause-version : goal.store-requires-clause-version
 store-requires-clause-version c =
-    let kept = c.requires.reaching.kept in few_changes kept.setup kept.history c.args.chipset.now.registers kept.of.registers kept.few
+    let kept = c.requires.reaching.kept in few_changes kept.setup kept.history c.args.chipset.now.registers
+    kept.of.registers kept.few
 
 pub returns-then-reg-eq-SOUTH_BRIDGE : goal.returns-then-reg-eq-SOUTH_BRIDGE
 returns-then-reg-eq-SOUTH_BRIDGE c = record {
@@ -30,7 +31,8 @@ returns-then-reg-eq-SOUTH_BRIDGE c = record {
         fits = kept.fits;
         registers = registers;
         stores = stores_stay kept.stores (puts_none is (λ cell. refl));
-        devices = c.reroute.ensures.devices setup history entry kept.devices (record { passes = passes is refl; soft = soft writes })
+        devices = c.reroute.ensures.devices setup history entry kept.devices
+            (record { passes = passes is refl; soft = soft writes })
             registers.kept.south.routes;
       };
 }
@@ -40,5 +42,6 @@ returns-else-reg-eq-SOUTH_BRIDGE c = record {
   board = λ setup history entry kept is.
       let writes = entry_writes refl c.requires.writes is in
       registers_move c.law_left_alone.ensures.left kept is refl (λ cell. refl)
-      (c.store.ensures.registers setup history entry kept.registers writes) (c.store.ensures.south (omega arith)) (soft writes);
+      (c.store.ensures.registers setup history entry kept.registers writes) (c.store.ensures.south (omega arith))
+      (soft writes);
 }

@@ -17,9 +17,11 @@ invariant_of-result c =
           cards = c.requires.cards;
           windows = c.requires.windows;
           rom = rw (← c.rom.ensures.bytes) (c.is_rom_size.ensures.size.0 c.if-not-is_rom_size.false);
-          disk = disk_opened setup.disk _ c.open.result c.in_ok-devices.devices c.open.ensures.bad c.in_ok-devices.was c.disk.ensures.bytes;
+          disk = disk_opened setup.disk _ c.open.result c.in_ok-devices.devices c.open.ensures.bad c.in_ok-devices.was
+              c.disk.ensures.bytes;
         };
-        registers = c.new-registers.ensures.reset setup (ap (λ (s : Setup). s.cards) (sym is) ∙ sym c.deref-2.ensures.value);
+        registers = c.new-registers.ensures.reset setup
+            (ap (λ (s : Setup). s.cards) (sym is) ∙ sym c.deref-2.ensures.value);
         stores = c.in_ok-stores.ensures.fresh setup (ap (λ (s : Setup). s.mib) (sym is))
             (ap (λ (s : Setup). s.cards) (sym is) ∙ sym c.deref.ensures.value);
         devices = c.in_ok-devices.ensures.fresh setup (sym c.disk.ensures.bytes);

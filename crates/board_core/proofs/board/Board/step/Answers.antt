@@ -11,8 +11,10 @@ perform-reply-requires c =
     let old = c.self.inside in
     record {
       can =
-          can_do old.setup old.history.entries old.history.spare old.chipset old.counts _ c.args.event.now (sym c.rom.ensures.bytes) c.self.invariant
-          (subst (λ (board : Standing). IsInRange board.setup c.args.event.now) (sym c.self.view_is) c.requires.in_range);
+          can_do old.setup old.history.entries old.history.spare old.chipset old.counts _ c.args.event.now
+          (sym c.rom.ensures.bytes) c.self.invariant
+          (subst (λ (board : Standing). IsInRange board.setup c.args.event.now)
+          (sym c.self.view_is) c.requires.in_range);
     }
 
 pub overflow_add-seq : goal.overflow_add-seq
@@ -33,7 +35,9 @@ invariant_of-self c =
       reply = c.perform-reply.result;
     } in
     rw (c.from-2.ensures)
-    (stepped old.setup old.history.entries old.counts entry c.push.new.self old.history.spare old.chipset c.perform-reply.new.chipset
+    (stepped old.setup old.history.entries old.counts entry c.push.new.self old.history.spare old.chipset
+    c.perform-reply.new.chipset
     c.self.told (omega arith) some c.push.ensures.pushed (rw (c.from.ensures) refl) c.self.invariant
     (c.perform-reply.ensures.answer old.setup old.history.entries c.self.invariant.board (sym c.rom.ensures.bytes))
-    (c.perform-reply.ensures.board old.setup old.history.entries entry c.self.invariant.board (sym c.rom.ensures.bytes) refl refl))
+    (c.perform-reply.ensures.board old.setup old.history.entries entry c.self.invariant.board
+    (sym c.rom.ensures.bytes) refl refl))

@@ -11,7 +11,10 @@ use Rattle.board_core.proofs.registers.Registers.map_change.Goals as goal
 
 pub returns-then-not-access : goal.returns-then-not-access
 returns-then-not-access c =
-    record { change = λ setup history has fitted. changes (reads_only setup history c.args.access.now c.if-not-access.true) }
+    record {
+      change = λ setup history has fitted. changes
+          (reads_only setup history c.args.access.now c.if-not-access.true);
+    }
 
 pub returns-in-Device : goal.returns-in-Device
 returns-in-Device c = record {
@@ -33,7 +36,9 @@ returns-in-Config c = record {
       let at = target_reached setup history access c.decode_port.result.0
       (ap (λ (decoded : Decoded). decoded.target) (rw fitted at (c.decode_port.ensures.decoded setup history has))) in
       c.store_change.ensures.change setup history has
-      ∙ changes (writes_at setup history access (Config c.in-Config.reg) c.if-not-access.false (subst (Reached setup history access) c.in-Config.is at));
+      ∙ changes
+      (writes_at setup history access (Config c.in-Config.reg) c.if-not-access.false
+      (subst (Reached setup history access) c.in-Config.is at));
 }
 
 pub returns-in_default : goal.returns-in_default

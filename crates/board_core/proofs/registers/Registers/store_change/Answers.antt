@@ -8,7 +8,8 @@ pub returns-then-touches : goal.returns-then-touches
 returns-then-touches c = record {
   change = λ setup history has.
       let touched : touches_map setup (Store c.args.reg c.args.width c.args.value) ≡ true =
-      sym (c.touches.ensures.touched setup (byte_of setup history) (c.regs.ensures.stand setup history has)) ∙ c.if-touches.true in
+      sym (c.touches.ensures.touched setup (byte_of setup history) (c.regs.ensures.stand setup history has))
+      ∙ c.if-touches.true in
       rw touched refl;
 }
 
@@ -16,6 +17,7 @@ pub returns : goal.returns
 returns c = record {
   change = λ setup history has.
       let touched : touches_map setup (Store c.args.reg c.args.width c.args.value) ≡ false =
-      sym (c.touches.ensures.touched setup (byte_of setup history) (c.regs.ensures.stand setup history has)) ∙ c.if-touches.false in
+      sym (c.touches.ensures.touched setup (byte_of setup history) (c.regs.ensures.stand setup history has))
+      ∙ c.if-touches.false in
       rw touched refl;
 }
