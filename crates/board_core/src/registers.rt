@@ -156,7 +156,8 @@ impl Registers {
 
     /// The change that a write to a device is: a hard reset, or none.
     fn device_change(&self, dev: Dev, value: u32) -> Option<MapChange>
-        ensures control { dev ≡ ResetPort → result ≡ (if is_hard_value self.now.control value then Some Reset else None) }
+        ensures control { dev ≡ ResetPort
+            → result ≡ (if is_hard_value self.now.control value then Some Reset else None) }
         ensures other { (dev ≡ ResetPort → ⊥) → result ≡ None }
     {
         match dev {

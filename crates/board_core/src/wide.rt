@@ -21,9 +21,11 @@ use board_stores::{Cycle, cycles_of, read_cycles, write_cycles};
 pub fn access(chipset: &mut Chipset, rom: &[u8], access: &WideAccess) -> Reply
     requires wide { IsWideAccess access.now }
     requires kept { IsChipset chipset.old rom.now }
-    ensures answer { (setup : Setup) (history : List Entry) → IsChipsetOf setup history chipset.old → setup.rom ≡ rom.now
+    ensures answer { (setup : Setup) (history : List Entry) → IsChipsetOf setup history chipset.old
+        → setup.rom ≡ rom.now
         → IsAnswer setup history (Wide access.now) result }
-    ensures board { (setup : Setup) (history : List Entry) (entry : Entry) → IsChipsetOf setup history chipset.old → setup.rom ≡ rom.now
+    ensures board { (setup : Setup) (history : List Entry) (entry : Entry)
+        → IsChipsetOf setup history chipset.old → setup.rom ≡ rom.now
         → entry.event ≡ Wide access.now → entry.reply ≡ result → IsChipsetOf setup (entry ∷ history) chipset.new }
 {
     law_left_alone();
