@@ -1,5 +1,5 @@
 -- Wide accesses: their cycles can be done.
-use Rattle.std.proofs.Common.{◌≡◌, ℕ, List, [], ◌∷◌, ◌∙◌, true, false, None, Some, refl, sym, ap, subst, arith}
+use Rattle.std.proofs.Common.{◌≡◌, ℕ, List, [], ◌∷◌, ◌∙◌, true, false, None, Some, refl, ap, arith}
 use Rattle.std.specs.Prelude.{map, All}
 use Rattle.std.proofs.lemmas.List.Elements.{All-head, All-tail, All-cons}
 use Rattle.board_base.specs.declared.access.WideAccess.{WideAccess}
@@ -20,27 +20,26 @@ use Rattle.board_core.specs.Kept.{IsChipsetOf}
 use Rattle.board_core.proofs.HeldTargets.{ready}
 
 -- the cycles of a wide access
-pub all_ready :
-    (setup : Setup) (history : List Entry) (chipset : Chipset) (rom : List ℕ) (access : WideAccess) (cycles : List Cycle) →
-    IsChipsetOf setup history chipset → setup.rom ≡ rom → All (IsPart access) (accesses cycles) →
-    answers cycles ≡ map (part_answer setup history) (accesses cycles) → AreReady rom chipset.stores.contents cycles
-all_ready setup history chipset rom access [] kept image each is = λ k d within. absurd (omega arith)
-all_ready setup history chipset rom access (cycle ∷ later) kept image each is =
-    let first = All-head (IsPart access) cycle.access (accesses later) each in
-    let here : cycle.answer ≡ part_answer setup history cycle.access = cc in
-    let rest : answers later ≡ map (part_answer setup history) (accesses later) = cc in
-    All-cons (λ (it : Cycle). IsReady rom chipset.stores.contents it.access it.answer) cycle later (ready setup history chipset rom cycle.access cycle.answer kept image first.legal here)
-    (all_ready setup history chipset rom access later kept image (All-tail (IsPart access) cycle.access (accesses later) each) rest)
+module _
+    {setup : Setup} {history : List Entry} {chipset : Chipset} {rom : List ℕ} (kept : IsChipsetOf setup history chipset)
+    (image : setup.rom ≡ rom) (access : WideAccess) where
+  all_ready : (cycles : List Cycle) → All (IsPart access) (accesses cycles) →
+      answers cycles ≡ map (part_answer setup history) (accesses cycles) → AreReady rom chipset.stores.contents cycles
+  all_ready [] each is = λ k d within. absurd (omega arith)
+  all_ready (cycle ∷ later) each is =
+      let first = All-head (IsPart access) cycle.access (accesses later) each in
+      let here : cycle.answer ≡ part_answer setup history cycle.access = cc in
+      let rest : answers later ≡ map (part_answer setup history) (accesses later) = cc in
+      All-cons (λ (it : Cycle). IsReady rom chipset.stores.contents it.access it.answer) cycle later
+      (ready kept image first.legal here)
+      (all_ready later (All-tail (IsPart access) cycle.access (accesses later) each) rest)
 
-pub cycles_ready :
-    (setup : Setup) (history : List Entry) (chipset : Chipset) (rom : List ℕ) (access : WideAccess) (cycles : List Cycle) →
-    IsChipsetOf setup history chipset → setup.rom ≡ rom → AreParts access (parts_of access) → accesses cycles ≡ parts_of access →
-    answers cycles ≡ map (part_answer setup history) (parts_of access) → AreReady rom chipset.stores.contents cycles
-cycles_ready setup history chipset rom access cycles kept image parts is told =
-    all_ready setup history chipset rom access cycles kept image
-    (subst (λ (list : List Access). All (IsPart access) list) (sym is) parts.each) (told ∙ ap (map (part_answer setup history)) (sym is))
+  pub cycles_ready : (cycles : List Cycle) → AreParts access (parts_of access) → accesses cycles ≡ parts_of access →
+      answers cycles ≡ map (part_answer setup history) (parts_of access) → AreReady rom chipset.stores.contents cycles
+  cycles_ready cycles parts is told = all_ready cycles (rw is parts.each) (rw is told)
 
-pub all_write : (access : WideAccess) (cycles : List Cycle) → is_write access.kind ≡ true → All (IsPart access) (accesses cycles) →
+pub all_write : (access : WideAccess) (cycles : List Cycle) → is_write access.kind ≡ true →
+    All (IsPart access) (accesses cycles) →
     All (λ cycle. is_write cycle.access.kind ≡ true) cycles
 all_write access [] writes each = λ k d within. absurd (omega arith)
 all_write access (cycle ∷ later) writes each =
@@ -49,7 +48,8 @@ all_write access (cycle ∷ later) writes each =
     (all_write access later writes (All-tail (IsPart access) cycle.access (accesses later) each))
 
 -- parts that read put nothing
-pub parts_none : (access : WideAccess) (parts : List Access) (replies : List Part) (cell : Cell) → is_write access.kind ≡ false → All (IsPart access) parts →
+pub parts_none : (access : WideAccess) (parts : List Access) (replies : List Part) (cell : Cell) →
+    is_write access.kind ≡ false → All (IsPart access) parts →
     parts_put parts replies cell ≡ None
 unfolding parts_put
 parts_none access [] replies cell reads each = refl
@@ -59,18 +59,17 @@ parts_none access (part ∷ later) (reply ∷ replies) cell reads each =
     let here : is_write part.kind ≡ false = ap is_write first.kind ∙ reads in
     rw (here, parts_none access later replies cell reads (All-tail (IsPart access) part later each)) refl
 
-pub write_answer : (setup : Setup) (history : List Entry) (access : WideAccess) (parts : Parts) → is_write access.kind ≡ true →
+pub write_answer : (setup : Setup) (history : List Entry) (access : WideAccess) (parts : Parts) →
+    is_write access.kind ≡ true →
     parts_list parts ≡ map (part_answer setup history) (parts_of access) → IsWideAnswer setup history access None parts
 unfolding wide_value
 write_answer setup history access parts writes each = record { value_is = rw writes refl; each = each }
 
-pub read_answer : (setup : Setup) (history : List Entry) (access : WideAccess) (parts : Parts) (value : ℕ) → is_write access.kind ≡ false →
+pub read_answer : (setup : Setup) (history : List Entry) (access : WideAccess) (parts : Parts) (value : ℕ) →
+    is_write access.kind ≡ false →
     parts_list parts ≡ map (part_answer setup history) (parts_of access) →
-    value ≡ joined (λ part. value_at setup history (memory_target setup history part) part.addr part.width) (parts_of access) →
+    value ≡ joined (λ part. value_at setup history (memory_target setup history part) part.addr part.width)
+    (parts_of access) →
     IsWideAnswer setup history access (Some value) parts
 unfolding wide_value
 read_answer setup history access parts value reads each is = record { value_is = rw (reads, is) refl; each = each }
-
-pub put_as : (parts parts' : List Access) (replies replies' : List Part) (cell : Cell) → parts ≡ parts' → replies ≡ replies' →
-    parts_put parts replies cell ≡ parts_put parts' replies' cell
-put_as parts parts' replies replies' cell same same' = rw (same, same') refl

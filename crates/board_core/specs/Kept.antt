@@ -1,7 +1,6 @@
 -- What a board keeps of its history: the registers, the bytes behind its addresses, and the devices.
 use Rattle.std.specs.Prelude.{ℕ, ◌≡◌, ◌+◌, ◌<◌, List, length, slice_index}
 use Rattle.board_spec.specs.declared.event.Event.{Event}
-use Rattle.board_spec.specs.declared.event.Reply.{Reply}
 use Rattle.board_spec.specs.declared.event.Entry.{Entry}
 use Rattle.board_spec.specs.Setup.{Setup, IsSetup}
 use Rattle.board_spec.specs.InRange.{IsInRange}
@@ -52,7 +51,8 @@ pub record CanDo (chipset : Chipset) (rom : List ℕ) (event : Event) : Type 0 w
   pub in_range : IsInRange kept.setup event
 
 -- and with the number of each processor's entries, and room for more
-pub record IsKept (setup : Setup) (history : List Entry) (spare : ℕ) (chipset : Chipset) (counts : List ℕ) : Type 0 where
+pub record IsKept (setup : Setup) (history : List Entry) (spare : ℕ) (chipset : Chipset)
+    (counts : List ℕ) : Type 0 where
   pub room : length history + spare < most
   pub legal : IsLegal setup history
   pub board : IsChipsetOf setup history chipset
@@ -63,4 +63,3 @@ pub record Standing : Type 0 where
   pub setup : Setup
   pub entries : List Entry
   pub spare : ℕ
-

@@ -1,17 +1,16 @@
 -- What an access at a port reaches after a history, and what its entry tells.
-use Rattle.std.specs.Prelude.{ℕ, ◌≡◌, Bool, List, Option, Some, None, is_some}
+use Rattle.std.specs.Prelude.{ℕ, ◌≡◌, List, Option, is_some}
 use Rattle.board_base.specs.declared.access.PortAccess.{PortAccess}
-use Rattle.board_base.specs.declared.target.Dev.{Dev}
-use Rattle.board_base.specs.declared.target.Dev.TheVariants.{Confadd, Reset, Keyboard}
 use Rattle.board_base.specs.declared.target.Target.{Target}
 use Rattle.board_base.specs.declared.target.Denial.{Denial}
 use Rattle.board_spec.specs.declared.event.Event.{Event}
 use Rattle.board_spec.specs.declared.event.Event.TheVariants.{Port}
 use Rattle.board_spec.specs.declared.event.Reply.TheVariants.{Bus}
 use Rattle.board_spec.specs.declared.event.Entry.{Entry}
+use Rattle.board_spec.specs.declared.map_change.MapChange.{MapChange}
 use Rattle.board_spec.specs.Setup.{Setup}
 use Rattle.board_spec.specs.InRange.{IsBusAccess}
-use Rattle.board_spec.specs.Registers.{control_written, address_written, config_address, register_change, byte_of}
+use Rattle.board_spec.specs.Registers.{control_written, address_written, config_address, config_store, byte_of}
 use Rattle.board_spec.specs.Ports.{Decoded, port_target_of}
 use Rattle.board_core.specs.declared.chipset.Chipset.{Chipset}
 use Rattle.board_core.specs.Kept.{IsChipset}
@@ -29,21 +28,17 @@ pub record Reaching (chipset : Chipset) (access : PortAccess) (target : Target) 
   pub target_is : target ≡ (reached kept.setup kept.history access).target
 
 -- an entry is this access, which reached this target
-pub record IsEntryOf (setup : Setup) (history : List Entry) (access : PortAccess) (target : Target) (entry : Entry) : Type 0 where
+pub record IsEntryOf (setup : Setup) (history : List Entry) (access : PortAccess) (target : Target)
+    (entry : Entry) : Type 0 where
   pub value : Option ℕ
   pub denial : Option Denial
   pub target_is : target ≡ (reached setup history access).target
   pub event : entry.event ≡ Port access
   pub reply : entry.reply ≡ Bus value target denial
 
--- an event after a history writes no register
-pub record WritesNone (setup : Setup) (history : List Entry) (event : Event) : Type 0 where
-  pub control : control_written event ≡ None
-  pub address : address_written event ≡ None
-  pub change : register_change setup history event ≡ None
-
--- it writes the configuration address alone
-pub record WritesAddress (setup : Setup) (history : List Entry) (event : Event) (value : ℕ) : Type 0 where
-  pub control : control_written event ≡ None
-  pub address : address_written event ≡ Some value
-  pub change : register_change setup history event ≡ None
+-- an event after a history writes these to reset control and to the configuration address, and makes this store
+pub record Writes (setup : Setup) (history : List Entry) (event : Event) (control address : Option ℕ)
+    (store : Option MapChange) : Type 0 where
+  pub control_is : control_written event ≡ control
+  pub address_is : address_written event ≡ address
+  pub store_is : config_store setup (config_address history) event ≡ store

@@ -73,9 +73,11 @@ fn no_entries() -> [u32; ACTORS]
 /// Does an event, and tells the reply.
 fn perform(chipset: &mut Chipset, rom: &[u8], event: &Event) -> Reply
     requires can { CanDo chipset.old rom.now event.now }
-    ensures answer { (setup : Setup) (history : List Entry) → IsChipsetOf setup history chipset.old → setup.rom ≡ rom.now
+    ensures answer { (setup : Setup) (history : List Entry) → IsChipsetOf setup history chipset.old
+        → setup.rom ≡ rom.now
         → IsAnswer setup history event.now result }
-    ensures board { (setup : Setup) (history : List Entry) (entry : Entry) → IsChipsetOf setup history chipset.old → setup.rom ≡ rom.now
+    ensures board { (setup : Setup) (history : List Entry) (entry : Entry)
+        → IsChipsetOf setup history chipset.old → setup.rom ≡ rom.now
         → entry.event ≡ event.now → entry.reply ≡ result → IsChipsetOf setup (entry ∷ history) chipset.new }
 {
     match event {

@@ -19,13 +19,15 @@ use board_stores::{decoded, read, write};
 pub fn access(chipset: &mut Chipset, rom: &[u8], access: &Access) -> Reply
     requires bus { IsBusAccess (is_write access.now.kind) access.now.addr access.now.width access.now.value }
     requires kept { IsChipset chipset.old rom.now }
-    ensures answer { (setup : Setup) (history : List Entry) → IsChipsetOf setup history chipset.old → setup.rom ≡ rom.now
+    ensures answer { (setup : Setup) (history : List Entry) → IsChipsetOf setup history chipset.old
+        → setup.rom ≡ rom.now
         → result ≡ memory_answer setup history access.now }
-    ensures board { (setup : Setup) (history : List Entry) (entry : Entry) → IsChipsetOf setup history chipset.old → setup.rom ≡ rom.now
+    ensures board { (setup : Setup) (history : List Entry) (entry : Entry)
+        → IsChipsetOf setup history chipset.old → setup.rom ≡ rom.now
         → entry.event ≡ Memory access.now → entry.reply ≡ result → IsChipsetOf setup (entry ∷ history) chipset.new }
 {
     law_left_alone();
-    let answer = decoded(chipset.registers.map.regs(), rom, access);
+    let answer = decoded(chipset.registers.regs(), rom, access);
     let (target, denial) = (answer.target, answer.denial);
     if access.kind.is_write() {
         write(&mut chipset.stores, access, &answer);

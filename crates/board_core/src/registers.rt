@@ -9,15 +9,17 @@ ghost use Rattle.board_spec.specs.declared.map_change.MapChange.TheVariants.{Sto
 ghost use Rattle.board_spec.specs.Setup.{Setup, IsCardList};
 ghost use Rattle.board_spec.specs.Bits.{wide};
 ghost use Rattle.board_spec.specs.RegisterTable.{function_exists, reset_byte};
-ghost use Rattle.board_spec.specs.Registers.{byte_of, config_address, control_written, is_hard_value, register_change};
+ghost use Rattle.board_spec.specs.Registers.{byte_of, config_address, is_hard_value};
 ghost use Rattle.board_spec.specs.MapWrites.{map_change_of, touches_map};
 ghost use Rattle.board_spec.specs.Decode.{Bytes};
 ghost use Rattle.board_spec.specs.Ports.{port_target_of};
+ghost use Rattle.pci_bars.specs.Cards.{AreFitted};
+ghost use Rattle.addr_decode.specs.MapRegs.{StandsFor, map_bytes};
 ghost use Rattle.addr_decode.specs.Ports.{as_decoded};
 ghost use Rattle.access_history.specs.Past.{most};
 ghost use Rattle.config_regs.specs.Config.{AreKeptOf};
 ghost use Rattle.board_core.specs.Kept.{HasRegisters, IsFlat};
-ghost use Rattle.board_core.specs.Ports.{WritesAddress};
+ghost use Rattle.board_core.specs.Ports.{Writes};
 
 use crate::reset_control::ResetControl;
 use addr_decode::{MapChange, MapRegs, PortRegs, decode_port, touches};
@@ -51,6 +53,15 @@ impl Registers {
         }
     }
 
+    /// The registers on which the memory map depends.
+    pub fn regs(&self) -> &MapRegs
+        ensures stand { (setup : Setup) (history : List Entry) → HasRegisters setup history self.now
+            → StandsFor setup (byte_of setup history) (map_bytes result.now) }
+        ensures fitted { AreFitted result.now.cards.items }
+    {
+        self.map.regs()
+    }
+
     /// What an access at a port reaches, and what denies it, with a disk fitted or without.
     pub fn decode_port(&self, port: u16, width: Width, disk: bool) -> (Target, Option<Denial>)
         ensures decoded { (setup : Setup) (history : List Entry) → HasRegisters setup history self.now
@@ -62,7 +73,7 @@ impl Registers {
             idetim: self.south.ide.timing(),
             disk,
         };
-        decode_port(self.map.regs(), &ports, port, width)
+        decode_port(self.regs(), &ports, port, width)
     }
 
     /// The bytes from a register on of a function that exists, the first in the low bits.
@@ -78,7 +89,7 @@ impl Registers {
     /// Writes the configuration address.
     pub fn write_address(&mut self, value: u32)
         ensures registers { (setup : Setup) (history : List Entry) (entry : Entry) → HasRegisters setup history self.old
-            → WritesAddress setup history entry.event value → HasRegisters setup (entry ∷ history) self.new }
+            → Writes setup history entry.event None (Some value) None → HasRegisters setup (entry ∷ history) self.new }
         ensures south { self.new.south ≡ self.old.south }
     {
         self.address.write(value);
@@ -89,7 +100,7 @@ impl Registers {
         requires within { reg.off + bytes_of width ≤ 0x100 }
         requires version { self.old.map.version < most }
         ensures registers { (setup : Setup) (history : List Entry) (entry : Entry) → HasRegisters setup history self.old
-            → register_change setup history entry.event ≡ Some (Store reg width value)
+            → Writes setup history entry.event None None (Some (Store reg width value))
             → HasRegisters setup (entry ∷ history) self.new }
         ensures south { reg.dev ≢ 1 → self.new.south ≡ self.old.south }
     {
@@ -102,7 +113,7 @@ impl Registers {
         requires version { self.old.map.version < most }
         ensures hard { result ≡ is_hard_value self.old.control byte }
         ensures registers { (setup : Setup) (history : List Entry) (entry : Entry)
-            → control_written entry.event ≡ Some byte
+            → Writes setup history entry.event (Some byte) None None
             → HasRegisters setup history self.old → HasRegisters setup (entry ∷ history) self.new }
         ensures south { is_hard_value self.old.control byte ≡ false → self.new.south ≡ self.old.south }
     {
@@ -145,7 +156,8 @@ impl Registers {
 
     /// The change that a write to a device is: a hard reset, or none.
     fn device_change(&self, dev: Dev, value: u32) -> Option<MapChange>
-        ensures control { dev ≡ ResetPort → result ≡ (if is_hard_value self.now.control value then Some Reset else None) }
+        ensures control { dev ≡ ResetPort
+            → result ≡ (if is_hard_value self.now.control value then Some Reset else None) }
         ensures other { (dev ≡ ResetPort → ⊥) → result ≡ None }
     {
         match dev {
@@ -169,7 +181,7 @@ impl Registers {
         ensures change { (setup : Setup) (history : List Entry) → HasRegisters setup history self.now
             → result ≡ (if touches_map setup (Store reg width value) then Some (Store reg width value) else None) }
     {
-        if touches(self.map.regs(), reg, width) {
+        if touches(self.regs(), reg, width) {
             return Some(MapChange::Store { reg, width, value });
         }
         None

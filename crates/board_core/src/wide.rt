@@ -21,20 +21,23 @@ use board_stores::{Cycle, cycles_of, read_cycles, write_cycles};
 pub fn access(chipset: &mut Chipset, rom: &[u8], access: &WideAccess) -> Reply
     requires wide { IsWideAccess access.now }
     requires kept { IsChipset chipset.old rom.now }
-    ensures answer { (setup : Setup) (history : List Entry) → IsChipsetOf setup history chipset.old → setup.rom ≡ rom.now
+    ensures answer { (setup : Setup) (history : List Entry) → IsChipsetOf setup history chipset.old
+        → setup.rom ≡ rom.now
         → IsAnswer setup history (Wide access.now) result }
-    ensures board { (setup : Setup) (history : List Entry) (entry : Entry) → IsChipsetOf setup history chipset.old → setup.rom ≡ rom.now
+    ensures board { (setup : Setup) (history : List Entry) (entry : Entry)
+        → IsChipsetOf setup history chipset.old → setup.rom ≡ rom.now
         → entry.event ≡ Wide access.now → entry.reply ≡ result → IsChipsetOf setup (entry ∷ history) chipset.new }
 {
     law_left_alone();
     law_parts();
-    let cycles = cycles_of(chipset.registers.map.regs(), rom, access);
-    let parts = parts_of(&cycles);
+    let cut = cycles_of(chipset.registers.regs(), rom, access);
+    let cycles = cut.as_slice();
+    let parts = parts_of(cycles);
     if access.kind.is_write() {
-        write_cycles(&mut chipset.stores, &cycles);
+        write_cycles(&mut chipset.stores, cycles);
         return Reply::Parts { value: None, parts };
     }
-    let value = Some(read_cycles(&chipset.stores, rom, &cycles));
+    let value = Some(read_cycles(&chipset.stores, rom, cycles));
     Reply::Parts { value, parts }
 }
 

@@ -1,4 +1,4 @@
-use Rattle.std.proofs.Common.{◌≡◌, ◌∙◌}
+use Rattle.std.proofs.Common.{◌∙◌}
 use Rattle.board_core.proofs.board.perform.Goals as goal
 
 pub returns-in-Memory-clause-board : goal.returns-in-Memory-clause-board

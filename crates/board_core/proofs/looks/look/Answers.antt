@@ -1,4 +1,4 @@
-use Rattle.std.proofs.Common.{◌≡◌, ℕ, Bool, Option, None, refl, ◌∙◌}
+use Rattle.std.proofs.Common.{◌≡◌, ℕ, Bool, None, refl, ◌∙◌}
 use Rattle.board_base.specs.declared.access.Kind.{Kind}
 use Rattle.board_spec.specs.declared.event.Event.TheVariants.{Look as LookAt}
 use Rattle.board_spec.specs.declared.event.Reply.{Reply}
@@ -9,7 +9,8 @@ use Rattle.board_core.proofs.ChipsetSteps.{chipset_stays}
 use Rattle.board_core.proofs.looks.look.Goals as goal
 
 -- a look stores nothing, whatever it sees
-puts_nothing : (kind : Kind) (addr : ℕ) (smm : Bool) (reply : Reply) (cell : Cell) → entry_put (LookAt kind addr smm) reply cell ≡ None
+puts_nothing : (kind : Kind) (addr : ℕ) (smm : Bool) (reply : Reply) (cell : Cell) →
+    entry_put (LookAt kind addr smm) reply cell ≡ None
 puts_nothing kind addr smm (Bus value target denial) cell = refl
 puts_nothing kind addr smm (Parts value parts) cell = refl
 puts_nothing kind addr smm (Saw look) cell = refl
@@ -22,6 +23,6 @@ returns-clause-answer c = λ setup history kept. record {
 
 pub returns-clause-board : goal.returns-clause-board
 returns-clause-board c = λ setup history entry kept event.
-    chipset_stays setup history entry c.args.chipset.now c.law_left_alone.ensures.left kept
-    (rw event (record { control = refl; address = refl; change = refl }))
-    (λ cell. rw event (puts_nothing c.args.kind c.args.addr c.args.smm entry.reply cell)) (rw event tt)
+    chipset_stays c.law_left_alone.ensures.left kept
+    (rw event (record { control_is = refl; address_is = refl; store_is = refl }))
+    (rw event tt) (λ cell. rw event (puts_nothing c.args.kind c.args.addr c.args.smm entry.reply cell))

@@ -1,22 +1,23 @@
-use Rattle.std.proofs.Common.{◌≡◌, ℕ, ◌∙◌, ◌∷◌, refl, ap, subst}
+use Rattle.std.proofs.Common.{ℕ, ◌∙◌, refl, ap, subst}
 use Rattle.board_base.specs.declared.target.Target.{Target}
-use Rattle.board_base.specs.declared.target.Target.TheVariants.{Device, Config}
+use Rattle.board_spec.specs.Registers.{config_address}
 use Rattle.board_spec.specs.Answer.{value_at}
 use Rattle.board_core.specs.Ports.{IsEntryOf}
-use Rattle.board_core.proofs.Effects.{Reached, target_reached, within_function}
+use Rattle.board_core.proofs.Effects.{Reached, target_reached, named, within_function}
 use Rattle.board_core.proofs.HeldTargets.{stored_target}
-use Rattle.board_core.proofs.PortSteps.{register_exists, no_chip, read_stays}
+use Rattle.board_core.proofs.PortSteps.{no_chip, read_stays}
 use Rattle.board_core.proofs.ports.read.Goals as goal
 
 pub read-requires : goal.read-requires
 read-requires c =
     let reaching = c.requires.reaching in
+    let kept = reaching.kept in
     let access = c.args.access.now in
+    let at = subst (Reached kept.setup kept.history access) c.in-Config.is
+    (target_reached kept.setup kept.history access c.args.target reaching.target_is) in
     record {
-      within =
-          within_function reaching.kept.setup reaching.kept.history access.port access.width c.in-Config.reg reaching.bus.aligned
-          (subst (Reached reaching.kept.setup reaching.kept.history access) c.in-Config.is
-          (target_reached reaching.kept.setup reaching.kept.history access c.args.target reaching.target_is)).1;
+      within = within_function kept.setup kept.history access.port access.width c.in-Config.reg
+          reaching.bus.aligned at.1;
     }
 
 pub read-requires-in_default : goal.read-requires-in_default
@@ -25,8 +26,8 @@ read-requires-in_default c =
     let access = c.args.access.now in
     record {
       stored =
-          stored_target reaching.kept.setup reaching.kept.history c.args.chipset.now access.port access.width c.args.target reaching.kept.of
-          reaching.bus.aligned (target_reached reaching.kept.setup reaching.kept.history access c.args.target reaching.target_is)
+          stored_target reaching.kept.of access.port access.width c.args.target reaching.bus.aligned
+          (target_reached reaching.kept.setup reaching.kept.history access c.args.target reaching.target_is)
           c.in_default.not-Device c.in_default.not-Config;
       aligned = rw c.from.ensures reaching.bus.aligned;
     }
@@ -38,24 +39,22 @@ returns-in-Device-clause-board c = λ setup history entry kept is.
 
 pub returns-in-Config-clause-value : goal.returns-in-Config-clause-value
 returns-in-Config-clause-value c = λ setup history kept is.
+    let access = c.args.access.now in
+    let at = subst (Reached setup history access) c.in-Config.is
+    (target_reached setup history access c.args.target is) in
     rw c.in-Config.is
     (c.read.ensures.value setup history kept.registers
-    (register_exists setup history c.args.access.now c.in-Config.reg
-    (subst (Reached setup history c.args.access.now) c.in-Config.is (target_reached setup history c.args.access.now c.args.target is))))
+    (named setup (config_address history) access.port c.in-Config.reg at.1).exists')
 
 pub returns-in-Config-clause-board : goal.returns-in-Config-clause-board
 returns-in-Config-clause-board c = λ setup history entry kept is.
-    read_stays setup history c.args.access.now c.args.target entry c.args.chipset.now c.law_left_alone.ensures.left c.requires.reads
-    (rw c.in-Config.is refl) kept is
+    read_stays c.law_left_alone.ensures.left c.requires.reads (rw c.in-Config.is refl) kept is
 
 pub returns-in_default : goal.returns-in_default
-returns-in_default c =
-    let access = c.args.access.now in
-    record {
-      value = λ setup history kept is.
-          c.read-in_default.ensures.value setup history kept.stores
-          ∙ ap (λ (place : ℕ). value_at setup history c.args.target place access.width) c.from.ensures;
-      board = λ setup history entry kept is.
-          read_stays setup history access c.args.target entry c.args.chipset.now c.law_left_alone.ensures.left c.requires.reads
-          (no_chip c.args.target c.in_default.not-Device) kept is;
-    }
+returns-in_default c = record {
+  value = λ setup history kept is.
+      c.read-in_default.ensures.value setup history kept.stores
+      ∙ ap (λ (place : ℕ). value_at setup history c.args.target place c.args.access.now.width) c.from.ensures;
+  board = λ setup history entry kept is.
+      read_stays c.law_left_alone.ensures.left c.requires.reads (no_chip c.args.target c.in_default.not-Device) kept is;
+}

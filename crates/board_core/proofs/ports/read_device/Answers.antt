@@ -1,9 +1,7 @@
-use Rattle.std.proofs.Common.{◌≡◌, ◌∷◌, ◌∙◌, refl, subst}
+use Rattle.std.proofs.Common.{◌∙◌, refl}
 use Rattle.board_base.specs.declared.target.Target.TheVariants.{Device}
-use Rattle.board_core.specs.Ports.{IsEntryOf}
-use Rattle.board_core.proofs.Effects.{target_reached}
-use Rattle.board_core.proofs.ChipsetSteps.{routes}
-use Rattle.board_core.proofs.PortSteps.{chip_at, chip_value, entry_reached, read_stays, chip_quiet, chip_reached, chip_changed}
+use Rattle.board_core.proofs.Effects.{target_reached, entry_reached}
+use Rattle.board_core.proofs.PortSteps.{chip_at, chip_value, read_stays, chip_changed}
 use Rattle.board_core.proofs.ports.read_device.Goals as goal
 
 pub read-requires-in_default : goal.read-requires-in_default
@@ -12,23 +10,21 @@ read-requires-in_default c =
     record {
       port = (chip_at reaching.kept.setup reaching.kept.history c.args.access.now c.args.dev
           c.in_default.not-Confadd c.in_default.not-Reset c.in_default.not-Keyboard
-          (target_reached reaching.kept.setup reaching.kept.history c.args.access.now (Device c.args.dev) reaching.target_is)).port;
+          (target_reached reaching.kept.setup reaching.kept.history c.args.access.now
+          (Device c.args.dev) reaching.target_is)).port;
     }
 
 pub returns-in-Confadd-clause-board : goal.returns-in-Confadd-clause-board
 returns-in-Confadd-clause-board c = λ setup history entry kept is.
-    read_stays setup history c.args.access.now (Device c.args.dev) entry c.args.chipset.now c.law_left_alone.ensures.left c.requires.reads
-    (rw c.in-Confadd.is refl) kept is
+    read_stays c.law_left_alone.ensures.left c.requires.reads (rw c.in-Confadd.is refl) kept is
 
 pub returns-in-Reset-clause-board : goal.returns-in-Reset-clause-board
 returns-in-Reset-clause-board c = λ setup history entry kept is.
-    read_stays setup history c.args.access.now (Device c.args.dev) entry c.args.chipset.now c.law_left_alone.ensures.left c.requires.reads
-    (rw c.in-Reset.is refl) kept is
+    read_stays c.law_left_alone.ensures.left c.requires.reads (rw c.in-Reset.is refl) kept is
 
 pub returns-in-Keyboard-clause-board : goal.returns-in-Keyboard-clause-board
 returns-in-Keyboard-clause-board c = λ setup history entry kept is.
-    read_stays setup history c.args.access.now (Device c.args.dev) entry c.args.chipset.now c.law_left_alone.ensures.left c.requires.reads
-    (rw c.in-Keyboard.is refl) kept is
+    read_stays c.law_left_alone.ensures.left c.requires.reads (rw c.in-Keyboard.is refl) kept is
 
 pub returns-in_default : goal.returns-in_default
 returns-in_default c =
@@ -37,11 +33,12 @@ returns-in_default c =
     record {
       value = λ setup history kept.
           c.read-in_default.ensures.value setup history kept.devices
-          ∙ chip_value setup history dev access.port access.width c.in_default.not-Confadd c.in_default.not-Reset c.in_default.not-Keyboard;
+          ∙ chip_value setup history dev access.port access.width c.in_default.not-Confadd c.in_default.not-Reset
+          c.in_default.not-Keyboard;
       board = λ setup history entry kept is.
-          let at = chip_at setup history access dev c.in_default.not-Confadd c.in_default.not-Reset c.in_default.not-Keyboard
-          (entry_reached setup history access (Device dev) (Device dev) entry refl is) in
-          chip_changed setup history access dev entry c.args.chipset.now c.read-in_default.new.self at kept is
-          (c.read-in_default.ensures.devices setup history entry kept.devices (chip_reached setup history access dev entry at is) c.requires.reads
-          (routes setup (entry ∷ history) c.args.chipset.now.registers (chip_quiet setup history access dev entry c.args.chipset.now at kept is)));
+          chip_changed
+          (chip_at setup history access dev c.in_default.not-Confadd c.in_default.not-Reset c.in_default.not-Keyboard
+          (entry_reached refl is))
+          kept is (λ reaches. c.read-in_default.ensures.devices setup history entry kept.devices reaches
+          c.requires.reads);
     }

@@ -1,7 +1,7 @@
-use Rattle.std.proofs.Common.{◌≡◌, subst}
+use Rattle.std.proofs.Common.{subst}
 use Rattle.board_base.specs.declared.target.Target.{Target}
 use Rattle.board_core.specs.Ports.{IsEntryOf}
-use Rattle.board_core.proofs.Effects.{target_reached, written_fits}
+use Rattle.board_core.proofs.Effects.{target_reached}
 use Rattle.board_core.proofs.HeldTargets.{stored_target}
 use Rattle.board_core.proofs.PortSteps.{write_stored}
 use Rattle.board_core.proofs.ports.write.Goals as goal
@@ -12,11 +12,11 @@ write-requires c =
     let access = c.args.access.now in
     record {
       stored =
-          stored_target reaching.kept.setup reaching.kept.history c.args.chipset.now access.port access.width c.args.target reaching.kept.of
-          reaching.bus.aligned (target_reached reaching.kept.setup reaching.kept.history access c.args.target reaching.target_is)
+          stored_target reaching.kept.of access.port access.width c.args.target reaching.bus.aligned
+          (target_reached reaching.kept.setup reaching.kept.history access c.args.target reaching.target_is)
           c.in_default.not-Device c.in_default.not-Config;
       aligned = rw c.from.ensures reaching.bus.aligned;
-      value = written_fits access.write access.width access.value c.requires.writes reaching.bus.fits;
+      value = rw c.requires.writes at reaching.bus.fits;
     }
 
 pub returns-in-Device : goal.returns-in-Device
@@ -36,6 +36,6 @@ returns-in-Config c = record {
 pub returns-in_default : goal.returns-in_default
 returns-in_default c = record {
   board = λ setup history entry kept is.
-      write_stored setup history c.args.access.now c.args.target entry c.args.chipset.now c.write.new.self c.from.result c.law_left_alone.ensures.left
-      c.requires.writes c.in_default.not-Device c.in_default.not-Config c.from.ensures c.write.ensures.put kept is;
+      write_stored c.law_left_alone.ensures.left c.requires.writes c.in_default.not-Device c.in_default.not-Config
+      (rw c.from.ensures at c.write.ensures.put) kept is;
 }

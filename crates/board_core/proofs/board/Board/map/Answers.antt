@@ -8,5 +8,6 @@ pub returns-clause-map : goal.returns-clause-map
 returns-clause-map c =
     let inside = c.self.inside in
     let registers = c.self.invariant.board.registers in
-    subst (λ (board : Standing). IsFlatMapOf board.setup (byte_of board.setup board.entries) inside.chipset.registers.map.ranges)
+    subst (λ (board : Standing). IsFlatMapOf board.setup
+    (byte_of board.setup board.entries) inside.chipset.registers.map.ranges)
     c.self.view_is (registers.flat inside.setup (byte_of inside.setup inside.history.entries) registers.kept.map)

@@ -1,10 +1,9 @@
-use Rattle.std.proofs.Common.{◌≡◌, ◌∙◌, ◌+◌, ◌<◌, ◌^◌, ◌≤◌, ap, sym, refl, subst, arith}
+use Rattle.std.proofs.Common.{◌+◌, ◌<◌, ◌^◌, ◌≤◌, ap, sym, refl, subst, arith}
 use Rattle.std.specs.Prelude.{slice_index}
-use Rattle.board_spec.specs.Setup.{Setup}
 use Rattle.board_spec.specs.InRange.{IsInRange}
-use Rattle.board_spec.specs.Legal.{next_entry}
+use Rattle.board_spec.specs.declared.event.Entry.{Entry}
 use Rattle.board_core.specs.Kept.{Standing}
-use Rattle.board_core.proofs.Boards.{can_do, count_fits, stepped_by}
+use Rattle.board_core.proofs.Boards.{can_do, count_fits, stepped}
 use Rattle.board_core.proofs.board.Board.step.Goals as goal
 
 pub perform-reply-requires : goal.perform-reply-requires
@@ -12,8 +11,10 @@ perform-reply-requires c =
     let old = c.self.inside in
     record {
       can =
-          can_do old.setup old.history.entries old.history.spare old.chipset old.counts _ c.args.event.now (sym c.rom.ensures.bytes) c.self.invariant
-          (subst (λ (board : Standing). IsInRange board.setup c.args.event.now) (sym c.self.view_is) c.requires.in_range);
+          can_do old.setup old.history.entries old.history.spare old.chipset old.counts _ c.args.event.now
+          (sym c.rom.ensures.bytes) c.self.invariant
+          (subst (λ (board : Standing). IsInRange board.setup c.args.event.now)
+          (sym c.self.view_is) c.requires.in_range);
     }
 
 pub overflow_add-seq : goal.overflow_add-seq
@@ -27,10 +28,16 @@ pub invariant_of-self : goal.invariant_of-self
 invariant_of-self c =
     let old = c.self.inside in
     let some : 1 ≤ old.history.spare = rw (ap (λ (s : Standing). s.spare) c.self.view_is) c.requires.spare in
-    let image = c.rom.ensures.bytes in
-    stepped_by old.setup old.history.entries old.counts c.args.actor c.from.result c.from-2.result
-    c.args.event.now c.perform-reply.result c.push.new.self old.history.spare old.chipset c.perform-reply.new.chipset
-    c.from.ensures c.from-2.ensures c.self.told (omega arith) some c.push.ensures.pushed c.self.invariant
-    (c.perform-reply.ensures.answer old.setup old.history.entries c.self.invariant.board (sym image))
-    (c.perform-reply.ensures.board old.setup old.history.entries
-    (next_entry old.history.entries c.args.actor c.args.event.now c.perform-reply.result) c.self.invariant.board (sym image) refl refl)
+    let entry : Entry = record {
+      actor = c.args.actor;
+      seq = slice_index old.counts c.from.result + 1;
+      event = c.args.event.now;
+      reply = c.perform-reply.result;
+    } in
+    rw (c.from-2.ensures)
+    (stepped old.setup old.history.entries old.counts entry c.push.new.self old.history.spare old.chipset
+    c.perform-reply.new.chipset
+    c.self.told (omega arith) some c.push.ensures.pushed (rw (c.from.ensures) refl) c.self.invariant
+    (c.perform-reply.ensures.answer old.setup old.history.entries c.self.invariant.board (sym c.rom.ensures.bytes))
+    (c.perform-reply.ensures.board old.setup old.history.entries entry c.self.invariant.board
+    (sym c.rom.ensures.bytes) refl refl))

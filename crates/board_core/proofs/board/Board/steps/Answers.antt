@@ -1,4 +1,4 @@
-use Rattle.std.proofs.Common.{rules, ◌≡◌, ◌++◌, [], List, ◌∙◌, refl, sym, ap, subst, arith}
+use Rattle.std.proofs.Common.{rules, ◌≡◌, ◌++◌, List, ◌∙◌, refl, sym, ap, subst, arith}
 use Rattle.std.proofs.lemmas.Grind.{common_steps}
 use Rattle.board_spec.specs.declared.event.Entry.{Entry}
 use Rattle.board_spec.specs.Legal.{IsLegal}
@@ -26,7 +26,8 @@ loop-statement-preserved c = record {
 
 pub returns-clause-replay : goal.returns-clause-replay
 returns-clause-replay c = λ empty.
-    let all : statements_of c.loop-statement.self.entries ≡ statements_of c.args.self.now.entries ++ c.args.statements.now = grind (arith, common_steps) in
+    let all : statements_of c.loop-statement.self.entries ≡ statements_of c.args.self.now.entries ++
+    c.args.statements.now = grind (arith, common_steps) in
     record {
       legal = rw (← c.loop-statement.invariant.setup) (c.loop-statement.invariant.legal (rw empty tt));
       same = all ∙ ap (λ (entries : List Entry). statements_of entries ++ c.args.statements.now) empty;

@@ -1,14 +1,12 @@
 use Rattle.std.proofs.Common.{refl}
 use Rattle.board_spec.specs.Registers.{byte_of}
-use Rattle.board_core.proofs.RegisterSteps.{stored}
+use Rattle.board_core.proofs.RegisterSteps.{follows}
 use Rattle.board_core.proofs.registers.Registers.store.Goals as goal
 
 pub returns-clause-registers : goal.returns-clause-registers
-returns-clause-registers c = λ setup history entry has change.
+returns-clause-registers c = λ setup history entry has writes.
     let bytes = byte_of setup history in
-    let old = c.args.self.now in
-    stored setup history entry old (record old { map = c.store.new.self; south = c.store-2.new.self }) c.args.reg c.args.width c.args.value change has
-    refl refl
+    follows writes has refl refl
     (record {
       map = c.store.ensures.stands setup bytes has.kept.map;
       cards = c.store.ensures.cards setup bytes has.kept.cards;

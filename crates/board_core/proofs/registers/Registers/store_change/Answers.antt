@@ -1,16 +1,15 @@
-use Rattle.std.proofs.Common.{◌≡◌, ◌∙◌, true, false, sym, subst, refl}
+use Rattle.std.proofs.Common.{◌≡◌, ◌∙◌, true, false, sym, refl}
 use Rattle.board_spec.specs.declared.map_change.MapChange.TheVariants.{Store}
 use Rattle.board_spec.specs.Registers.{byte_of}
 use Rattle.board_spec.specs.MapWrites.{touches_map}
-use Rattle.addr_decode.specs.MapRegs.{MapBytes, StandsFor}
 use Rattle.board_core.proofs.registers.Registers.store_change.Goals as goal
 
 pub returns-then-touches : goal.returns-then-touches
 returns-then-touches c = record {
   change = λ setup history has.
       let touched : touches_map setup (Store c.args.reg c.args.width c.args.value) ≡ true =
-      sym (c.touches.ensures.touched setup (byte_of setup history)
-      (subst (λ (regs : MapBytes). StandsFor setup (byte_of setup history) regs) (sym c.regs.ensures.regs) has.kept.map)) ∙ c.if-touches.true in
+      sym (c.touches.ensures.touched setup (byte_of setup history) (c.regs.ensures.stand setup history has))
+      ∙ c.if-touches.true in
       rw touched refl;
 }
 
@@ -18,7 +17,7 @@ pub returns : goal.returns
 returns c = record {
   change = λ setup history has.
       let touched : touches_map setup (Store c.args.reg c.args.width c.args.value) ≡ false =
-      sym (c.touches.ensures.touched setup (byte_of setup history)
-      (subst (λ (regs : MapBytes). StandsFor setup (byte_of setup history) regs) (sym c.regs.ensures.regs) has.kept.map)) ∙ c.if-touches.false in
+      sym (c.touches.ensures.touched setup (byte_of setup history) (c.regs.ensures.stand setup history has))
+      ∙ c.if-touches.false in
       rw touched refl;
 }
