@@ -1,21 +1,23 @@
 -- The workers of a phase, and what they leave. Histories have the newest entry first.
-use Rattle.std.specs.Prelude.{ℕ, ◌≡◌, ◌+◌, ◌<◌, ◌≤◌, false, List, [], length, map, All, Option}
+use Rattle.std.specs.Prelude.{ℕ, ◌≡◌, ◌+◌, ◌<◌, ◌≤◌, false, List, [], ◌∷◌, ◌++◌, length, map, All, Option}
 use Rattle.bus_turn.specs.Passes.{part_of}
 use Rattle.board_spec.specs.declared.event.Entry.{Entry}
 use Rattle.board_spec.specs.declared.event.Statement.{Statement}
 use Rattle.board_spec.specs.Setup.{Setup}
 use Rattle.board_spec.specs.InRange.{IsInRange}
-use Rattle.board_spec.specs.Legal.{entries_by}
+use Rattle.board_spec.specs.Legal.{IsLegal, entries_by}
+use Rattle.board_spec.specs.Orders.{statements_of, HasPhases}
 use Rattle.board_core.specs.Kept.{Standing}
 use Rattle.board_live.specs.declared.shared.Origin.{Origin}
 use Rattle.board_live.specs.declared.live.Live.{Live}
 use Rattle.board_live.specs.Callers.{IsCallerOf, IsNew, setup_of, seen_of, mine_of, known_of}
 use Rattle.run_order.specs.declared.done.Done.{Done}
 use Rattle.run_order.specs.Placing.{done_by}
-use Rattle.run_order.specs.PhaseRun.{IsWork}
+use Rattle.run_order.specs.PhaseRun.{IsWork, bare}
 use Rattle.run_order.specs.Trace.{Begins}
 use Rattle.phase_run.specs.declared.worker.Work.{Work}
 use Rattle.phase_run.specs.declared.jobs.Job.{Job}
+use Rattle.phase_run.specs.declared.run.Run.{Run}
 use Rattle.phase_run.specs.Works.{most_statements, HasDone}
 
 -- a statement of a processor below `cpus`, with an event in range for this setup
@@ -74,3 +76,29 @@ pub record HasRun (before now : Standing) (phase : List Statement) (works : List
   pub each :
       (actor : ℕ) → actor < length works →
       IsWork before.setup before.entries now.entries phase actor (done_by 0 actor (done_in works))
+
+-- a board between two phases, with 1 to 8 processors, can do a phase with these statements: they are in range, and no
+-- processor was given more than `most` until then
+pub record CanDo (run : Run) (phase : List Statement) : Type 0 where
+  pub some : 1 ≤ length run.works.items
+  pub few : length run.works.items ≤ 8
+  pub in_range : All (IsStatement run.board.setup (length run.works.items)) phase
+  pub most : ℕ
+  pub asked : AreAsked most run.board.entries run.works.items
+  pub room : most + length phase ≤ most_statements
+
+-- after a phase there are as many processors, each of which was given at most the statements of the phase more
+pub record GoesOn (phase : List Statement) (before now : Run) : Type 0 where
+  pub count : length now.works.items ≡ length before.works.items
+  pub asked :
+      (most : ℕ) → AreAsked most before.board.entries before.works.items → most + length phase ≤ most_statements →
+      AreAsked (most + length phase) now.board.entries now.works.items
+
+-- the history of a run, which was `history` before a phase, is legal with it, has the entries of the board's own, and
+-- has one phase more
+pub record TakesIn (phase : List Statement) (before now : Standing) (history all : List Entry) : Type 0 where
+  pub legal : IsLegal before.setup all
+  pub same : bare all ≡ bare now.entries
+  pub phases :
+      (phases : List (List Statement)) → HasPhases phases (statements_of history) →
+      HasPhases (phases ++ phase ∷ []) (statements_of all)

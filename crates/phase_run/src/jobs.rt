@@ -15,7 +15,7 @@ use std::sync::Wait;
 use std::thread::{Threads, for_each_mut};
 
 /// A worker, with the caller that it has in a phase.
-pub struct Job {
+pub(crate) struct Job {
     pub cpu: Cpu,
     pub work: Work,
     /// There was no memory for one of its statements.

@@ -9,6 +9,4 @@ mod run;
 mod worker;
 
 pub use caller::Caller;
-pub use jobs::Job;
-pub use run::{Run, run_phases};
-pub use worker::Work;
+pub use run::run_phases;

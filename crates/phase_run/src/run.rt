@@ -1,13 +1,12 @@
 //! A script's phases, one after another.
 
-ghost use Rattle.std.specs.Prelude.{◌≡◌, ◌+◌, ◌++◌, ◌∷◌, ◌<◌, ◌≤◌, ℕ, List, [], All, length, map, flat_map, IfOk, OnOk};
-ghost use Rattle.board_spec.specs.declared.event.Statement.{Statement};
+ghost use Rattle.std.specs.Prelude.{◌≡◌, ◌≤◌, [], All, length, map, flat_map, IfOk};
 ghost use Rattle.board_spec.specs.Setup.{IsCardList};
 ghost use Rattle.board_spec.specs.Legal.{IsLegal};
-ghost use Rattle.board_spec.specs.Orders.{statements_of, HasPhases, IsCompleteFor};
+ghost use Rattle.board_spec.specs.Orders.{IsCompleteFor};
 ghost use Rattle.run_order.specs.PhaseRun.{bare};
 ghost use Rattle.phase_run.specs.Works.{most_statements};
-ghost use Rattle.phase_run.specs.Jobs.{IsStatement, AreAsked, HasRun};
+ghost use Rattle.phase_run.specs.Jobs.{IsStatement, CanDo, GoesOn, HasRun, TakesIn};
 
 use crate::jobs::{begin, end, first_works, is_refused, next_works, run_jobs, works_of};
 use crate::worker::Work;
@@ -22,7 +21,7 @@ use std::thread::Threads;
 
 /// A board between two phases, and what its processors did in the last.
 #[derive(Drop)]
-pub struct Run {
+pub(crate) struct Run {
     pub board: Board,
     pub works: Vec<Work>,
 }
@@ -35,14 +34,8 @@ fn run_workers<R: Threads + Wait + Sync, G: Gate>(
     phase: &[Statement],
     gate: &G,
 ) -> Result<Run, NoMemory>
-    requires some { 1 ≤ length run.works.items }
-    requires few { length run.works.items ≤ 8 }
-    requires in_range { All (IsStatement run.board.setup (length run.works.items)) phase.now }
-    requires asked { (most : ℕ) × AreAsked most run.board.entries run.works.items × (most + length phase.now ≤ most_statements) }
-    ensures count { IfOk result (λ next. length next.works.items ≡ length run.works.items) }
-    ensures asked { IfOk result (λ next. (most : ℕ) → AreAsked most run.board.entries run.works.items
-        → most + length phase.now ≤ most_statements
-        → AreAsked (most + length phase.now) next.board.entries next.works.items) }
+    requires can { CanDo run phase.now }
+    ensures goes_on { IfOk result (GoesOn phase.now run) }
     ensures run { IfOk result (λ next. HasRun run.board next.board phase.now next.works.items) }
 {
     let Run { board, works } = run;
@@ -73,21 +66,12 @@ fn run_phase<R: Threads + Wait + Sync, G: Gate>(
     history: &mut RunHistory,
 ) -> Result<Run, NoMemory>
     requires cards { IsCardList run.board.setup.cards }
-    requires some { 1 ≤ length run.works.items }
-    requires few { length run.works.items ≤ 8 }
-    requires in_range { All (IsStatement run.board.setup (length run.works.items)) phase.now }
-    requires asked { (most : ℕ) × AreAsked most run.board.entries run.works.items × (most + length phase.now ≤ most_statements) }
+    requires can { CanDo run phase.now }
     requires legal { IsLegal run.board.setup history.old.entries }
     requires same { bare history.old.entries ≡ bare run.board.entries }
     ensures setup { IfOk result (λ next. next.board.setup ≡ run.board.setup) }
-    ensures count { IfOk result (λ next. length next.works.items ≡ length run.works.items) }
-    ensures asked { IfOk result (λ next. (most : ℕ) → AreAsked most run.board.entries run.works.items
-        → most + length phase.now ≤ most_statements
-        → AreAsked (most + length phase.now) next.board.entries next.works.items) }
-    ensures legal { OnOk result (IsLegal run.board.setup history.new.entries) }
-    ensures same { IfOk result (λ next. bare history.new.entries ≡ bare next.board.entries) }
-    ensures phases { OnOk result ((phases : List (List Statement)) → HasPhases phases (statements_of history.old.entries)
-        → HasPhases (phases ++ phase.now ∷ []) (statements_of history.new.entries)) }
+    ensures goes_on { IfOk result (GoesOn phase.now run) }
+    ensures takes_in { IfOk result (λ next. TakesIn phase.now run.board next.board history.old.entries history.new.entries) }
 {
     let version = run.board.map().version();
     let opened = run.board.history().entries().len();

@@ -18,7 +18,7 @@ use std::sync::Wait;
 
 /// What a worker did in a phase, and how many statements its processor was given in all phases so far.
 #[derive(Drop)]
-pub struct Work {
+pub(crate) struct Work {
     pub done: Vec<Done>,
     pub asked: u32,
 }

@@ -21,7 +21,7 @@ place-requires g c =
     let old : opened ≡ reverse before.entries = c.entries-opened.ensures.entries ∙ ap (λ (past : Past). reverse past.entries) c.history.ensures.history in
     let is : entries ≡ reverse now.entries = c.entries-entries.ensures.entries ∙ ap (λ (past : Past). reverse past.entries) c.history-2.ensures.history in
     let are : map (λ (done : Bor (List Done)). done.now) c.works_of.result.items ≡ done_in works = c.works_of.ensures.done ∙ ap done_in c.deref.ensures.value in
-    let asked = c.in_ok-run.ensures.asked c.requires.asked.0 c.requires.asked.1 c.requires.asked.2 in
+    let asked = c.in_ok-run.ensures.goes_on.asked c.requires.can.most c.requires.can.asked c.requires.can.room in
     let count : length c.works_of.result.items ≡ length works =
     sym (length-map c.works_of.result.items (λ (done : Bor (List Done)). done.now)) ∙ (ap length are ∙ length-map works (λ (work : Work). work.done.items)) in
     record {
@@ -29,8 +29,8 @@ place-requires g c =
           (gained_all (λ (entry : Entry). entry.actor < length works) now.entries opened entries is asked.actors);
     }
 
-pub returns-clause-legal : goal.returns-clause-legal
-returns-clause-legal g c =
+pub returns-clause-takes_in : goal.returns-clause-takes_in
+returns-clause-takes_in g c =
     let before = c.args.run.board in
     let now = c.in_ok-run.run'.board in
     let works : List Work = c.in_ok-run.run'.works.items in
@@ -39,49 +39,15 @@ returns-clause-legal g c =
     let old : opened ≡ reverse before.entries = c.entries-opened.ensures.entries ∙ ap (λ (past : Past). reverse past.entries) c.history.ensures.history in
     let is : entries ≡ reverse now.entries = c.entries-entries.ensures.entries ∙ ap (λ (past : Past). reverse past.entries) c.history-2.ensures.history in
     let are : map (λ (done : Bor (List Done)). done.now) c.works_of.result.items ≡ done_in works = c.works_of.ensures.done ∙ ap done_in c.deref.ensures.value in
-    let asked = c.in_ok-run.ensures.asked c.requires.asked.0 c.requires.asked.1 c.requires.asked.2 in
-    let count : length c.args.run.works.items ≡ length works = sym c.in_ok-run.ensures.count in
-    let speakers = subst (λ (n : ℕ). All (IsStatement before.setup n) c.args.phase.now) count c.requires.in_range in
+    let asked = c.in_ok-run.ensures.goes_on.asked c.requires.can.most c.requires.can.asked c.requires.can.room in
+    let count : length c.args.run.works.items ≡ length works = sym c.in_ok-run.ensures.goes_on.count in
+    let speakers = subst (λ (n : ℕ). All (IsStatement before.setup n) c.args.phase.now) count c.requires.can.in_range in
     let run = phase_is_run before now opened entries c.args.phase.now works (map (λ (done : Bor (List Done)). done.now) c.works_of.result.items)
     c.in_ok-run.ensures.run old is are c.requires.cards c.history-2.ensures.legal asked.actors speakers in
     let version : c.version-version.result ≡ version_of before.setup before.entries = c.version-version.ensures.version ∙ c.map.ensures.version in
     let placed = c.in_ok-place.ensures.runs before.setup before.entries c.args.phase.now run version c.requires.legal c.requires.same in
-    placed.legal
-
-pub returns-clause-same : goal.returns-clause-same
-returns-clause-same g c =
-    let before = c.args.run.board in
-    let now = c.in_ok-run.run'.board in
-    let works : List Work = c.in_ok-run.run'.works.items in
-    let opened : List Entry = c.entries-opened.result.now in
-    let entries : List Entry = c.entries-entries.result.now in
-    let old : opened ≡ reverse before.entries = c.entries-opened.ensures.entries ∙ ap (λ (past : Past). reverse past.entries) c.history.ensures.history in
-    let is : entries ≡ reverse now.entries = c.entries-entries.ensures.entries ∙ ap (λ (past : Past). reverse past.entries) c.history-2.ensures.history in
-    let are : map (λ (done : Bor (List Done)). done.now) c.works_of.result.items ≡ done_in works = c.works_of.ensures.done ∙ ap done_in c.deref.ensures.value in
-    let asked = c.in_ok-run.ensures.asked c.requires.asked.0 c.requires.asked.1 c.requires.asked.2 in
-    let count : length c.args.run.works.items ≡ length works = sym c.in_ok-run.ensures.count in
-    let speakers = subst (λ (n : ℕ). All (IsStatement before.setup n) c.args.phase.now) count c.requires.in_range in
-    let run = phase_is_run before now opened entries c.args.phase.now works (map (λ (done : Bor (List Done)). done.now) c.works_of.result.items)
-    c.in_ok-run.ensures.run old is are c.requires.cards c.history-2.ensures.legal asked.actors speakers in
-    let version : c.version-version.result ≡ version_of before.setup before.entries = c.version-version.ensures.version ∙ c.map.ensures.version in
-    let placed = c.in_ok-place.ensures.runs before.setup before.entries c.args.phase.now run version c.requires.legal c.requires.same in
-    placed.bus ∙ ap bare (whole_is before.entries now.entries opened entries c.in_ok-run.ensures.run.begins old is)
-
-pub returns-clause-phases : goal.returns-clause-phases
-returns-clause-phases g c =
-    let before = c.args.run.board in
-    let now = c.in_ok-run.run'.board in
-    let works : List Work = c.in_ok-run.run'.works.items in
-    let opened : List Entry = c.entries-opened.result.now in
-    let entries : List Entry = c.entries-entries.result.now in
-    let old : opened ≡ reverse before.entries = c.entries-opened.ensures.entries ∙ ap (λ (past : Past). reverse past.entries) c.history.ensures.history in
-    let is : entries ≡ reverse now.entries = c.entries-entries.ensures.entries ∙ ap (λ (past : Past). reverse past.entries) c.history-2.ensures.history in
-    let are : map (λ (done : Bor (List Done)). done.now) c.works_of.result.items ≡ done_in works = c.works_of.ensures.done ∙ ap done_in c.deref.ensures.value in
-    let asked = c.in_ok-run.ensures.asked c.requires.asked.0 c.requires.asked.1 c.requires.asked.2 in
-    let count : length c.args.run.works.items ≡ length works = sym c.in_ok-run.ensures.count in
-    let speakers = subst (λ (n : ℕ). All (IsStatement before.setup n) c.args.phase.now) count c.requires.in_range in
-    let run = phase_is_run before now opened entries c.args.phase.now works (map (λ (done : Bor (List Done)). done.now) c.works_of.result.items)
-    c.in_ok-run.ensures.run old is are c.requires.cards c.history-2.ensures.legal asked.actors speakers in
-    let version : c.version-version.result ≡ version_of before.setup before.entries = c.version-version.ensures.version ∙ c.map.ensures.version in
-    let placed = c.in_ok-place.ensures.runs before.setup before.entries c.args.phase.now run version c.requires.legal c.requires.same in
-    placed.phases
+    record {
+      legal = placed.legal;
+      same = placed.bus ∙ ap bare (whole_is before.entries now.entries opened entries c.in_ok-run.ensures.run.begins old is);
+      phases = placed.phases;
+    }

@@ -15,7 +15,7 @@ overflow_cast-len g c =
     let works : length c.in_ok-works.works.items ≡ length c.args.run.works.items =
     same_lengths (λ (w : Work). w.asked) (λ (w : Work). w.asked) c.in_ok-works.works.items c.deref.result.now c.in_ok-works.ensures.asked ∙ ap length c.deref.ensures.value in
     let count : c.len-2.result ≡ length c.args.run.works.items = c.len-2.ensures ∙ (listed ∙ works) in
-    let small : c.len-2.result < 256 = omega (arith, count, c.requires.few) in
+    let small : c.len-2.result < 256 = omega (arith, count, c.requires.can.few) in
     search (rules, small)
 
 pub open-requires : goal.open-requires
@@ -24,12 +24,12 @@ open-requires g c =
     let works : length c.in_ok-works.works.items ≡ length c.args.run.works.items =
     same_lengths (λ (w : Work). w.asked) (λ (w : Work). w.asked) c.in_ok-works.works.items c.deref.result.now c.in_ok-works.ensures.asked ∙ ap length c.deref.ensures.value in
     let count : c.len-2.result ≡ length c.args.run.works.items = c.len-2.ensures ∙ (listed ∙ works) in
-    let asked = c.requires.asked.1 in
-    let room = c.requires.asked.2 in
+    let asked = c.requires.can.asked in
+    let room = c.requires.can.room in
     record {
       few = record {
-        some = omega (arith, count, c.requires.some);
-        most = omega (arith, count, c.requires.few);
+        some = omega (arith, count, c.requires.can.some);
+        most = omega (arith, count, c.requires.can.few);
         actors = subst (λ (n : ℕ). All (λ (entry : Entry). entry.actor < n) c.args.run.board.entries) (sym count) asked.actors;
         each = λ actor. omega (arith, asked.mine actor, room);
       };
@@ -61,28 +61,28 @@ run_jobs-requires-clause-some g c κs within =
     let size : length c.in-Ok.cpus.items ≡ c.len-2.result = numbered_length (λ (cpu : Cpu). cpu.number) c.in-Ok.cpus.items c.len-2.result opened.numbers in
     let jobs = jobs_count (λ (job : Job). job.cpu) c.begin.new.jobs.items c.in-Ok.cpus.items c.begin.ensures.cpus in
     let same : length c.deref_mut.result.now ≡ length c.begin.new.jobs.items = ap length c.deref_mut.ensures.value in
-    omega (arith, size, count, jobs, same, c.requires.some)
+    omega (arith, size, count, jobs, same, c.requires.can.some)
 
 pub run_jobs-requires-clause-can : goal.run_jobs-requires-clause-can
 run_jobs-requires-clause-can g c κs within =
-    let asked = c.requires.asked.1 in
-    let room = c.requires.asked.2 in
-    let most = c.requires.asked.0 in
+    let asked = c.requires.can.asked in
+    let room = c.requires.can.room in
+    let most = c.requires.can.most in
     let opened = c.in-Ok.ensures.opened in
     let next = asked_again most c.args.run.works.items c.in_ok-works.works.items (c.in_ok-works.ensures.asked ∙ ap (map (λ (w : Work). w.asked)) c.deref.ensures.value) asked.asked in
     let all = ready c.in-Ok.live c.args.run.board c.len-2.result c.in-Ok.cpus.items c.in_ok-works.works.items c.begin.new.jobs.items c.args.phase.now most
-    opened c.begin.ensures.cpus c.begin.ensures.works c.in_ok-works.ensures.empty next (λ k d less. (c.requires.in_range k d less).event) asked.mine room in
+    opened c.begin.ensures.cpus c.begin.ensures.works c.in_ok-works.ensures.empty next (λ k d less. (c.requires.can.in_range k d less).event) asked.mine room in
     subst (All (CanRun c.in-Ok.live c.args.phase.now)) (sym c.deref_mut.ensures.value) (λ k d less. (c.args.run.board, Some opened.all.opened, most, all k d less))
 
 pub close-board-requires : goal.close-board-requires
 close-board-requires g c =
-    let asked = c.requires.asked.1 in
-    let room = c.requires.asked.2 in
-    let most = c.requires.asked.0 in
+    let asked = c.requires.can.asked in
+    let room = c.requires.can.room in
+    let most = c.requires.can.most in
     let opened = c.in-Ok.ensures.opened in
     let next = asked_again most c.args.run.works.items c.in_ok-works.works.items (c.in_ok-works.ensures.asked ∙ ap (map (λ (w : Work). w.asked)) c.deref.ensures.value) asked.asked in
     let all = ready c.in-Ok.live c.args.run.board c.len-2.result c.in-Ok.cpus.items c.in_ok-works.works.items c.begin.new.jobs.items c.args.phase.now most
-    opened c.begin.ensures.cpus c.begin.ensures.works c.in_ok-works.ensures.empty next (λ k d less. (c.requires.in_range k d less).event) asked.mine room in
+    opened c.begin.ensures.cpus c.begin.ensures.works c.in_ok-works.ensures.empty next (λ k d less. (c.requires.can.in_range k d less).event) asked.mine room in
     let lent : List Job = c.run_jobs.new.jobs in
     let numbers = c.run_jobs.ensures.numbers ∙ ap (map (λ (job : Job). job.cpu.number)) c.deref_mut.ensures.value in
     let jobs_len : c.begin.new.jobs.len ≡ length c.begin.new.jobs.items = search rules in
@@ -95,8 +95,8 @@ close-board-requires g c =
           opened c.begin.ensures.cpus cpus numbers run;
     }
 
-pub returns-clause-count : goal.returns-clause-count
-returns-clause-count g c =
+pub returns-clause-goes_on : goal.returns-clause-goes_on
+returns-clause-goes_on g c =
     let listed : c.in_ok-works.works.len ≡ length c.in_ok-works.works.items = search rules in
     let works : length c.in_ok-works.works.items ≡ length c.args.run.works.items =
     same_lengths (λ (w : Work). w.asked) (λ (w : Work). w.asked) c.in_ok-works.works.items c.deref.result.now c.in_ok-works.ensures.asked ∙ ap length c.deref.ensures.value in
@@ -112,26 +112,19 @@ returns-clause-count g c =
     let jobs = jobs_count (λ (job : Job). job.cpu) c.begin.new.jobs.items c.in-Ok.cpus.items c.begin.ensures.cpus in
     let same = same_lengths (λ (job : Job). job.cpu.number) (λ (job : Job). job.cpu.number) lent c.begin.new.jobs.items numbers in
     let kept = jobs_count (λ (job : Job). job.work) lent c.end.new.works.items works1 in
-    omega (arith, size, count, jobs, same, kept)
-
-pub returns-clause-asked : goal.returns-clause-asked
-returns-clause-asked g c = λ most asked room.
-    let opened = c.in-Ok.ensures.opened in
-    let next = asked_again most c.args.run.works.items c.in_ok-works.works.items (c.in_ok-works.ensures.asked ∙ ap (map (λ (w : Work). w.asked)) c.deref.ensures.value) asked.asked in
-    let all = ready c.in-Ok.live c.args.run.board c.len-2.result c.in-Ok.cpus.items c.in_ok-works.works.items c.begin.new.jobs.items c.args.phase.now most
-    opened c.begin.ensures.cpus c.begin.ensures.works c.in_ok-works.ensures.empty next (λ k d less. (c.requires.in_range k d less).event) asked.mine room in
-    let lent : List Job = c.run_jobs.new.jobs in
-    let numbers = c.run_jobs.ensures.numbers ∙ ap (map (λ (job : Job). job.cpu.number)) c.deref_mut.ensures.value in
-    let jobs_len : c.begin.new.jobs.len ≡ length c.begin.new.jobs.items = search rules in
-    let back = lent_back c.begin.new.jobs.len c.begin.new.jobs.items lent jobs_len (same_lengths (λ (job : Job). job.cpu.number) (λ (job : Job). job.cpu.number) lent c.begin.new.jobs.items numbers) in
-    let cpus : map (λ (job : Job). job.cpu) (reverse lent) ≡ c.end.new.cpus.items = ap (λ (jobs : List Job). map (λ (job : Job). job.cpu) (reverse jobs)) (sym back) ∙ c.end.ensures.cpus in
-    let run = c.run_jobs.ensures.run c.args.run.board (Some opened.all.opened) most
-    (subst (All (IsReady c.in-Ok.live c.args.run.board (Some opened.all.opened) c.args.phase.now most)) (sym c.deref_mut.ensures.value) all) in
-    let works1 : map (λ (job : Job). job.work) (reverse lent) ≡ c.end.new.works.items = ap (λ (jobs : List Job). map (λ (job : Job). job.work) (reverse jobs)) (sym back) ∙ c.end.ensures.works in
-    let fine : All (λ (job : Job). job.refused ≡ false) lent =
-    subst (All (λ (job : Job). job.refused ≡ false)) (c.deref-2.ensures.value ∙ back) (c.is_refused-refused.ensures.none c.if-refused.false) in
-    are_asked c.in-Ok.live c.args.run.board c.close-board.result c.len-2.result c.in-Ok.cpus.items c.end.new.cpus.items c.end.new.works.items c.begin.new.jobs.items lent c.args.phase.now most
-    opened c.begin.ensures.cpus cpus works1 numbers run fine c.close-board.ensures.cpus c.close-board.ensures.entries
+    record {
+      count = omega (arith, size, count, jobs, same, kept);
+      asked = λ most asked room.
+          let next = asked_again most c.args.run.works.items c.in_ok-works.works.items (c.in_ok-works.ensures.asked ∙ ap (map (λ (w : Work). w.asked)) c.deref.ensures.value) asked.asked in
+          let all = ready c.in-Ok.live c.args.run.board c.len-2.result c.in-Ok.cpus.items c.in_ok-works.works.items c.begin.new.jobs.items c.args.phase.now most
+          opened c.begin.ensures.cpus c.begin.ensures.works c.in_ok-works.ensures.empty next (λ k d less. (c.requires.can.in_range k d less).event) asked.mine room in
+          let run = c.run_jobs.ensures.run c.args.run.board (Some opened.all.opened) most
+          (subst (All (IsReady c.in-Ok.live c.args.run.board (Some opened.all.opened) c.args.phase.now most)) (sym c.deref_mut.ensures.value) all) in
+          let fine : All (λ (job : Job). job.refused ≡ false) lent =
+          subst (All (λ (job : Job). job.refused ≡ false)) (c.deref-2.ensures.value ∙ back) (c.is_refused-refused.ensures.none c.if-refused.false) in
+          are_asked c.in-Ok.live c.args.run.board c.close-board.result c.len-2.result c.in-Ok.cpus.items c.end.new.cpus.items c.end.new.works.items c.begin.new.jobs.items lent c.args.phase.now most
+          opened c.begin.ensures.cpus cpus works1 numbers run fine c.close-board.ensures.cpus c.close-board.ensures.entries;
+    }
 
 pub returns-clause-run : goal.returns-clause-run
 returns-clause-run g c =
@@ -139,13 +132,13 @@ returns-clause-run g c =
     let works : length c.in_ok-works.works.items ≡ length c.args.run.works.items =
     same_lengths (λ (w : Work). w.asked) (λ (w : Work). w.asked) c.in_ok-works.works.items c.deref.result.now c.in_ok-works.ensures.asked ∙ ap length c.deref.ensures.value in
     let count : c.len-2.result ≡ length c.args.run.works.items = c.len-2.ensures ∙ (listed ∙ works) in
-    let asked = c.requires.asked.1 in
-    let room = c.requires.asked.2 in
-    let most = c.requires.asked.0 in
+    let asked = c.requires.can.asked in
+    let room = c.requires.can.room in
+    let most = c.requires.can.most in
     let opened = c.in-Ok.ensures.opened in
     let next = asked_again most c.args.run.works.items c.in_ok-works.works.items (c.in_ok-works.ensures.asked ∙ ap (map (λ (w : Work). w.asked)) c.deref.ensures.value) asked.asked in
     let all = ready c.in-Ok.live c.args.run.board c.len-2.result c.in-Ok.cpus.items c.in_ok-works.works.items c.begin.new.jobs.items c.args.phase.now most
-    opened c.begin.ensures.cpus c.begin.ensures.works c.in_ok-works.ensures.empty next (λ k d less. (c.requires.in_range k d less).event) asked.mine room in
+    opened c.begin.ensures.cpus c.begin.ensures.works c.in_ok-works.ensures.empty next (λ k d less. (c.requires.can.in_range k d less).event) asked.mine room in
     let lent : List Job = c.run_jobs.new.jobs in
     let numbers = c.run_jobs.ensures.numbers ∙ ap (map (λ (job : Job). job.cpu.number)) c.deref_mut.ensures.value in
     let jobs_len : c.begin.new.jobs.len ≡ length c.begin.new.jobs.items = search rules in
@@ -157,4 +150,4 @@ returns-clause-run g c =
     let fine : All (λ (job : Job). job.refused ≡ false) lent =
     subst (All (λ (job : Job). job.refused ≡ false)) (c.deref-2.ensures.value ∙ back) (c.is_refused-refused.ensures.none c.if-refused.false) in
     has_run c.in-Ok.live c.args.run.board c.close-board.result c.len-2.result c.in-Ok.cpus.items c.end.new.cpus.items c.end.new.works.items c.begin.new.jobs.items lent c.args.phase.now most
-    opened c.begin.ensures.cpus cpus works1 numbers run fine c.close-board.ensures.cpus (omega (arith, count, c.requires.some))
+    opened c.begin.ensures.cpus cpus works1 numbers run fine c.close-board.ensures.cpus (omega (arith, count, c.requires.can.some))
