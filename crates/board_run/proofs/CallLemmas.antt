@@ -1,6 +1,7 @@
 -- The calls that were made, one part of a command after another.
 use Rattle.std.proofs.Common.{◌≡◌, ◌≢◌, ℕ, ◌≤◌, ◌<◌, ◌+◌, ◌⊎◌, inl, inr, List, [], ◌∷◌, ◌++◌, Option, Some, None, refl, sym, ap, ◌∙◌, subst, append_assoc, arith}
-use Rattle.std.specs.Prelude.{Result, Ok, Err, OnOk}
+use Rattle.std.specs.Prelude.{Result, Ok, Err, OnOk, IsErr}
+use Rattle.std.specs.Result.{result_ok}
 use Rattle.board_base.specs.Outside.{Fetch, Put, Made}
 use Rattle.board_base.specs.declared.fault.PutFault.{PutFault}
 use Rattle.board_base.specs.declared.fault.PutFault.TheVariants.{Failed, NoMemory as NoMemoryForPut}
@@ -369,15 +370,18 @@ module _ (before between now : Option (List Put)) (so_far : OfCalls before betwe
       call_more before between now (record { took = Some count }) AllTook AllTook
       (λ puts took. ((λ is. absurd (none_told count (sym is))), took)) so_far made
 
-  pub then_refused : Made between now (record { took = None }) → OfCalls before now LatestRefused
-  then_refused made =
+  pub then_refused :
+      {E : Type 0} (result : Result ℕ E) → IsErr result → Made between now (record { took = result_ok result }) →
+      OfCalls before now LatestRefused
+  then_refused (Ok count) is made = absurd cc
+  then_refused (Err error) is made =
       call_more before between now (record { took = None }) AllTook LatestRefused (λ puts took. (refl, took)) so_far made
 
 pub puts_failed :
-    {T E : Type 0} (before now : Option (List Put)) (result : Result T E) (error : E) → result ≡ Err error →
-    OfCalls before now LatestRefused → OfCalls before now (PutsBy result)
-puts_failed {T = T} {E = E} before now result error is refused =
-    subst (λ (result' : Result T E). OfCalls before now (PutsBy result')) (sym is) refused
+    {T E : Type 0} (before now : Option (List Put)) (result : Result T E) → IsErr result → OfCalls before now LatestRefused →
+    OfCalls before now (PutsBy result)
+puts_failed before now (Ok value) is refused = absurd cc
+puts_failed before now (Err error) is refused = refused
 
 pub nothing_put : (command : Command) (shelf : ShelfCall) (status : Status) → IsRefused command shelf status → ArePutsOf status []
 nothing_put command shelf Done refused = absurd refused

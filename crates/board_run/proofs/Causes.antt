@@ -125,6 +125,3 @@ refusal_of command shelf (BadScript line why) refused = tt
 refusal_of command shelf (BadImage which) refused = tt
 refusal_of command shelf (Differs line) refused = tt
 refusal_of command shelf NoMemory refused = tt
-
-pub refuses_as : {T : Type 0} (result : Result T Status) (status : Status) → result ≡ Err status → IsRefusal status → IfErr result IsRefusal
-refuses_as {T = T} result status is refused = subst (λ (result' : Result T Status). IfErr result' IsRefusal) (sym is) refused

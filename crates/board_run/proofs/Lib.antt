@@ -8,3 +8,4 @@ pub mod CallLemmas
 pub mod Causes
 pub mod OneStatus
 pub mod Exact
+pub mod WordLaws

@@ -1,6 +1,7 @@
 -- Why a command ended before it had its text.
 use Rattle.std.proofs.Common.{◌≡◌, ◌≢◌, ℕ, ◌<◌, ◌≤◌, ◌⊎◌, inl, inr, List, length, take, Option, Some, None, refl, sym, ap, ◌∙◌, subst}
-use Rattle.std.specs.Prelude.{option_map, IfErr, Result, Ok, Err}
+use Rattle.std.specs.Prelude.{option_map, IfErr, Result, Ok, Err, String, string_bytes}
+use Rattle.std.specs.Global.{Global}
 use Rattle.board_base.specs.Outside.{Rose, OfFile}
 use Rattle.board_spec.specs.Setup.{Setup, IsRomSize, IsDiskSize, IsDisk}
 use Rattle.script_spec.specs.ScriptText.{Script as Said, IsScriptText, IsScriptBad}
@@ -17,11 +18,11 @@ use Rattle.script_spec.specs.Checks.{DiffersAt}
 use Rattle.log_check.specs.declared.fault.CheckFault.{CheckFault}
 use Rattle.log_check.specs.declared.fault.CheckFault.TheVariants.{Differs as DiffersAtLine, NoMemory as NoMemoryForCheck}
 use Rattle.board_run.specs.Words.{Command, Check, script_name}
-use Rattle.board_run.specs.Texts.{IsLegalText, IsCommandText}
+use Rattle.board_run.specs.Texts.{IsLegalText, TextOfScript, IsCommandText}
 use Rattle.board_run.specs.Asked.{Files, limit_of, disk_of, fitted, setup_of, SaysScript, IsGood, HasScript, ComesTo, ReadsFile, IsLength, Fits, AsksFor}
 use Rattle.board_run.specs.Outcomes.{ShelfCall, OfFiles, name_in_words, FailsAt}
 use Rattle.board_run.specs.Calls.{Reaches}
-use Rattle.board_run.specs.Statuses.{status_of_script_fault, status_of_board_fault, status_of_check_fault, IsNotTaken, IsRefused, FitsDisk, IsDiskNotTaken, IsNotOpened, IsReady}
+use Rattle.board_run.specs.Statuses.{status_of_script_fault, status_of_board_fault, status_of_check_fault, IsNotTaken, IsRefused, IsAnswered, FitsDisk, IsDiskNotTaken, IsNotOpened, IsReady}
 
 -- ---- where the shelf tells its files
 
@@ -35,14 +36,10 @@ at_files told files P is holds = subst (λ (told' : Option Files). OfFiles told'
 pub at_file : (told : Option Files) (files : Files) (name : List ℕ) (P : List ℕ → Type 0) → told ≡ Some files → OfFile told name P → P (files name)
 at_file told files name P is holds = subst (λ (told' : Option Files). OfFile told' name P) is holds
 
--- a result refuses each command that reads a script of this name
-pub refuses :
-    {T : Type 0} (name : List ℕ) (call : ShelfCall) (result : Result T Status) (status : Status) → result ≡ Err status →
-    ((command : Command) → script_name command ≡ Some name → IsRefused command call status) →
-    IfErr result (λ status'. (command : Command) → script_name command ≡ Some name → IsRefused command call status')
-refuses {T = T} name call result status is each =
-    subst (λ (result' : Result T Status). IfErr result' (λ status'. (command : Command) → script_name command ≡ Some name → IsRefused command call status'))
-    (sym is) each
+-- this holds of a result that is this error, where it holds of the error
+pub holds_of_error :
+    {T E : Type 0} (P : E → Type 0) (result : Result T E) (error : E) → result ≡ Err error → P error → IfErr result P
+holds_of_error {T = T} {E = E} P result error is holds = subst (λ (result' : Result T E). IfErr result' P) (sym is) holds
 
 -- ---- a file that was not taken
 
@@ -220,13 +217,6 @@ module _ (told : Option Files) (before now : ℕ) (kept : List ℕ) (command : C
 
 -- ---- a whole text
 
--- a result refuses a command
-pub refuses_with :
-    {T : Type 0} (command : Command) (call : ShelfCall) (result : Result T Status) (status : Status) → result ≡ Err status →
-    IsRefused command call status → IfErr result (IsRefused command call)
-refuses_with {T = T} command call result status is refused =
-    subst (λ (result' : Result T Status). IfErr result' (IsRefused command call)) (sym is) refused
-
 module _ (told : Option Files) (name log : List ℕ) (script : Said) (setup : Setup) (ready : OfFiles told (λ files. IsReady files name script setup)) where
   abbrev Checks : Command
   Checks = Check name log
@@ -289,3 +279,31 @@ module _ (told : Option Files) (name log : List ℕ) (script : Said) (setup : Se
               subst (λ (setup' : Setup). IsLegalText setup' script (files log) text) fitted.fits
               (subst (λ (file : List ℕ). IsLegalText setup script file text) (same ∙ read) says);
         })
+
+-- ---- what a command answers
+
+pub refused_answer :
+    (command : Command) (shelf : ShelfCall) (result : Result (String Global) Status) (status : Status) → result ≡ Err status →
+    IsRefused command shelf status → (((which : Which) → status ≢ ReadFault which) → shelf.faults_now ≡ shelf.faults_before) →
+    IsAnswered command shelf result
+refused_answer command shelf result status is refused quiet =
+    subst (IsAnswered command shelf) (sym is)
+    (record { text = tt; refused = refused; quiet = tt; no_fault_hidden = quiet })
+
+pub text_answer :
+    (command : Command) (shelf : ShelfCall) (text : String Global) →
+    OfFiles shelf.files (λ files. IsCommandText command files (string_bytes text)) → shelf.faults_now ≡ shelf.faults_before →
+    IsAnswered command shelf (Ok text)
+text_answer command shelf text says quiet = record { text = says; refused = tt; quiet = quiet; no_fault_hidden = tt }
+
+-- the text of a script whose board is fitted as it asks
+pub ready_text :
+    (told : Option Files) (name : List ℕ) (script : Said) (setup : Setup) (P : Setup → Said → List ℕ → Type 0) (text : List ℕ) →
+    OfFiles told (λ files. IsReady files name script setup) → P setup script text →
+    OfFiles told (λ files. TextOfScript files name P text)
+ready_text None name script setup P text ready says = tt
+ready_text (Some files) name script setup P text ready says = record {
+  script = script;
+  good = ready.good;
+  says = subst (λ (setup' : Setup). P setup' script text) ready.fits says;
+}

@@ -40,6 +40,12 @@ more_sent before now later text rest k sent more = record {
   taken = more_taken before now later sent.front (take k rest) sent.taken more;
 }
 
+-- so it is with what is left after the piece
+pub then_sent :
+    (before now later : Option (List ℕ)) (text rest left : List ℕ) (k : ℕ) → left ≡ drop k rest → Sent before now text rest →
+    Appends now later (take k rest) → Sent before later text left
+then_sent before now later text rest left k is sent more = rw is (more_sent before now later text rest k sent more)
+
 nothing_taken : (known : Option (List ℕ)) → Appends known known []
 nothing_taken None = tt
 nothing_taken (Some xs) = sym (append-nil xs)

@@ -1,5 +1,6 @@
 -- How a fault of a part becomes the status of a command, and what a command that stops early says.
-use Rattle.std.specs.Prelude.{ℕ, ◌≡◌, ◌<◌, ◌≤◌, List, length, take, Result, Ok, Err, Option, Some, None}
+use Rattle.std.specs.Prelude.{ℕ, ◌≡◌, ◌≢◌, ◌<◌, ◌≤◌, List, length, take, Result, Ok, Err, IfOk, IfErr, OnOk, Option, Some, None, String, string_bytes}
+use Rattle.std.specs.Global.{Global}
 use Rattle.board_base.specs.Outside.{Rose, OfFile}
 use Rattle.board_base.specs.declared.fault.PutFault.{PutFault}
 use Rattle.board_base.specs.declared.fault.PutFault.TheVariants.{Failed as SinkFailed, NoMemory as NoMemoryForPut}
@@ -17,6 +18,7 @@ use Rattle.board_spec.specs.Setup.{Setup, IsDisk}
 use Rattle.script_spec.specs.ScriptText.{Script as Said}
 use Rattle.board_run.specs.Words.{Command}
 use Rattle.board_run.specs.Asked.{Files, limit_of, IsLength, IsGood, setup_of, AsksFor}
+use Rattle.board_run.specs.Texts.{IsCommandText}
 use Rattle.board_run.specs.Outcomes.{ShelfCall, OfFiles, FailsAt}
 
 abbrev pub status_of_script_fault : ScriptFault → Status
@@ -65,6 +67,14 @@ IsRefused command shelf WriteFault = ⊥
 IsRefused command shelf (ReadFault which) = FailsAt which shelf command
 IsRefused command shelf NoMemory = Unit {0}
 IsRefused command shelf status = OfFiles shelf.files (λ files. AsksFor command files status)
+
+-- what a command answers before anything is put: its text, or why it has none. No fault of the shelf is passed over
+pub record IsAnswered (command : Command) (shelf : ShelfCall) (result : Result (String Global) Status) : Type 0 where
+  pub text : IfOk result (λ text. OfFiles shelf.files (λ files. IsCommandText command files (string_bytes text)))
+  pub refused : IfErr result (IsRefused command shelf)
+  pub quiet : OnOk result (shelf.faults_now ≡ shelf.faults_before)
+  pub no_fault_hidden :
+      IfErr result (λ status. ((which : Which) → status ≢ ReadFault which) → shelf.faults_now ≡ shelf.faults_before)
 
 -- ---- the board of a script
 

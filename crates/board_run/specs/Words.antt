@@ -1,5 +1,5 @@
 -- The words of the command line, and the command that they are.
-use Rattle.std.specs.Prelude.{ℕ, Bool, List, [], ◌∷◌, map, string_bytes, String, Option, Some, None, codes, bytes_eq, if◌then◌else◌, ◌&&◌, nat_le}
+use Rattle.std.specs.Prelude.{ℕ, ◌≡◌, ◌≤◌, ◌↔◌, Bool, List, [], ◌∷◌, map, string_bytes, String, Option, Some, None, codes, decimal, bytes_eq, if◌then◌else◌, ◌&&◌, nat_le}
 use Rattle.std.specs.Global.{Global}
 use Rattle.script_lines.specs.Numbers.{decimal_of, ◌>>=◌}
 
@@ -54,3 +54,29 @@ command_of _ = None
 -- the command that the words ask for
 abbrev pub asked : List (String Global) → Option Command
 asked words = command_of (map string_bytes words)
+
+-- ---- what a user writes
+
+-- the words of each command
+abbrev pub words_of : Command → List (List ℕ)
+words_of (Replay script) = codes "replay" ∷ script ∷ []
+words_of (Run script) = codes "run" ∷ script ∷ []
+words_of (Map script) = codes "map" ∷ script ∷ []
+words_of (Check script log) = codes "check" ∷ script ∷ log ∷ []
+words_of (Make rounds) = codes "make" ∷ decimal rounds ∷ []
+
+-- such a command there is
+abbrev pub IsCommand : Command → Type 0
+IsCommand (Make rounds) = (1 ≤ rounds) × (rounds ≤ 20_000)
+IsCommand _ = Unit {0}
+
+-- words ask for a command exactly where they are its words
+abbrev pub WordsDecide : Type 0
+WordsDecide =
+    (words : List (List ℕ)) (command : Command) →
+    (command_of words ≡ Some command) ↔ (IsCommand command × (words ≡ words_of command))
+
+-- two commands with the same words are one
+abbrev pub OneCommand : Type 0
+OneCommand =
+    (command other : Command) → IsCommand command → IsCommand other → words_of command ≡ words_of other → command ≡ other

@@ -22,6 +22,7 @@ pub use message::fault_text;
 pub use replay::{check_log, replay_script};
 pub use run::run_script;
 pub use status::{Status, Which, exit_code};
+pub use words::law_words;
 
 #[cfg(test)]
 mod holding_gate;

@@ -1,17 +1,15 @@
 //! The text of each command, from its files.
 
-ghost use Rattle.std.specs.Prelude.{◌≡◌, ◌≢◌, ◌≤◌, ℕ, List, [], string_bytes, IfOk, IfErr, OnOk};
+ghost use Rattle.std.specs.Prelude.{◌≡◌, ◌≤◌, ℕ, List, []};
 ghost use Rattle.script_spec.specs.ScriptRange.{IsInRangeScript};
 ghost use Rattle.script_text.specs.Script.{said_of};
 ghost use Rattle.board_run.specs.declared.status.Which.{Which};
-ghost use Rattle.board_run.specs.declared.status.Status.{Status};
 ghost use Rattle.board_run.specs.Words.{Replay, Run, Map, Check};
 ghost use Rattle.board_run.specs.Commands.{said_by, IsCalled, WaitsForNobody};
-ghost use Rattle.board_run.specs.Texts.{IsCommandText};
 ghost use Rattle.board_run.specs.Outcomes.{OfFiles};
 ghost use Rattle.board_run.specs.Asked.{limit_of};
 ghost use Rattle.board_run.specs.Calls.{OfCalls, IsReading, FetchesOf};
-ghost use Rattle.board_run.specs.Statuses.{IsRefused, IsReady};
+ghost use Rattle.board_run.specs.Statuses.{IsAnswered, IsReady};
 
 use crate::fetch::fetch;
 use crate::made::summary_of_made;
@@ -27,11 +25,8 @@ use std::thread::Threads;
 
 /// The log of the replay of a script.
 fn replay<S: Shelf>(alloc: Global, shelf: &mut S, name: &str) -> Result<String, Status>
-    ensures text { IfOk result (λ text. OfFiles (S.files shelf.old) (λ files. IsCommandText (Replay name.now) files (string_bytes text))) }
-    ensures refused { IfErr result (IsRefused (Replay name.now)
-        (record { files = S.files shelf.old; faults_before = S.faults shelf.old; faults_now = S.faults shelf.new; failed_name = S.failed_name shelf.new })) }
-    ensures quiet { OnOk result (S.faults shelf.new ≡ S.faults shelf.old) }
-    ensures no_fault { IfErr result (λ status. ((of : Which) → status ≢ Status.ReadFault of) → S.faults shelf.new ≡ S.faults shelf.old) }
+    ensures answer { IsAnswered (Replay name.now)
+        (record { files = S.files shelf.old; faults_before = S.faults shelf.old; faults_now = S.faults shelf.new; failed_name = S.failed_name shelf.new }) result }
     ensures same_files { S.files shelf.new ≡ S.files shelf.old }
     ensures fetches { OfCalls (S.fetches shelf.old) (S.fetches shelf.new) (FetchesOf (Replay name.now) (S.files shelf.old)) }
 {
@@ -42,11 +37,8 @@ fn replay<S: Shelf>(alloc: Global, shelf: &mut S, name: &str) -> Result<String, 
 
 /// The address map after the replay of a script.
 fn map<S: Shelf>(alloc: Global, shelf: &mut S, name: &str) -> Result<String, Status>
-    ensures text { IfOk result (λ text. OfFiles (S.files shelf.old) (λ files. IsCommandText (Map name.now) files (string_bytes text))) }
-    ensures refused { IfErr result (IsRefused (Map name.now)
-        (record { files = S.files shelf.old; faults_before = S.faults shelf.old; faults_now = S.faults shelf.new; failed_name = S.failed_name shelf.new })) }
-    ensures quiet { OnOk result (S.faults shelf.new ≡ S.faults shelf.old) }
-    ensures no_fault { IfErr result (λ status. ((of : Which) → status ≢ Status.ReadFault of) → S.faults shelf.new ≡ S.faults shelf.old) }
+    ensures answer { IsAnswered (Map name.now)
+        (record { files = S.files shelf.old; faults_before = S.faults shelf.old; faults_now = S.faults shelf.new; failed_name = S.failed_name shelf.new }) result }
     ensures same_files { S.files shelf.new ≡ S.files shelf.old }
     ensures fetches { OfCalls (S.fetches shelf.old) (S.fetches shelf.new) (FetchesOf (Map name.now) (S.files shelf.old)) }
 {
@@ -65,15 +57,10 @@ fn verdict<S: Shelf>(
     requires in_range { IsInRangeScript (said_of prepared.old.script) }
     requires cards { prepared.old.board.setup.cards ≡ (said_of prepared.old.script).cards }
     requires fresh { prepared.old.board.entries ≡ [] }
-    ensures text { (name : List ℕ)
+    ensures answer { (name : List ℕ)
         → OfFiles (S.files shelf.old) (λ files. IsReady files name (said_of prepared.old.script) prepared.old.board.setup)
-        → IfOk result (λ text. OfFiles (S.files shelf.old) (λ files. IsCommandText (Check name log.now) files (string_bytes text))) }
-    ensures refused { (name : List ℕ)
-        → OfFiles (S.files shelf.old) (λ files. IsReady files name (said_of prepared.old.script) prepared.old.board.setup)
-        → IfErr result (IsRefused (Check name log.now)
-        (record { files = S.files shelf.old; faults_before = S.faults shelf.old; faults_now = S.faults shelf.new; failed_name = S.failed_name shelf.new })) }
-    ensures quiet { OnOk result (S.faults shelf.new ≡ S.faults shelf.old) }
-    ensures no_fault { IfErr result (λ status. ((of : Which) → status ≢ Status.ReadFault of) → S.faults shelf.new ≡ S.faults shelf.old) }
+        → IsAnswered (Check name log.now)
+        (record { files = S.files shelf.old; faults_before = S.faults shelf.old; faults_now = S.faults shelf.new; failed_name = S.failed_name shelf.new }) result }
     ensures same_files { S.files shelf.new ≡ S.files shelf.old }
     ensures fetches { OfCalls (S.fetches shelf.old) (S.fetches shelf.new) (IsReading log.now (limit_of Which.Log)) }
 {
@@ -84,11 +71,8 @@ fn verdict<S: Shelf>(
 
 /// How many entries a log has, which is that of a legal and complete history of a script.
 fn check<S: Shelf>(alloc: Global, shelf: &mut S, name: &str, log: &str) -> Result<String, Status>
-    ensures text { IfOk result (λ text. OfFiles (S.files shelf.old) (λ files. IsCommandText (Check name.now log.now) files (string_bytes text))) }
-    ensures refused { IfErr result (IsRefused (Check name.now log.now)
-        (record { files = S.files shelf.old; faults_before = S.faults shelf.old; faults_now = S.faults shelf.new; failed_name = S.failed_name shelf.new })) }
-    ensures quiet { OnOk result (S.faults shelf.new ≡ S.faults shelf.old) }
-    ensures no_fault { IfErr result (λ status. ((of : Which) → status ≢ Status.ReadFault of) → S.faults shelf.new ≡ S.faults shelf.old) }
+    ensures answer { IsAnswered (Check name.now log.now)
+        (record { files = S.files shelf.old; faults_before = S.faults shelf.old; faults_now = S.faults shelf.new; failed_name = S.failed_name shelf.new }) result }
     ensures same_files { S.files shelf.new ≡ S.files shelf.old }
     ensures fetches { OfCalls (S.fetches shelf.old) (S.fetches shelf.new) (FetchesOf (Check name.now log.now) (S.files shelf.old)) }
 {
@@ -104,11 +88,8 @@ fn text_without_waiting<S: Shelf>(
 ) -> Result<String, Status>
     requires called { IsCalled command }
     requires alone { WaitsForNobody command }
-    ensures text { IfOk result (λ text. OfFiles (S.files shelf.old) (λ files. IsCommandText (said_by command.entry) files (string_bytes text))) }
-    ensures refused { IfErr result (IsRefused (said_by command.entry)
-        (record { files = S.files shelf.old; faults_before = S.faults shelf.old; faults_now = S.faults shelf.new; failed_name = S.failed_name shelf.new })) }
-    ensures quiet { OnOk result (S.faults shelf.new ≡ S.faults shelf.old) }
-    ensures no_fault { IfErr result (λ status. ((of : Which) → status ≢ Status.ReadFault of) → S.faults shelf.new ≡ S.faults shelf.old) }
+    ensures answer { IsAnswered (said_by command.entry)
+        (record { files = S.files shelf.old; faults_before = S.faults shelf.old; faults_now = S.faults shelf.new; failed_name = S.failed_name shelf.new }) result }
     ensures same_files { S.files shelf.new ≡ S.files shelf.old }
     ensures fetches { OfCalls (S.fetches shelf.old) (S.fetches shelf.new) (FetchesOf (said_by command.entry) (S.files shelf.old)) }
 {
@@ -129,11 +110,8 @@ fn run<R: Threads + Wait + Sync, S: Shelf, G: Gate>(
     name: &str,
     gate: &G,
 ) -> Result<String, Status>
-    ensures text { IfOk result (λ text. OfFiles (S.files shelf.old) (λ files. IsCommandText (Run name.now) files (string_bytes text))) }
-    ensures refused { IfErr result (IsRefused (Run name.now)
-        (record { files = S.files shelf.old; faults_before = S.faults shelf.old; faults_now = S.faults shelf.new; failed_name = S.failed_name shelf.new })) }
-    ensures quiet { OnOk result (S.faults shelf.new ≡ S.faults shelf.old) }
-    ensures no_fault { IfErr result (λ status. ((of : Which) → status ≢ Status.ReadFault of) → S.faults shelf.new ≡ S.faults shelf.old) }
+    ensures answer { IsAnswered (Run name.now)
+        (record { files = S.files shelf.old; faults_before = S.faults shelf.old; faults_now = S.faults shelf.new; failed_name = S.failed_name shelf.new }) result }
     ensures same_files { S.files shelf.new ≡ S.files shelf.old }
     ensures fetches { OfCalls (S.fetches shelf.old) (S.fetches shelf.new) (FetchesOf (Run name.now) (S.files shelf.old)) }
 {
@@ -151,11 +129,8 @@ pub fn command_text<R: Threads + Wait + Sync, S: Shelf, G: Gate>(
     gate: &G,
 ) -> Result<String, Status>
     requires called { IsCalled command }
-    ensures text { IfOk result (λ text. OfFiles (S.files shelf.old) (λ files. IsCommandText (said_by command.entry) files (string_bytes text))) }
-    ensures refused { IfErr result (IsRefused (said_by command.entry)
-        (record { files = S.files shelf.old; faults_before = S.faults shelf.old; faults_now = S.faults shelf.new; failed_name = S.failed_name shelf.new })) }
-    ensures quiet { OnOk result (S.faults shelf.new ≡ S.faults shelf.old) }
-    ensures no_fault { IfErr result (λ status. ((of : Which) → status ≢ Status.ReadFault of) → S.faults shelf.new ≡ S.faults shelf.old) }
+    ensures answer { IsAnswered (said_by command.entry)
+        (record { files = S.files shelf.old; faults_before = S.faults shelf.old; faults_now = S.faults shelf.new; failed_name = S.failed_name shelf.new }) result }
     ensures same_files { S.files shelf.new ≡ S.files shelf.old }
     ensures fetches { OfCalls (S.fetches shelf.old) (S.fetches shelf.new) (FetchesOf (said_by command.entry) (S.files shelf.old)) }
 {

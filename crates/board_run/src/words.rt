@@ -1,7 +1,7 @@
 //! The words of the command line.
 
 ghost use Rattle.std.specs.Prelude.{◌≡◌, ◌≤◌, Some, None, option_map, IfSome};
-ghost use Rattle.board_run.specs.Words.{command_with, command_with_two, is_round_count, make_of, asked};
+ghost use Rattle.board_run.specs.Words.{command_with, command_with_two, is_round_count, make_of, asked, WordsDecide, OneCommand};
 ghost use Rattle.board_run.specs.Commands.{said_by, IsCalled};
 
 use script_lines::decimal_of;
@@ -82,3 +82,9 @@ pub fn command_of(words: &[String]) -> Option<Command<'_>>
         _ => None,
     }
 }
+
+/// The words of each command are its own, and no other words ask for it. Does nothing: its clauses are the law.
+pub fn law_words()
+    ensures decided { WordsDecide }
+    ensures one { OneCommand }
+{}

@@ -2,7 +2,8 @@ use Rattle.std.proofs.Common.{◌≡◌, rules, refl, ap}
 use Rattle.std.proofs.KnownBytes.{Keeps-refl}
 use Rattle.board_run.specs.Commands.{said_by}
 use Rattle.board_run.specs.Statuses.{status_of, status_of_put_fault}
-use Rattle.board_run.proofs.Causes.{caused_refusal, caused_put_fault, caused_done, refusal_of, refuses_as}
+use Rattle.board_run.proofs.Causes.{caused_refusal, caused_put_fault, caused_done, refusal_of}
+use Rattle.board_run.proofs.Refusals.{holds_of_error}
 use Rattle.board_run.proofs.CallLemmas.{none_made, calls_hold, nothing_put, put_refused}
 use Rattle.board_run.proofs.command.run_command.Goals as goal
 
@@ -10,30 +11,30 @@ pub returns-in_err-text-clause-caused : goal.returns-in_err-text-clause-caused
 returns-in_err-text-clause-caused g c =
     let is : status_of c.from_residual.result ≡ c.in_err-text.field-0.0 = search rules in
     rw is
-    (caused_refusal _ _ _ c.in_err-text.field-0.0 c.in_err-text.ensures.refused c.in_err-text.ensures.no_fault
+    (caused_refusal _ _ _ c.in_err-text.field-0.0 c.in_err-text.ensures.answer.refused c.in_err-text.ensures.answer.no_fault_hidden
     refl (Keeps-refl (g.K.Sink.taken c.args.out.now)))
 
 pub returns-in_err-text-clause-only : goal.returns-in_err-text-clause-only
 returns-in_err-text-clause-only g c =
-    refuses_as _ c.in_err-text.field-0.0 (search rules) (refusal_of _ _ c.in_err-text.field-0.0 c.in_err-text.ensures.refused)
+    holds_of_error _ c.from_residual.result c.in_err-text.field-0.0 (search rules) (refusal_of _ _ c.in_err-text.field-0.0 c.in_err-text.ensures.answer.refused)
 
 pub returns-in_err-put_all-clause-caused : goal.returns-in_err-put_all-clause-caused
 returns-in_err-put_all-clause-caused g c =
     let is : status_of c.from_residual-in_err-put_all.result ≡ status_of_put_fault c.in_err-put_all.field-0.0 = search rules in
     rw is
-    (caused_put_fault _ _ _ _ c.in_ok-text.ensures.text c.in_ok-text.ensures.quiet c.in_err-put_all.field-0.0
+    (caused_put_fault _ _ _ _ c.in_ok-text.ensures.answer.text c.in_ok-text.ensures.answer.quiet c.in_err-put_all.field-0.0
     (rw c.as_bytes.ensures.value at c.in_err-put_all.ensures.front) c.in_err-put_all.ensures.failed
     c.in_err-put_all.ensures.no_fault)
 
 pub returns-clause-caused : goal.returns-clause-caused
 returns-clause-caused g c =
-    caused_done _ _ _ _ c.in_ok-text.ensures.text c.in_ok-text.ensures.quiet
+    caused_done _ _ _ _ c.in_ok-text.ensures.answer.text c.in_ok-text.ensures.answer.quiet
     (rw c.as_bytes.ensures.value at c.in_ok-put_all.ensures.whole) c.in_ok-put_all.ensures.quiet
 
 pub returns-in_err-text-clause-puts : goal.returns-in_err-text-clause-puts
 returns-in_err-text-clause-puts g c =
     let is : status_of c.from_residual.result ≡ c.in_err-text.field-0.0 = search rules in
-    rw is (none_made _ _ (nothing_put _ _ c.in_err-text.field-0.0 c.in_err-text.ensures.refused))
+    rw is (none_made _ _ (nothing_put _ _ c.in_err-text.field-0.0 c.in_err-text.ensures.answer.refused))
 
 pub returns-in_err-put_all-clause-puts : goal.returns-in_err-put_all-clause-puts
 returns-in_err-put_all-clause-puts g c =

@@ -6,18 +6,18 @@ use Rattle.board_run.specs.Asked.{Files}
 use Rattle.board_run.specs.Outcomes.{ShelfCall}
 use Rattle.board_run.specs.Statuses.{IsRefused, status_of_script_fault, status_of_board_fault}
 use Rattle.script_text.specs.Script.{said_of}
-use Rattle.board_run.proofs.Refusals.{refuses, not_taken, says_script, rom_size, comes_to_script, script_refused, comes_to_rom, comes_to_disk, disk_refused, board_refused}
+use Rattle.board_run.proofs.Refusals.{holds_of_error, not_taken, says_script, rom_size, comes_to_script, script_refused, comes_to_rom, comes_to_disk, disk_refused, board_refused}
 use Rattle.board_run.proofs.CallLemmas.{script_calls, rom_calls, disk_calls, board_calls, board_failed}
 use Rattle.board_run.proofs.prepare.prepare.Goals as goal
 
 pub returns-in_err-bytes-clause-refused : goal.returns-in_err-bytes-clause-refused
 returns-in_err-bytes-clause-refused g c =
-    refuses _ _ _ c.in_err-bytes.field-0.0 (search rules)
+    holds_of_error _ c.from_residual.result c.in_err-bytes.field-0.0 (search rules)
     (λ command named. not_taken _ _ _ _ _ command _ _ _ refl (comes_to_script _ command _ named) c.in_err-bytes.ensures.refused)
 
 pub returns-in_err-script-clause-refused : goal.returns-in_err-script-clause-refused
 returns-in_err-script-clause-refused g c =
-    refuses _ _ _ (status_of_script_fault c.in_err-script.field-0.0) (search rules)
+    holds_of_error _ c.from_residual-in_err-script.result (status_of_script_fault c.in_err-script.field-0.0) (search rules)
     (λ command named.
     script_refused _ _ _ _ command _ c.in_err-script.field-0.0 _ _ named c.in_ok-bytes.ensures.whole (search rules)
     c.deref.ensures.value c.in_err-script.ensures.bad)
@@ -27,7 +27,7 @@ returns-in_err-rom-clause-refused g c =
     let says =
     says_script _ _ _ _ (said_of c.in_ok-script.script) c.in_ok-bytes.ensures.whole (search rules) c.deref.ensures.value
     c.in_ok-script.ensures.said in
-    refuses _ _ _ c.in_err-rom.field-0.0 (search rules)
+    holds_of_error _ c.from_residual-in_err-rom.result c.in_err-rom.field-0.0 (search rules)
     (λ command named.
     not_taken _ _ _ _ _ command _ _ _ c.in_ok-bytes.ensures.quiet
     (comes_to_rom _ command _ (said_of c.in_ok-script.script) named says)
@@ -40,7 +40,7 @@ returns-in_err-disk-clause-refused g c =
     c.in_ok-script.ensures.said in
     let size =
     rom_size _ _ _ (rw (c.as_str.ensures.text, c.fetch.ensures.same_files) at c.in_ok-rom.ensures.whole) c.in_ok-rom.ensures.size in
-    refuses _ _ _ c.in_err-disk.field-0.0 (search rules)
+    holds_of_error _ c.from_residual-in_err-disk.result c.in_err-disk.field-0.0 (search rules)
     (λ command named.
     disk_refused _ _ _ _ command _ (said_of c.in_ok-script.script) named says _ _ _
     (c.in_ok-rom.ensures.quiet ∙ c.in_ok-bytes.ensures.quiet) size refl
@@ -53,7 +53,7 @@ returns-in_err-board-clause-refused g c =
     c.in_ok-script.ensures.said in
     let size =
     rom_size _ _ _ (rw (c.as_str.ensures.text, c.fetch.ensures.same_files) at c.in_ok-rom.ensures.whole) c.in_ok-rom.ensures.size in
-    refuses _ _ _ (status_of_board_fault c.in_err-board.field-0.0) (search rules)
+    holds_of_error _ c.from_residual-in_err-board.result (status_of_board_fault c.in_err-board.field-0.0) (search rules)
     (λ command named.
     board_refused _ _ _ _ command _ (said_of c.in_ok-script.script) named says c.in_err-board.field-0.0 _ size
     (rw (c.fetch_rom.ensures.same_files, c.fetch.ensures.same_files) at c.in_ok-disk.ensures.whole) c.in_ok-disk.ensures.fits
