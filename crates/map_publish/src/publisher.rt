@@ -10,14 +10,15 @@ ghost use Rattle.map_publish.specs.Props.{IsMapAfter-prop};
 use crate::front::{Front, Head};
 use crate::names::{Name, Names, Published, Stays, Tells};
 use crate::shown::Shown;
-use crate::viewer::{Note, Viewer};
+use crate::viewer::{Latest, Note, Viewer};
 use board_base::NoMemory;
 use board_spec::MapChange;
 use core::mem::replace_with;
 use left_right::writer::Writer;
 use map_builder::FlatMap;
 use std::alloc::{AllocError, Global};
-use std::sync::Wait;
+use std::sync::atomic::{AtomicU32, Ordering};
+use std::sync::{Arc, Wait};
 
 pub(crate) type Copies = Writer<Shown, Shown, Name, Published>;
 
@@ -26,6 +27,7 @@ pub(crate) type Copies = Writer<Shown, Shown, Name, Published>;
 pub struct Publisher {
     writer: Copies,
     head: Head,
+    latest: Latest,
     /// The list of what is published.
     pub front: Front,
     ghost head_is: { head ≡ head_of front.seen.book },
@@ -79,6 +81,7 @@ fn published<R: Wait>(writer: Copies, what: (&R, Shown)) -> (Copies, Result<(), 
 impl Publisher {
     /// Publishes one change at a version below 4,000,000. It may wait for viewers to leave the old copy. Refused for want
     /// of memory; then what is published is as before.
+    #[inline(never)]
     pub fn change<R: Wait>(&mut self, rt: &R, change: &MapChange) -> Result<(), NoMemory>
         requires room { version_after self.old.front.seen.log < 4_000_000 }
         ensures own { self.new.front.seen.book ≡ self.old.front.seen.book }
@@ -89,6 +92,7 @@ impl Publisher {
         let front = next.front.again();
         replace_with(&mut self.writer, (rt, next), published)?;
         self.front = front;
+        self.latest.store(self.front.count, Ordering::SeqCst);
         Ok(())
     }
 
@@ -134,6 +138,7 @@ impl Publisher {
         let Publisher {
             writer,
             head: _head,
+            latest: _latest,
             front: _front,
         } = self;
         writer.take(rt);
@@ -149,7 +154,8 @@ impl Publisher {
         if let Some(reader) = &mut reader {
             reader.learn::<Tells>(note);
         }
-        Viewer::new(reader, self.map().copy(), self.front.again())
+        let latest = Arc::try_clone(&self.latest).ok();
+        Viewer::new(reader, latest, self.map().copy(), self.front.again())
     }
 }
 
@@ -185,6 +191,9 @@ fn publisher_of<R: Wait>(
     ensures list { IfOk result (λ publisher. publisher.front.seen.log ≡ Opened map.now ∷ []) }
 {
     let (head, front) = Front::open(map).ok_or(NoMemory)?;
+    let Ok(latest) = Arc::new(alloc, AtomicU32::new(front.count)) else {
+        return Err(NoMemory);
+    };
     let (first, second, same) = (shown(map, &front), shown(map, &front), shown(map, &front));
     let writer = Copies::new(alloc, first, second, readers as usize)?;
     let (writer, result) = named(rt, writer, same);
@@ -202,6 +211,7 @@ fn publisher_of<R: Wait>(
     Ok(Publisher {
         writer,
         head,
+        latest,
         front,
     })
 }

@@ -118,7 +118,7 @@ fn a_viewer_meets_no_shorter_note(rt: HostRuntime) -> Result<(), Fail> {
 }
 
 fn learns_alone<R: Wait + Abort>(rt: &R, publisher: &mut Publisher) -> Result<(), Fail> {
-    let mut viewer = Viewer::new(None, publisher.map().copy(), publisher.front.again());
+    let mut viewer = Viewer::new(None, None, publisher.map().copy(), publisher.front.again());
     assert!(rt; publish(rt, publisher, &pam0(0x10)));
     assert_eq!(rt; read(&mut viewer), at_pam0(0, Area::Rom));
     if !viewer.meets(publisher.tell()) {

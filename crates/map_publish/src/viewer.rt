@@ -14,6 +14,8 @@ use board_base::Kind;
 use board_spec::Look;
 use left_right::reader::Reader;
 use map_builder::FlatMap;
+use std::sync::Arc;
+use std::sync::atomic::{AtomicU32, Ordering};
 
 /// What a publisher tells: the list that was published when it told the note. It takes no bytes beside its length.
 #[derive(Drop)]
@@ -23,11 +25,15 @@ pub struct Note {
 
 pub(crate) type Place = Reader<Shown, Name, Published>;
 
+/// The length of the list that was published last. It only tells whether a viewer need look there.
+pub(crate) type Latest = Arc<AtomicU32>;
+
 /// A viewer, with a copy of the newest map that it was opened with, looked at or learnt. It has a place at the published
 /// copies, or none where that was refused.
 #[derive(Drop)]
 pub struct Viewer {
     reader: Option<Place>,
+    latest: Option<Latest>,
     map: FlatMap,
     /// The list of that map.
     pub front: Front,
@@ -36,12 +42,22 @@ pub struct Viewer {
 }
 
 impl Viewer {
-    pub(crate) fn new(reader: Option<Place>, map: FlatMap, front: Front) -> Viewer
+    pub(crate) fn new(
+        reader: Option<Place>,
+        latest: Option<Latest>,
+        map: FlatMap,
+        front: Front,
+    ) -> Viewer
         requires map { IsMapOfLog front.seen.log map }
         requires tied { ForSome reader (λ r. view r.place ≡ name front.seen.book) }
         ensures viewer { result.front ≡ front }
     {
-        Viewer { reader, map, front }
+        Viewer {
+            reader,
+            latest,
+            map,
+            front,
+        }
     }
 
     /// Whether the note's list begins with every list that this viewer looked at or learnt. False exactly where it is
@@ -64,9 +80,24 @@ impl Viewer {
         ensures opened { opened_of self.new.front.seen.log ≡ opened_of self.old.front.seen.log }
     {
         if self.front.count < note.front.count {
-            self.map = map.copy();
+            self.take_in(note.front, map);
+        } else {
+            self.front = note.front;
         }
-        self.front = note.front;
+    }
+
+    /// Takes in a list that begins with the viewer's own, and its map. A function pays at entry for the size of a map that
+    /// it makes, so this stays apart from what happens at each turn and each look.
+    #[inline(never)]
+    fn take_in(&mut self, front: Front, map: &FlatMap)
+        requires own { front.seen.book ≡ self.old.front.seen.book }
+        requires begins { IsPrefix self.old.front.seen.log front.seen.log }
+        requires map { IsMapOfLog front.seen.log map.now }
+        ensures learnt { self.new.front ≡ front }
+        ensures opened { opened_of self.new.front.seen.log ≡ opened_of self.old.front.seen.log }
+    {
+        self.map = map.copy();
+        self.front = front;
     }
 
     /// Looks at the newest map: how many changes led to it, and the longest interval round an address in which this kind
@@ -77,7 +108,7 @@ impl Viewer {
         ensures later { IsPrefix self.old.front.seen.log self.new.front.seen.log }
         ensures look { IsLookIn self.new.front.seen.log addr kind smm result }
     {
-        self.refresh();
+        self.keep_up();
         self.find(addr, kind, smm)
     }
 
@@ -88,8 +119,28 @@ impl Viewer {
         self.map.version()
     }
 
+    /// Whether nothing was published since the viewer's own copy, as far as is known without an entry.
+    fn is_latest(&self) -> bool {
+        match &self.latest {
+            Some(latest) => latest.load(Ordering::SeqCst) == self.front.count,
+            None => false,
+        }
+    }
+
+    /// Takes in the published map where there may be a newer one.
+    fn keep_up(&mut self)
+        ensures own { self.new.front.seen.book ≡ self.old.front.seen.book }
+        ensures opened { opened_of self.new.front.seen.log ≡ opened_of self.old.front.seen.log }
+        ensures later { IsPrefix self.old.front.seen.log self.new.front.seen.log }
+    {
+        if !self.is_latest() {
+            self.refresh();
+        }
+    }
+
     /// Takes in the published map where its list is longer. Where the entry is refused, or the viewer has no place, the
     /// viewer stays as it is.
+    #[inline(never)]
     fn refresh(&mut self)
         ensures own { self.new.front.seen.book ≡ self.old.front.seen.book }
         ensures opened { opened_of self.new.front.seen.log ≡ opened_of self.old.front.seen.log }
@@ -103,8 +154,7 @@ impl Viewer {
             Ok(reading) => {
                 let shown = reading.get();
                 if self.front.begins(&shown.front) && self.front.count < shown.front.count {
-                    self.map = shown.map.copy();
-                    self.front = shown.front.again();
+                    self.take_in(shown.front.again(), &shown.map);
                 }
                 self.reader = Some(reading.leave());
             }
