@@ -1,6 +1,5 @@
 -- What each way out of a command says of its cause.
-use Rattle.std.proofs.Common.{◌≡◌, ◌≢◌, ℕ, ◌⊎◌, inl, inr, List, Option, Some, None, refl, sym, subst}
-use Rattle.std.specs.Prelude.{IfErr, Result, Ok, Err}
+use Rattle.std.proofs.Common.{◌≡◌, ◌≢◌, ℕ, inl, inr, List, Option, Some, None, refl}
 use Rattle.std.specs.Io.KnownBytes.{Appends, Keeps}
 use Rattle.board_base.specs.declared.fault.PutFault.{PutFault}
 use Rattle.board_base.specs.declared.fault.PutFault.TheVariants.{Failed, NoMemory as NoMemoryForPut}
@@ -9,7 +8,6 @@ use Rattle.board_run.specs.declared.status.Which.{Which}
 use Rattle.board_run.specs.declared.status.Status.{Status}
 use Rattle.board_run.specs.declared.status.Status.TheVariants.{Done, Usage, ReadFault, WriteFault, TooLong, BadScript, BadImage, Differs, NoMemory}
 use Rattle.board_run.specs.Words.{Command}
-use Rattle.board_run.specs.Asked.{Files}
 use Rattle.board_run.specs.Texts.{IsCommandText}
 use Rattle.board_run.specs.Output.{AppendsFront}
 use Rattle.board_run.specs.Outcomes.{ShelfCall, SinkCall, OfFiles, OfCommand, PutsText, PutsTextFront, Stopped, HasCause, IsCaused}

@@ -1,11 +1,11 @@
 -- The status that the words and the files ask for comes, while the outside is quiet.
-use Rattle.std.proofs.Common.{◌≡◌, ◌≢◌, ℕ, ◌⊎◌, inl, inr, List, Option, Some, None, refl, sym, subst, length, ◌≤◌, arith}
+use Rattle.std.proofs.Common.{◌≡◌, inl, inr, Option, Some, None, refl, sym, subst, arith}
 use Rattle.board_base.specs.Outside.{Rose}
 use Rattle.board_run.specs.declared.status.Status.{Status}
 use Rattle.board_run.specs.declared.status.Status.TheVariants.{Done, Usage, ReadFault, WriteFault, TooLong, BadScript, BadImage, Differs, NoMemory}
 use Rattle.board_run.specs.Words.{Command}
 use Rattle.board_run.specs.Asked.{Files, AsksFor}
-use Rattle.board_run.specs.Outcomes.{ShelfCall, SinkCall, OfFiles, HasCommand, PutsText, PutsTextFront, IsCaused, Answers, IsQuietFor, IsExact}
+use Rattle.board_run.specs.Outcomes.{ShelfCall, SinkCall, OfFiles, PutsText, PutsTextFront, IsCaused, Answers, IsQuietFor, IsExact}
 use Rattle.board_run.proofs.OneStatus.{one_status, done_of_text}
 use Rattle.board_run.proofs.Refusals.{at_files}
 

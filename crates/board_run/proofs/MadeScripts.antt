@@ -9,10 +9,6 @@ use Rattle.board_spec.specs.Setup.{Setup, IsRomSize, IsDisk, IsSetup}
 use Rattle.board_spec.specs.Text.{line_feed}
 use Rattle.script_spec.specs.Lines.{text_of_lines}
 use Rattle.script_spec.specs.ScriptText.{Script as Said, IsScriptText}
-use Rattle.script_spec.specs.Laws.{NotBoth}
-use Rattle.script_text.specs.declared.fault.ScriptFault.{ScriptFault}
-use Rattle.script_text.specs.declared.fault.ScriptFault.TheVariants.{Bad}
-use Rattle.script_text.specs.Faults.{OnBad}
 use Rattle.make_script.specs.MakeText.{setup_lines, opening_lines, round_lines, lines_of_rounds, make_lines, make_text}
 use Rattle.make_script.specs.Images.{rom_image, disk_image}
 use Rattle.make_script.specs.MadeScript.{made_setup}

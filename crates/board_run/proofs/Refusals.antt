@@ -1,5 +1,5 @@
 -- Why a command ended before it had its text.
-use Rattle.std.proofs.Common.{◌≡◌, ◌≢◌, ℕ, ◌<◌, ◌≤◌, ◌⊎◌, inl, inr, List, length, take, Option, Some, None, refl, sym, ap, ◌∙◌, subst}
+use Rattle.std.proofs.Common.{◌≡◌, ◌≢◌, ℕ, ◌<◌, ◌≤◌, List, length, take, Option, Some, None, refl, sym, ap, ◌∙◌, subst}
 use Rattle.std.specs.Prelude.{option_map, IfErr, Result, Ok, Err, String, string_bytes}
 use Rattle.std.specs.Global.{Global}
 use Rattle.board_base.specs.Outside.{Rose, OfFile}
@@ -19,8 +19,8 @@ use Rattle.log_check.specs.declared.fault.CheckFault.{CheckFault}
 use Rattle.log_check.specs.declared.fault.CheckFault.TheVariants.{Differs as DiffersAtLine, NoMemory as NoMemoryForCheck}
 use Rattle.board_run.specs.Words.{Command, Check, script_name}
 use Rattle.board_run.specs.Texts.{IsLegalText, TextOfScript, IsCommandText}
-use Rattle.board_run.specs.Asked.{Files, limit_of, disk_of, fitted, setup_of, SaysScript, IsGood, HasScript, ComesTo, ReadsFile, IsLength, Fits, AsksFor}
-use Rattle.board_run.specs.Outcomes.{ShelfCall, OfFiles, name_in_words, FailsAt}
+use Rattle.board_run.specs.Asked.{Files, limit_of, fitted, SaysScript, IsGood, HasScript, ComesTo, ReadsFile, IsLength, Fits, AsksFor}
+use Rattle.board_run.specs.Outcomes.{ShelfCall, OfFiles, FailsAt}
 use Rattle.board_run.specs.Calls.{Reaches}
 use Rattle.board_run.specs.Statuses.{status_of_script_fault, status_of_board_fault, status_of_check_fault, IsNotTaken, IsRefused, IsAnswered, FitsDisk, IsDiskNotTaken, IsNotOpened, IsReady}
 

@@ -1,6 +1,6 @@
 -- The words that ask for a command are those that a user writes.
-use Rattle.std.proofs.Common.{◌≡◌, ℕ, ◌≤◌, ◌<◌, ◌⊎◌, inl, inr, leb, cond, List, [], ◌∷◌, Option, Some, None, refl, sym, ap, ◌∙◌, subst, arith}
-use Rattle.std.specs.Prelude.{codes, decimal, bytes_eq}
+use Rattle.std.proofs.Common.{◌≡◌, ℕ, inl, inr, leb, cond, List, [], ◌∷◌, Some, None, refl, sym, ap, ◌∙◌, subst, arith}
+use Rattle.std.specs.Prelude.{codes, bytes_eq}
 use Rattle.std.proofs.lemmas.Bool.{cases_Bool, leb-true, le-leb}
 use Rattle.script_spec.specs.Grammar.{IsDecimal}
 use Rattle.script_lines.specs.Numbers.{decimal_of}

@@ -1,6 +1,6 @@
 -- What the words and the files ask for: the status with which a command ends where no fault rises outside and memory is
 -- there.
-use Rattle.std.specs.Prelude.{ℕ, ◌≡◌, ◌<◌, ◌≤◌, List, length, Option, Some, None, option_map}
+use Rattle.std.specs.Prelude.{ℕ, ◌≡◌, ◌<◌, ◌≤◌, List, length, Option, Some, option_map}
 use Rattle.board_spec.specs.Setup.{Setup, IsRomSize, IsDiskSize, IsDisk}
 use Rattle.script_spec.specs.ScriptText.{Script as Said, IsScriptText, IsScriptBad}
 use Rattle.script_spec.specs.Checks.{IsLogOf, DiffersAt}
@@ -8,7 +8,7 @@ use Rattle.board_run.specs.declared.status.Which.{Which}
 use Rattle.board_run.specs.declared.status.Which.TheVariants.{Script, Rom, Disk, Log}
 use Rattle.board_run.specs.declared.status.Status.{Status}
 use Rattle.board_run.specs.declared.status.Status.TheVariants.{Done, TooLong, BadScript, BadImage, Differs}
-use Rattle.board_run.specs.Words.{Command, Replay, Map, Check, Make, script_name, log_name}
+use Rattle.board_run.specs.Words.{Command, Check, Make, script_name, log_name}
 
 -- the bytes of each file, by its name
 abbrev pub Files : Type 0

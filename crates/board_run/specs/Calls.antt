@@ -5,7 +5,7 @@ use Rattle.board_run.specs.declared.status.Which.{Which}
 use Rattle.board_run.specs.declared.status.Which.TheVariants.{Script, Rom, Disk, Log}
 use Rattle.board_run.specs.declared.status.Status.{Status}
 use Rattle.board_run.specs.declared.status.Status.TheVariants.{Done, WriteFault, NoMemory}
-use Rattle.board_run.specs.Words.{Command, script_name}
+use Rattle.board_run.specs.Words.{Command}
 use Rattle.board_run.specs.Asked.{Files, limit_of, ComesTo}
 use Rattle.board_run.specs.Outcomes.{OfFiles, name_in_words}
 

@@ -1,5 +1,5 @@
 -- The command that a value of the program stands for.
-use Rattle.std.specs.Prelude.{ℕ, ◌≤◌}
+use Rattle.std.specs.Prelude.{◌≤◌}
 use Rattle.board_run.specs.declared.words.Command.{Command as Called}
 use Rattle.board_run.specs.declared.words.Command.TheVariants.{Replay as CallsReplay, Run as CallsRun, Map as CallsMap, Check as CallsCheck, Make as CallsMake}
 use Rattle.board_run.specs.Words.{Command, Replay, Run, Map, Check, Make}

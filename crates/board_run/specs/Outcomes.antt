@@ -5,7 +5,7 @@ use Rattle.board_base.specs.Outside.{Rose}
 use Rattle.board_run.specs.declared.status.Which.{Which}
 use Rattle.board_run.specs.declared.status.Which.TheVariants.{Script, Log}
 use Rattle.board_run.specs.declared.status.Status.{Status}
-use Rattle.board_run.specs.declared.status.Status.TheVariants.{Done, Usage, ReadFault, WriteFault, TooLong, BadScript, BadImage, Differs, NoMemory}
+use Rattle.board_run.specs.declared.status.Status.TheVariants.{Done, Usage, ReadFault, WriteFault, NoMemory}
 use Rattle.board_run.specs.Words.{Command, script_name, log_name}
 use Rattle.board_run.specs.Asked.{Files, ReadsFile, AsksFor}
 use Rattle.board_run.specs.Texts.{IsCommandText}

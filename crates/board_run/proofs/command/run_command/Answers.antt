@@ -1,6 +1,5 @@
-use Rattle.std.proofs.Common.{◌≡◌, rules, refl, ap}
+use Rattle.std.proofs.Common.{◌≡◌, rules, refl}
 use Rattle.std.proofs.KnownBytes.{Keeps-refl}
-use Rattle.board_run.specs.Commands.{said_by}
 use Rattle.board_run.specs.Statuses.{status_of, status_of_put_fault}
 use Rattle.board_run.proofs.Causes.{caused_refusal, caused_put_fault, caused_done, refusal_of}
 use Rattle.board_run.proofs.Refusals.{holds_of_error}

@@ -1,6 +1,6 @@
-use Rattle.std.proofs.Common.{ℕ, ◌≡◌, ◌<◌, List, length, sym, ap, ◌∙◌, subst}
+use Rattle.std.proofs.Common.{ℕ, ◌≡◌, ◌<◌, List, length, sym, ◌∙◌, subst}
 use Rattle.script_spec.proofs.ReadingLaws.{not_both}
-use Rattle.script_spec.specs.ScriptText.{IsScriptText, IsScriptBad}
+use Rattle.script_spec.specs.ScriptText.{IsScriptBad}
 use Rattle.script_text.specs.declared.fault.ScriptFault.{ScriptFault}
 use Rattle.script_text.specs.Faults.{OnBad}
 use Rattle.make_script.specs.MakeText.{make_text}

@@ -1,4 +1,4 @@
-use Rattle.std.proofs.Common.{◌≡◌, ◌≤◌, length}
+use Rattle.std.proofs.Common.{◌≡◌, length}
 use Rattle.board_run.specs.Output.{Sent}
 use Rattle.board_run.specs.Calls.{OfCalls, AllTook}
 use Rattle.board_run.proofs.output.put_all.Given as goal

@@ -1,10 +1,5 @@
-use Rattle.std.proofs.Common.{◌≡◌, Err, rules, refl, sym, ◌∙◌, subst, ℕ, List, Option}
-use Rattle.std.specs.Prelude.{IfErr, Result, Some}
-use Rattle.board_run.specs.declared.status.Status.{Status}
-use Rattle.board_run.specs.Words.{Command, script_name}
-use Rattle.board_run.specs.Asked.{Files}
-use Rattle.board_run.specs.Outcomes.{ShelfCall}
-use Rattle.board_run.specs.Statuses.{IsRefused, status_of_script_fault, status_of_board_fault}
+use Rattle.std.proofs.Common.{rules, refl, ◌∙◌}
+use Rattle.board_run.specs.Statuses.{status_of_script_fault, status_of_board_fault}
 use Rattle.script_text.specs.Script.{said_of}
 use Rattle.board_run.proofs.Refusals.{holds_of_error, not_taken, says_script, rom_size, comes_to_script, script_refused, comes_to_rom, comes_to_disk, disk_refused, board_refused}
 use Rattle.board_run.proofs.CallLemmas.{script_calls, rom_calls, disk_calls, board_calls, board_failed}

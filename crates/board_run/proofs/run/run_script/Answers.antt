@@ -1,7 +1,4 @@
-use Rattle.std.proofs.Common.{◌≡◌, ◌≤◌, List, length, sym, ap, ◌∙◌, subst}
-use Rattle.std.specs.Prelude.{Vec, flat_map}
-use Rattle.std.specs.Global.{Global}
-use Rattle.board_spec.specs.declared.event.Statement.{Statement}
+use Rattle.std.proofs.Common.{sym}
 use Rattle.script_text.specs.Script.{said_of}
 use Rattle.board_run.proofs.Statements.{phases_in_range, listed_one_by_one}
 use Rattle.board_run.proofs.run.run_script.Goals as goal
