@@ -15,3 +15,4 @@ pub mod SortedLemmas
 pub mod SameBoards
 pub mod ChangeLemmas
 pub mod RowLemmas
+pub mod MovedRows

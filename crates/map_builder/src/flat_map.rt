@@ -16,8 +16,9 @@ use crate::build::{Ranges, ranges_of, rebuild};
 use crate::changed::push_covered;
 use crate::find::span_of;
 use crate::range::{Changed, Range, Span};
+use crate::rows::windows_to_build;
 use crate::widths::hold_widths;
-use crate::windows::{bounds_of, sorted};
+use crate::windows::bounds_of;
 use addr_decode::{MapChange, MapRegs, touches};
 use arrayvec::ArrayVec;
 use board_base::{Kind, Reg, Steps, Width};
@@ -193,9 +194,10 @@ impl FlatMap {
     {
         let mut windows = ArrayVec::new();
         push_covered(&mut windows, &self.regs, change);
+        let boundaries = self.regs.drb;
         self.regs.apply(change);
         push_covered(&mut windows, &self.regs, change);
-        let rising = sorted(&windows);
+        let rising = windows_to_build(change, &windows, &boundaries, &self.regs.drb);
         rebuild(
             &mut self.ranges,
             &mut self.before,

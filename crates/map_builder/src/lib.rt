@@ -7,6 +7,7 @@ mod find;
 mod flat_map;
 pub mod laws;
 mod range;
+mod rows;
 mod widths;
 mod windows;
 

@@ -23,7 +23,7 @@ pub fn bounds_of(windows: &[Changed]) -> Option<Changed>
 }
 
 /// The least interval that holds both, of which the second may be missing.
-fn joined(here: Changed, there: Option<Changed>) -> Changed
+pub fn joined(here: Changed, there: Option<Changed>) -> Changed
     ensures joined { result ≡ joined_by here there }
 {
     match there {

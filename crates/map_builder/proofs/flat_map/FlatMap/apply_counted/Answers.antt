@@ -10,12 +10,11 @@ use Rattle.addr_decode.specs.Edges.{edges_after}
 use Rattle.map_builder.specs.declared.range.Changed.{Changed}
 use Rattle.map_builder.specs.Map.{Mapped, range_of}
 use Rattle.map_builder.specs.Changed.{after, windows_covered, bounds, bounds_or_zero, changed_windows, from_to, IsOutside}
-use Rattle.map_builder.specs.Sorted.{sorted, rows_in, Rise}
+use Rattle.map_builder.specs.Build.{IsMapWhere, IsBeside}
+use Rattle.map_builder.specs.Sorted.{rows_in, Rise}
 use Rattle.map_builder.proofs.KeptStores.{beside_keeps}
 use Rattle.map_builder.proofs.OutsideLemmas.{outside_bounds}
-use Rattle.map_builder.proofs.BoundsLemmas.{changed_ordered}
-use Rattle.map_builder.proofs.SortedLemmas.{rise_sorted, rows_few}
-use Rattle.map_builder.proofs.ChangeLemmas.{board_after, beside_map}
+use Rattle.map_builder.proofs.ChangeLemmas.{board_after, build_rise, build_few, build_beside}
 use Rattle.map_builder.proofs.flat_map.FlatMap.apply_counted.Goals as goal
 
 -- the registers inside a map are those that it is seen to have
@@ -42,9 +41,10 @@ rebuild-requires-clause-rise g c =
     let windows = found board.setup board.bytes c.args.change.now c.new-windows.result.items c.push_covered.new.windows.items c.push_covered-2.new.windows.items
     c.new-windows.ensures (c.push_covered.ensures.windows board.setup board.bytes board.stands)
     (c.push_covered-2.ensures.windows board.setup (after board.setup c.args.change.now board.bytes) (c.apply.ensures.stands board.setup board.bytes board.stands)) in
-    let rising = c.deref-2.ensures.0 ∙ c.sorted-rising.ensures.sorted ∙ ap sorted (c.deref.ensures.0 ∙ windows) in
-    subst Rise (sym rising)
-    (rise_sorted (changed_windows board.setup board.bytes c.args.change.now) (changed_ordered board.setup board.bytes c.args.change.now))
+    subst Rise (sym c.deref-2.ensures.0)
+    (build_rise board.setup board.bytes c.args.change.now c.deref.result.now c.windows_to_build-rising.result.items
+    (map_bytes c.self.inside.regs).drb (map_bytes c.apply.new.self).drb (c.deref.ensures.0 ∙ windows)
+    c.windows_to_build-rising.ensures.others c.windows_to_build-rising.ensures.rows)
 
 pub rebuild-requires-clause-beside : goal.rebuild-requires-clause-beside
 rebuild-requires-clause-beside g c =
@@ -52,9 +52,10 @@ rebuild-requires-clause-beside g c =
     let windows = found board.setup board.bytes c.args.change.now c.new-windows.result.items c.push_covered.new.windows.items c.push_covered-2.new.windows.items
     c.new-windows.ensures (c.push_covered.ensures.windows board.setup board.bytes board.stands)
     (c.push_covered-2.ensures.windows board.setup (after board.setup c.args.change.now board.bytes) (c.apply.ensures.stands board.setup board.bytes board.stands)) in
-    beside_map (map_bytes c.self.inside.regs) (map_bytes c.apply.new.self) c.args.change.now (map range_of c.self.inside.ranges.items) c.self.invariant
-    (c.apply.ensures.stands board.setup board.bytes board.stands) c.deref-2.result.now
-    (c.deref-2.ensures.0 ∙ c.sorted-rising.ensures.sorted ∙ ap sorted (c.deref.ensures.0 ∙ windows))
+    subst (λ (all : List Changed). IsMapWhere (map_bytes c.apply.new.self) (IsBeside all) (map range_of c.self.inside.ranges.items)) (sym c.deref-2.ensures.0)
+    (build_beside (map_bytes c.self.inside.regs) (map_bytes c.apply.new.self) c.args.change.now (map range_of c.self.inside.ranges.items) c.self.invariant
+    (c.apply.ensures.stands board.setup board.bytes board.stands) c.deref.result.now c.windows_to_build-rising.result.items (c.deref.ensures.0 ∙ windows)
+    c.windows_to_build-rising.ensures.others c.windows_to_build-rising.ensures.rows)
 
 pub invariant_of-self : goal.invariant_of-self
 invariant_of-self g c =
@@ -99,11 +100,10 @@ returns-clause-rows g c = λ setup bytes stands.
     let windows = found setup bytes c.args.change.now c.new-windows.result.items c.push_covered.new.windows.items c.push_covered-2.new.windows.items
     c.new-windows.ensures (c.push_covered.ensures.windows setup bytes here)
     (c.push_covered-2.ensures.windows setup new (c.apply.ensures.stands setup bytes here)) in
-    let rising : c.deref-2.result.now ≡ sorted (changed_windows setup bytes c.args.change.now) =
-    c.deref-2.ensures.0 ∙ c.sorted-rising.ensures.sorted ∙ ap sorted (c.deref.ensures.0 ∙ windows) in
     omega (
       arith,
       c.rebuild.ensures.rows setup new (c.apply.ensures.stands setup bytes here),
-      ap (λ (all : List Changed). rows_in (edges_after setup new) all) rising,
-      rows_few setup new (changed_windows setup bytes c.args.change.now) (changed_ordered setup bytes c.args.change.now),
+      ap (λ (all : List Changed). rows_in (edges_after setup new) all) c.deref-2.ensures.0,
+      build_few setup bytes c.args.change.now c.deref.result.now c.windows_to_build-rising.result.items (map_bytes c.self.inside.regs).drb
+          (map_bytes c.apply.new.self).drb (c.deref.ensures.0 ∙ windows) c.windows_to_build-rising.ensures.others c.windows_to_build-rising.ensures.rows,
     )
