@@ -16,9 +16,9 @@ use crate::build::{Ranges, ranges_of, rebuild};
 use crate::changed::push_covered;
 use crate::find::span_of;
 use crate::range::{Changed, Range, Span};
-use crate::rows::windows_to_build;
+use crate::rows::choose_windows;
 use crate::widths::hold_widths;
-use crate::windows::bounds_of;
+use crate::windows::{Windows, bounds_of};
 use addr_decode::{MapChange, MapRegs, touches};
 use arrayvec::ArrayVec;
 use board_base::{Kind, Reg, Steps, Width};
@@ -36,6 +36,10 @@ pub struct FlatMap {
     ranges: Ranges,
     /// Room for the ranges as they were, while those that changed are built anew.
     before: Ranges,
+    /// Room for the windows of a change.
+    windows: Windows,
+    /// Room for those in which the ranges are built anew.
+    chosen: Windows,
     version: u32,
 }
 
@@ -66,6 +70,8 @@ impl FlatMap {
             regs,
             ranges,
             before: ArrayVec::new(),
+            windows: ArrayVec::new(),
+            chosen: ArrayVec::new(),
             version: 0,
         }
     }
@@ -80,6 +86,8 @@ impl FlatMap {
             regs: self.regs.copy(),
             ranges,
             before: ArrayVec::new(),
+            windows: ArrayVec::new(),
+            chosen: ArrayVec::new(),
             version: self.version,
         }
     }
@@ -192,21 +200,27 @@ impl FlatMap {
         ensures rows { (setup : Setup) (bytes : Bytes) → StandsFor setup bytes self.old.regs
             → steps.new ≤ steps.old + most_rows setup bytes change.now }
     {
-        let mut windows = ArrayVec::new();
-        push_covered(&mut windows, &self.regs, change);
+        self.windows.clear();
+        push_covered(&mut self.windows, &self.regs, change);
         let boundaries = self.regs.drb;
         self.regs.apply(change);
-        push_covered(&mut windows, &self.regs, change);
-        let rising = windows_to_build(change, &windows, &boundaries, &self.regs.drb);
+        push_covered(&mut self.windows, &self.regs, change);
+        choose_windows(
+            &mut self.chosen,
+            change,
+            &self.windows,
+            &boundaries,
+            &self.regs.drb,
+        );
         rebuild(
             &mut self.ranges,
             &mut self.before,
             &self.regs,
-            &rising,
+            &self.chosen,
             steps,
         );
         self.version += 1;
-        bounds_of(&windows).unwrap_or(NOTHING)
+        bounds_of(&self.windows).unwrap_or(NOTHING)
     }
 
     /// Stores the bytes of a value in rising offset. Where they cover a byte that the map depends on, this is a change

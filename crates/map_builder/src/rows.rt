@@ -6,28 +6,30 @@ ghost use Rattle.map_builder.specs.Rows.{stores_rows as stores_rows_by, AreMoved
 ghost use Rattle.map_builder.specs.Sorted.{sorted as sorted_by};
 
 use crate::range::Changed;
-use crate::windows::{Windows, joined, sorted};
+use crate::windows::{Windows, joined, sort_into};
 use addr_decode::MapChange;
-use arrayvec::ArrayVec;
 use board_spec::offset::{DRB0, DRB7, HOST_BRIDGE};
 use board_spec::range::BOUNDARY_UNIT;
 
-/// The windows in which the rows of the map are looked up anew: those that a change covers, in rising order. Of a store
-/// to boundaries of rows alone, only what lies between an old boundary and a new one.
-pub fn windows_to_build(
+/// Makes a list the windows in which the rows of the map are looked up anew: those that a change covers, in rising
+/// order. Of a store to boundaries of rows alone, only what lies between an old boundary and a new one. What the list held
+/// counts for nothing.
+pub fn choose_windows(
+    chosen: &mut Windows,
     change: &MapChange,
     windows: &[Changed],
     old: &[u8; 8],
     new: &[u8; 8],
-) -> Windows
+)
     requires count { length windows.now ≤ 64 }
-    ensures others { stores_rows_by change.now ≡ false → result.items ≡ sorted_by windows.now }
-    ensures rows { stores_rows_by change.now ≡ true → AreMoved old.now new.now result.items }
+    ensures others { stores_rows_by change.now ≡ false → chosen.new.items ≡ sorted_by windows.now }
+    ensures rows { stores_rows_by change.now ≡ true → AreMoved old.now new.now chosen.new.items }
 {
     if stores_rows(change) {
-        return moved_windows(old, new);
+        choose_moved(chosen, old, new);
+    } else {
+        sort_into(chosen, windows);
     }
-    sorted(windows)
 }
 
 /// Whether a store covers boundaries of rows and no other register.
@@ -45,15 +47,14 @@ fn stores_rows(change: &MapChange) -> bool
     }
 }
 
-/// The least window that holds what lies between the old boundaries and the new ones. None where none moves.
-fn moved_windows(old: &[u8; 8], new: &[u8; 8]) -> Windows
-    ensures moved { AreMoved old.now new.now result.items }
+/// Makes a list the least window that holds what lies between the old boundaries and the new ones. None where none moves.
+fn choose_moved(chosen: &mut Windows, old: &[u8; 8], new: &[u8; 8])
+    ensures moved { AreMoved old.now new.now chosen.new.items }
 {
-    let mut windows = ArrayVec::new();
+    chosen.clear();
     if let Some(window) = moved(old, new) {
-        windows.push(window);
+        chosen.push(window);
     }
-    windows
 }
 
 /// The least interval that holds what lies between the old boundaries and the new ones. None where none moves.

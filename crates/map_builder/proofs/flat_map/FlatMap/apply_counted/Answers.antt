@@ -38,24 +38,24 @@ rebuild-requires-clause-board g c =
 pub rebuild-requires-clause-rise : goal.rebuild-requires-clause-rise
 rebuild-requires-clause-rise g c =
     let board = c.self.invariant.board in
-    let windows = found board.setup board.bytes c.args.change.now c.new-windows.result.items c.push_covered.new.windows.items c.push_covered-2.new.windows.items
-    c.new-windows.ensures (c.push_covered.ensures.windows board.setup board.bytes board.stands)
+    let windows = found board.setup board.bytes c.args.change.now c.clear.new.self.items c.push_covered.new.windows.items c.push_covered-2.new.windows.items
+    c.clear.ensures (c.push_covered.ensures.windows board.setup board.bytes board.stands)
     (c.push_covered-2.ensures.windows board.setup (after board.setup c.args.change.now board.bytes) (c.apply.ensures.stands board.setup board.bytes board.stands)) in
     subst Rise (sym c.deref-2.ensures.0)
-    (build_rise board.setup board.bytes c.args.change.now c.deref.result.now c.windows_to_build-rising.result.items
+    (build_rise board.setup board.bytes c.args.change.now c.deref.result.now c.choose_windows.new.chosen.items
     (map_bytes c.self.inside.regs).drb (map_bytes c.apply.new.self).drb (c.deref.ensures.0 ∙ windows)
-    c.windows_to_build-rising.ensures.others c.windows_to_build-rising.ensures.rows)
+    c.choose_windows.ensures.others c.choose_windows.ensures.rows)
 
 pub rebuild-requires-clause-beside : goal.rebuild-requires-clause-beside
 rebuild-requires-clause-beside g c =
     let board = c.self.invariant.board in
-    let windows = found board.setup board.bytes c.args.change.now c.new-windows.result.items c.push_covered.new.windows.items c.push_covered-2.new.windows.items
-    c.new-windows.ensures (c.push_covered.ensures.windows board.setup board.bytes board.stands)
+    let windows = found board.setup board.bytes c.args.change.now c.clear.new.self.items c.push_covered.new.windows.items c.push_covered-2.new.windows.items
+    c.clear.ensures (c.push_covered.ensures.windows board.setup board.bytes board.stands)
     (c.push_covered-2.ensures.windows board.setup (after board.setup c.args.change.now board.bytes) (c.apply.ensures.stands board.setup board.bytes board.stands)) in
     subst (λ (all : List Changed). IsMapWhere (map_bytes c.apply.new.self) (IsBeside all) (map range_of c.self.inside.ranges.items)) (sym c.deref-2.ensures.0)
     (build_beside (map_bytes c.self.inside.regs) (map_bytes c.apply.new.self) c.args.change.now (map range_of c.self.inside.ranges.items) c.self.invariant
-    (c.apply.ensures.stands board.setup board.bytes board.stands) c.deref.result.now c.windows_to_build-rising.result.items (c.deref.ensures.0 ∙ windows)
-    c.windows_to_build-rising.ensures.others c.windows_to_build-rising.ensures.rows)
+    (c.apply.ensures.stands board.setup board.bytes board.stands) c.deref.result.now c.choose_windows.new.chosen.items (c.deref.ensures.0 ∙ windows)
+    c.choose_windows.ensures.others c.choose_windows.ensures.rows)
 
 pub invariant_of-self : goal.invariant_of-self
 invariant_of-self g c =
@@ -79,8 +79,8 @@ returns-clause-cards g c = λ setup bytes are.
 pub returns-clause-kept : goal.returns-clause-kept
 returns-clause-kept g c = λ setup bytes stands addr address out.
     let here = stood _ c.args.self.now setup bytes c.self.view_is stands in
-    let windows = found setup bytes c.args.change.now c.new-windows.result.items c.push_covered.new.windows.items c.push_covered-2.new.windows.items
-    c.new-windows.ensures (c.push_covered.ensures.windows setup bytes here)
+    let windows = found setup bytes c.args.change.now c.clear.new.self.items c.push_covered.new.windows.items c.push_covered-2.new.windows.items
+    c.clear.ensures (c.push_covered.ensures.windows setup bytes here)
     (c.push_covered-2.ensures.windows setup (after setup c.args.change.now bytes) (c.apply.ensures.stands setup bytes here)) in
     let result : c.unwrap_or.result ≡ bounds_or_zero (changed_windows setup bytes c.args.change.now) =
     c.unwrap_or.ensures ∙ ap (λ (it : Option Changed). unwrap_or it (from_to 0 0)) (c.bounds_of.ensures.bounds ∙ ap bounds (c.deref-3.ensures.0 ∙ windows)) in
@@ -97,13 +97,13 @@ pub returns-clause-rows : goal.returns-clause-rows
 returns-clause-rows g c = λ setup bytes stands.
     let here = stood _ c.args.self.now setup bytes c.self.view_is stands in
     let new : Bytes = after setup c.args.change.now bytes in
-    let windows = found setup bytes c.args.change.now c.new-windows.result.items c.push_covered.new.windows.items c.push_covered-2.new.windows.items
-    c.new-windows.ensures (c.push_covered.ensures.windows setup bytes here)
+    let windows = found setup bytes c.args.change.now c.clear.new.self.items c.push_covered.new.windows.items c.push_covered-2.new.windows.items
+    c.clear.ensures (c.push_covered.ensures.windows setup bytes here)
     (c.push_covered-2.ensures.windows setup new (c.apply.ensures.stands setup bytes here)) in
     omega (
       arith,
       c.rebuild.ensures.rows setup new (c.apply.ensures.stands setup bytes here),
       ap (λ (all : List Changed). rows_in (edges_after setup new) all) c.deref-2.ensures.0,
-      build_few setup bytes c.args.change.now c.deref.result.now c.windows_to_build-rising.result.items (map_bytes c.self.inside.regs).drb
-          (map_bytes c.apply.new.self).drb (c.deref.ensures.0 ∙ windows) c.windows_to_build-rising.ensures.others c.windows_to_build-rising.ensures.rows,
+      build_few setup bytes c.args.change.now c.deref.result.now c.choose_windows.new.chosen.items (map_bytes c.self.inside.regs).drb
+          (map_bytes c.apply.new.self).drb (c.deref.ensures.0 ∙ windows) c.choose_windows.ensures.others c.choose_windows.ensures.rows,
     )
