@@ -15,4 +15,5 @@ pub mod SortedLemmas
 pub mod SameBoards
 pub mod ChangeLemmas
 pub mod RowLemmas
+pub mod TailLemmas
 pub mod MovedRows
