@@ -50,7 +50,7 @@ pub fn ranges_of<L: Ledger>(regs: &MapRegs, steps: &mut Steps<L>) -> Ranges
 /// and afterwards, counts for nothing: it is room for the ranges as they were.
 pub fn rebuild<L: Ledger>(
     ranges: &mut Ranges,
-    before: &mut Ranges,
+    before: &mut [Range; CAPACITY],
     regs: &MapRegs,
     windows: &[Changed],
     steps: &mut Steps<L>,
@@ -68,8 +68,8 @@ pub fn rebuild<L: Ledger>(
     if windows.is_empty() {
         return;
     }
-    before.clear();
-    before.try_extend_from_slice(ranges).unwrap();
+    let before = &mut before[..ranges.len()];
+    before.copy_from_slice(ranges);
     sweep(ranges, before, regs, windows, steps);
 }
 

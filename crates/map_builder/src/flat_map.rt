@@ -12,7 +12,7 @@ ghost use Rattle.addr_decode.specs.MapRegs.{StandsFor, map_bytes};
 ghost use Rattle.map_builder.specs.Map.{range_of, HasBoard, IsMapOf};
 ghost use Rattle.map_builder.specs.Changed.{after, changed_windows, bounds_or_zero, most_rows, IsOutside};
 
-use crate::build::{Ranges, ranges_of, rebuild};
+use crate::build::{CAPACITY, Ranges, ranges_of, rebuild};
 use crate::changed::push_covered;
 use crate::find::span_of;
 use crate::range::{Changed, Range, Span};
@@ -35,7 +35,7 @@ pub struct FlatMap {
     regs: MapRegs,
     ranges: Ranges,
     /// Room for the ranges as they were, while those that changed are built anew.
-    before: Ranges,
+    before: [Range; CAPACITY],
     /// Room for the windows of a change.
     windows: Windows,
     /// Room for those in which the ranges are built anew.
@@ -69,7 +69,7 @@ impl FlatMap {
         FlatMap {
             regs,
             ranges,
-            before: ArrayVec::new(),
+            before: [Range::default(); CAPACITY],
             windows: ArrayVec::new(),
             chosen: ArrayVec::new(),
             version: 0,
@@ -85,7 +85,7 @@ impl FlatMap {
         FlatMap {
             regs: self.regs.copy(),
             ranges,
-            before: ArrayVec::new(),
+            before: [Range::default(); CAPACITY],
             windows: ArrayVec::new(),
             chosen: ArrayVec::new(),
             version: self.version,
