@@ -42,7 +42,7 @@ beside at width value reg rows other =
           absurd (false≢true (sym other ∙ is))
     ]
 
-row_stays : (bytes new : Bytes) (addr : ℕ) → ((row : ℕ) → row < 8 → nat_lt addr (boundary new row) ≡ nat_lt addr (boundary bytes row)) →
+pub row_stays : (bytes new : Bytes) (addr : ℕ) → ((row : ℕ) → row < 8 → nat_lt addr (boundary new row) ≡ nat_lt addr (boundary bytes row)) →
     row_of new addr ≡ row_of bytes addr
 unfolding row_of
 row_stays bytes new addr same =

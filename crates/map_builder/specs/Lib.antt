@@ -3,6 +3,7 @@ pub mod Find
 pub mod Changed
 pub mod Sorted
 pub mod Rows
+pub mod Unchanged
 pub mod Build
 pub mod Held
 pub mod Laws

@@ -17,6 +17,7 @@ use crate::changed::push_covered;
 use crate::find::span_of;
 use crate::range::{Changed, Range, Span};
 use crate::rows::choose_windows;
+use crate::unchanged::{held_at, is_same_byte};
 use crate::widths::hold_widths;
 use crate::windows::{Windows, bounds_of};
 use addr_decode::{MapChange, MapRegs, touches};
@@ -203,10 +204,13 @@ impl FlatMap {
         self.windows.clear();
         push_covered(&mut self.windows, &self.regs, change);
         let boundaries = self.regs.drb;
+        let before = held_at(&self.regs, change);
         self.regs.apply(change);
+        let kept = is_same_byte(before, held_at(&self.regs, change));
         push_covered(&mut self.windows, &self.regs, change);
         choose_windows(
             &mut self.chosen,
+            kept,
             change,
             &self.windows,
             &boundaries,

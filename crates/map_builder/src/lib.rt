@@ -8,6 +8,7 @@ mod flat_map;
 pub mod laws;
 mod range;
 mod rows;
+mod unchanged;
 mod widths;
 mod windows;
 

@@ -1,5 +1,5 @@
 //! The part of the rows of DRAM that a store to their boundaries moves.
-ghost use Rattle.std.specs.Prelude.{◌≡◌, ◌≢◌, ◌≤◌, ◌<◌, ◌*◌, ◌-◌, ℕ, false, true, length, min, max, IfSome};
+ghost use Rattle.std.specs.Prelude.{◌≡◌, ◌≢◌, ◌≤◌, ◌<◌, ◌*◌, ◌-◌, ℕ, false, true, [], length, min, max, IfSome};
 ghost use Rattle.board_spec.specs.Ranges.{boundary_unit};
 ghost use Rattle.map_builder.specs.Changed.{IsOutside};
 ghost use Rattle.map_builder.specs.Rows.{stores_rows as stores_rows_by, AreMoved, IsInRows, StaySides};
@@ -12,20 +12,24 @@ use board_spec::offset::{DRB0, DRB7, HOST_BRIDGE};
 use board_spec::range::BOUNDARY_UNIT;
 
 /// Makes a list the windows in which the rows of the map are looked up anew: those that a change covers, in rising
-/// order. Of a store to boundaries of rows alone, only what lies between an old boundary and a new one. What the list held
-/// counts for nothing.
+/// order. Of a store to boundaries of rows alone, only what lies between an old boundary and a new one. None where the
+/// registers are known to keep what they hold. What the list held counts for nothing.
 pub fn choose_windows(
     chosen: &mut Windows,
+    kept: bool,
     change: &MapChange,
     windows: &[Changed],
     old: &[u8; 8],
     new: &[u8; 8],
 )
     requires count { length windows.now ≤ 64 }
-    ensures others { stores_rows_by change.now ≡ false → chosen.new.items ≡ sorted_by windows.now }
-    ensures rows { stores_rows_by change.now ≡ true → AreMoved old.now new.now chosen.new.items }
+    ensures none { kept ≡ true → chosen.new.items ≡ [] }
+    ensures others { kept ≡ false → stores_rows_by change.now ≡ false → chosen.new.items ≡ sorted_by windows.now }
+    ensures rows { kept ≡ false → stores_rows_by change.now ≡ true → AreMoved old.now new.now chosen.new.items }
 {
-    if stores_rows(change) {
+    if kept {
+        chosen.clear();
+    } else if stores_rows(change) {
         choose_moved(chosen, old, new);
     } else {
         sort_into(chosen, windows);

@@ -14,7 +14,7 @@ use Rattle.map_builder.specs.Build.{IsMapWhere, IsBeside}
 use Rattle.map_builder.specs.Sorted.{rows_in, Rise}
 use Rattle.map_builder.proofs.KeptStores.{beside_keeps}
 use Rattle.map_builder.proofs.OutsideLemmas.{outside_bounds}
-use Rattle.map_builder.proofs.ChangeLemmas.{board_after, build_rise, build_few, build_beside}
+use Rattle.map_builder.proofs.ChangeLemmas.{board_after, build_rise, build_few, keeps_byte, build_beside}
 use Rattle.map_builder.proofs.flat_map.FlatMap.apply_counted.Goals as goal
 
 -- the registers inside a map are those that it is seen to have
@@ -43,7 +43,7 @@ rebuild-requires-clause-rise g c =
     (c.push_covered-2.ensures.windows board.setup (after board.setup c.args.change.now board.bytes) (c.apply.ensures.stands board.setup board.bytes board.stands)) in
     subst Rise (sym c.deref-2.ensures.0)
     (build_rise board.setup board.bytes c.args.change.now c.deref.result.now c.choose_windows.new.chosen.items
-    (map_bytes c.self.inside.regs).drb (map_bytes c.apply.new.self).drb (c.deref.ensures.0 ∙ windows)
+    (map_bytes c.self.inside.regs).drb (map_bytes c.apply.new.self).drb c.is_same_byte-kept.result (c.deref.ensures.0 ∙ windows) c.choose_windows.ensures.none
     c.choose_windows.ensures.others c.choose_windows.ensures.rows)
 
 pub rebuild-requires-clause-beside : goal.rebuild-requires-clause-beside
@@ -54,7 +54,10 @@ rebuild-requires-clause-beside g c =
     (c.push_covered-2.ensures.windows board.setup (after board.setup c.args.change.now board.bytes) (c.apply.ensures.stands board.setup board.bytes board.stands)) in
     subst (λ (all : List Changed). IsMapWhere (map_bytes c.apply.new.self) (IsBeside all) (map range_of c.self.inside.ranges.items)) (sym c.deref-2.ensures.0)
     (build_beside (map_bytes c.self.inside.regs) (map_bytes c.apply.new.self) c.args.change.now (map range_of c.self.inside.ranges.items) c.self.invariant
-    (c.apply.ensures.stands board.setup board.bytes board.stands) c.deref.result.now c.choose_windows.new.chosen.items (c.deref.ensures.0 ∙ windows)
+    (c.apply.ensures.stands board.setup board.bytes board.stands) c.deref.result.now c.choose_windows.new.chosen.items c.is_same_byte-kept.result (c.deref.ensures.0 ∙ windows)
+    (λ same.
+    keeps_byte (map_bytes c.self.inside.regs) (map_bytes c.apply.new.self) c.args.change.now c.held_at-before.result c.held_at.result
+    (c.is_same_byte-kept.ensures.same same) c.held_at-before.ensures.held c.held_at.ensures.held)
     c.choose_windows.ensures.others c.choose_windows.ensures.rows)
 
 pub invariant_of-self : goal.invariant_of-self
@@ -105,5 +108,5 @@ returns-clause-rows g c = λ setup bytes stands.
       c.rebuild.ensures.rows setup new (c.apply.ensures.stands setup bytes here),
       ap (λ (all : List Changed). rows_in (edges_after setup new) all) c.deref-2.ensures.0,
       build_few setup bytes c.args.change.now c.deref.result.now c.choose_windows.new.chosen.items (map_bytes c.self.inside.regs).drb
-          (map_bytes c.apply.new.self).drb (c.deref.ensures.0 ∙ windows) c.choose_windows.ensures.others c.choose_windows.ensures.rows,
+          (map_bytes c.apply.new.self).drb c.is_same_byte-kept.result (c.deref.ensures.0 ∙ windows) c.choose_windows.ensures.none c.choose_windows.ensures.others c.choose_windows.ensures.rows,
     )
