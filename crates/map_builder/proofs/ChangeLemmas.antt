@@ -1,5 +1,7 @@
 -- After a change the ranges of a map are right again for each address outside the bounds of the changed windows.
-use Rattle.std.proofs.Common.{◌≡◌, ℕ, zero, suc, ◌+◌, ◌<◌, ◌≤◌, Bool, false, List, [], ◌∷◌, length, get_or, refl, sym, ◌∙◌, subst, arith}
+use Rattle.std.proofs.Common.{◌≡◌, ℕ, zero, suc, ◌+◌, ◌<◌, ◌≤◌, Bool, true, false, inl, inr, List, [], ◌∷◌, length, get_or, Option, refl, sym, ◌∙◌, ap, subst, arith}
+use Rattle.std.proofs.lemmas.Bool.{cases_Bool}
+use Rattle.std.specs.Prelude.{IfSome}
 use Rattle.board_base.specs.declared.access.Width.{Width}
 use Rattle.board_base.specs.declared.target.Reg.{Reg}
 use Rattle.board_spec.specs.declared.map_change.MapChange.{MapChange}
@@ -10,13 +12,19 @@ use Rattle.board_spec.specs.Decode.{Bytes}
 use Rattle.board_spec.specs.FlatMap.{address_count, six_areas, MapRange, Tiles, IsFlatMapOf}
 use Rattle.pci_bars.specs.Cards.{AreFitted, cards_of}
 use Rattle.addr_decode.specs.MapRegs.{MapBytes, StandsFor}
+use Rattle.addr_decode.specs.Edges.{edges_after}
 use Rattle.map_builder.specs.declared.range.Changed.{Changed}
 use Rattle.map_builder.specs.Map.{HasBoard, IsMapOf}
 use Rattle.map_builder.specs.Build.{IsMapWhere, IsBeside}
-use Rattle.map_builder.specs.Sorted.{sorted}
-use Rattle.map_builder.specs.Changed.{after, changed_windows}
+use Rattle.map_builder.specs.Sorted.{sorted, Rise, rows_in}
+use Rattle.map_builder.specs.Changed.{after, changed_windows, most_rows}
+use Rattle.map_builder.specs.Rows.{stores_rows, AreMoved}
+use Rattle.map_builder.specs.Unchanged.{IsHeldAt, IsSameByte}
 use Rattle.map_builder.proofs.OutsideLemmas.{Outside}
-use Rattle.map_builder.proofs.SortedLemmas.{outside_sorted}
+use Rattle.map_builder.proofs.BoundsLemmas.{changed_ordered}
+use Rattle.map_builder.proofs.SortedLemmas.{rise_sorted, outside_sorted, rows_few}
+use Rattle.map_builder.proofs.MovedRows.{rows_keep, moved_rise, moved_few}
+use Rattle.map_builder.proofs.UnchangedLemmas.{unchanged_keep}
 use Rattle.map_builder.proofs.KeptStores.{top_after, changes_keep}
 use Rattle.map_builder.proofs.SameBoards.{boards_same, untouched_areas}
 
@@ -80,11 +88,53 @@ module _ (old new : MapBytes) (change : MapChange) (ranges : List MapRange) (is_
     };
   }
 
--- where they are a map beside the windows that rise from those that changed
-pub beside_map : (old new : MapBytes) (change : MapChange) (ranges : List MapRange) (is_map : IsMapOf old ranges) →
-    StandsFor is_map.board.setup (after is_map.board.setup change is_map.board.bytes) new → (windows : List Changed) →
-    windows ≡ sorted (changed_windows is_map.board.setup is_map.board.bytes change) → IsMapWhere new (IsBeside windows) ranges
-beside_map old new change ranges is_map stands windows is = record {
+-- ---- the windows that are built anew: those that changed, or where rows alone are stored what moves of them
+
+pub build_rise : (setup : Setup) (bytes : Bytes) (change : MapChange) (all windows : List Changed) (old_rows new_rows : List ℕ) (kept : Bool) →
+    all ≡ changed_windows setup bytes change → (kept ≡ true → windows ≡ []) →
+    (kept ≡ false → stores_rows change ≡ false → windows ≡ sorted all) → (kept ≡ false → stores_rows change ≡ true → AreMoved old_rows new_rows windows) → Rise windows
+build_rise setup bytes change all windows old_rows new_rows true all_is none others rows = rw (none refl) tt
+build_rise setup bytes change all windows old_rows new_rows false all_is none others rows =
+    elim (cases_Bool (stores_rows change)) [
+      | inl is ↦ moved_rise old_rows new_rows windows (rows refl is)
+      | inr not ↦
+          subst Rise (sym (others refl not ∙ ap sorted all_is)) (rise_sorted (changed_windows setup bytes change) (changed_ordered setup bytes change))
+    ]
+
+pub build_few : (setup : Setup) (bytes : Bytes) (change : MapChange) (all windows : List Changed) (old_rows new_rows : List ℕ) (kept : Bool) →
+    all ≡ changed_windows setup bytes change → (kept ≡ true → windows ≡ []) →
+    (kept ≡ false → stores_rows change ≡ false → windows ≡ sorted all) → (kept ≡ false → stores_rows change ≡ true → AreMoved old_rows new_rows windows) →
+    rows_in (edges_after setup (after setup change bytes)) windows ≤ most_rows setup bytes change
+build_few setup bytes change all windows old_rows new_rows true all_is none others rows = rw (none refl) (omega arith)
+build_few setup bytes change all windows old_rows new_rows false all_is none others rows =
+    let new : Bytes = after setup change bytes in
+    elim (cases_Bool (stores_rows change)) [
+      | inl is ↦ moved_few setup bytes new change old_rows new_rows windows is (rows refl is)
+      | inr not ↦
+          rw (others refl not ∙ ap sorted all_is) (rows_few setup new (changed_windows setup bytes change) (changed_ordered setup bytes change))
+    ]
+
+-- a register keeps its byte, on each board that has the registers before, and on each that has those after
+pub record KeepsByte (old new : MapBytes) (change : MapChange) : Type 0 where
+  pub byte : ℕ
+  pub before : (setup : Setup) (bytes : Bytes) → StandsFor setup bytes old → IsHeldAt change bytes byte
+  pub later : (setup : Setup) (bytes : Bytes) → StandsFor setup bytes new → IsHeldAt change bytes byte
+
+pub keeps_byte : (old new : MapBytes) (change : MapChange) (before later : Option ℕ) → IsSameByte before later →
+    ((setup : Setup) (bytes : Bytes) → StandsFor setup bytes old → IfSome before (IsHeldAt change bytes)) →
+    ((setup : Setup) (bytes : Bytes) → StandsFor setup bytes new → IfSome later (IsHeldAt change bytes)) → KeepsByte old new change
+keeps_byte old new change before later same held held' = record {
+  byte = same.byte;
+  before = λ setup bytes stands. subst (λ (it : Option ℕ). IfSome it (IsHeldAt change bytes)) same.before_is (held setup bytes stands);
+  later = λ setup bytes stands. subst (λ (it : Option ℕ). IfSome it (IsHeldAt change bytes)) same.later_is (held' setup bytes stands);
+}
+
+-- beside them the ranges are a map of the new registers
+pub build_beside : (old new : MapBytes) (change : MapChange) (ranges : List MapRange) (is_map : IsMapOf old ranges) →
+    StandsFor is_map.board.setup (after is_map.board.setup change is_map.board.bytes) new → (all windows : List Changed) (kept : Bool) →
+    all ≡ changed_windows is_map.board.setup is_map.board.bytes change → (kept ≡ true → KeepsByte old new change) →
+    (kept ≡ false → stores_rows change ≡ false → windows ≡ sorted all) → (kept ≡ false → stores_rows change ≡ true → AreMoved old.drb new.drb windows) → IsMapWhere new (IsBeside windows) ranges
+build_beside old new change ranges is_map stands all windows kept all_is same others rows = record {
   tiles = is_map.tiles;
   least = (is_map.map is_map.board.setup is_map.board.bytes is_map.board.stands).least;
   right = λ setup bytes now k d within. record {
@@ -95,8 +145,23 @@ beside_map old new change ranges is_map stands windows is = record {
     keeps : (addr : ℕ) → addr < address_count → IsBeside windows addr →
         six_areas is_map.board.setup (after is_map.board.setup change is_map.board.bytes) addr ≡ six_areas is_map.board.setup is_map.board.bytes addr
     keeps addr address out =
-        changes_keep is_map.board.setup is_map.board.bytes change addr is_map.board.cards is_map.board.top address
-        (outside_sorted addr (changed_windows is_map.board.setup is_map.board.bytes change) (subst (Outside addr) is out))
+        elim (cases_Bool kept) [
+          | inl is_kept ↦
+              let byte = same is_kept in
+              unchanged_keep is_map.board.setup is_map.board.bytes change addr byte.byte is_map.board.cards
+              (byte.before is_map.board.setup is_map.board.bytes is_map.board.stands)
+              (byte.later is_map.board.setup (after is_map.board.setup change is_map.board.bytes) stands)
+          | inr not_kept ↦
+              elim (cases_Bool (stores_rows change)) [
+                | inl is ↦
+                    rows_keep old new is_map.board.setup is_map.board.bytes change addr is is_map.board.cards is_map.board.stands stands
+                    ((rows not_kept is).beside addr out)
+                | inr not ↦
+                    changes_keep is_map.board.setup is_map.board.bytes change addr is_map.board.cards is_map.board.top address
+                    (outside_sorted addr (changed_windows is_map.board.setup is_map.board.bytes change)
+                    (subst (Outside addr) (others not_kept not ∙ ap sorted all_is) out))
+              ]
+        ]
 
 -- a change that covers no byte on which the map depends leaves the map
 pub untouched_map : (old new : MapBytes) (change : MapChange) (ranges : List MapRange) (is_map : IsMapOf old ranges) →

@@ -107,7 +107,8 @@ step_same e e' c c' w w' r r' same_e same_c same_w same_r = rw (same_e, same_c, 
 step_past : (e e' c c' : Bool) (w w' r r' : Option Window) → c ≡ false → c' ≡ false → r' ≡ r → cond (e' && c') w' r' ≡ cond (e && c) w r
 step_past e e' c c' w w' r r' none none' same_r = rw (none, none', and_no e, and_no e') same_r
 
-module _ (setup : Setup) (bytes new : Bytes) (addr : ℕ) (kept : (reg : Reg) → Kept setup bytes new addr reg) where
+module _ (setup : Setup) (bytes new : Bytes) (addr : ℕ)
+    (kept : (dev off : ℕ) → 2 ≤ dev → Kept setup bytes new addr (card_register dev off)) where
   abbrev claims : Bytes → Window → Bool
   claims registers = λ window. is_enabled_for 1 registers window.dev && is_covered addr window
 
@@ -133,7 +134,7 @@ module _ (setup : Setup) (bytes new : Bytes) (addr : ℕ) (kept : (reg : Reg) �
       slice_get card.bases k ≡ Some base →
       (new (card_register card.dev off) ≡ bytes (card_register card.dev off)) ⊎ BaseKept card.dev k base
   base_moved card off k base is from to below at =
-      elim (kept (card_register card.dev off)) [
+      elim (kept card.dev off is.first) [
         | inl same ↦ inl same
         | inr out ↦ inr (inr (
           outside_base bytes card off k base is from to below at out.0,
@@ -203,7 +204,7 @@ module _ (setup : Setup) (bytes new : Bytes) (addr : ℕ) (kept : (reg : Reg) �
       elim (rom_kept_below card is n (omega arith)) [
         | inr out ↦ inr out
         | inl before ↦
-            elim (kept (card_register card.dev (0x30 + n))) [
+            elim (kept card.dev (0x30 + n) is.first) [
               | inr out ↦ inr (
                 subst (Outside addr) (windows_at bytes card (0x30 + n) is ∙ rom_governed bytes card (0x30 + n) (omega arith) (omega arith)) out.0,
                 subst (Outside addr) (windows_at new card (0x30 + n) is ∙ rom_governed new card (0x30 + n) (omega arith) (omega arith)) out.1,
@@ -295,7 +296,7 @@ module _ (setup : Setup) (bytes new : Bytes) (addr : ℕ) (kept : (reg : Reg) �
   card_same : (card : FittedCard) → IsFitted setup card →
       find (claims new) (memory_windows new card) ≡ find (claims bytes) (memory_windows bytes card)
   card_same card is =
-      elim (kept (card_register card.dev 0x04)) [
+      elim (kept card.dev 0x04 is.first) [
         | inr out ↦ command_outside new card is out.1 ∙ sym (command_outside bytes card is out.0)
         | inl same ↦
             let enabled : is_enabled_for 1 new card.dev ≡ is_enabled_for 1 bytes card.dev = ap (λ command. is_bit command 1) same in

@@ -1,6 +1,6 @@
 -- The areas of an address are the same before and after a change that moves nothing round it.
 use Rattle.std.proofs.Common.{◌≡◌, ℕ, zero, suc, ◌+◌, ◌-◌, ◌*◌, ◌/◌, ◌<◌, ◌≤◌, ◌⊎◌, inl, inr, Bool, true, false, [], ◌∷◌, None, refl, sym, ◌∙◌, ap, subst, arith, lit<}
-use Rattle.std.specs.Prelude.{◌==◌, ◌||◌, nat_le, nat_lt, if◌then◌else◌}
+use Rattle.std.specs.Prelude.{◌==◌, ◌&&◌, ◌||◌, nat_le, nat_lt, if◌then◌else◌}
 use Rattle.std.proofs.lemmas.Bool.{cases_Bool, cases_lt, ne_eqb}
 use Rattle.std.proofs.lemmas.Bool.Decides.{nat_tests}
 use Rattle.board_base.specs.declared.access.Kind.{Kind}
@@ -9,7 +9,7 @@ use Rattle.board_base.specs.declared.target.Reg.{Reg}
 use Rattle.board_spec.specs.Setup.{Setup, IsCardList}
 use Rattle.board_spec.specs.Bits.{is_bit, is_within}
 use Rattle.board_spec.specs.Decode.{Bytes, boundary, top_of, row_of, is_in, hole_of, is_high_window, nibble, is_open, is_shadow_range, is_shadowed, is_smram_range, is_rom_selected, pam_register, area_of}
-use Rattle.board_spec.specs.RegisterNames.{bridge, isa}
+use Rattle.board_spec.specs.RegisterNames.{bridge, isa, card_register}
 use Rattle.board_spec.specs.FlatMap.{six_areas}
 use Rattle.map_builder.specs.Changed.{from_to, bridge_windows, IsOutside}
 use Rattle.map_builder.proofs.OutsideLemmas.{Outside, and_no}
@@ -91,7 +91,7 @@ in_pam_window addr shadow out =
 
 -- ---- rows of DRAM
 
-row_window : (row : ℕ) → row < 8 → bridge_windows (0x60 + row) ≡ from_to 0 0x7F7F_FFFF ∷ []
+pub row_window : (row : ℕ) → row < 8 → bridge_windows (0x60 + row) ≡ from_to 0 0x7F7F_FFFF ∷ []
 row_window row below =
     let not_pam0 : (0x60 + row == 0x59) ≡ false = ne_eqb (0x60 + row) 0x59 (omega arith) in
     let not_pam : is_within 0x5A 0x5F (0x60 + row) ≡ false = grind (arith, nat_tests) in
@@ -103,37 +103,6 @@ unfolding row_of
 no_row bytes addr top high = let past : nat_lt addr (top_of bytes) ≡ false = grind (arith, nat_tests) in rw past refl
 
 module _ (setup : Setup) (bytes new : Bytes) (addr : ℕ) (kept : (reg : Reg) → Kept setup bytes new addr reg) where
-  hole_same : is_in (hole_of (new (bridge 0x68))) addr ≡ is_in (hole_of (bytes (bridge 0x68))) addr
-  hole_same =
-      elim (kept (bridge 0x68)) [
-        | inl same ↦ ap (λ fdhc. is_in (hole_of fdhc) addr) same
-        | inr out ↦ in_no_hole (new (bridge 0x68)) addr out.0.0 out.0.1.0 ∙ sym (in_no_hole (bytes (bridge 0x68)) addr out.0.0 out.0.1.0)
-      ]
-
-  rom_same : is_rom_selected (new (isa 0x4E)) addr ≡ is_rom_selected (bytes (isa 0x4E)) addr
-  rom_same =
-      elim (kept (isa 0x4E)) [
-        | inl same ↦ ap (λ xbcs. is_rom_selected xbcs addr) same
-        | inr out ↦ rom_outside (new (isa 0x4E)) addr out.0.0 out.0.1.0 ∙ sym (rom_outside (bytes (isa 0x4E)) addr out.0.0 out.0.1.0)
-      ]
-
-  smram_same : (new (bridge 0x72) ≡ bytes (bridge 0x72)) ⊎ (is_smram_range addr ≡ false)
-  smram_same =
-      elim (kept (bridge 0x72)) [ inl same ↦ inl same | inr out ↦ inr (outside_range addr 0xA_0000 0xB_FFFF out.0.0) ]
-
-  shadow_same : (kind : Kind) → is_shadowed new addr kind ≡ is_shadowed bytes addr kind
-  shadow_same kind =
-      elim (cases_Bool (is_shadow_range addr)) [
-        | inr beside ↦ rw beside refl
-        | inl within ↦
-            elim (kept (bridge (pam_offset addr))) [
-              | inl same ↦
-                  let here : new (pam_register addr) ≡ bytes (pam_register addr) = subst (λ (reg : Reg). new reg ≡ bytes reg) (pam_is addr) same in
-                  rw within (ap (λ pam. is_open (nibble pam (is_high_window addr)) kind) here)
-              | inr out ↦ absurd (in_pam_window addr within out.0)
-            ]
-      ]
-
   row_kept : (row : ℕ) → row < 8 → (boundary new row ≡ boundary bytes row) ⊎ (0x7F80_0000 ≤ addr)
   row_kept row below =
       elim (kept (bridge (0x60 + row))) [
@@ -159,7 +128,7 @@ module _ (setup : Setup) (bytes new : Bytes) (addr : ℕ) (kept : (reg : Reg) �
             ]
       ]
 
-  row_same : top_of bytes ≤ 0x7F80_0000 → top_of new ≤ 0x7F80_0000 → row_of new addr ≡ row_of bytes addr
+  pub row_same : top_of bytes ≤ 0x7F80_0000 → top_of new ≤ 0x7F80_0000 → row_of new addr ≡ row_of bytes addr
   unfolding row_of
   row_same top top' =
       elim (rows_kept 8 (omega arith)) [
@@ -168,13 +137,68 @@ module _ (setup : Setup) (bytes new : Bytes) (addr : ℕ) (kept : (reg : Reg) �
             rw (same 0 (lit< tt), same 1 (lit< tt), same 2 (lit< tt), same 3 (lit< tt), same 4 (lit< tt), same 5 (lit< tt), same 6 (lit< tt), same 7 (lit< tt)) refl
       ]
 
-  module _ (list : IsCardList setup.cards) (top : top_of bytes ≤ 0x7F80_0000) (top' : top_of new ≤ 0x7F80_0000) where
+-- a register is the boundary of a row
+abbrev pub is_boundary : Reg → Bool
+is_boundary reg = reg.dev == 0 && is_within 0x60 0x67 reg.off
+
+not_of_card : (dev off : ℕ) → 2 ≤ dev → is_boundary (card_register dev off) ≡ false
+not_of_card dev off above = let not : (dev == 0) ≡ false = ne_eqb dev 0 (omega arith) in rw not refl
+
+not_of_pam : (addr : ℕ) → is_shadow_range addr ≡ true → is_boundary (bridge (pam_offset addr)) ≡ false
+unfolding pam_offset
+not_of_pam addr shadow =
+    let below : addr ≤ 0xF_FFFF = grind (arith, nat_tests) in
+    elim (cases_Bool (nat_le 0xF_0000 addr)) [
+      | inl high ↦ rw high refl
+      | inr low ↦
+          let under : addr < 0xF_0000 = grind (arith, nat_tests) in
+          rw low (let not : is_within 0x60 0x67 (0x5A + (addr - 0xC_0000) / 0x8000) ≡ false = grind (arith, nat_tests) in not)
+    ]
+
+-- where the row of an address stays, and every other register is kept
+module _ (setup : Setup) (bytes new : Bytes) (addr : ℕ) (kept : (reg : Reg) → is_boundary reg ≡ false → Kept setup bytes new addr reg)
+    (row_same : row_of new addr ≡ row_of bytes addr) where
+  hole_same : is_in (hole_of (new (bridge 0x68))) addr ≡ is_in (hole_of (bytes (bridge 0x68))) addr
+  hole_same =
+      elim (kept (bridge 0x68) refl) [
+        | inl same ↦ ap (λ fdhc. is_in (hole_of fdhc) addr) same
+        | inr out ↦ in_no_hole (new (bridge 0x68)) addr out.0.0 out.0.1.0 ∙ sym (in_no_hole (bytes (bridge 0x68)) addr out.0.0 out.0.1.0)
+      ]
+
+  rom_same : is_rom_selected (new (isa 0x4E)) addr ≡ is_rom_selected (bytes (isa 0x4E)) addr
+  rom_same =
+      elim (kept (isa 0x4E) refl) [
+        | inl same ↦ ap (λ xbcs. is_rom_selected xbcs addr) same
+        | inr out ↦ rom_outside (new (isa 0x4E)) addr out.0.0 out.0.1.0 ∙ sym (rom_outside (bytes (isa 0x4E)) addr out.0.0 out.0.1.0)
+      ]
+
+  smram_same : (new (bridge 0x72) ≡ bytes (bridge 0x72)) ⊎ (is_smram_range addr ≡ false)
+  smram_same =
+      elim (kept (bridge 0x72) refl) [ inl same ↦ inl same | inr out ↦ inr (outside_range addr 0xA_0000 0xB_FFFF out.0.0) ]
+
+  shadow_same : (kind : Kind) → is_shadowed new addr kind ≡ is_shadowed bytes addr kind
+  shadow_same kind =
+      elim (cases_Bool (is_shadow_range addr)) [
+        | inr beside ↦ rw beside refl
+        | inl within ↦
+            elim (kept (bridge (pam_offset addr)) (not_of_pam addr within)) [
+              | inl same ↦
+                  let here : new (pam_register addr) ≡ bytes (pam_register addr) = subst (λ (reg : Reg). new reg ≡ bytes reg) (pam_is addr) same in
+                  rw within (ap (λ pam. is_open (nibble pam (is_high_window addr)) kind) here)
+              | inr out ↦ absurd (in_pam_window addr within out.0)
+            ]
+      ]
+
+  card_kept : (dev off : ℕ) → 2 ≤ dev → Kept setup bytes new addr (card_register dev off)
+  card_kept dev off first = kept (card_register dev off) (not_of_card dev off first)
+
+  module _ (list : IsCardList setup.cards) where
     area_same : (kind : Kind) (smm : Bool) → area_of setup new addr kind smm ≡ area_of setup bytes addr kind smm
     unfolding area_of
     area_same kind smm =
         elim smram_same [
-          | inl same ↦ rw (row_same top top', same, shadow_same kind, hole_same, rom_same, claim_same setup bytes new addr kept list) refl
-          | inr beside ↦ rw (row_same top top', beside, shadow_same kind, hole_same, rom_same, claim_same setup bytes new addr kept list) refl
+          | inl same ↦ rw (row_same, same, shadow_same kind, hole_same, rom_same, claim_same setup bytes new addr card_kept list) refl
+          | inr beside ↦ rw (row_same, beside, shadow_same kind, hole_same, rom_same, claim_same setup bytes new addr card_kept list) refl
         ]
 
     pub areas_same : six_areas setup new addr ≡ six_areas setup bytes addr

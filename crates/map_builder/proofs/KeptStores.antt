@@ -27,7 +27,7 @@ use Rattle.map_builder.specs.Laws.{WindowsHoldChanges}
 use Rattle.map_builder.proofs.OutsideLemmas.{Outside, outside_left, outside_right}
 use Rattle.map_builder.proofs.WindowLemmas.{offsets}
 use Rattle.map_builder.proofs.KeptCards.{Kept}
-use Rattle.map_builder.proofs.KeptLemmas.{areas_same}
+use Rattle.map_builder.proofs.KeptLemmas.{row_same, areas_same}
 
 -- ---- the registers that a store covers
 
@@ -139,8 +139,10 @@ unfolding windows_covered
 changes_keep setup bytes Reset addr list top address out =
     elim out.0 [ inl below ↦ absurd (omega arith) | inr above ↦ absurd (omega arith) ]
 changes_keep setup bytes (Store at width value) addr list top address out =
-    areas_same setup bytes (after setup (Store at width value) bytes) addr (store_keeps setup bytes at width value addr out) list top
-    (top_after setup bytes (Store at width value) top)
+    let new : Bytes = after setup (Store at width value) bytes in
+    let kept : (reg : Reg) → Kept setup bytes new addr reg = store_keeps setup bytes at width value addr out in
+    areas_same setup bytes new addr (λ reg other. kept reg)
+    (row_same setup bytes new addr kept top (top_after setup bytes (Store at width value) top)) list
 
 pub windows_hold_changes : WindowsHoldChanges
 windows_hold_changes setup bytes change addr list top address out =

@@ -15,3 +15,6 @@ pub mod SortedLemmas
 pub mod SameBoards
 pub mod ChangeLemmas
 pub mod RowLemmas
+pub mod UnchangedLemmas
+pub mod TailLemmas
+pub mod MovedRows

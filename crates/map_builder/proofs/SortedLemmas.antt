@@ -269,7 +269,7 @@ length_sorted (window ∷ later) ordered =
 
 -- ---- how many rows are looked up in them
 
-filter_more : (p q : ℕ → Bool) (xs : List ℕ) → ((x : ℕ) → p x ≡ true → q x ≡ true) → length (filter p xs) ≤ length (filter q xs)
+pub filter_more : (p q : ℕ → Bool) (xs : List ℕ) → ((x : ℕ) → p x ≡ true → q x ≡ true) → length (filter p xs) ≤ length (filter q xs)
 filter_more p q [] more = omega arith
 filter_more p q (x ∷ xs) more =
     elim (cases_Bool (p x)) [
@@ -282,7 +282,7 @@ filter_more p q (x ∷ xs) more =
     ]
 
 -- the edges above the first address of a window lie in it or above it
-one_window : (window : Changed) (edges : List ℕ) →
+pub one_window : (window : Changed) (edges : List ℕ) →
     length (filter (nat_lt window.lo) edges) ≤ length (filter (λ edge. is_above_first edge window) edges) + length (filter (nat_lt window.hi) edges)
 one_window window [] = omega arith
 one_window window (edge ∷ later) =

@@ -8,7 +8,7 @@ use Rattle.std.proofs.lemmas.List.{length-map, length_push, map_push}
 use Rattle.board_base.specs.declared.target.Area.{Area}
 use Rattle.board_spec.specs.Setup.{Setup}
 use Rattle.board_spec.specs.Decode.{Bytes}
-use Rattle.board_spec.specs.FlatMap.{address_count, six_areas, MapRange, Tiles, IsFlatMapOf}
+use Rattle.board_spec.specs.FlatMap.{address_count, six_areas, MapRange}
 use Rattle.addr_decode.specs.MapRegs.{MapBytes, StandsFor}
 use Rattle.addr_decode.specs.Edges.{edges_of, edges_after, SameAreas}
 use Rattle.addr_decode.proofs.EdgeSearchLemmas.{contains_cases}
@@ -16,7 +16,7 @@ use Rattle.addr_decode.proofs.EdgeCounts.{no_more, few_edges_after}
 use Rattle.addr_decode.proofs.EdgeLaws.{areas_change_at_edges}
 use Rattle.map_builder.specs.declared.range.Range.{Range}
 use Rattle.map_builder.specs.Map.{range_of, HasBoard}
-use Rattle.map_builder.specs.Build.{GoesOn, IsBuilt}
+use Rattle.map_builder.specs.Build.{GoesOn, IsBuilt, IsWhole}
 use Rattle.map_builder.proofs.BuildLemmas.{range, built_first, built_of_first, built_on, built_of_on, few_on, built_all, up_to_edge}
 
 -- ---- edges above an address
@@ -125,11 +125,6 @@ built_range regs ranges ranges' last last' next addr hi joined order address eac
     (each next.lo (omega arith) order) on is)
 
 -- ---- the ranges built up to the last address
-
-pub record IsWhole (regs : MapBytes) (ranges : List Range) : Type 0 where
-  pub tiles : Tiles 0 (map range_of ranges)
-  pub is_map : (setup : Setup) (bytes : Bytes) → StandsFor setup bytes regs → IsFlatMapOf setup bytes (map range_of ranges)
-  pub few : length ranges ≤ 142
 
 pub is_whole : (regs : MapBytes) (board : HasBoard regs) (ranges : List Range) (last : Range) →
     IsBuilt regs (map range_of ranges) (range_of last) 0xFFFF_FFFF → IsWhole regs (ranges ++ last ∷ [])

@@ -1,13 +1,14 @@
 -- The ranges of a map as they are built, from the first address on: the last of them may still go on.
-use Rattle.std.specs.Prelude.{ℕ, ◌≡◌, ◌≢◌, ◌+◌, ◌-◌, ◌<◌, ◌≤◌, ◌⊎◌, List, [], ◌∷◌, ◌++◌, length, All}
+use Rattle.std.specs.Prelude.{ℕ, ◌≡◌, ◌≢◌, ◌+◌, ◌-◌, ◌<◌, ◌≤◌, ◌⊎◌, List, [], ◌∷◌, ◌++◌, length, map, All}
 use Rattle.board_base.specs.declared.target.Area.{Area}
 use Rattle.board_spec.specs.Setup.{Setup}
 use Rattle.board_spec.specs.Decode.{Bytes}
-use Rattle.board_spec.specs.FlatMap.{MapRange, six_areas, Tiles, NeighboursDiffer, IsRight}
+use Rattle.board_spec.specs.FlatMap.{MapRange, six_areas, Tiles, NeighboursDiffer, IsRight, IsFlatMapOf}
 use Rattle.addr_decode.specs.MapRegs.{MapBytes, StandsFor}
 use Rattle.addr_decode.specs.Edges.{edges_after}
 use Rattle.map_builder.specs.declared.range.Changed.{Changed}
-use Rattle.map_builder.specs.Map.{HasBoard}
+use Rattle.map_builder.specs.declared.range.Range.{Range}
+use Rattle.map_builder.specs.Map.{range_of, HasBoard}
 use Rattle.std.specs.List.{AllByRecursion}
 use Rattle.map_builder.specs.Changed.{IsOutside}
 
@@ -67,3 +68,9 @@ pub record IsKept (ranges : List MapRange) (last : MapRange) (before : List MapR
   pub board : HasBoard regs
   pub built : IsBuilt regs ranges last after
   pub agrees : IsMapWhere regs (IsBetween after until) before
+
+-- the ranges are the map of every board that has these registers
+pub record IsWhole (regs : MapBytes) (ranges : List Range) : Type 0 where
+  pub tiles : Tiles 0 (map range_of ranges)
+  pub is_map : (setup : Setup) (bytes : Bytes) → StandsFor setup bytes regs → IsFlatMapOf setup bytes (map range_of ranges)
+  pub few : length ranges ≤ 142

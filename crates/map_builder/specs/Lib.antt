@@ -2,6 +2,8 @@ pub mod Map
 pub mod Find
 pub mod Changed
 pub mod Sorted
+pub mod Rows
+pub mod Unchanged
 pub mod Build
 pub mod Held
 pub mod Laws

@@ -10,7 +10,7 @@ ghost use Rattle.addr_decode.specs.MapRegs.{MapBytes, StandsFor, map_bytes};
 ghost use Rattle.addr_decode.specs.Edges.{SameAreas, edges_after};
 ghost use Rattle.map_builder.specs.Map.{range_of, HasBoard};
 ghost use Rattle.map_builder.specs.Find.{Holds};
-ghost use Rattle.map_builder.specs.Build.{GoesOn, IsBuilt, IsMapWhere, IsBelow, IsBetween, IsBeside, IsKept};
+ghost use Rattle.map_builder.specs.Build.{GoesOn, IsBuilt, IsMapWhere, IsBelow, IsBetween, IsBeside, IsKept, IsWhole};
 ghost use Rattle.map_builder.specs.Sorted.{Rise, rows_in as rows_of};
 
 use crate::changed::EVERYTHING;
@@ -50,7 +50,7 @@ pub fn ranges_of<L: Ledger>(regs: &MapRegs, steps: &mut Steps<L>) -> Ranges
 /// and afterwards, counts for nothing: it is room for the ranges as they were.
 pub fn rebuild<L: Ledger>(
     ranges: &mut Ranges,
-    before: &mut Ranges,
+    before: &mut [Range; CAPACITY],
     regs: &MapRegs,
     windows: &[Changed],
     steps: &mut Steps<L>,
@@ -68,27 +68,26 @@ pub fn rebuild<L: Ledger>(
     if windows.is_empty() {
         return;
     }
-    before.clear();
-    before.try_extend_from_slice(ranges).unwrap();
-    let last = sweep(ranges, before, regs, windows, steps);
-    ranges.push(last);
+    let before = &mut before[..ranges.len()];
+    before.copy_from_slice(ranges);
+    sweep(ranges, before, regs, windows, steps);
 }
 
-/// Builds the ranges in some windows anew, and takes the others from the map as it was. Gives the last range.
+/// Builds the ranges in some windows anew, and takes the others from the map as it was.
 fn sweep<L: Ledger>(
     ranges: &mut Ranges,
     before: &[Range],
     regs: &MapRegs,
     windows: &[Changed],
     steps: &mut Steps<L>,
-) -> Range
+)
     requires cards { AreFitted regs.now.cards.items }
     requires board { HasBoard (map_bytes regs.now) }
     requires some { 0 < length windows.now }
     requires rise { Rise windows.now }
     requires same { ranges.old.items ≡ before.now }
     requires beside { IsMapWhere (map_bytes regs.now) (IsBeside windows.now) (map range_of before.now) }
-    ensures built { IsBuilt (map_bytes regs.now) (map range_of ranges.new.items) (range_of result) 0xFFFF_FFFF }
+    ensures whole { IsWhole (map_bytes regs.now) ranges.new.items }
     ensures rows { (setup : Setup) (bytes : Bytes) → StandsFor setup bytes (map_bytes regs.now)
         → steps.new ≤ steps.old + rows_of (edges_after setup bytes) windows.now }
 {
@@ -103,7 +102,7 @@ fn sweep<L: Ledger>(
         last = rows_in(ranges, last, regs, window, steps);
         hi = window.hi;
     }
-    keep(ranges, last, before, hi, LAST_ADDRESS)
+    finish(ranges, last, before, hi);
 }
 
 /// The range that begins at the first address, as long as no other follows.
@@ -175,6 +174,27 @@ fn keep(ranges: &mut Ranges, last: Range, before: &[Range], after: u32, until: u
         hi = until.min(before[index].hi);
     }
     last
+}
+
+/// Ends the ranges with those of a map after an address.
+fn finish(ranges: &mut Ranges, last: Range, before: &[Range], after: u32)
+    requires tiles { Tiles 0 (map range_of before.now) }
+    requires kept { IsKept (map range_of ranges.old.items) (range_of last) (map range_of before.now) after 0xFFFF_FFFF }
+    ensures whole { (regs : MapBytes) → HasBoard regs → IsBuilt regs (map range_of ranges.old.items) (range_of last) after
+        → IsMapWhere regs (IsBetween after 0xFFFF_FFFF) (map range_of before.now) → IsWhole regs ranges.new.items }
+{
+    if after == LAST_ADDRESS {
+        ranges.push(last);
+        return;
+    }
+    let index = index_after(before, index_of(before, after), after);
+    let next = before[index];
+    let last = range_at(ranges, last, after + 1, next.row);
+    ranges.push(Range {
+        hi: next.hi,
+        ..last
+    });
+    ranges.try_extend_from_slice(&before[index + 1..]).unwrap();
 }
 
 /// The index of the range that holds the address after one that the range at this index holds.

@@ -12,12 +12,14 @@ ghost use Rattle.addr_decode.specs.MapRegs.{StandsFor, map_bytes};
 ghost use Rattle.map_builder.specs.Map.{range_of, HasBoard, IsMapOf};
 ghost use Rattle.map_builder.specs.Changed.{after, changed_windows, bounds_or_zero, most_rows, IsOutside};
 
-use crate::build::{Ranges, ranges_of, rebuild};
+use crate::build::{CAPACITY, Ranges, ranges_of, rebuild};
 use crate::changed::push_covered;
 use crate::find::span_of;
 use crate::range::{Changed, Range, Span};
+use crate::rows::choose_windows;
+use crate::unchanged::{held_at, is_same_byte};
 use crate::widths::hold_widths;
-use crate::windows::{bounds_of, sorted};
+use crate::windows::{Windows, bounds_of};
 use addr_decode::{MapChange, MapRegs, touches};
 use arrayvec::ArrayVec;
 use board_base::{Kind, Reg, Steps, Width};
@@ -34,7 +36,11 @@ pub struct FlatMap {
     regs: MapRegs,
     ranges: Ranges,
     /// Room for the ranges as they were, while those that changed are built anew.
-    before: Ranges,
+    before: [Range; CAPACITY],
+    /// Room for the windows of a change.
+    windows: Windows,
+    /// Room for those in which the ranges are built anew.
+    chosen: Windows,
     version: u32,
 }
 
@@ -64,7 +70,9 @@ impl FlatMap {
         FlatMap {
             regs,
             ranges,
-            before: ArrayVec::new(),
+            before: [Range::default(); CAPACITY],
+            windows: ArrayVec::new(),
+            chosen: ArrayVec::new(),
             version: 0,
         }
     }
@@ -78,7 +86,9 @@ impl FlatMap {
         FlatMap {
             regs: self.regs.copy(),
             ranges,
-            before: ArrayVec::new(),
+            before: [Range::default(); CAPACITY],
+            windows: ArrayVec::new(),
+            chosen: ArrayVec::new(),
             version: self.version,
         }
     }
@@ -191,20 +201,30 @@ impl FlatMap {
         ensures rows { (setup : Setup) (bytes : Bytes) → StandsFor setup bytes self.old.regs
             → steps.new ≤ steps.old + most_rows setup bytes change.now }
     {
-        let mut windows = ArrayVec::new();
-        push_covered(&mut windows, &self.regs, change);
+        self.windows.clear();
+        push_covered(&mut self.windows, &self.regs, change);
+        let boundaries = self.regs.drb;
+        let before = held_at(&self.regs, change);
         self.regs.apply(change);
-        push_covered(&mut windows, &self.regs, change);
-        let rising = sorted(&windows);
+        let kept = is_same_byte(before, held_at(&self.regs, change));
+        push_covered(&mut self.windows, &self.regs, change);
+        choose_windows(
+            &mut self.chosen,
+            kept,
+            change,
+            &self.windows,
+            &boundaries,
+            &self.regs.drb,
+        );
         rebuild(
             &mut self.ranges,
             &mut self.before,
             &self.regs,
-            &rising,
+            &self.chosen,
             steps,
         );
         self.version += 1;
-        bounds_of(&windows).unwrap_or(NOTHING)
+        bounds_of(&self.windows).unwrap_or(NOTHING)
     }
 
     /// Stores the bytes of a value in rising offset. Where they cover a byte that the map depends on, this is a change

@@ -7,6 +7,8 @@ mod find;
 mod flat_map;
 pub mod laws;
 mod range;
+mod rows;
+mod unchanged;
 mod widths;
 mod windows;
 

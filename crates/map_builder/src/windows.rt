@@ -1,5 +1,5 @@
 //! Lists of windows: their bounds, and the windows in rising order.
-ghost use Rattle.std.specs.Prelude.{◌≡◌, ◌≤◌, ◌<◌, ◌+◌, ◌++◌, List, ◌∷◌, length};
+ghost use Rattle.std.specs.Prelude.{◌≡◌, ◌≤◌, ◌<◌, ◌+◌, ◌++◌, List, [], ◌∷◌, length, IfSome, IfNone};
 ghost use Rattle.map_builder.specs.declared.range.Changed.{Changed};
 ghost use Rattle.map_builder.specs.Changed.{bounds, both as both_of, joined as joined_by};
 ghost use Rattle.map_builder.specs.Sorted.{with_window as with_one, sorted as sorted_by};
@@ -23,7 +23,7 @@ pub fn bounds_of(windows: &[Changed]) -> Option<Changed>
 }
 
 /// The least interval that holds both, of which the second may be missing.
-fn joined(here: Changed, there: Option<Changed>) -> Changed
+pub fn joined(here: Changed, there: Option<Changed>) -> Changed
     ensures joined { result ≡ joined_by here there }
 {
     match there {
@@ -42,47 +42,54 @@ fn both(here: Changed, there: Changed) -> Changed
     }
 }
 
-/// The same addresses in windows that rise and do not overlap.
+/// Makes a list the same addresses as some windows, in windows that rise and do not overlap. What it held counts for
+/// nothing.
 #[tactic(auto, unfolding(crate::specs::Sorted::sorted))]
-pub fn sorted(windows: &[Changed]) -> Windows
+pub fn sort_into(rising: &mut Windows, windows: &[Changed])
     requires count { length windows.now ≤ 64 }
-    ensures sorted { result.items ≡ sorted_by windows.now }
+    ensures sorted { rising.new.items ≡ sorted_by windows.now }
 {
-    let mut sorted = ArrayVec::new();
+    rising.clear();
     for index in (0..windows.len()).rev() {
-        sorted = with_window(&sorted, windows[index]);
+        add_window(rising, windows[index]);
     }
-    sorted
 }
 
-/// Windows that rise and do not overlap, with one more: those that overlap it become one with it.
-fn with_window(windows: &[Changed], window: Changed) -> Windows
-    requires count { length windows.now < 64 }
-    ensures windows { result.items ≡ with_one window windows.now }
-    ensures few { length result.items ≤ length windows.now + 1 }
-{
-    let mut rising = ArrayVec::new();
-    let mut window = window;
-    for other in windows {
-        window = higher(&mut rising, window, *other);
-    }
-    rising.push(window);
-    rising
-}
-
-/// Adds the lower of two windows to those below them, and gives the higher one. Where they overlap it gives both as one.
-fn higher(rising: &mut Windows, window: Changed, other: Changed) -> Changed
-    requires room { length rising.old.items < 64 }
-    ensures windows { (later : List Changed) → rising.new.items ++ with_one result later ≡ rising.old.items ++ with_one window (other ∷ later) }
+/// Puts one more window among some that rise and do not overlap: those that overlap it become one with it.
+fn add_window(rising: &mut Windows, window: Changed)
+    requires count { length rising.old.items < 64 }
+    ensures windows { rising.new.items ≡ with_one window rising.old.items }
     ensures few { length rising.new.items ≤ length rising.old.items + 1 }
 {
+    let mut window = window;
+    let mut kept = 0;
+    for index in 0..rising.len() {
+        let other = rising[index];
+        match in_order(window, other) {
+            Some((lower, higher)) => {
+                rising[kept] = lower;
+                kept += 1;
+                window = higher;
+            }
+            None => window = both(other, window),
+        }
+    }
+    rising.truncate(kept);
+    rising.push(window);
+}
+
+/// The lower and the higher of two windows. None where they overlap.
+fn in_order(window: Changed, other: Changed) -> Option<(Changed, Changed)>
+    ensures apart { IfSome result (λ pair. (below later : List Changed)
+        → (below ++ pair.0 ∷ []) ++ with_one pair.1 later ≡ below ++ with_one window (other ∷ later)) }
+    ensures overlap { IfNone result ((below later : List Changed)
+        → below ++ with_one (both_of other window) later ≡ below ++ with_one window (other ∷ later)) }
+{
     if other.hi < window.lo {
-        rising.push(other);
-        return window;
+        return Some((other, window));
     }
     if window.hi < other.lo {
-        rising.push(window);
-        return other;
+        return Some((window, other));
     }
-    both(other, window)
+    None
 }

@@ -2,7 +2,8 @@ use Rattle.std.proofs.Common.{arith, lit<, sym, subst}
 use Rattle.std.proofs.lemmas.List.{length-map}
 use Rattle.addr_decode.specs.MapRegs.{map_bytes}
 use Rattle.map_builder.specs.Map.{range_of}
-use Rattle.map_builder.proofs.StepLemmas.{IsWhole, is_whole}
+use Rattle.map_builder.specs.Build.{IsWhole}
+use Rattle.map_builder.proofs.StepLemmas.{is_whole}
 use Rattle.map_builder.proofs.build.ranges_of.Goals as goal
 
 pub push-requires : goal.push-requires

@@ -1,14 +1,11 @@
-use Rattle.std.proofs.Common.{◌≡◌, List, [], ◌∷◌, arith, lit<, refl, sym, subst, length}
+use Rattle.std.proofs.Common.{◌≡◌, List, [], ◌∷◌, arith, refl, subst, length}
 use Rattle.std.specs.Prelude.{map}
 use Rattle.std.proofs.lemmas.Bool.Decides.{nat_tests}
-use Rattle.std.proofs.lemmas.List.{length-map}
 use Rattle.addr_decode.specs.MapRegs.{map_bytes}
 use Rattle.map_builder.specs.declared.range.Changed.{Changed}
 use Rattle.map_builder.specs.Map.{range_of}
 use Rattle.map_builder.specs.Build.{IsMapWhere, IsBeside}
-use Rattle.map_builder.proofs.StepLemmas.{IsWhole, is_whole}
 use Rattle.map_builder.proofs.RebuildLemmas.{all_right}
-use Rattle.map_builder.proofs.build.rebuild.Given.{Over}
 use Rattle.map_builder.proofs.build.rebuild.Goals as goal
 
 no_window : (windows : List Changed) → length windows ≡ 0 → windows ≡ []
@@ -22,16 +19,8 @@ returns-then-is_empty-clause-map g c =
     all_right (map_bytes c.args.regs.now) (map range_of c.args.ranges.now.items)
     (subst (λ (windows : List Changed). IsMapWhere (map_bytes c.args.regs.now) (IsBeside windows) (map range_of c.args.ranges.now.items)) none c.requires.beside)
 
-pub push-requires : goal.push-requires
-push-requires g c = (lit< tt, omega (arith, c.sweep-last.ensures.built.few c.requires.board, length-map c.sweep-last.new.ranges.items range_of))
-
-is : (g : Over) (c : goal.After-push g) → IsWhole (map_bytes c.args.regs.now) c.push.new.self.items
-is g c =
-    subst (IsWhole (map_bytes c.args.regs.now)) (sym c.push.ensures.items)
-    (is_whole (map_bytes c.args.regs.now) c.requires.board c.sweep-last.new.ranges.items c.sweep-last.result c.sweep-last.ensures.built)
-
 pub returns-clause-tiles : goal.returns-clause-tiles
-returns-clause-tiles g c = (is g c).tiles
+returns-clause-tiles g c = c.sweep.ensures.whole.tiles
 
 pub returns-clause-map : goal.returns-clause-map
-returns-clause-map g c = (is g c).is_map
+returns-clause-map g c = c.sweep.ensures.whole.is_map

@@ -72,11 +72,8 @@ loop-index-preserved g c = record {
       );
 }
 
-pub keep-requires-clause-order : goal.keep-requires-clause-order
-keep-requires-clause-order g c = omega (arith, c.loop-index.invariant.sweep.fits)
-
-pub keep-requires-clause-kept : goal.keep-requires-clause-kept
-keep-requires-clause-kept g c = record {
+pub finish-requires-clause-kept : goal.finish-requires-clause-kept
+finish-requires-clause-kept g c = record {
   regs = map_bytes c.args.regs.now;
   board = c.requires.board;
   built = c.loop-index.invariant.sweep.built;
@@ -85,9 +82,9 @@ keep-requires-clause-kept g c = record {
       c.args.windows.now c.loop-index.index (omega arith) c.loop-index.invariant.sweep;
 }
 
-pub returns-clause-built : goal.returns-clause-built
-returns-clause-built g c =
-    c.keep.ensures.built (map_bytes c.args.regs.now) c.loop-index.invariant.sweep.built
+pub returns-clause-whole : goal.returns-clause-whole
+returns-clause-whole g c =
+    c.finish.ensures.whole (map_bytes c.args.regs.now) c.requires.board c.loop-index.invariant.sweep.built
     (sweep_end (map_bytes c.args.regs.now) (map range_of c.loop-index.ranges.items) (map range_of c.args.before.now) (range_of c.loop-index.last) c.loop-index.hi
     c.args.windows.now c.loop-index.index (omega arith) c.loop-index.invariant.sweep)
 

@@ -10,12 +10,11 @@ use Rattle.addr_decode.specs.Edges.{edges_after}
 use Rattle.map_builder.specs.declared.range.Changed.{Changed}
 use Rattle.map_builder.specs.Map.{Mapped, range_of}
 use Rattle.map_builder.specs.Changed.{after, windows_covered, bounds, bounds_or_zero, changed_windows, from_to, IsOutside}
-use Rattle.map_builder.specs.Sorted.{sorted, rows_in, Rise}
+use Rattle.map_builder.specs.Build.{IsMapWhere, IsBeside}
+use Rattle.map_builder.specs.Sorted.{rows_in, Rise}
 use Rattle.map_builder.proofs.KeptStores.{beside_keeps}
 use Rattle.map_builder.proofs.OutsideLemmas.{outside_bounds}
-use Rattle.map_builder.proofs.BoundsLemmas.{changed_ordered}
-use Rattle.map_builder.proofs.SortedLemmas.{rise_sorted, rows_few}
-use Rattle.map_builder.proofs.ChangeLemmas.{board_after, beside_map}
+use Rattle.map_builder.proofs.ChangeLemmas.{board_after, build_rise, build_few, keeps_byte, build_beside}
 use Rattle.map_builder.proofs.flat_map.FlatMap.apply_counted.Goals as goal
 
 -- the registers inside a map are those that it is seen to have
@@ -39,22 +38,27 @@ rebuild-requires-clause-board g c =
 pub rebuild-requires-clause-rise : goal.rebuild-requires-clause-rise
 rebuild-requires-clause-rise g c =
     let board = c.self.invariant.board in
-    let windows = found board.setup board.bytes c.args.change.now c.new-windows.result.items c.push_covered.new.windows.items c.push_covered-2.new.windows.items
-    c.new-windows.ensures (c.push_covered.ensures.windows board.setup board.bytes board.stands)
+    let windows = found board.setup board.bytes c.args.change.now c.clear.new.self.items c.push_covered.new.windows.items c.push_covered-2.new.windows.items
+    c.clear.ensures (c.push_covered.ensures.windows board.setup board.bytes board.stands)
     (c.push_covered-2.ensures.windows board.setup (after board.setup c.args.change.now board.bytes) (c.apply.ensures.stands board.setup board.bytes board.stands)) in
-    let rising = c.deref-2.ensures.0 ∙ c.sorted-rising.ensures.sorted ∙ ap sorted (c.deref.ensures.0 ∙ windows) in
-    subst Rise (sym rising)
-    (rise_sorted (changed_windows board.setup board.bytes c.args.change.now) (changed_ordered board.setup board.bytes c.args.change.now))
+    subst Rise (sym c.deref-2.ensures.0)
+    (build_rise board.setup board.bytes c.args.change.now c.deref.result.now c.choose_windows.new.chosen.items
+    (map_bytes c.self.inside.regs).drb (map_bytes c.apply.new.self).drb c.is_same_byte-kept.result (c.deref.ensures.0 ∙ windows) c.choose_windows.ensures.none
+    c.choose_windows.ensures.others c.choose_windows.ensures.rows)
 
 pub rebuild-requires-clause-beside : goal.rebuild-requires-clause-beside
 rebuild-requires-clause-beside g c =
     let board = c.self.invariant.board in
-    let windows = found board.setup board.bytes c.args.change.now c.new-windows.result.items c.push_covered.new.windows.items c.push_covered-2.new.windows.items
-    c.new-windows.ensures (c.push_covered.ensures.windows board.setup board.bytes board.stands)
+    let windows = found board.setup board.bytes c.args.change.now c.clear.new.self.items c.push_covered.new.windows.items c.push_covered-2.new.windows.items
+    c.clear.ensures (c.push_covered.ensures.windows board.setup board.bytes board.stands)
     (c.push_covered-2.ensures.windows board.setup (after board.setup c.args.change.now board.bytes) (c.apply.ensures.stands board.setup board.bytes board.stands)) in
-    beside_map (map_bytes c.self.inside.regs) (map_bytes c.apply.new.self) c.args.change.now (map range_of c.self.inside.ranges.items) c.self.invariant
-    (c.apply.ensures.stands board.setup board.bytes board.stands) c.deref-2.result.now
-    (c.deref-2.ensures.0 ∙ c.sorted-rising.ensures.sorted ∙ ap sorted (c.deref.ensures.0 ∙ windows))
+    subst (λ (all : List Changed). IsMapWhere (map_bytes c.apply.new.self) (IsBeside all) (map range_of c.self.inside.ranges.items)) (sym c.deref-2.ensures.0)
+    (build_beside (map_bytes c.self.inside.regs) (map_bytes c.apply.new.self) c.args.change.now (map range_of c.self.inside.ranges.items) c.self.invariant
+    (c.apply.ensures.stands board.setup board.bytes board.stands) c.deref.result.now c.choose_windows.new.chosen.items c.is_same_byte-kept.result (c.deref.ensures.0 ∙ windows)
+    (λ same.
+    keeps_byte (map_bytes c.self.inside.regs) (map_bytes c.apply.new.self) c.args.change.now c.held_at-before.result c.held_at.result
+    (c.is_same_byte-kept.ensures.same same) c.held_at-before.ensures.held c.held_at.ensures.held)
+    c.choose_windows.ensures.others c.choose_windows.ensures.rows)
 
 pub invariant_of-self : goal.invariant_of-self
 invariant_of-self g c =
@@ -78,8 +82,8 @@ returns-clause-cards g c = λ setup bytes are.
 pub returns-clause-kept : goal.returns-clause-kept
 returns-clause-kept g c = λ setup bytes stands addr address out.
     let here = stood _ c.args.self.now setup bytes c.self.view_is stands in
-    let windows = found setup bytes c.args.change.now c.new-windows.result.items c.push_covered.new.windows.items c.push_covered-2.new.windows.items
-    c.new-windows.ensures (c.push_covered.ensures.windows setup bytes here)
+    let windows = found setup bytes c.args.change.now c.clear.new.self.items c.push_covered.new.windows.items c.push_covered-2.new.windows.items
+    c.clear.ensures (c.push_covered.ensures.windows setup bytes here)
     (c.push_covered-2.ensures.windows setup (after setup c.args.change.now bytes) (c.apply.ensures.stands setup bytes here)) in
     let result : c.unwrap_or.result ≡ bounds_or_zero (changed_windows setup bytes c.args.change.now) =
     c.unwrap_or.ensures ∙ ap (λ (it : Option Changed). unwrap_or it (from_to 0 0)) (c.bounds_of.ensures.bounds ∙ ap bounds (c.deref-3.ensures.0 ∙ windows)) in
@@ -96,14 +100,13 @@ pub returns-clause-rows : goal.returns-clause-rows
 returns-clause-rows g c = λ setup bytes stands.
     let here = stood _ c.args.self.now setup bytes c.self.view_is stands in
     let new : Bytes = after setup c.args.change.now bytes in
-    let windows = found setup bytes c.args.change.now c.new-windows.result.items c.push_covered.new.windows.items c.push_covered-2.new.windows.items
-    c.new-windows.ensures (c.push_covered.ensures.windows setup bytes here)
+    let windows = found setup bytes c.args.change.now c.clear.new.self.items c.push_covered.new.windows.items c.push_covered-2.new.windows.items
+    c.clear.ensures (c.push_covered.ensures.windows setup bytes here)
     (c.push_covered-2.ensures.windows setup new (c.apply.ensures.stands setup bytes here)) in
-    let rising : c.deref-2.result.now ≡ sorted (changed_windows setup bytes c.args.change.now) =
-    c.deref-2.ensures.0 ∙ c.sorted-rising.ensures.sorted ∙ ap sorted (c.deref.ensures.0 ∙ windows) in
     omega (
       arith,
       c.rebuild.ensures.rows setup new (c.apply.ensures.stands setup bytes here),
-      ap (λ (all : List Changed). rows_in (edges_after setup new) all) rising,
-      rows_few setup new (changed_windows setup bytes c.args.change.now) (changed_ordered setup bytes c.args.change.now),
+      ap (λ (all : List Changed). rows_in (edges_after setup new) all) c.deref-2.ensures.0,
+      build_few setup bytes c.args.change.now c.deref.result.now c.choose_windows.new.chosen.items (map_bytes c.self.inside.regs).drb
+          (map_bytes c.apply.new.self).drb c.is_same_byte-kept.result (c.deref.ensures.0 ∙ windows) c.choose_windows.ensures.none c.choose_windows.ensures.others c.choose_windows.ensures.rows,
     )

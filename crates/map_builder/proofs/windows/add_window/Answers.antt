@@ -1,0 +1,16 @@
+use Rattle.std.proofs.Common.{◌≡◌, List, [], ◌∷◌, ◌++◌, take, drop, sym, ◌∙◌, ap, arith}
+use Rattle.std.proofs.lemmas.List.{drop_all}
+use Rattle.map_builder.specs.declared.range.Changed.{Changed}
+use Rattle.map_builder.specs.Sorted.{with_window}
+use Rattle.map_builder.proofs.SortedLemmas.{step_last}
+use Rattle.map_builder.proofs.windows.add_window.Goals as goal
+
+pub returns-clause-windows : goal.returns-clause-windows
+returns-clause-windows c =
+    let rising : List Changed = c.loop-index.rising.items in
+    let none : drop c.loop-index.index rising ≡ [] = drop_all c.loop-index.index rising (omega (arith, c.loop-index.invariant.long)) in
+    c.push.ensures.items
+    ∙ ap (λ (below : List Changed). below ++ c.loop-index.window ∷ []) c.truncate.ensures.items
+    ∙ sym (step_last (take c.loop-index.kept rising) c.loop-index.window)
+    ∙ ap (λ (rest : List Changed). take c.loop-index.kept rising ++ with_window c.loop-index.window rest) (sym none)
+    ∙ c.loop-index.invariant.so_far

@@ -1,0 +1,17 @@
+-- A store of one byte to a register that keeps its byte.
+use Rattle.std.specs.Prelude.{ℕ, ◌≡◌, Option, Some}
+use Rattle.board_base.specs.declared.access.Width.TheVariants.{One}
+use Rattle.board_spec.specs.declared.map_change.MapChange.{MapChange}
+use Rattle.board_spec.specs.declared.map_change.MapChange.TheVariants.{Store}
+use Rattle.board_spec.specs.Decode.{Bytes}
+
+-- a change stores one byte alone, to a register that holds this byte
+abbrev pub IsHeldAt : MapChange → Bytes → ℕ → Type 0
+IsHeldAt (Store reg One value) bytes held = held ≡ bytes reg
+IsHeldAt _ bytes held = ⊥
+
+-- the same byte before and after
+pub record IsSameByte (before later : Option ℕ) : Type 0 where
+  pub byte : ℕ
+  pub before_is : before ≡ Some byte
+  pub later_is : later ≡ Some byte

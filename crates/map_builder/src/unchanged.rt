@@ -1,0 +1,120 @@
+//! The byte of the register to which a change stores one byte, so that it can be compared before and after.
+ghost use Rattle.std.specs.Prelude.{ℕ, ◌≡◌, ◌<◌, ◌/◌, ◌%◌, IfSome, slice_index, true};
+ghost use Rattle.board_spec.specs.declared.map_change.MapChange.TheVariants.{Store};
+ghost use Rattle.board_spec.specs.Setup.{Setup};
+ghost use Rattle.board_spec.specs.Bits.{byte};
+ghost use Rattle.board_spec.specs.Decode.{Bytes};
+ghost use Rattle.board_spec.specs.RegisterNames.{bridge, isa, card_register};
+ghost use Rattle.pci_bars.specs.Cards.{AreDecoded, DecodesAs};
+ghost use Rattle.addr_decode.specs.MapRegs.{StandsFor, map_bytes};
+ghost use Rattle.map_builder.specs.Unchanged.{IsHeldAt, IsSameByte};
+
+use addr_decode::{MapChange, MapRegs};
+use board_base::{Reg, Width};
+use board_spec::offset::{
+    BASE0, BASE5_END, COMMAND, FDHC, HOST_BRIDGE, PAM0, PAM6, SMRAM, SOUTH_BRIDGE, XBCS,
+};
+use pci_bars::{CardRegs, card_at};
+
+/// The byte of the register to which a change stores one byte alone. None of another change, and of a register that is
+/// not looked at.
+pub fn held_at(regs: &MapRegs, change: &MapChange) -> Option<u8>
+    ensures held { (setup : Setup) (bytes : Bytes) → StandsFor setup bytes (map_bytes regs.now)
+        → IfSome result (IsHeldAt change.now bytes) }
+{
+    match change {
+        MapChange::Store { reg, width, .. } => held_alone(regs, *reg, *width),
+        MapChange::Reset => None,
+    }
+}
+
+/// Whether both are the same byte.
+pub fn is_same_byte(before: Option<u8>, later: Option<u8>) -> bool
+    ensures same { result ≡ true → IsSameByte before later }
+{
+    match (before, later) {
+        (Some(before), Some(later)) => before == later,
+        _ => false,
+    }
+}
+
+/// The byte of a register to which a store of one byte goes. None of a wider store, and of a register that is not looked at.
+fn held_alone(regs: &MapRegs, reg: Reg, width: Width) -> Option<u8>
+    ensures held { (setup : Setup) (bytes : Bytes) → StandsFor setup bytes (map_bytes regs.now)
+        → (value : ℕ) → IfSome result (IsHeldAt (Store reg width value) bytes) }
+{
+    match width {
+        Width::One => held(regs, reg),
+        Width::Two | Width::Four => None,
+    }
+}
+
+/// The byte of a register. None of one that is not looked at.
+fn held(regs: &MapRegs, reg: Reg) -> Option<u8>
+    ensures held { (setup : Setup) (bytes : Bytes) → StandsFor setup bytes (map_bytes regs.now)
+        → IfSome result (λ held. held ≡ bytes reg) }
+{
+    if reg.fun != 0 {
+        return None;
+    }
+    match reg.dev {
+        HOST_BRIDGE => held_by_bridge(regs, reg.off),
+        SOUTH_BRIDGE => held_by_isa(regs, reg.off),
+        dev => held_by_cards(&regs.cards, dev, reg.off),
+    }
+}
+
+/// The byte of PAM, FDHC or SMRAM.
+fn held_by_bridge(regs: &MapRegs, off: u8) -> Option<u8>
+    ensures held { (setup : Setup) (bytes : Bytes) → StandsFor setup bytes (map_bytes regs.now)
+        → IfSome result (λ held. held ≡ bytes (bridge off)) }
+{
+    match off {
+        PAM0..=PAM6 => Some(regs.pam[usize::from(off - PAM0)]),
+        FDHC => Some(regs.fdhc),
+        SMRAM => Some(regs.smram),
+        _ => None,
+    }
+}
+
+/// The byte of XBCS.
+fn held_by_isa(regs: &MapRegs, off: u8) -> Option<u8>
+    ensures held { (setup : Setup) (bytes : Bytes) → StandsFor setup bytes (map_bytes regs.now)
+        → IfSome result (λ held. held ≡ bytes (isa off)) }
+{
+    match off {
+        XBCS => Some(regs.xbcs),
+        _ => None,
+    }
+}
+
+/// The byte of a command or a base of the card at a device number.
+fn held_by_cards(cards: &[CardRegs], dev: u8, off: u8) -> Option<u8>
+    ensures held { (setup : Setup) (bytes : Bytes) → AreDecoded setup bytes cards.now
+        → IfSome result (λ held. held ≡ bytes (card_register dev off)) }
+{
+    match card_at(cards, dev) {
+        Some(card) => held_by_card(card, off),
+        None => None,
+    }
+}
+
+/// The byte of a command or a base of a card.
+fn held_by_card(card: &CardRegs, off: u8) -> Option<u8>
+    ensures held { (setup : Setup) (bytes : Bytes) → DecodesAs setup bytes card.now
+        → IfSome result (λ held. held ≡ bytes (card_register card.now.card.dev off)) }
+{
+    match off {
+        COMMAND => Some(card.command),
+        BASE0..=BASE5_END => Some(byte_of_base(&card.bases, off - BASE0)),
+        _ => None,
+    }
+}
+
+/// One of the 24 bytes of bases.
+fn byte_of_base(bases: &[u32; 6], index: u8) -> u8
+    requires index { index < 24 }
+    ensures byte { result ≡ byte (slice_index bases.now (index / 4)) (index % 4) }
+{
+    bases[usize::from(index / 4)].to_le_bytes()[usize::from(index % 4)]
+}
