@@ -31,12 +31,12 @@ pub record IsTime (hour minute second : ℕ) : Type 0 where
   pub minute_high : minute ≤ 59
   pub second_high : second ≤ 59
 
--- the days of so many years from 1980 on
+-- the days of this many years, the first of them 1980
 unfoldable pub days_of_years : (years : ℕ) → ℕ
 days_of_years zero = 0
 days_of_years (suc years) = days_of_years years + days_in_year (1980 + years)
 
--- the days of so many months from the year's first on
+-- the days of this many months of a year, from January on
 unfoldable pub days_of_months : (year months : ℕ) → ℕ
 days_of_months year zero = 0
 days_of_months year (suc months) = days_of_months year months + days_in_month year (suc months)

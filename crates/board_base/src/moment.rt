@@ -10,7 +10,8 @@ const FIRST_YEAR: u16 = 1980;
 
 const LAST_YEAR: u16 = 2099;
 
-/// A second of the calendar. `weekday` 1 is Sunday.
+/// A second of the Gregorian calendar. `year` is 1980 to 2099, `month` and `day` count from 1, and `weekday`
+/// counts from 1 for Sunday.
 #[derive(Clone, Copy, PartialEq, Eq, Debug)]
 pub struct Moment {
     pub year: u16,
