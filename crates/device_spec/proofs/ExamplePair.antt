@@ -6,70 +6,106 @@ use Rattle.device_spec.specs.Pic.{pending, first_selectable, request, chip_after
 use Rattle.device_spec.specs.Pair.{answer_of, pair_after_acknowledge}
 use Rattle.device_spec.specs.ExamplePair.{initialised, NobodyIsReady, SpuriousAnswers, ALevelStays, AnEdgeIsKept, TheHigherEndsFirst, ANewBeginning, AShortSequence, SpecialMask, ChosenRegisters, Polls, PollsOfOne, ResetAtLevels, EachCommand, AutomaticEnd, ModesEnd, FullyNested, Cascaded}
 
+-- the examples, all computed with the same definitions open
+record AllRun : Type 0 where
+  pub nobody_is_ready_runs : NobodyIsReady
+  pub spurious_answers_runs : SpuriousAnswers
+  pub a_level_stays_runs : ALevelStays
+  pub an_edge_is_kept_runs : AnEdgeIsKept
+  pub the_higher_ends_first_runs : TheHigherEndsFirst
+  pub a_new_beginning_runs : ANewBeginning
+  pub a_short_sequence_runs : AShortSequence
+  pub special_mask_runs : SpecialMask
+  pub chosen_registers_runs : ChosenRegisters
+  pub polls_runs : Polls
+  pub polls_of_one_runs : PollsOfOne
+  pub reset_at_levels_runs : ResetAtLevels
+  pub each_command_runs : EachCommand
+  pub automatic_end_runs : AutomaticEnd
+  pub fully_nested_runs : FullyNested
+  pub cascaded_runs : Cascaded
+  pub modes_end_runs : ModesEnd
+
+all_run : AllRun
+unfolding NobodyIsReady SpuriousAnswers ALevelStays AnEdgeIsKept TheHigherEndsFirst ANewBeginning AShortSequence SpecialMask ChosenRegisters Polls PollsOfOne ResetAtLevels initialised given told after_lines levels_where byte_of_levels pending first_selectable request chip_after_write byte_read chip_after_read first_blocking answer_of pair_after_acknowledge
+all_run = record {
+  nobody_is_ready_runs = refl;
+  spurious_answers_runs = refl;
+  a_level_stays_runs = refl;
+  an_edge_is_kept_runs = refl;
+  the_higher_ends_first_runs = refl;
+  a_new_beginning_runs = refl;
+  a_short_sequence_runs = refl;
+  special_mask_runs = refl;
+  chosen_registers_runs = refl;
+  polls_runs = refl;
+  polls_of_one_runs = refl;
+  reset_at_levels_runs = refl;
+  each_command_runs = record {
+    non_specific_end = refl;
+    specific_end = refl;
+    rotating_end = refl;
+    rotating_specific_end = refl;
+    set_rotation = refl;
+    clear_rotation = refl;
+    set_priority = refl;
+    rotating_end_of_another = refl;
+    set_another_priority = refl;
+    no_operation = refl;
+  };
+  automatic_end_runs = record { rotating = refl; fixed = refl; rotation_only = refl; of_slave = refl };
+  fully_nested_runs = record { special = refl; plain = refl; slave = refl };
+  cascaded_runs = record { slave = refl; no_line = refl };
+  modes_end_runs = record { order = refl; rotation = refl; special_mask = refl; nesting = refl };
+}
+
 pub nobody_is_ready : NobodyIsReady
-unfolding NobodyIsReady initialised given told after_lines levels_where byte_of_levels pending first_selectable request chip_after_write byte_read chip_after_read first_blocking answer_of pair_after_acknowledge
-nobody_is_ready = refl
+nobody_is_ready = all_run.nobody_is_ready_runs
 
 pub spurious_answers : SpuriousAnswers
-unfolding SpuriousAnswers initialised given told after_lines levels_where byte_of_levels pending first_selectable request chip_after_write byte_read chip_after_read first_blocking answer_of pair_after_acknowledge
-spurious_answers = refl
+spurious_answers = all_run.spurious_answers_runs
 
 pub a_level_stays : ALevelStays
-unfolding ALevelStays initialised given told after_lines levels_where byte_of_levels pending first_selectable request chip_after_write byte_read chip_after_read first_blocking answer_of pair_after_acknowledge
-a_level_stays = refl
+a_level_stays = all_run.a_level_stays_runs
 
 pub an_edge_is_kept : AnEdgeIsKept
-unfolding AnEdgeIsKept initialised given told after_lines levels_where byte_of_levels pending first_selectable request chip_after_write byte_read chip_after_read first_blocking answer_of pair_after_acknowledge
-an_edge_is_kept = refl
+an_edge_is_kept = all_run.an_edge_is_kept_runs
 
 pub the_higher_ends_first : TheHigherEndsFirst
-unfolding TheHigherEndsFirst initialised given told after_lines levels_where byte_of_levels pending first_selectable request chip_after_write byte_read chip_after_read first_blocking answer_of pair_after_acknowledge
-the_higher_ends_first = refl
+the_higher_ends_first = all_run.the_higher_ends_first_runs
 
 pub a_new_beginning : ANewBeginning
-unfolding ANewBeginning initialised given told after_lines levels_where byte_of_levels pending first_selectable request chip_after_write byte_read chip_after_read first_blocking answer_of pair_after_acknowledge
-a_new_beginning = refl
+a_new_beginning = all_run.a_new_beginning_runs
 
 pub a_short_sequence : AShortSequence
-unfolding AShortSequence initialised given told after_lines levels_where byte_of_levels pending first_selectable request chip_after_write byte_read chip_after_read first_blocking answer_of pair_after_acknowledge
-a_short_sequence = refl
+a_short_sequence = all_run.a_short_sequence_runs
 
 pub special_mask : SpecialMask
-unfolding SpecialMask initialised given told after_lines levels_where byte_of_levels pending first_selectable request chip_after_write byte_read chip_after_read first_blocking answer_of pair_after_acknowledge
-special_mask = refl
+special_mask = all_run.special_mask_runs
 
 pub chosen_registers : ChosenRegisters
-unfolding ChosenRegisters initialised given told after_lines levels_where byte_of_levels pending first_selectable request chip_after_write byte_read chip_after_read first_blocking answer_of pair_after_acknowledge
-chosen_registers = refl
+chosen_registers = all_run.chosen_registers_runs
 
 pub polls : Polls
-unfolding Polls initialised given told after_lines levels_where byte_of_levels pending first_selectable request chip_after_write byte_read chip_after_read first_blocking answer_of pair_after_acknowledge
-polls = refl
+polls = all_run.polls_runs
 
 pub polls_of_one : PollsOfOne
-unfolding PollsOfOne initialised given told after_lines levels_where byte_of_levels pending first_selectable request chip_after_write byte_read chip_after_read first_blocking answer_of pair_after_acknowledge
-polls_of_one = refl
+polls_of_one = all_run.polls_of_one_runs
 
 pub reset_at_levels : ResetAtLevels
-unfolding ResetAtLevels initialised given told after_lines levels_where byte_of_levels pending first_selectable request chip_after_write byte_read chip_after_read first_blocking answer_of pair_after_acknowledge
-reset_at_levels = refl
+reset_at_levels = all_run.reset_at_levels_runs
 
 pub each_command : EachCommand
-unfolding initialised given told after_lines levels_where byte_of_levels pending first_selectable request chip_after_write byte_read chip_after_read first_blocking answer_of pair_after_acknowledge
-each_command = record { non_specific_end = refl; specific_end = refl; rotating_end = refl; rotating_specific_end = refl; set_rotation = refl; clear_rotation = refl; set_priority = refl; rotating_end_of_another = refl; set_another_priority = refl; no_operation = refl }
+each_command = all_run.each_command_runs
 
 pub automatic_end : AutomaticEnd
-unfolding initialised given told after_lines levels_where byte_of_levels pending first_selectable request chip_after_write byte_read chip_after_read first_blocking answer_of pair_after_acknowledge
-automatic_end = record { rotating = refl; fixed = refl; rotation_only = refl; of_slave = refl }
+automatic_end = all_run.automatic_end_runs
 
 pub fully_nested : FullyNested
-unfolding initialised given told after_lines levels_where byte_of_levels pending first_selectable request chip_after_write byte_read chip_after_read first_blocking answer_of pair_after_acknowledge
-fully_nested = record { special = refl; plain = refl; slave = refl }
+fully_nested = all_run.fully_nested_runs
 
 pub cascaded : Cascaded
-unfolding initialised given told after_lines levels_where byte_of_levels pending first_selectable request chip_after_write byte_read chip_after_read first_blocking answer_of pair_after_acknowledge
-cascaded = record { slave = refl; no_line = refl }
+cascaded = all_run.cascaded_runs
 
 pub modes_end : ModesEnd
-unfolding initialised given told after_lines levels_where byte_of_levels pending first_selectable request chip_after_write byte_read chip_after_read first_blocking answer_of pair_after_acknowledge
-modes_end = record { order = refl; rotation = refl; special_mask = refl; nesting = refl }
+modes_end = all_run.modes_end_runs

@@ -35,7 +35,7 @@ first_blocking-is chip order is = ap (find (is_blocking chip)) (sym is)
 -- ---- the first selectable level
 
 -- the search as the chip makes it: it ends at a level that is requested and does not block itself, and
--- gives up behind a level that blocks
+-- gives up after a level that blocks
 unfoldable pub scan : Chip → List ℕ → Option ℕ
 scan chip [] = None
 scan chip (level ∷ lower) =
@@ -45,7 +45,7 @@ or-end : (test : ℕ → Bool) (xs : List ℕ) (x : ℕ) → list_any test (xs +
 or-end test [] x = or-false (test x)
 or-end test (y ∷ xs) x = ap (λ b. test y || b) (or-end test xs x) ∙ sym (or_assoc (test y) (list_any test xs) (test x))
 
--- behind a level that blocks no level can be selected
+-- after a level that blocks no level can be selected
 blocked : (chip : Chip) (higher order : List ℕ) → list_any (is_blocking chip) higher ≡ true → first_selectable chip higher order ≡ None
 unfolding first_selectable
 blocked chip higher [] h = refl
@@ -53,7 +53,7 @@ blocked chip higher (level ∷ lower) h =
     let rest = blocked chip (higher ++ level ∷ []) lower (or-end (is_blocking chip) higher level ∙ ap (λ b. b || is_blocking chip level) h) in
     rw (h, and-false (is_requested chip level)) rest
 
--- behind levels that do not block, the first that can be selected is the one that the search finds
+-- after levels that do not block, the first that can be selected is the one that the search finds
 unblocked : (chip : Chip) (higher order : List ℕ) → list_any (is_blocking chip) higher ≡ false → first_selectable chip higher order ≡ scan chip order
 unfolding first_selectable scan
 unblocked chip higher [] h = refl

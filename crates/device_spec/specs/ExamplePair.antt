@@ -230,7 +230,8 @@ without_rotation =
 
 abbrev pub rotation_alone : List Line
 rotation_alone =
-    Out 0x20 0x80 ∷ Lines (0 ∷ 3 ∷ []) 0 ∷ Ack 0x23 0 false ∷ Out 0x20 0x20 ∷ Lines (0 ∷ 1 ∷ 4 ∷ []) 0 ∷ Ack 0x21 0 false ∷ []
+    Out 0x20 0x80 ∷ Lines (0 ∷ 3 ∷ []) 0 ∷ Ack 0x23 0 false ∷ Out 0x20 0x20 ∷ Lines (0 ∷ 1 ∷ 4 ∷ []) 0
+    ∷ Ack 0x21 0 false ∷ []
 
 -- of the slave, whose next request is then at once at input 2
 abbrev pub automatic_end_of_slave : List Line

@@ -36,7 +36,8 @@ no_lines = replicate 16 false
 
 abbrev pub only_3_and_11 : List Bool
 only_3_and_11 =
-    false ∷ false ∷ false ∷ true ∷ false ∷ false ∷ false ∷ false ∷ false ∷ false ∷ false ∷ true ∷ false ∷ false ∷ false ∷ false ∷ []
+    false ∷ false ∷ false ∷ true ∷ false ∷ false ∷ false ∷ false ∷ false ∷ false ∷ false ∷ true ∷ false ∷ false ∷ false
+    ∷ false ∷ []
 
 -- INTA# of device 4 is PIRQD#, which is routed to line 11; PIRQA# goes to line 3 beside PIRQB#, and
 -- PIRQC# is disabled
@@ -61,4 +62,5 @@ pub record TriggerBytes : Type 0 where
   pub high : trigger_byte (triggers_after_write triggers_at_reset true 0xFF) true ≡ 0xDE
   pub other_high : trigger_byte (triggers_after_write triggers_at_reset false 0xFF) true ≡ 0x00
   pub other_low : trigger_byte (triggers_after_write triggers_at_reset true 0xFF) false ≡ 0x00
-  pub again : trigger_byte (triggers_after_write (triggers_after_write triggers_at_reset true 0xFF) true 0x08) true ≡ 0x08
+  pub again :
+      trigger_byte (triggers_after_write (triggers_after_write triggers_at_reset true 0xFF) true 0x08) true ≡ 0x08

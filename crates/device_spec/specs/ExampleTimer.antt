@@ -109,13 +109,16 @@ levels_of (zero ∷ rest) = false ∷ levels_of rest
 levels_of (suc n ∷ rest) = true ∷ levels_of rest
 
 pub record EachMode : Type 0 where
-  pub terminal_count : Answers (from_rise 0x90 3 (3 ∷ 2 ∷ 1 ∷ 0 ∷ 0xFF ∷ 0xFE ∷ []) (levels_of (0 ∷ 0 ∷ 0 ∷ 1 ∷ 1 ∷ 1 ∷ [])))
+  pub terminal_count :
+      Answers (from_rise 0x90 3 (3 ∷ 2 ∷ 1 ∷ 0 ∷ 0xFF ∷ 0xFE ∷ []) (levels_of (0 ∷ 0 ∷ 0 ∷ 1 ∷ 1 ∷ 1 ∷ [])))
   pub one_shot : Answers (from_rise 0x92 3 (3 ∷ 2 ∷ 1 ∷ 0 ∷ 0xFF ∷ 0xFE ∷ []) (levels_of (0 ∷ 0 ∷ 0 ∷ 1 ∷ 1 ∷ 1 ∷ [])))
   pub rate : Answers (from_rise 0x94 3 (3 ∷ 2 ∷ 1 ∷ 3 ∷ 2 ∷ 1 ∷ []) (levels_of (1 ∷ 1 ∷ 0 ∷ 1 ∷ 1 ∷ 0 ∷ [])))
   pub odd_square : Answers (from_rise 0x96 5 (4 ∷ 2 ∷ 0 ∷ 4 ∷ 2 ∷ 4 ∷ []) (levels_of (1 ∷ 1 ∷ 1 ∷ 0 ∷ 0 ∷ 1 ∷ [])))
   pub even_square : Answers (from_rise 0x96 4 (4 ∷ 2 ∷ 4 ∷ 2 ∷ 4 ∷ 2 ∷ []) (levels_of (1 ∷ 1 ∷ 0 ∷ 0 ∷ 1 ∷ 1 ∷ [])))
-  pub software_strobe : Answers (from_rise 0x98 3 (3 ∷ 2 ∷ 1 ∷ 0 ∷ 0xFF ∷ 0xFE ∷ []) (levels_of (1 ∷ 1 ∷ 1 ∷ 0 ∷ 1 ∷ 1 ∷ [])))
-  pub hardware_strobe : Answers (from_rise 0x9A 3 (3 ∷ 2 ∷ 1 ∷ 0 ∷ 0xFF ∷ 0xFE ∷ []) (levels_of (1 ∷ 1 ∷ 1 ∷ 0 ∷ 1 ∷ 1 ∷ [])))
+  pub software_strobe :
+      Answers (from_rise 0x98 3 (3 ∷ 2 ∷ 1 ∷ 0 ∷ 0xFF ∷ 0xFE ∷ []) (levels_of (1 ∷ 1 ∷ 1 ∷ 0 ∷ 1 ∷ 1 ∷ [])))
+  pub hardware_strobe :
+      Answers (from_rise 0x9A 3 (3 ∷ 2 ∷ 1 ∷ 0 ∷ 0xFF ∷ 0xFE ∷ []) (levels_of (1 ∷ 1 ∷ 1 ∷ 0 ∷ 1 ∷ 1 ∷ [])))
   pub mode_6 : Answers (from_rise 0x9C 3 (3 ∷ 2 ∷ 1 ∷ 3 ∷ 2 ∷ 1 ∷ []) (levels_of (1 ∷ 1 ∷ 0 ∷ 1 ∷ 1 ∷ 0 ∷ [])))
   pub mode_7 : Answers (from_rise 0x9E 5 (4 ∷ 2 ∷ 0 ∷ 4 ∷ 2 ∷ 4 ∷ []) (levels_of (1 ∷ 1 ∷ 1 ∷ 0 ∷ 0 ∷ 1 ∷ [])))
 
@@ -191,7 +194,8 @@ pub record EachGate : Type 0 where
 abbrev pub bytes_in_turn : List Line
 bytes_in_turn =
     Gate true ∷ Out 0x43 0xB4 ∷ Out 0x42 0x34 ∷ Out 0x42 0x12 ∷ Pulses 1 ∷ In 0x42 0x34 ∷ In 0x42 0x12
-    ∷ Out 0x43 0x80 ∷ Pulses 1 ∷ Out 0x43 0x80 ∷ Out 0x42 0xFF ∷ Out 0x42 0xFF ∷ In 0x42 0x34 ∷ In 0x42 0x12 ∷ In 0x42 0x33
+    ∷ Out 0x43 0x80 ∷ Pulses 1 ∷ Out 0x43 0x80 ∷ Out 0x42 0xFF ∷ Out 0x42 0xFF ∷ In 0x42 0x34 ∷ In 0x42 0x12
+    ∷ In 0x42 0x33
     ∷ Out 0x43 0x80 ∷ In 0x42 0x33 ∷ In 0x42 0x12 ∷ In 0x42 0x12 ∷ []
 
 abbrev pub status_before_count : List Line
@@ -221,14 +225,16 @@ decimal_digits =
 abbrev pub written_in_halves : List Line
 written_in_halves =
     Gate true ∷ Out 0x43 0xB0 ∷ Out 0x43 0xE8 ∷ Out 0x42 2 ∷ Out 0x42 0 ∷ Pulses 1 ∷ In 0x42 0x70
-    ∷ Out 0x43 0xE8 ∷ Pulses 2 ∷ Level 2 true ∷ Out 0x42 5 ∷ Level 2 false ∷ Pulses 3 ∷ In 0x42 0x30 ∷ In 0x42 0 ∷ In 0x42 0
+    ∷ Out 0x43 0xE8 ∷ Pulses 2 ∷ Level 2 true ∷ Out 0x42 5 ∷ Level 2 false ∷ Pulses 3 ∷ In 0x42 0x30 ∷ In 0x42 0
+    ∷ In 0x42 0
     ∷ Out 0x42 0 ∷ Pulses 1 ∷ In 0x42 5 ∷ In 0x42 0 ∷ []
 
 -- a control word drops what was latched, half read and half written, and the count
 abbrev pub control_drops : List Line
 control_drops =
     Gate true ∷ Out 0x43 0xB4 ∷ Out 0x42 0x34 ∷ Out 0x42 0x12 ∷ Pulses 1 ∷ In 0x42 0x34 ∷ Out 0x42 0x56 ∷ Out 0x43 0xC8
-    ∷ Out 0x43 0xB4 ∷ In 0x42 0x00 ∷ In 0x42 0x00 ∷ Out 0x42 0x07 ∷ Out 0x42 0x00 ∷ Pulses 1 ∷ In 0x42 0x07 ∷ In 0x42 0x00 ∷ []
+    ∷ Out 0x43 0xB4 ∷ In 0x42 0x00 ∷ In 0x42 0x00 ∷ Out 0x42 0x07 ∷ Out 0x42 0x00 ∷ Pulses 1 ∷ In 0x42 0x07
+    ∷ In 0x42 0x00 ∷ []
 
 -- a count written in a period waits for its end, and one written in mode 4 does not
 abbrev pub counts_that_wait : List Line

@@ -7,7 +7,8 @@ abbrev pub digit : Bool → ℕ
 digit level = if level then 1 else 0
 
 -- what a device gives over the lines, from a state on
-unfoldable pub given : {Line State : Type 0} → (Line → State → List ℕ) → (Line → State → State) → List Line → State → List ℕ
+unfoldable pub given : {Line State : Type 0} →
+    (Line → State → List ℕ) → (Line → State → State) → List Line → State → List ℕ
 given gives after [] state = []
 given gives after (line ∷ rest) state = gives line state ++ given gives after rest (after line state)
 

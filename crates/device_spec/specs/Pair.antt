@@ -36,7 +36,8 @@ levels_at_power_on = true ∷ replicate 15 false
 abbrev pub pair_after_lines : Pair → List Bool → ℕ → Pair
 pair_after_lines pair levels elcr =
     settled (record {
-      master = chip_after_inputs pair.master (master_inputs (take 8 levels)) (master_inputs (levels_of_byte (elcr % 256)));
+      master =
+          chip_after_inputs pair.master (master_inputs (take 8 levels)) (master_inputs (levels_of_byte (elcr % 256)));
       slave = chip_after_inputs pair.slave (drop 8 levels) (levels_of_byte (elcr / 256));
     })
 

@@ -5,7 +5,7 @@ use Rattle.std.specs.List.{find, list_any}
 use Rattle.device_spec.specs.Bits.{is_bit}
 use Rattle.device_spec.specs.Levels.{Levels, all_levels, has, levels_where, no_levels, with_level, without_level, levels_of_byte, byte_of_levels}
 
--- the input of the master that the slave sits on
+-- the input of the master to which the slave is wired
 abbrev pub cascade : ℕ
 cascade = 2
 
@@ -19,7 +19,7 @@ pub data Word : Type 0 where
   Icw3 : Word
   Icw4 : Word
 
--- The state of a chip: whether a slave sits on it; the base of its vectors; the sets of masked
+-- The state of a chip: whether a slave is wired to it; the base of its vectors; the sets of masked
 -- levels (IMR), of levels in service (ISR) and of edges latched; the levels of its inputs and which of
 -- them are level triggered, as last given; the words still awaited, and whether a sequence of them was
 -- ever completed; the modes; the level of lowest priority; whether the next read polls; and whether a
@@ -93,7 +93,7 @@ priority_order lowest = drop (lowest + 1) all_levels ++ take (lowest + 1) all_le
 abbrev pub is_blocking : Chip → ℕ → Bool
 is_blocking chip level = has chip.in_service level && not (chip.special_mask && has chip.masked level)
 
--- In special fully nested mode a level that a slave sits on does not block itself.
+-- In special fully nested mode the level of a slave does not block itself.
 abbrev pub blocks_itself : Chip → ℕ → Bool
 blocks_itself chip level =
     is_blocking chip level && not (chip.fully_nested && (chip.has_slave && (level == cascade)))
@@ -102,13 +102,13 @@ blocks_itself chip level =
 abbrev pub is_requested : Chip → ℕ → Bool
 is_requested chip level = has (pending chip) level && not (has chip.masked level)
 
--- Whether a level can be selected, behind the given levels of higher priority: where it is requested,
--- and every level that blocks it stands after it.
+-- Whether a level can be selected after the given levels of higher priority: where it is requested, and
+-- neither one of them nor the level itself blocks it.
 abbrev pub is_selectable : Chip → List ℕ → ℕ → Bool
 is_selectable chip higher level =
     is_requested chip level && not (list_any (is_blocking chip) higher || blocks_itself chip level)
 
--- the first level that can be selected, of the rest of an order behind the given levels
+-- the first level that can be selected of the rest of an order, after the given levels
 unfoldable pub first_selectable : Chip → List ℕ → List ℕ → Option ℕ
 first_selectable chip higher [] = None
 first_selectable chip higher (level ∷ lower) =
@@ -245,7 +245,8 @@ byte_polled (Some level) = 0x80 + level
 unfoldable pub byte_read : Chip → Bool → ℕ
 byte_read chip is_odd =
     if chip.polls then byte_polled (interrupt chip)
-    else byte_of_levels (if is_odd then chip.masked else if chip.reads_in_service then chip.in_service else pending chip)
+    else byte_of_levels
+    (if is_odd then chip.masked else if chip.reads_in_service then chip.in_service else pending chip)
 
 -- a chip after a read
 unfoldable pub chip_after_read : Chip → Chip

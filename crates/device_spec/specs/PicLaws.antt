@@ -3,7 +3,7 @@ use Rattle.std.specs.Prelude.{◌≡◌, ◌≢◌, ℕ, Bool, true, false, Some
 use Rattle.std.specs.List.{list_all}
 use Rattle.device_spec.specs.Bits.{is_bit}
 use Rattle.device_spec.specs.Levels.{has}
-use Rattle.device_spec.specs.Pic.{Chip, priority_order, is_blocking, blocks_itself, is_requested, pending, interrupt, chip_after_write}
+use Rattle.device_spec.specs.Pic.{cascade, last_level, Chip, priority_order, is_blocking, blocks_itself, is_requested, pending, interrupt, chip_after_write}
 use Rattle.device_spec.specs.Pair.{Pair, settled, is_slave_port, pair_after_lines, pair_after_read, answer_of, pair_after_acknowledge}
 
 -- The priorities go round from the level after the lowest to the lowest.
@@ -107,8 +107,10 @@ NonSpecificEndOfNone =
 -- A spurious answer has the vector of level 7, and leaves alone the chip that gives it; one of the
 -- master's leaves the slave alone too.
 pub record IsSpuriousAt (pair : Pair) : Type 0 where
-  pub master : (answer_of pair).chip ≡ 0 → (pair_after_acknowledge pair ≡ pair) × ((answer_of pair).vector ≡ pair.master.base + 7)
-  pub slave : (answer_of pair).chip ≡ 1 → ((pair_after_acknowledge pair).slave ≡ pair.slave) × ((answer_of pair).vector ≡ pair.slave.base + 7)
+  pub master : (answer_of pair).chip ≡ 0 →
+      (pair_after_acknowledge pair ≡ pair) × ((answer_of pair).vector ≡ pair.master.base + last_level)
+  pub slave : (answer_of pair).chip ≡ 1 →
+      ((pair_after_acknowledge pair).slave ≡ pair.slave) × ((answer_of pair).vector ≡ pair.slave.base + last_level)
 
 abbrev pub SpuriousLeavesAlone : Type 0
 SpuriousLeavesAlone = (pair : Pair) → (answer_of pair).is_spurious ≡ true → IsSpuriousAt pair
@@ -116,7 +118,7 @@ SpuriousLeavesAlone = (pair : Pair) → (answer_of pair).is_spurious ≡ true �
 -- Whenever the slave's INT is 1, the latch of the master's input 2 is set.
 abbrev pub SlaveIsLatched : Type 0
 SlaveIsLatched =
-    (pair : Pair) → is_some (interrupt (settled pair).slave) ≡ true → has (settled pair).master.latches 2 ≡ true
+    (pair : Pair) → is_some (interrupt (settled pair).slave) ≡ true → has (settled pair).master.latches cascade ≡ true
 
 -- The levels that the lines have already change nothing when they are given again.
 abbrev pub SameLevelsAgain : Type 0

@@ -204,7 +204,7 @@ latch_count c = elim c.count_latch [ [] ↦ record c { count_latch = element_byt
 unfoldable pub latch_status : CounterState → CounterState
 latch_status c = elim c.status_latch [ None ↦ record c { status_latch = Some (status_byte c) } | Some _ ↦ c ]
 
--- a control word for this counter: the counter latch command, or the counter anew
+-- a control word for this counter: the counter latch command, or one that programs it from the start
 unfoldable pub control : ℕ → CounterState → CounterState
 control word c = elim (access_numbered (rw_field word)) [
   | None ↦ latch_count c

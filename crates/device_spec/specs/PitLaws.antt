@@ -42,7 +42,8 @@ abbrev pub LatchedCountIsRead : Type 0
 LatchedCountIsRead =
     (c : CounterState) (steps : List Step)
     → c.count_latch ≡ []
-    → bytes_read (length (element_bytes c)) (record (after steps (latch_count c)) { status_latch = None }) ≡ element_bytes c
+    → bytes_read (length (element_bytes c)) (record (after steps (latch_count c)) { status_latch = None })
+    ≡ element_bytes c
 
 -- READ-BACK
 

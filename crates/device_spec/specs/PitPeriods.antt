@@ -60,7 +60,8 @@ pub record StrobesOnce (gate : Bool) (n : ℕ) (c : CounterState) : Type 0 where
 -- in mode 4 with the gate at 1, and in mode 5 whatever the gate
 pub record CountsStrobeOnce : Type 0 where
   pub software : (n : ℕ) (c : CounterState) → 1 ≤ n → IsAtLoad SoftwareStrobe n true c → StrobesOnce true n c
-  pub hardware : (gate : Bool) (n : ℕ) (c : CounterState) → 1 ≤ n → IsAtLoad HardwareStrobe n true c → StrobesOnce gate n c
+  pub hardware :
+      (gate : Bool) (n : ℕ) (c : CounterState) → 1 ≤ n → IsAtLoad HardwareStrobe n true c → StrobesOnce gate n c
 
 -- MODES 2 AND 3: PERIODS
 
@@ -94,7 +95,8 @@ pub record GoesOnAlike (one other : CounterState) : Type 0 where
 abbrev pub CountWaits : Type 0
 CountWaits =
     (c : CounterState) (gate : Bool) (byte n k : ℕ) → is_periodic c.mode ≡ true → c.started ≡ true → c.count ≡ Some n
-    → (pulses_of gate k (write byte c)).null_count ≡ true → GoesOnAlike (pulses_of gate k c) (pulses_of gate k (write byte c))
+    → (pulses_of gate k (write byte c)).null_count ≡ true
+    → GoesOnAlike (pulses_of gate k c) (pulses_of gate k (write byte c))
 
 -- From that load on the new count is in use.
 abbrev pub CountIsTaken : Type 0

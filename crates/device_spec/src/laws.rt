@@ -7,7 +7,7 @@ ghost use Rattle.device_spec.specs.RoutingLaws.{ReservedLinesRest, RoutesOneLine
 
 // The routing
 
-/// No pin can hold the lines 0, 1, 2, 8 and 13, whatever the registers.
+/// No pin reaches the lines 0, 1, 2, 8 and 13, whatever the registers hold.
 pub fn reserved_lines_rest()
     ensures { ReservedLinesRest }
 {}
@@ -107,7 +107,8 @@ pub fn count_reads_as_written()
     ensures bytes { CountReadsAsWritten }
 {}
 
-/// The pulse after a count was written, or after a rise of the gate, loads the count: by the mode, whatever the gate.
+/// The pulse that follows the write of a count, or a rise of the gate, loads the count. The mode says which of the
+/// two, and the level of the gate does not matter.
 pub fn pulse_loads()
     ensures { PulseLoads }
 {}
@@ -162,8 +163,8 @@ pub fn memory_keeps()
     ensures law { MemoryKeeps }
 {}
 
-/// What holds at power-on and after each step: 128 bytes, an index among them, no update in
-/// progress in register A, and no interrupt of updates while the time stands still.
+/// What holds at power-on and after each step: there are 128 bytes with the index among them. Register A shows no
+/// update in progress, and no update can interrupt while the time stands still.
 pub fn stays_sound()
     ensures law { StaysSound }
 {}

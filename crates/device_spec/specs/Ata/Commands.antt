@@ -22,7 +22,8 @@ found medium (Some sector) = if nat_lt sector (sectors_of medium) then Ok sector
 abbrev pub readable : Medium → Option ℕ → Result ℕ ℕ
 readable medium None = Err not_found
 readable medium (Some sector) =
-    if nat_lt sector (sectors_of medium) then (if is_bad medium sector then Err uncorrectable else Ok sector) else Err not_found
+    if nat_lt sector (sectors_of medium) then (if is_bad medium sector then Err uncorrectable else Ok sector)
+    else Err not_found
 
 -- the end of a command: with a request, or with none
 abbrev pub finished : Drive → Drive
@@ -93,7 +94,8 @@ diagnosed drive = finished (reset_drive drive.registers)
 -- Set geometry takes the default alone: 63 sectors, and heads 0 to 15.
 abbrev pub geometry_set : Drive → Drive
 geometry_set drive =
-    if (drive.registers.count == track_sectors) && (head_of drive.registers == 15) then finished drive else failed aborted drive
+    if (drive.registers.count == track_sectors) && (head_of drive.registers == 15) then finished drive
+    else failed aborted drive
 
 -- the features that the drive takes, each with no effect
 abbrev pub is_feature : ℕ → Bool
