@@ -1,5 +1,5 @@
 -- Both orders of the script for two processors.
-use Rattle.std.specs.Prelude.{ℕ, ◌≡◌, ◌≤◌, false, [], ◌∷◌, refl}
+use Rattle.std.specs.Prelude.{ℕ, ◌≡◌, false, [], ◌∷◌, refl}
 use Rattle.std.proofs.Common.{arith, inl, inr, ne_eqb}
 use Rattle.std.specs.Fmt.{digits}
 use Rattle.std.proofs.lemmas.Bool.{le-leb, lt-ltb, cases_eq}
@@ -19,41 +19,23 @@ use Rattle.board_spec.specs.Examples.{small_board}
 use Rattle.board_spec.specs.ExampleOrders.{addressed, opened, sees_rom, LookLast, LookFirst, LookAlone, LookTooEarly, LookLastLogged, LookFirstLogged}
 use Rattle.board_spec.proofs.ExampleSpans.{above}
 
-shadow-inside : (x : ℕ) → 0xF_0000 ≤ x → x ≤ 0xF_FFFF →
-    area_of small_board (byte_of small_board (opened ∷ addressed ∷ [])) x Read false ≡ ShadowArea 0
-unfolding byte_of config_address reset_control reset_byte writable_bits host_bridge isa_bridge ide_function card_function row_of area_of memory_claim
-shadow-inside x from to =
-    rw (
-      lt-ltb x 0x80_0000 (omega arith),
-      above 0xA_0000 0xB_FFFF x (omega arith),
-      le-leb 0xC_0000 x (omega arith),
-      le-leb x 0xF_FFFF to,
-      le-leb 0xF_0000 x from,
-    ) refl
-
 shadow_span : IsSpan small_board (byte_of small_board (opened ∷ addressed ∷ [])) 0xF_0000 Read false 0xF_0000 0xF_FFFF (ShadowArea 0)
 unfolding byte_of config_address reset_control reset_byte writable_bits host_bridge isa_bridge ide_function card_function row_of area_of memory_claim
 shadow_span = record {
   above = omega arith;
   below = omega arith;
   last = omega arith;
-  same = shadow-inside;
+  same = λ x from to.
+      rw (
+        lt-ltb x 0x80_0000 (omega arith),
+        above 0xA_0000 0xB_FFFF x (omega arith),
+        le-leb 0xC_0000 x (omega arith),
+        le-leb x 0xF_FFFF to,
+        le-leb 0xF_0000 x from,
+      ) refl;
   begins = inr (λ e. grind (arith, e));
   ends = inr (λ e. grind (arith, e));
 }
-
-rom-inside : (x : ℕ) → 0xF_0000 ≤ x → x ≤ 0xF_FFFF →
-    area_of small_board (byte_of small_board (addressed ∷ [])) x Read false ≡ RomArea
-unfolding byte_of config_address reset_control reset_byte writable_bits host_bridge isa_bridge ide_function card_function row_of area_of memory_claim
-rom-inside x from to =
-    rw (
-      lt-ltb x 0x80_0000 (omega arith),
-      above 0xA_0000 0xB_FFFF x (omega arith),
-      le-leb 0xA_0000 x (omega arith),
-      le-leb 0xC_0000 x (omega arith),
-      le-leb x 0xF_FFFF to,
-      le-leb 0xF_0000 x from,
-    ) refl
 
 rom_span : IsSpan small_board (byte_of small_board (addressed ∷ [])) 0xF_0000 Read false 0xF_0000 0xF_FFFF RomArea
 unfolding byte_of config_address reset_control reset_byte writable_bits host_bridge isa_bridge ide_function card_function row_of area_of memory_claim
@@ -61,7 +43,15 @@ rom_span = record {
   above = omega arith;
   below = omega arith;
   last = omega arith;
-  same = rom-inside;
+  same = λ x from to.
+      rw (
+        lt-ltb x 0x80_0000 (omega arith),
+        above 0xA_0000 0xB_FFFF x (omega arith),
+        le-leb 0xA_0000 x (omega arith),
+        le-leb 0xC_0000 x (omega arith),
+        le-leb x 0xF_FFFF to,
+        le-leb 0xF_0000 x from,
+      ) refl;
   begins = inr (λ e. grind (arith, e));
   ends = inr (λ e. grind (arith, e));
 }

@@ -1,5 +1,5 @@
 -- The example of an expansion ROM is computed from the definitions, line by line, with the spans that it looks at.
-use Rattle.std.specs.Prelude.{ℕ, ◌≡◌, ◌<◌, ◌≤◌, true, false, take, refl}
+use Rattle.std.specs.Prelude.{◌≡◌, ◌<◌, true, false, take, refl}
 use Rattle.std.specs.Fmt.{digits}
 use Rattle.std.proofs.Common.{arith, inr}
 use Rattle.std.proofs.lemmas.Bool.{le-ltb}
@@ -20,15 +20,6 @@ use Rattle.board_spec.specs.ExampleRoms.{rom_card_board, shut_board, expansion_r
 use Rattle.board_spec.proofs.ExampleSpans.{above, no_rom, covers-yes}
 use Rattle.board_spec.proofs.ExampleLines.{legal}
 
-rom_span-inside : (x : ℕ) → 0xD000_0000 ≤ x → x ≤ 0xD000_FFFF →
-    area_of rom_card_board (byte_of rom_card_board (from_reset (take 11 expansion_rom))) x Read false ≡ CardArea 2 6
-unfolding reset_byte writable_bits host_bridge isa_bridge card_function byte_of config_address reset_control row_of area_of memory_claim
-rom_span-inside x from to =
-    let end : x < 0xD001_0000 = omega arith in
-    let window : Window = record { dev = 2; base = 6; inside = 0xD000_0001; bits = 16 } in
-    let covered : is_covered x window ≡ true = covers-yes x 0xD000 window refl from end in
-    rw (le-ltb x 0x80_0000 (omega arith), above 0xA_0000 0xB_FFFF x (omega arith), above 0xA_0000 0xF_FFFF x (omega arith), no_rom x (omega arith) (omega arith), covered) refl
-
 rom_span :
     IsSpan rom_card_board (byte_of rom_card_board (from_reset (take 11 expansion_rom))) 0xD000_0004 Read false 0xD000_0000 0xD000_FFFF (CardArea 2 6)
 unfolding reset_byte writable_bits host_bridge isa_bridge card_function byte_of config_address reset_control row_of area_of memory_claim
@@ -36,16 +27,14 @@ rom_span = record {
   above = omega arith;
   below = omega arith;
   last = omega arith;
-  same = rom_span-inside;
+  same = λ x from to.
+      let end : x < 0xD001_0000 = omega arith in
+      let window : Window = record { dev = 2; base = 6; inside = 0xD000_0001; bits = 16 } in
+      let covered : is_covered x window ≡ true = covers-yes x 0xD000 window refl from end in
+      rw (le-ltb x 0x80_0000 (omega arith), above 0xA_0000 0xB_FFFF x (omega arith), above 0xA_0000 0xF_FFFF x (omega arith), no_rom x (omega arith) (omega arith), covered) refl;
   begins = inr (λ e. grind (arith, e));
   ends = inr (λ e. grind (arith, e));
 }
-
-gap_span-inside : (x : ℕ) → 0x80_0000 ≤ x → x ≤ 0xFFFE_FFFF →
-    area_of rom_card_board (byte_of rom_card_board (from_reset (take 15 expansion_rom))) x Read false ≡ AbortArea
-unfolding reset_byte writable_bits host_bridge isa_bridge card_function byte_of config_address reset_control row_of area_of memory_claim
-gap_span-inside x from to =
-    rw (le-ltb x 0x80_0000 (omega arith), above 0xA_0000 0xB_FFFF x (omega arith), above 0xA_0000 0xF_FFFF x (omega arith), no_rom x (omega arith) (omega arith)) refl
 
 gap_span :
     IsSpan rom_card_board (byte_of rom_card_board (from_reset (take 15 expansion_rom))) 0xD000_0004 Read false 0x80_0000 0xFFFE_FFFF AbortArea
@@ -54,7 +43,8 @@ gap_span = record {
   above = omega arith;
   below = omega arith;
   last = omega arith;
-  same = gap_span-inside;
+  same = λ x from to.
+      rw (le-ltb x 0x80_0000 (omega arith), above 0xA_0000 0xB_FFFF x (omega arith), above 0xA_0000 0xF_FFFF x (omega arith), no_rom x (omega arith) (omega arith)) refl;
   begins = inr (λ e. grind (arith, e));
   ends = inr (λ e. grind (arith, e));
 }

@@ -38,7 +38,6 @@ pub mod PairProofs
 pub mod MemoryProofs
 mod ExampleStoryRuns
 mod ExampleMaskRuns
-mod ExampleInterruptRuns
 mod ExampleVersionRuns
 mod ExampleWindowRuns
 mod ExampleEventRuns

@@ -4,7 +4,7 @@ use Rattle.std.specs.Prelude.{find, map}
 use Rattle.std.specs.List.{list_any}
 use Rattle.std.proofs.lemmas.Bool.{cases_Bool, cases_eq, cond-true, cond-false, false≢true}
 
--- the numbers from one on, so many
+-- this many numbers from one on
 unfoldable pub numbers_from : (from count : ℕ) → List ℕ
 numbers_from from zero = []
 numbers_from from (suc count) = from ∷ numbers_from (from + 1) count

@@ -213,7 +213,7 @@ cut-eight access eight =
           ]
     ]
 
--- an access of so many bytes is not aligned, where it has not 8
+-- an access of this many bytes is not aligned, unless it has 8
 unaligned :
     (access : WideAccess) (bytes : ℕ) → access.bytes ≡ bytes → bytes ≢ 8 → IsWideAccess access →
     access.addr % bytes ≢ 0

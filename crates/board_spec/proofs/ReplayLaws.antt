@@ -1,7 +1,7 @@
 -- Every event has one answer, and every list of statements one replay.
 use Rattle.std.proofs.Common.{◌≡◌, ℕ, ◌+◌, Bool, List, [], ◌∷◌, ◌++◌, refl, sym, ◌∙◌, ap, length, append_assoc}
 use Rattle.std.specs.Prelude.{◌≢◌, zero, suc, ◌-◌, ◌<◌, ◌≤◌, ◌==◌, Option, map, reverse}
-use Rattle.std.proofs.Common.{arith, inl, inr, ne_eqb, true, false}
+use Rattle.std.proofs.Common.{arith, inl, inr, ne_eqb}
 use Rattle.std.proofs.lemmas.Bool.{cases_Bool}
 use Rattle.std.proofs.lemmas.Bool.Decides.{nat_tests}
 use Rattle.std.proofs.lemmas.List.{length-map}

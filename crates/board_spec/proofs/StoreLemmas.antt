@@ -42,7 +42,7 @@ changed_byte-one_other setup reg off old written apart =
 abbrev same_function : Reg → Reg → Bool
 same_function at reg = at.dev == reg.dev && at.fun == reg.fun
 
--- a register where so many bytes are stored at once
+-- a register where this many bytes are stored at once
 abbrev at_once : Setup → (at : Reg) → (value count : ℕ) → Reg → ℕ → ℕ
 at_once setup at value count reg old =
     if same_function at reg && nat_le at.off reg.off && nat_lt reg.off (at.off + count)

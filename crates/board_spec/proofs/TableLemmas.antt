@@ -27,7 +27,7 @@ at_or_above : (P : ℕ → Type 0) (first off : ℕ) → first ≤ off → P fir
 at_or_above P first off from here above =
     elim (cases_lt first off) [ inl below ↦ above (omega arith) | inr past ↦ subst P (omega arith) here ]
 
--- what holds at so many offsets from a first one on
+-- what holds at this many offsets from a first one on
 abbrev pub Each : (P : ℕ → Type 0) (first count : ℕ) → Type 0
 Each P first zero = Unit {0}
 Each P first (suc count) = P first × Each P (first + 1) count

@@ -78,7 +78,8 @@ value_at setup before (Shadow row) addr width = wide (dram_byte setup before) ad
 value_at setup before Smram addr width = wide (dram_byte setup before) addr width
 value_at setup before (Rom off) addr width = wide (slice_index setup.rom) off width
 value_at setup before (Card dev base off) addr width = wide (λ at. card_byte before dev base at) off width
-value_at setup before (Config reg) port width = wide (λ off. byte_of setup before (record reg { off = off })) reg.off width
+value_at setup before (Config reg) port width =
+    wide (λ off. byte_of setup before (record reg { off = off })) reg.off width
 value_at setup before (Device dev) port width = port_value setup before dev port width
 value_at setup before Abort addr width = largest_of width
 
@@ -113,7 +114,8 @@ part_answer setup before part = record {
 unfoldable pub wide_value : Setup → List Entry → WideAccess → Option ℕ
 wide_value setup before access =
     if is_write access.kind then None
-    else Some (joined (λ part. value_at setup before (memory_target setup before part) part.addr part.width) (parts_of access))
+    else Some
+    (joined (λ part. value_at setup before (memory_target setup before part) part.addr part.width) (parts_of access))
 
 pub record IsWideAnswer (setup : Setup) (before : List Entry) (access : WideAccess) (value : Option ℕ) (parts : Parts) : Type 0 where
   pub value_is : value ≡ wide_value setup before access
@@ -121,7 +123,8 @@ pub record IsWideAnswer (setup : Setup) (before : List Entry) (access : WideAcce
 
 unfoldable pub port_answer : Setup → List Entry → PortAccess → Reply
 port_answer setup before access =
-    let decoded = port_target_of setup (byte_of setup before) (config_address before) (is_some setup.disk) access.port access.width in
+    let decoded =
+    port_target_of setup (byte_of setup before) (config_address before) (is_some setup.disk) access.port access.width in
     bus_reply setup before access.write decoded.target decoded.denial access.port access.width
 
 -- an event from outside the bus

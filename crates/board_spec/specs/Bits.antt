@@ -1,7 +1,9 @@
 -- Bits and bytes of numbers. Bit 0 is the lowest, and so is byte 0.
-use Rattle.std.specs.Prelude.{ℕ, ◌+◌, ◌-◌, ◌*◌, ◌/◌, ◌%◌, ◌^◌, ◌==◌, Bool, ◌&&◌, nat_le, List, [], ◌∷◌, bit_and, bit_or}
+use Rattle.std.specs.Prelude.{ℕ, ◌+◌, ◌*◌, ◌/◌, ◌%◌, ◌^◌, ◌==◌, Bool, ◌&&◌, nat_le, List, [], ◌∷◌}
 use Rattle.board_base.specs.declared.access.Width.{Width}
 use Rattle.board_base.specs.declared.access.Width.TheVariants.{One, Two, Four}
+-- a register byte after a write under a mask (`law_merged` says bit by bit what it is)
+pub use Rattle.device_spec.specs.Bits.{merged}
 
 -- bit k of a number, 0 or 1
 abbrev pub bit : ℕ → ℕ → ℕ
@@ -24,11 +26,6 @@ wide byte_at from One = byte_at from
 wide byte_at from Two = byte_at from + 0x100 * byte_at (from + 1)
 wide byte_at from Four =
     byte_at from + 0x100 * byte_at (from + 1) + 0x1_0000 * byte_at (from + 2) + 0x100_0000 * byte_at (from + 3)
-
--- a byte in which the bits of the mask are those written, and the others are the old ones
--- (`law_merged` says so bit by bit)
-abbrev pub merged : ℕ → ℕ → ℕ → ℕ
-merged mask old written = bit_or (bit_and written mask) (bit_and old (0xFF - mask))
 
 -- a number lies in an interval, both ends included
 abbrev pub is_within : ℕ → ℕ → ℕ → Bool

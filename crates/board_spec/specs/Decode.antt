@@ -10,7 +10,7 @@ use Rattle.board_base.specs.declared.target.Denial.{Denial}
 use Rattle.board_base.specs.declared.target.Denial.TheVariants.{Register, NoRegister}
 use Rattle.board_base.specs.declared.access.Width.TheVariants.{Four}
 use Rattle.board_spec.specs.Setup.{Base, MemoryBase, IoBase, FittedCard, Setup}
-use Rattle.board_spec.specs.Bits.{is_bit, is_within, wide}
+use Rattle.board_spec.specs.Bits.{is_bit, wide}
 use Rattle.board_spec.specs.RegisterNames.{bridge, pam, drb, fdhc, smram, xbcs, card_register, card_command, base_register, expansion_rom}
 use Rattle.board_spec.specs.Ranges.{lies_in, smram_range, expansion_range, system_bios, shadow_range, upper_memory, hole_at_512_kib, hole_at_15_mib, high_bios, lower_bios, lower_high_bios, extended_bios, selectable_bios, largest_top, boundary_unit}
 
@@ -91,8 +91,8 @@ is_fetch Fetch = true
 is_fetch Read = false
 is_fetch Write = false
 
--- the table of the datasheet over SMRAME, DCLS and DOPEN. Where DCLS and DOPEN are both set, this board lets every fetch
--- reach SMRAM and sends data to PCI
+-- the table of the datasheet over SMRAME, DCLS and DOPEN. Where DCLS and DOPEN are both set, this board lets
+-- every fetch reach SMRAM and sends data to PCI
 abbrev pub reaches_smram : (enabled closed opened : Bool) → Kind → Bool → Bool
 reaches_smram false closed opened kind smm = false
 reaches_smram true false opened kind smm = smm || opened
@@ -134,7 +134,8 @@ abbrev pub rom_value : Bytes → ℕ → ℕ
 rom_value bytes dev = wide (λ off. bytes (card_register dev off)) (expansion_rom dev).off Four
 
 abbrev pub memory_window : Bytes → ℕ → ℕ → Base → List Window
-memory_window bytes dev k (MemoryBase bits) = record { dev = dev; base = k; inside = base_value bytes dev k; bits = bits } ∷ []
+memory_window bytes dev k (MemoryBase bits) =
+    record { dev = dev; base = k; inside = base_value bytes dev k; bits = bits } ∷ []
 memory_window bytes dev k (IoBase bits) = []
 
 abbrev pub io_window : Bytes → ℕ → ℕ → Base → List Window

@@ -49,7 +49,7 @@ SystemPort = IsLegal small_board (from_reset system_port)
 
 -- ---- the 8259A pair
 
--- both chips get their vectors, 20h and 28h, and no mode beside
+-- both chips get their vectors, 20h and 28h, and no further mode
 abbrev pub initialised : List Said
 initialised =
     puts Pic0 0x20 0x11

@@ -25,7 +25,7 @@ enabled =
     ∷ outputs Two 0xCFC 0x8000 (goes_to (register 1 1 0x40))
     ∷ []
 
--- a command, by LBA, on so many sectors from a low one on
+-- a command, by LBA, on this many sectors from a low one on
 abbrev pub commands : (count sector code : ℕ) → List Said
 commands count sector code =
     puts Ata 0x1F6 0xE0

@@ -56,8 +56,11 @@ memory_lines =
     ∷ reads One 0xCAFE_F00D (floats 0xFF Confadd)
     ∷ writes One 0xD000_0000 0x9F (goes_to (Card 9 6 0x00AB_CDEF))
     ∷ reads Four 0x8000_0000 (floats 0xFFFF_FFFF (denied_by 9 0 0x30))
-    ∷ wide_access Fetch true 4 0xB_FFFD 0 (gives_parts 0x0102_0304 (ThreeParts (part Smram) (denied_part (Rom 0x0) (denied_by 1 0 0x4E)) (part (Shadow 1))))
-    ∷ wide_access Write true 8 0x1008 0x0123_4567_89AB_CDEF (goes_in_parts (TwoParts (part (Dram 0)) (part (Card 2 0 0x10))))
+    ∷ wide_access Fetch true 4 0xB_FFFD 0
+    (gives_parts 0x0102_0304
+    (ThreeParts (part Smram) (denied_part (Rom 0x0) (denied_by 1 0 0x4E)) (part (Shadow 1))))
+    ∷ wide_access Write true 8 0x1008 0x0123_4567_89AB_CDEF
+    (goes_in_parts (TwoParts (part (Dram 0)) (part (Card 2 0 0x10))))
     ∷ reads_wide 2 0x1 (gives_parts 0x0BAD (TwoParts (part (Dram 0)) (part (Dram 0))))
     ∷ looks Fetch 0x0 (sees 0 0x0 0x9_FFFF (DramArea 0))
     ∷ record { asked = LookAt Write 0xF_0000 true; replied = sees 12 0xF_0000 0xF_FFFF (ShadowArea 3) }

@@ -99,7 +99,8 @@ unfoldable pub AccessBreaksLock : Type 0
 AccessBreaksLock = IsBroken (locked ++ reads One 0xA_0000 (gives 0x00 Smram) ∷ [])
 
 unfoldable pub PartBreaksLock : Type 0
-PartBreaksLock = IsBroken (locked ++ reads_wide 2 0x9_FFFF (gives_parts 0x0000 (TwoParts (part (Dram 0)) (part Smram))) ∷ [])
+PartBreaksLock =
+    IsBroken (locked ++ reads_wide 2 0x9_FFFF (gives_parts 0x0000 (TwoParts (part (Dram 0)) (part Smram))) ∷ [])
 
 unfoldable pub LookBreaksLock : Type 0
 LookBreaksLock = IsBroken (locked ++ looks Read 0xA_0000 (sees 2 0xA_0000 0xB_FFFF SmramArea) ∷ [])

@@ -22,7 +22,9 @@ cut_in_parts =
     writes_wide 2 0x9_FFFF 0xBBAA (goes_in_parts (TwoParts (part (Dram 0)) (denied_part Abort (denied_by_host 0x72))))
     ∷ reads_wide 2 0x9_FFFF (gives_parts 0xFFAA (TwoParts (part (Dram 0)) (denied_part Abort (denied_by_host 0x72))))
     ∷ writes_wide 8 0x1000 0x0807_0605_0403_0201 (goes_in_parts (TwoParts (part (Dram 0)) (part (Dram 0))))
-    ∷ reads_wide 8 0x1003 (gives_parts 0x0000_0008_0706_0504 (FourParts (part (Dram 0)) (part (Dram 0)) (part (Dram 0)) (part (Dram 0))))
+    ∷ reads_wide 8 0x1003
+    (gives_parts 0x0000_0008_0706_0504
+    (FourParts (part (Dram 0)) (part (Dram 0)) (part (Dram 0)) (part (Dram 0))))
     ∷ reads_wide 4 0x1001 (gives_parts 0x0504_0302 (ThreeParts (part (Dram 0)) (part (Dram 0)) (part (Dram 0))))
     ∷ []
 

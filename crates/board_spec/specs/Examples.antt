@@ -18,7 +18,7 @@ use Rattle.board_spec.specs.ExampleWords.{Said, from_reset, selects, inputs, out
 unfoldable pub counting_rom : List ℕ
 counting_rom = map (λ off. off % 0x100) (range_with_len 0 0x1_0000)
 
--- a board with so many MiB and these cards
+-- a board with this many MiB and these cards
 abbrev pub board_of : ℕ → List FittedCard → Setup
 board_of mib cards = record { mib = mib; cards = cards; rom = counting_rom; disk = None }
 

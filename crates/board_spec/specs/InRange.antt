@@ -21,7 +21,7 @@ pub record IsBusAccess (writes : Bool) (place : ℕ) (width : Width) (value : �
   pub aligned : place % bytes_of width ≡ 0
   pub fits : FitsAccess writes width value
 
--- a value of so many bytes, which is 0 where nothing is written
+-- a value of this many bytes, which is 0 where nothing is written
 abbrev pub FitsBytes : (writes : Bool) → (bytes value : ℕ) → Type 0
 FitsBytes true bytes value = value < 256 ^ bytes
 FitsBytes false bytes value = value ≡ 0
@@ -49,7 +49,7 @@ IsInRange setup (Wire dev on) = is_some (card_at setup dev) ≡ true
 IsInRange setup (Line line on) = is_free_line line ≡ true
 IsInRange setup (BadSector sector) = Unit {0}
 
--- ---- what a script promises beside
+-- ---- what a script promises besides
 
 abbrev pub IsScriptSector : Event → Type 0
 IsScriptSector (BadSector sector) = sector < 0x1_0000
@@ -60,7 +60,7 @@ abbrev pub IsInVersion : ℕ → Event → Type 0
 IsInVersion version (Wide access) = version ≡ 2
 IsInVersion version _ = Unit {0}
 
--- a statement of a script of this version and so many processors
+-- a statement of a script of this version with this many processors
 pub record IsScripted (setup : Setup) (version cpus : ℕ) (statement : Statement) : Type 0 where
   pub actor : statement.actor < cpus
   pub event : IsInRange setup statement.event

@@ -1,5 +1,5 @@
 -- The sixteen interrupt lines and the 8259A pair after a history, and what the devices' ports read.
-use Rattle.std.specs.Prelude.{ℕ, zero, suc, ◌≡◌, ◌+◌, ◌-◌, ◌*◌, ◌%◌, ◌==◌, Bool, true, false, not, ◌&&◌, ◌||◌, if◌then◌else◌, List, [], ◌∷◌, map, Option, Some, None, unwrap_or, option_map}
+use Rattle.std.specs.Prelude.{ℕ, zero, suc, ◌+◌, ◌-◌, ◌*◌, ◌%◌, ◌==◌, Bool, false, ◌&&◌, ◌||◌, if◌then◌else◌, List, [], ◌∷◌, map, Option, Some}
 use Rattle.std.specs.List.{list_any}
 use Rattle.std.specs.Option.{option_map_or}
 use Rattle.board_base.specs.declared.access.Width.{Width}
@@ -8,11 +8,11 @@ use Rattle.board_base.specs.declared.target.Dev.{Dev}
 use Rattle.board_base.specs.declared.target.Dev.TheVariants.{Pic0, Pic1, Pit, System, Clock as ClockChip, Elcr, Ata, Vector, Spurious}
 use Rattle.board_base.specs.Access.{largest_of}
 use Rattle.device_spec.specs.Pair.{Pair, Answer, pair_at_reset, levels_at_power_on, pair_after_lines, pair_after_read, pair_after_write, pair_after_acknowledge, port_byte, answer_of}
-use Rattle.device_spec.specs.Elcr.{Triggers, trigger_byte}
+use Rattle.device_spec.specs.Elcr.{trigger_byte}
 use Rattle.device_spec.specs.Routing.{is_line_driven}
 use Rattle.device_spec.specs.Pit.{PitState, out_of, port_read, pulses}
-use Rattle.device_spec.specs.Clock.{Clock, interrupt_line, read_value}
-use Rattle.device_spec.specs.Ata.State.{Disk, is_interrupt}
+use Rattle.device_spec.specs.Clock.{interrupt_line, read_value}
+use Rattle.device_spec.specs.Ata.State.{is_interrupt}
 use Rattle.device_spec.specs.Ata.Steps.{read_of}
 use Rattle.board_spec.specs.declared.event.Event.{Event}
 use Rattle.board_spec.specs.declared.event.Event.TheVariants.{Port, Ack, Pulses}
@@ -43,7 +43,7 @@ routes_of setup history = map (λ k. byte_of setup history (pirq k)) pirqs
 abbrev pub pirq_levels : List Entry → List Bool
 pirq_levels history = map (pirq_level history) pirqs
 
--- what drives a line beside the routing: 0 the timer, 8 the clock, 14 the disk, and the free lines `irq`
+-- what drives a line besides the routing: 0 the timer, 8 the clock, 14 the disk, and the free lines `irq`
 abbrev pub own_level : Setup → List Entry → PitState → ℕ → Bool
 own_level setup history timer line =
     if line == 0 then out_of 0 timer else
@@ -72,7 +72,7 @@ levels_of setup history = levels_with setup history (timer_of history)
 abbrev pub elcr_of : List Entry → ℕ
 elcr_of history = (triggers_of history).low + 0x100 * (triggers_of history).high
 
--- the pair after so many of an event's pulses: after each single one the lines reach it as they then stand
+-- the pair after the first k of an event's pulses: after each single one the lines reach it as they then stand
 unfoldable pub pair_pulsed : Setup → List Entry → ℕ → Pair → Pair
 pair_pulsed setup before zero pair = pair
 pair_pulsed setup before (suc k) pair =

@@ -14,7 +14,6 @@ use Rattle.board_spec.specs.declared.event.Event.{Event}
 use Rattle.board_spec.specs.declared.event.Event.TheVariants.{Memory, Wide, Port, Look as LookAt, Ack, Pulses, Time, Wire, Line, BadSector}
 use Rattle.board_spec.specs.declared.event.Look.{Look}
 use Rattle.board_spec.specs.declared.event.Reply.{Reply}
-use Rattle.board_spec.specs.declared.event.Part.{Part}
 use Rattle.board_spec.specs.declared.event.Reply.TheVariants.{Bus, Parts, Saw}
 use Rattle.board_spec.specs.declared.event.Entry.{Entry}
 use Rattle.board_spec.specs.Stored.{is_write}
@@ -45,7 +44,7 @@ abbrev pub smm_text : Bool → List ℕ
 smm_text false = []
 smm_text true = codes " smm"
 
--- a memory access of so many bytes
+-- a memory access of this many bytes
 abbrev pub memory_text : Kind → (bytes addr value : ℕ) → Bool → List ℕ
 memory_text kind bytes addr value smm =
     kind_text kind ++ space ∷ size_text bytes ++ space ∷ hex_long addr
@@ -59,7 +58,8 @@ wide_text access = memory_text access.kind access.bytes access.addr access.value
 
 abbrev pub port_text : PortAccess → List ℕ
 port_text access =
-    (if access.write then codes "out" else codes "in") ++ space ∷ width_text access.width ++ space ∷ hex_word access.port
+    (if access.write then codes "out" else codes "in") ++ space ∷ width_text access.width ++ space
+    ∷ hex_word access.port
     ++ written_text access.write (bytes_of access.width) access.value
 
 abbrev pub level_text : Bool → List ℕ
@@ -106,7 +106,8 @@ abbrev pub answered_text : Target → Option Denial → List ℕ
 answered_text target denial = space ∷ target_text target ++ space ∷ denial_text denial
 
 abbrev pub look_text : Look → List ℕ
-look_text look = decimal look.version ++ space ∷ hex_long look.lo ++ space ∷ hex_long look.hi ++ space ∷ area_text look.area
+look_text look =
+    decimal look.version ++ space ∷ hex_long look.lo ++ space ∷ hex_long look.hi ++ space ∷ area_text look.area
 
 unfoldable pub reply_text : (bytes : ℕ) → Reply → List ℕ
 reply_text bytes (Bus value target denial) = value_text bytes value ++ answered_text target denial

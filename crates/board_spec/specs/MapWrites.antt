@@ -31,7 +31,7 @@ is_map_byte setup reg =
     || has_rom (card_at setup reg.dev) && reg.fun == 0
     && is_within (expansion_rom reg.dev).off ((expansion_rom reg.dev).off + 3) reg.off
 
--- the register so many bytes after another
+-- the register this many bytes after another
 abbrev pub reg_after : Reg → ℕ → Reg
 reg_after reg k = record reg { off = reg.off + k }
 
@@ -44,7 +44,8 @@ touches_map setup (Store reg width value) =
 -- the map write that an event after a history is
 unfoldable pub map_change_of : Setup → List Entry → Event → Option MapChange
 map_change_of setup before event =
-    option_and_then (λ change. if touches_map setup change then Some change else None) (register_change setup before event)
+    option_and_then (λ change. if touches_map setup change then Some change else None)
+    (register_change setup before event)
 
 -- the map writes of a history, the newest first, and the version of the map
 unfoldable pub map_writes_of : Setup → List Entry → List MapChange

@@ -14,14 +14,16 @@ statement_of entry = record { actor = entry.actor; event = entry.event }
 abbrev pub statements_of : List Entry → List Statement
 statements_of history = map statement_of (reverse history)
 
--- the replay of a list of statements: the legal history with just these, in order. There is exactly one (`law_one_replay`)
+-- the replay of a list of statements: the legal history with just these, in order. There is exactly one
+-- (`law_one_replay`)
 pub record IsReplayOf (setup : Setup) (statements : List Statement) (history : List Entry) : Type 0 where
   pub legal : IsLegal setup history
   pub same : statements_of history ≡ statements
 
 -- the events of a processor in a list of statements
 abbrev pub events_by : ℕ → List Statement → List Event
-events_by actor statements = map (λ statement. statement.event) (filter (λ statement. statement.actor == actor) statements)
+events_by actor statements =
+    map (λ statement. statement.event) (filter (λ statement. statement.actor == actor) statements)
 
 -- a list begins with another
 pub record BeginsWith (longer shorter : List Event) : Type 0 where

@@ -33,7 +33,7 @@ pub record AreParts (access : WideAccess) (parts : List Access) : Type 0 where
 abbrev pub CutIntoParts : Type 0
 CutIntoParts = (access : WideAccess) → IsWideAccess access → AreParts access (parts_of access)
 
--- the number that so many bytes make, the first of them in the low bits
+-- the number that this many bytes make, the first of them in the low bits
 abbrev pub low_first : (ℕ → ℕ) → (from count : ℕ) → ℕ
 low_first byte_at from zero = 0
 low_first byte_at from (suc count) = byte_at from + 0x100 * low_first byte_at (from + 1) count

@@ -1,7 +1,7 @@
 -- The ports by the names of their datasheets; of a range the first and the last.
 use Rattle.std.specs.Prelude.{ℕ}
 
--- configuration mechanism one (PCI Local Bus 2.1, section 3.2.2.3.2) and reset control (82371SB)
+-- configuration mechanism one (PCI Local Bus 2.1) and reset control (82371SB)
 abbrev pub config_address_port : ℕ
 config_address_port = 0xCF8
 

@@ -75,7 +75,9 @@ card_function card =
     line 0x00 (0x5A ∷ 0xA5 ∷ card.dev ∷ 0x01 ∷ []) read_only  -- vendor A55Ah, device
     ∷ line (card_command card.dev).off (0x00 ∷ 0x00 ∷ 0x80 ∷ 0x02 ∷ []) (0x07 ∷ [])  -- command, status
     ∷ line 0x08 (0x00 ∷ 0x00 ∷ 0x00 ∷ (if card.vga then 0x03 else 0xFF) ∷ []) read_only  -- class
-    ∷ line (base_register card.dev 0).off (flat_map (λ base. long_bytes (base_reset base)) card.bases) (flat_map (λ base. long_bytes (base_writable base)) card.bases)  -- base addresses
+    -- base addresses
+    ∷ line (base_register card.dev 0).off (flat_map (λ base. long_bytes (base_reset base)) card.bases)
+    (flat_map (λ base. long_bytes (base_writable base)) card.bases)
     ∷ line (expansion_rom card.dev).off (replicate 4 0x00) (long_bytes (rom_writable card.rom))
     ∷ line (interrupt_line card.dev).off (0x00 ∷ 0x01 ∷ []) (0xFF ∷ [])  -- interrupt line, pin INTA#
     ∷ []

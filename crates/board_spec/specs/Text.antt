@@ -1,7 +1,5 @@
 -- Words of the texts: hexadecimal digits in upper case, areas, registers, targets and denials.
 use Rattle.std.specs.Prelude.{ℕ, zero, suc, ◌+◌, ◌/◌, ◌%◌, ◌++◌, List, [], ◌∷◌, nat_lt, if◌then◌else◌, Option, Some, None, codes, decimal}
-use Rattle.board_base.specs.declared.access.Width.{Width}
-use Rattle.board_base.specs.Access.{bytes_of}
 use Rattle.board_base.specs.declared.target.Reg.{Reg}
 use Rattle.board_base.specs.declared.target.Dev.{Dev}
 use Rattle.board_base.specs.declared.target.Dev.TheVariants.{Confadd as AddressPort, Reset, Pic0, Pic1, Pit, System, Keyboard, Clock, Elcr, Ata, Wires, Vector, Spurious}
@@ -27,7 +25,7 @@ hex_digit n = if nat_lt (n % 0x10) 10 then 0x30 + n % 0x10 else 0x37 + n % 0x10
 abbrev pub hex_byte : ℕ → List ℕ
 hex_byte n = hex_digit (n / 0x10) ∷ hex_digit n ∷ []
 
--- a number in so many bytes, the highest first
+-- a number in this many bytes, the highest first
 abbrev pub hex_number : (bytes n : ℕ) → List ℕ
 hex_number zero n = []
 hex_number (suc bytes) n = hex_byte (byte n bytes) ++ hex_number bytes n
@@ -37,10 +35,6 @@ hex_word n = hex_number 2 n
 
 abbrev pub hex_long : ℕ → List ℕ
 hex_long n = hex_number 4 n
-
--- a value with the digits of its width
-abbrev pub hex_value : Width → ℕ → List ℕ
-hex_value width n = hex_number (bytes_of width) n
 
 -- an offset in a ROM of at most 512 KiB, in five digits
 abbrev pub hex_offset : ℕ → List ℕ

@@ -1,5 +1,5 @@
 -- A wide access is cut into aligned accesses, which the board answers one by one.
-use Rattle.std.specs.Prelude.{ℕ, zero, suc, ◌+◌, ◌-◌, ◌*◌, ◌/◌, ◌%◌, ◌^◌, ◌==◌, ◌&&◌, nat_le, Bool, if◌then◌else◌, List, [], ◌∷◌}
+use Rattle.std.specs.Prelude.{ℕ, zero, suc, ◌+◌, ◌-◌, ◌*◌, ◌/◌, ◌%◌, ◌^◌, ◌==◌, ◌&&◌, nat_le, if◌then◌else◌, List, [], ◌∷◌}
 use Rattle.board_base.specs.declared.access.Width.{Width}
 use Rattle.board_base.specs.declared.access.Width.TheVariants.{One, Two, Four}
 use Rattle.board_base.specs.declared.access.Access.{Access}
@@ -25,7 +25,7 @@ part_at access addr width = record {
   value = access.value / 256 ^ (addr - access.addr) % 256 ^ bytes_of width;
 }
 
--- the parts of the bytes that are left from an address on, at most so many
+-- the parts of the bytes that are left from an address on, at most this many
 unfoldable pub parts_from : WideAccess → (most addr left : ℕ) → List Access
 parts_from access zero addr left = []
 parts_from access (suc most) addr left =

@@ -9,7 +9,7 @@ use board_base::{Access, Area, Denial, Kind, Moment, PortAccess, Target, WideAcc
 pub enum Event {
     /// An access to memory.
     Memory(Access),
-    /// An access to memory that is not aligned, or has 8 bytes.
+    /// An access to memory that is not aligned, or has 8 bytes. It is answered in aligned parts.
     Wide(WideAccess),
     /// An access to an I/O port.
     Port(PortAccess),
@@ -17,9 +17,9 @@ pub enum Event {
     Look { kind: Kind, addr: u32, smm: bool },
     /// An interrupt acknowledge.
     Ack,
-    /// As many pulses of the 8254's clock input, 1 to 1,000,000.
+    /// This many pulses of the 8254's clock input, 1 to 1,000,000.
     Pulses(u32),
-    /// A moment for the clock.
+    /// A moment that the clock is to show.
     Time(Moment),
     /// INTA# of the card at `dev` takes a level.
     Wire { dev: u8, on: bool },
@@ -29,8 +29,8 @@ pub enum Event {
     BadSector(u32),
 }
 
-/// What a look at the address map shows: how many map writes came before, and the longest interval
-/// `lo` to `hi`, both included, round the address in which such an access has this area.
+/// What a look at the address map shows. `version` counts the map writes before it. `lo` to `hi`, both included,
+/// is the longest interval round the address in which such an access has this area.
 #[derive(Clone, Copy, PartialEq, Eq, Debug)]
 pub struct Look {
     pub version: u32,

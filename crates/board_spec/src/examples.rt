@@ -96,31 +96,31 @@ pub fn card_moved_under_the_rom()
     ensures history { CardMovedUnderTheRom }
 {}
 
-/// The log of this example, as it is written.
+/// The log of `vga_beside_smram`.
 #[tactic(auto, using(crate::proofs::ExampleTexts::vga_beside_smram_logged))]
 pub fn vga_beside_smram_logged()
     ensures log { VgaBesideSmramLogged }
 {}
 
-/// The log of this example, as it is written.
+/// The log of `configuration_ports`.
 #[tactic(auto, using(crate::proofs::ExampleTexts::configuration_ports_logged))]
 pub fn configuration_ports_logged()
     ensures log { ConfigurationPortsLogged }
 {}
 
-/// The log of this example, as it is written.
+/// The log of `two_cards_at_one_address`.
 #[tactic(auto, using(crate::proofs::ExampleTexts::two_cards_logged))]
 pub fn two_cards_logged()
     ensures log { TwoCardsLogged }
 {}
 
-/// The log of this example, as it is written.
+/// The log of `xbcs_over_a_soft_reset`.
 #[tactic(auto, using(crate::proofs::ExampleTexts::xbcs_logged))]
 pub fn xbcs_logged()
     ensures log { XbcsLogged }
 {}
 
-/// What comes from outside the bus, as it is written.
+/// The log of events from outside the bus, with the replies of the devices.
 #[tactic(auto, using(crate::proofs::ExampleTexts::outside_logged))]
 pub fn outside_logged()
     ensures log { OutsideLogged }

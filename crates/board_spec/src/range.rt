@@ -39,11 +39,6 @@ pub const SHADOW_RANGE: AddressRange = AddressRange {
     first: 0xC_0000,
     last: 0xF_FFFF,
 };
-/// What lies between DOS memory and extended memory, where DRAM answers by SMRAM and PAM alone.
-pub const UPPER_MEMORY: AddressRange = AddressRange {
-    first: 0xA_0000,
-    last: 0xF_FFFF,
-};
 
 /// The hole of FDHC at 512 KiB.
 pub const HOLE_AT_512_KIB: AddressRange = AddressRange {

@@ -6,7 +6,7 @@ ghost use Rattle.board_spec.specs.Bits.{byte, wide};
 use board_base::Width;
 use byteorder::{ByteOrder, LittleEndian};
 
-/// The value of the bytes from a place on, as many as the width has.
+/// The value of the bytes from index `at` on, as many as the width has.
 pub fn read_at(bytes: &[u8], at: usize, width: Width) -> u32
     requires within { at + bytes_of width ≤ length bytes.now }
     ensures value { result ≡ wide (slice_index bytes.now) at width }
@@ -18,7 +18,7 @@ pub fn read_at(bytes: &[u8], at: usize, width: Width) -> u32
     }
 }
 
-/// Replaces the bytes from a place on, as many as the width has, by those of a value that fits it.
+/// Replaces the bytes from index `at` on, as many as the width has, by those of a value that fits it.
 pub fn write_at(bytes: &mut [u8], at: usize, width: Width, value: u32)
     requires within { at + bytes_of width ≤ length bytes.old }
     requires fits { value ≤ largest_of width }
