@@ -59,7 +59,7 @@ FitsDenial _ = Unit {0}
 abbrev pub FitsPart : Part → Type 0
 FitsPart part = FitsTarget part.target × FitsDenial part.denial
 
--- an access that writes has no value in its reply, one that reads has one of so many bytes
+-- an access that writes has no value in its reply, one that reads has one of this many bytes
 abbrev pub IsReplyValue : (writes : Bool) → (bytes : ℕ) → Option ℕ → Type 0
 IsReplyValue true bytes value = value ≡ None
 IsReplyValue false bytes None = ⊥
