@@ -1,3 +1,4 @@
+//! The clock: its ports, its time, its alarm and its interrupt line.
 ghost use Rattle.std.specs.Prelude.{◌≡◌};
 ghost use Rattle.device_spec.specs.Clock.{after_moment, after_read, after_reset, after_write, alarm_fits, alarm_rings, control_of, data_byte, flags_byte, interrupt_line, power_on, put, read_value, store, time_bytes, without_flags};
 ghost use Rattle.board_base.specs.Calendar.{IsMoment};
@@ -20,7 +21,7 @@ const NOTHING: u8 = 0xFF;
 /// The divider that register A holds at power-on, for a crystal of 32,768 Hz.
 const DIVIDER_32768_HZ: u8 = 0x26;
 
-/// The hours of register B at power-on, 0 to 23.
+/// Register B at power-on: the hours are 0 to 23, by its bit 1.
 const POWER_ON_CONTROL: u8 = 0x02;
 
 /// The bits of port 70h that are the index.
@@ -42,7 +43,7 @@ const UPDATE_FLAG: u8 = 0x10;
 /// An alarm byte from here on fits each time.
 const ANY_TIME: u8 = 0xC0;
 
-/// The MC146818 real time clock, which runs only by the moments that it is told.
+/// The MC146818 real time clock with its 128 bytes. Time passes only by the moments that `moment` gives it.
 #[derive(Drop)]
 pub struct Cmos {
     index: u8,
@@ -57,7 +58,12 @@ impl Model for Cmos {
 
     ghost Value = { Clock };
 
-    ghost view = { λ c. record { index = c.index; bytes = c.bytes; alarm_flag = c.alarm_flag; update_flag = c.update_flag } };
+    ghost view = { λ c. record {
+      index = c.index;
+      bytes = c.bytes;
+      alarm_flag = c.alarm_flag;
+      update_flag = c.update_flag;
+    } };
 
     ghost invariant = { λ c. c.index < 128 };
 }
@@ -120,7 +126,7 @@ impl Cmos {
         self.alarm_flag = self.alarm_flag || rings(&self.bytes);
     }
 
-    /// The level of the interrupt line.
+    /// The level of the interrupt line: 1 while the alarm's or the update's flag is set and register B lets it through.
     pub fn irq(&self) -> bool
         ensures value { result ≡ interrupt_line self.now }
     {
@@ -129,7 +135,7 @@ impl Cmos {
             || self.update_flag && control.update_interrupts()
     }
 
-    /// A hard reset: the time and the memory stay.
+    /// A hard reset clears the index, the flags and the interrupt enables of register B. The time and the memory stay.
     pub fn reset(&mut self)
         ensures state { self.new ≡ after_reset self.old }
     {
@@ -147,7 +153,7 @@ impl Cmos {
         self.update_flag = false;
     }
 
-    /// Register B.
+    /// The byte of register B.
     fn control(&self) -> Control
         ensures byte { result.byte ≡ control_of self.now }
     {
@@ -167,7 +173,7 @@ impl Cmos {
         }
     }
 
-    /// Register C.
+    /// The byte of register C: bit 7 is the interrupt line, bit 5 the flag of the alarm, bit 4 that of the update.
     fn flags(&self) -> u8
         ensures value { result ≡ flags_byte self.now }
     {
@@ -222,6 +228,7 @@ fn rings(bytes: &[u8; SIZE]) -> bool
         && fits(bytes[HOUR_ALARM], bytes[HOUR])
 }
 
+/// Whether an alarm byte fits a byte of the time: it is equal, or C0h or above.
 fn fits(alarm: u8, time: u8) -> bool
     ensures value { result ≡ alarm_fits alarm time }
 {

@@ -1,9 +1,9 @@
-// Register B: what the clock does and how it writes its time.
+//! Register B: what the clock does and how it writes its time.
 ghost use Rattle.std.specs.Prelude.{◌≡◌, ◌<◌};
 ghost use Rattle.device_spec.specs.Bits.{is_bit};
-ghost use Rattle.device_spec.specs.Clock.{alarm_interrupts, bcd, control_reset, control_written, hour_byte, is_24_hour, is_binary, is_set, number_byte, update_interrupts};
+ghost use Rattle.device_spec.specs.Clock.{alarm_interrupts, bcd, control_reset, control_written, hour_byte, is_set, number_byte, update_interrupts};
 
-// The places of its bits.
+// The numbers of its bits.
 const SET: u32 = 7;
 
 const UPDATE_INTERRUPT: u32 = 4;
@@ -103,6 +103,7 @@ impl Control {
     }
 }
 
+/// Whether a bit of a byte is 1.
 fn is_bit(byte: u8, place: u32) -> bool
     requires { place < 8 }
     ensures value { result ≡ is_bit byte place }

@@ -1,4 +1,4 @@
-// The ports, and what stands at which address (MC146818 datasheet, "Address Map").
+//! The ports, and what stands at which address (MC146818 datasheet, "Address Map").
 
 pub const INDEX_PORT: u16 = 0x70;
 

@@ -3,12 +3,12 @@ ghost use Rattle.std.specs.Prelude.{◌≡◌, ◌+◌, ◌++◌, ◌<◌, ◌&&
 ghost use Rattle.device_spec.specs.Bits.{is_bit};
 ghost use Rattle.device_spec.specs.Levels.{with_level};
 ghost use Rattle.pic_pair.specs.View.{awaited_words, cascade_words, mode_words};
-ghost use Rattle.device_spec.specs.Pic.{acknowledged_if, byte_polled, is_complete, chip_at_reset, chip_after_inputs, pending, priority_order, is_blocking, blocks_itself, is_requested, request, interrupt, acknowledged, chip_after_icw1, first_blocking, ended, chip_after_ocw2, chip_after_ocw3, chip_after_even_write, chip_after_odd_write, chip_after_write, byte_read, chip_after_read};
+ghost use Rattle.device_spec.specs.Pic.{acknowledged_if, byte_polled, is_complete, chip_at_reset, chip_after_inputs, pending, priority_order, is_blocking, blocks_itself, is_requested, request, interrupt, acknowledged, chip_after_icw1, first_blocking, ended, chip_after_ocw2, chip_after_ocw3, chip_after_odd_write, chip_after_write, byte_read, chip_after_read};
 
 use crate::level_set::LevelSet;
 use std::marker::Model;
 
-/// The input of the master that a slave sits on.
+/// The input of the master to which the slave is wired.
 pub const CASCADE: u8 = 2;
 /// The level of lowest priority after a reset or ICW1.
 const LAST_LEVEL: u8 = 7;
@@ -29,7 +29,7 @@ const AUTO_EOI: u8 = 1;
 const FULLY_NESTED: u8 = 4;
 
 /// OCW2: the bits that name a level.
-const LEVEL: u8 = 7;
+const LEVEL_BITS: u8 = 7;
 /// OCW2: where its command, the bits R, SL and EOI, begins.
 const COMMAND: u8 = 5;
 /// The commands of OCW2.
@@ -163,7 +163,7 @@ impl Pic {
         self.triggers = triggers;
     }
 
-    /// Latches the slave's request at the input that it sits on.
+    /// Latches the slave's request at the input to which it is wired.
     pub fn latch_slave(&mut self)
         ensures latched { self.new ≡ record self.old { latches = with_level self.old.latches 2 } }
     {
@@ -229,11 +229,11 @@ impl Pic {
         } else if is_bit(byte, OCW3) {
             self.operate_modes(byte);
         } else {
-            self.operate(byte >> COMMAND, byte & LEVEL);
+            self.operate(byte >> COMMAND, byte & LEVEL_BITS);
         }
     }
 
-    /// Acknowledges a request by a read.
+    /// A read that polls: acknowledges the request and gives its level with bit 7 set, or 0 where there is none.
     fn poll(&mut self) -> u8
         ensures byte { result ≡ byte_polled (interrupt self.old) }
         ensures after { self.new ≡ record (acknowledged_if self.old (interrupt self.old)) { polls = false } }
@@ -323,7 +323,7 @@ impl Pic {
         None
     }
 
-    /// ICW1.
+    /// ICW1: clears the masks, the levels in service, the latches and the modes, and awaits ICW2.
     fn initialise(&mut self, byte: u8)
         ensures initialised { self.new ≡ chip_after_icw1 self.old byte }
     {
@@ -343,7 +343,7 @@ impl Pic {
         self.reads_in_service = false;
     }
 
-    /// OCW2: ends of interrupts, and priorities.
+    /// OCW2: ends of interrupts, and priorities. Command 010b does nothing.
     fn operate(&mut self, command: u8, level: u8)
         requires { level < 8 }
         ensures operated { self.new ≡ chip_after_ocw2 self.old command level }

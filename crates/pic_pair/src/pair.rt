@@ -57,14 +57,14 @@ impl PicPair {
         PicPair::at_reset(&levels)
     }
 
-    /// Resets the pair with its lines at these levels.
+    /// Resets both chips, with the sixteen lines at these levels.
     pub fn reset(&mut self, levels: [bool; 16])
         ensures reset { self.new ≡ pair_at_reset levels }
     {
         *self = PicPair::at_reset(&levels);
     }
 
-    /// Reads one of the four ports.
+    /// Reads one of the four ports. A read that polls acknowledges a level of that chip.
     pub fn port_read(&mut self, port: u16) -> u8
         ensures byte { result ≡ port_byte self.old port }
         ensures after { self.new ≡ pair_after_read self.old port }
@@ -82,7 +82,7 @@ impl PicPair {
         self.settle();
     }
 
-    /// Gives the sixteen lines their levels, and the bits of the edge/level control registers.
+    /// Gives the sixteen lines their levels. Bit k of `elcr` says that line k is level triggered.
     pub fn lines(&mut self, levels: [bool; 16], elcr: u16)
         ensures lines { self.new ≡ pair_after_lines self.old levels elcr }
     {
@@ -159,7 +159,7 @@ impl PicPair {
         }
     }
 
-    /// The pair after a reset.
+    /// The pair after a reset, with its lines at these levels.
     fn at_reset(levels: &[bool; 16]) -> PicPair
         ensures reset { result ≡ pair_at_reset levels.now }
     {

@@ -1,6 +1,6 @@
 -- The route control registers in the table of registers: after a reset, and after a store of one byte.
-use Rattle.std.proofs.Common.{◌≡◌, ◌≢◌, ℕ, ◌+◌, ◌-◌, ◌<◌, [], ◌∷◌, true, false, ◌∙◌, refl, sym, ap, subst, arith, inl, inr}
-use Rattle.std.specs.Prelude.{slice_index, replicate, map}
+use Rattle.std.proofs.Common.{◌≡◌, ◌≢◌, ℕ, ◌+◌, ◌-◌, ◌<◌, [], ◌∷◌, false, ◌∙◌, refl, sym, ap, subst, arith, inl, inr}
+use Rattle.std.specs.Prelude.{replicate, map}
 use Rattle.std.proofs.lemmas.Bool.{cases_Bool}
 use Rattle.std.proofs.lemmas.Bool.Decides.{nat_tests}
 use Rattle.device_spec.specs.Routing.{Routes, is_route_offset, routes_after_write, route_reset}
@@ -19,13 +19,6 @@ use Rattle.pirq_router.specs.Routes.{AreRoutesIn}
 pub routes_at_reset : (setup : Setup) → AreRoutesIn (reset_byte setup) (replicate 4 route_reset)
 unfolding reset_byte isa_bridge
 routes_at_reset setup = refl
-
-pub route_at : (bytes : Bytes) (off : ℕ) → is_route_offset off ≡ true → slice_index (map (λ k. bytes (pirq k)) pirqs) (off - 0x60) ≡ bytes (isa off)
-route_at bytes off is =
-    let from : 0x60 + (off - 0x60) ≡ off = grind (arith, nat_tests) in
-    each_below (λ k. slice_index (map (λ k. bytes (pirq k)) pirqs) k ≡ bytes (isa (0x60 + k))) 4 (off - 0x60)
-    (refl, (refl, (refl, (refl, tt)))) (grind (arith, nat_tests))
-    ∙ ap (λ at. bytes (isa at)) from
 
 -- the four registers after the store of a byte
 abbrev routes_stored : Setup → Bytes → (off byte : ℕ) → Routes

@@ -22,11 +22,11 @@ const LINES: usize = 16;
 /// The bit that disables the routing.
 const DISABLE: u32 = 7;
 /// The bits that name the line.
-const LINE: u8 = 0x0F;
+const LINE_BITS: u8 = 0x0F;
 /// A register after a reset: its pin is not routed.
 const DISABLED: u8 = 1 << DISABLE;
 /// The bits that can be written.
-const WRITABLE: u8 = DISABLED | LINE;
+const WRITABLE: u8 = DISABLED | LINE_BITS;
 
 /// The four PIRQ route control registers of the PIIX3, in its function 0.
 ///
@@ -59,7 +59,8 @@ impl Pirq {
     /// The byte at an offset of function 0, which is 0 where none of the registers stands.
     pub fn read(&self, offset: u8) -> u8
         ensures byte { result ≡ route_byte self.now offset }
-        ensures register { (bytes : Bytes) → AreRoutesIn bytes self.now → is_route_offset offset ≡ true → result ≡ bytes (isa offset) }
+        ensures register { (bytes : Bytes) → AreRoutesIn bytes self.now → is_route_offset offset ≡ true
+            → result ≡ bytes (isa offset) }
     {
         match pin_at(offset) {
             Some(pin) => self.bytes[pin],
@@ -116,7 +117,7 @@ fn line_of_route(byte: u8) -> Option<usize>
     ensures line { result ≡ line_of_route byte }
     ensures small { IfSome result (λ line. line < 16) }
 {
-    let line = byte & LINE;
+    let line = byte & LINE_BITS;
     match line {
         0 | 1 | 2 | 8 | 13 => None,
         _ if is_set(byte.into(), DISABLE) => None,

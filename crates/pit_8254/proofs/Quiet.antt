@@ -190,7 +190,7 @@ first_element_after SquareWave notation e = omega arith
 first_element_after SoftwareStrobe notation e = lowered_few notation 0 e (omega arith) ∙ omega arith
 first_element_after HardwareStrobe notation e = lowered_few notation 0 e (omega arith) ∙ omega arith
 
--- so many are quiet
+-- the first pulses are quiet, as many as `quiet_pulses` counts
 pub quietly : (gate : Bool) (c : CounterState) (n : ℕ) → n ≤ quiet_pulses gate c → Quietly gate n c (after_quiet gate n c)
 unfolding quiet_pulses after_quiet
 quietly gate c n h = elim (cases_Bool (c.trigger || is_due c.mode c)) [

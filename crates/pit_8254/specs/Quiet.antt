@@ -69,7 +69,7 @@ counted_quietly SquareWave c = pulses_in_half (half_end c) c.element
 counted_quietly SoftwareStrobe c = if c.expired then every_pulse else c.element - 1
 counted_quietly HardwareStrobe c = if c.expired then every_pulse else c.element - 1
 
--- so many pulses come that are quiet
+-- how many pulses come that are quiet
 unfoldable pub quiet_pulses : Bool → CounterState → ℕ
 quiet_pulses gate c =
     if c.trigger || is_due c.mode c then 0

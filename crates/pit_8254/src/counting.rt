@@ -1,3 +1,4 @@
+//! One counter: what a control word, a read, a write and the gate do to it.
 ghost use Rattle.std.specs.Prelude.{◌≡◌, ◌≤◌, Some};
 ghost use Rattle.device_spec.specs.Pit.{programmed, reset_counter, element_bytes, status_byte, latch_count, latch_status, control, read_back, read_live, read, count_of_bytes, complete, take_low, take_byte, write, gate_rises, gate_falls};
 ghost use Rattle.pit_8254.specs.View.{mode_view, access_view, notation_view, latch_view};
@@ -111,7 +112,7 @@ impl Counter {
         self.out
     }
 
-    /// A control word for this counter: the counter latch command, or the counter anew.
+    /// A control word for this counter: the counter latch command, or one that programs it from the start.
     #[tactic(auto, unfolding(device_spec::specs::Pit::control))]
     pub(crate) fn control(&mut self, word: u8)
         ensures state { self.new ≡ control word self.old }

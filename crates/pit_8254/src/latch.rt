@@ -1,3 +1,5 @@
+//! What a counter latch command holds.
+
 /// A latched count: the bytes of it that are still to be read.
 #[derive(Clone, Copy)]
 pub enum CountLatch {

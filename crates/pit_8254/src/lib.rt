@@ -1,4 +1,4 @@
-//! The 8254 programmable interval timer: three counters behind ports 40h to 43h.
+//! The 8254 programmable interval timer: three counters and a control word register, at ports 40h to 43h.
 //!
 //! `device_spec` describes the chip in the terms of its datasheet, and each call of a `Pit` is one step of it.
 #![tactic(auto)]
@@ -40,10 +40,15 @@ impl Model for Pit {
 
     ghost Value = { PitState };
 
-    ghost view = { λ p. record { counter0 = p.counter0; counter1 = p.counter1; counter2 = p.counter2; gate2 = p.gate2 } };
+    ghost view = { λ p. record {
+      counter0 = p.counter0;
+      counter1 = p.counter1;
+      counter2 = p.counter2;
+      gate2 = p.gate2;
+    } };
 }
 
-/// How often OUT of counter 0 rose, and the level that it has after.
+/// How often OUT of counter 0 rose in some pulses, and its level after them.
 #[derive(Clone, Copy, Debug, PartialEq, Eq)]
 pub struct Rises {
     pub rose: u32,
@@ -129,7 +134,7 @@ impl Pit {
         }
     }
 
-    /// Sets the gate of counter 2.
+    /// Sets the level of the gate of counter 2, which bit 0 of port 61h drives.
     #[tactic(auto, unfolding(device_spec::specs::Pit::set_gate2))]
     pub fn gate2(&mut self, on: bool)
         ensures state { self.new ≡ set_gate2 on self.old }
@@ -143,7 +148,7 @@ impl Pit {
         self.gate2 = on;
     }
 
-    /// Runs the clock for `n` pulses.
+    /// Runs the clock for `n` pulses, and answers how often OUT of counter 0 rose and its level after them.
     pub fn pulses(&mut self, n: u32) -> Rises
         ensures state { self.new ≡ pulses n self.old }
         ensures rose { result.rose ≡ rises n self.old }
@@ -165,7 +170,7 @@ impl Pit {
         self.pulses_counted(n, &mut steps)
     }
 
-    /// Runs the clock for `n` pulses, in at most four steps a counter, however many they are.
+    /// Runs the clock for `n` pulses as `pulses` does, in at most four steps a counter whatever `n` is.
     pub fn pulses_counted<L: Ledger>(&mut self, n: u32, steps: &mut Steps<L>) -> Rises
         ensures state { self.new ≡ pulses n self.old }
         ensures rose { result.rose ≡ rises n self.old }

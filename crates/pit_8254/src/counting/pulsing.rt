@@ -1,3 +1,4 @@
+//! One pulse of a counter's clock, mode by mode.
 ghost use Rattle.std.specs.Prelude.{◌≡◌, ◌+◌, true, false};
 ghost use Rattle.device_spec.specs.Pit.{TerminalCount, OneShot, RateGenerator, SquareWave, SoftwareStrobe, HardwareStrobe, load, load_with, count_down, count_to_end, count_to_reload, half_end, count_half, count_to_strobe, is_counting, pulse_by_mode, pulse};
 

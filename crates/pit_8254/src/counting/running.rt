@@ -94,7 +94,7 @@ impl Counter {
         }
     }
 
-    /// Takes CE down by so many quiet pulses.
+    /// Takes CE down by this many quiet pulses.
     #[tactic(auto, unfolding(crate::specs::Quiet::after_quiet))]
     fn pass_quietly(&mut self, gate: bool, pulses: u32)
         ensures state { self.new ≡ after_quiet gate pulses self.old }
@@ -104,7 +104,7 @@ impl Counter {
         }
     }
 
-    /// CE after so many quiet pulses.
+    /// CE after this many quiet pulses.
     fn element_after(&self, pulses: u32) -> u32
         ensures element { result ≡ element_after self.now.mode self.now.notation pulses self.now.element }
     {
@@ -153,7 +153,7 @@ impl Counter {
         }
     }
 
-    /// Passes the quiet pulses that come next and makes one more, as far as pulses are left.
+    /// Passes the quiet pulses that come next and makes one more, while pulses are left.
     fn advance<L: Ledger>(&mut self, gate: bool, run: Run, steps: &mut Steps<L>) -> Run
         requires room { HasRoom run }
         ensures part { IsPart gate self.old self.new run result }
@@ -211,7 +211,7 @@ impl Counter {
         self.run_in_period(gate, run, steps)
     }
 
-    /// To the load that begins the next period, as far as pulses are left.
+    /// Goes on to the load that begins the next period, while pulses are left.
     fn run_to_period<L: Ledger>(&mut self, gate: bool, run: Run, steps: &mut Steps<L>) -> Run
         requires settled { IsSettled self.old.mode gate self.old }
         requires mode { is_periodic self.old.mode ≡ true }
@@ -241,7 +241,7 @@ impl Counter {
         }
     }
 
-    /// Part of a period, from its begin on.
+    /// Part of a period, from its first pulse on.
     fn run_in_period<L: Ledger>(&mut self, gate: bool, run: Run, steps: &mut Steps<L>) -> Run
         requires at_period { IsAtPeriod gate self.old }
         requires less { run.left < self.old.in_use }
@@ -254,7 +254,7 @@ impl Counter {
         self.skip(gate, run)
     }
 
-    /// So many pulses with the gate at this level: tells how often OUT rose. It takes at most four steps.
+    /// Runs this many pulses with the gate at this level, in at most four steps, and answers how often OUT rose.
     pub(crate) fn pulses<L: Ledger>(&mut self, gate: bool, pulses: u32, steps: &mut Steps<L>) -> u32
         ensures state { self.new ≡ pulses_of gate pulses self.old }
         ensures rose { result ≡ rises_of gate pulses self.old }
