@@ -16,7 +16,7 @@ scaled_test (suc (suc b)) p h q = absurd (omega arith)
 pub bit_test : (n k : ℕ) → 0 < 2 ^ k → not (eqb (bit_and n (2 ^ k)) 0) ≡ is_bit n k
 bit_test n k p = ap (λ m. not (eqb m 0)) (and_pow n k) ∙ scaled_test (n / 2 ^ k % 2) (2 ^ k) (bit_at-lt n k) p
 
--- `(device & !HEAD) | head`
+-- `(device & !HEAD_BITS) | head`
 pub head_put : (device head : ℕ) → device < 256 → head < 16 → bit_or (bit_and device 240) head ≡ with_head device head
 head_put device head d h =
     ap (λ m. bit_or m head) (and_high device 4 4)

@@ -99,7 +99,7 @@ impl Ata {
         }
     }
 
-    /// The interrupt line of the channel.
+    /// The level of the interrupt line of the channel.
     pub fn irq(&self) -> bool
         ensures irq { result ≡ is_interrupt self.now.drive }
     {
@@ -156,7 +156,7 @@ impl Ata {
         value
     }
 
-    /// Writes a register.
+    /// Writes a register: the command, device control, or one of the task file.
     fn write_register(&mut self, port: u16, byte: u8)
         ensures after { self.new ≡ byte_written port byte self.old }
     {

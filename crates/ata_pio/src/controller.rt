@@ -1,10 +1,10 @@
-//! The drive behind the task file: what a command does, and how its words move.
+//! The drive: what a command does, and how its words move.
 
 ghost use Rattle.std.specs.Prelude.{◌≡◌, ◌+◌, ◌-◌, ◌*◌, ◌<◌, length, ◌%◌, ◌/◌, ◌++◌, ◌∷◌, [], ℕ, take};
 ghost use Rattle.device_spec.specs.Ata.State.{power_on_drive, status_of, is_drq, is_interrupt, sectors_of, reset_drive};
 ghost use Rattle.device_spec.specs.Ata.Commands.{failed, finished, begin_read, begin_write, sector_read, sector_written, verified, geometry_set, feature_set, obeyed, begun, is_ignored, commanded, identifies};
 ghost use Rattle.device_spec.specs.Ata.Address.{left_of};
-ghost use Rattle.device_spec.specs.Ata.Steps.{activity_word, word_of, after_word, word_written, register_of, register_written, control_written};
+ghost use Rattle.device_spec.specs.Ata.Steps.{word_of, after_word, word_written, register_of, register_written, control_written};
 ghost use Rattle.ata_pio.specs.View.{error_of, medium_of, registers_of, drive_of, IsWithin};
 
 use crate::fault::Fault;
@@ -88,7 +88,7 @@ impl Controller {
         self.status() == READY_DRQ
     }
 
-    /// The interrupt line.
+    /// The level of the interrupt line: the request, unless nIEN keeps it back or drive 1 is chosen.
     pub fn is_interrupt(&self) -> bool
         ensures is_interrupt { result ≡ is_interrupt (drive_of self.now) }
     {
@@ -114,7 +114,7 @@ impl Controller {
         self.request = true;
     }
 
-    /// Looks at the addressed sector, and begins to read it where it can be read.
+    /// Begins to read the addressed sector, or ends the command by an error where it cannot be read.
     #[tactic(auto, unfolding(device_spec::specs::Ata::Commands::begin_read))]
     fn begin_read(&mut self, sectors: &Sectors)
         ensures begun { drive_of self.new ≡ begin_read (medium_of sectors.now) (drive_of self.old) }
@@ -145,7 +145,7 @@ impl Controller {
         self.begin_read(sectors);
     }
 
-    /// Begins to write the addressed sector where it is found.
+    /// Begins to write the addressed sector, or ends the command by an error where it is not found.
     #[tactic(auto, unfolding(device_spec::specs::Ata::Commands::begin_write))]
     fn begin_write(&mut self, request: bool, sectors: &Sectors)
         ensures begun { drive_of self.new ≡ begin_write (medium_of sectors.now) request (drive_of self.old) }
@@ -176,9 +176,10 @@ impl Controller {
         self.begin_write(true, sectors);
     }
 
-    /// Looks at the addressed sectors in turn, and moves no word.
+    /// Checks the addressed sectors in turn, up to the first that cannot be read, and moves no word.
     fn verify(&mut self, sectors: &Sectors)
-        ensures verified { drive_of self.new ≡ verified (medium_of sectors.now) (left_of (registers_of self.old.task)) (drive_of self.old) }
+        ensures verified { drive_of self.new
+            ≡ verified (medium_of sectors.now) (left_of (registers_of self.old.task)) (drive_of self.old) }
         ensures within { IsWithin (sectors_of (medium_of sectors.now)) self.new.progress }
     {
         loop {
@@ -208,7 +209,7 @@ impl Controller {
         self.request = false;
     }
 
-    /// Takes the default geometry alone.
+    /// Accepts the default geometry, 63 sectors and 16 heads, and aborts at any other.
     fn set_geometry(&mut self)
         ensures set { drive_of self.new ≡ geometry_set (drive_of self.old) }
         ensures within { (count : ℕ) → IsWithin count self.new.progress }
@@ -220,7 +221,7 @@ impl Controller {
         }
     }
 
-    /// Takes the features that need no effect.
+    /// Accepts the features that need no effect on this drive, and aborts at any other.
     fn set_features(&mut self)
         ensures set { drive_of self.new ≡ feature_set (drive_of self.old) }
         ensures within { (count : ℕ) → IsWithin count self.new.progress }
@@ -250,9 +251,9 @@ impl Controller {
         self.request = false;
     }
 
-    /// Obeys a command that was taken.
+    /// Does what a command says, and aborts at an unknown code.
     #[tactic(auto, unfolding(device_spec::specs::Ata::Commands::obeyed))]
-    fn obey(&mut self, code: u8, sectors: &Sectors)
+    fn run_command(&mut self, code: u8, sectors: &Sectors)
         ensures obeyed { drive_of self.new ≡ obeyed (medium_of sectors.now) code (drive_of self.old) }
         ensures within { IsWithin (sectors_of (medium_of sectors.now)) self.new.progress }
     {
@@ -272,14 +273,14 @@ impl Controller {
         }
     }
 
-    /// Whether a command is ignored.
+    /// Whether a command is ignored: under SRST, and at drive 1 all but the diagnosis of both drives.
     fn ignores(&self, code: u8) -> bool
         ensures ignores { result ≡ is_ignored (registers_of self.now.task) code }
     {
         self.task.srst || self.task.is_drive_one() && code != command::DIAGNOSE
     }
 
-    /// Takes a command, or ignores it.
+    /// Begins a command, which ends what was under way, or ignores it.
     #[tactic(auto, unfolding(device_spec::specs::Ata::Commands::commanded))]
     pub fn command(&mut self, code: u8, sectors: &Sectors)
         requires { IsWithin (sectors_of (medium_of sectors.now)) self.old.progress }
@@ -290,10 +291,10 @@ impl Controller {
             return;
         }
         self.begin();
-        self.obey(code, sectors);
+        self.run_command(code, sectors);
     }
 
-    /// Writes a register of the task file.
+    /// Writes a register of the task file. Ignored under SRST and while words are to move.
     #[tactic(auto, unfolding(device_spec::specs::Ata::Steps::register_written))]
     pub fn write_register(&mut self, port: u16, byte: u8)
         ensures written { drive_of self.new ≡ register_written port byte (drive_of self.old) }
@@ -305,7 +306,7 @@ impl Controller {
         self.task.write(port, byte);
     }
 
-    /// Writes device control.
+    /// Writes device control. SRST takes the request away, and as it is cleared the signature stands.
     #[tactic(auto, unfolding(device_spec::specs::Ata::Steps::control_written))]
     pub fn write_control(&mut self, byte: u8)
         ensures written { drive_of self.new ≡ control_written byte (drive_of self.old) }

@@ -1,4 +1,4 @@
-//! The ATA disk of the board: one drive behind the ports 1F0h to 1F7h and 3F6h, moved by programmed
+//! The ATA disk of the board: one drive at the ports 1F0h to 1F7h and 3F6h, moved by programmed
 //! input and output as AT Attachment describes it.
 #![tactic(auto)]
 

@@ -1,6 +1,6 @@
 //! The registers of the task file, and the sector that its address registers name.
 
-ghost use Rattle.std.specs.Prelude.{◌≡◌, ◌+◌, ◌*◌, ◌<◌, ◌^◌};
+ghost use Rattle.std.specs.Prelude.{◌≡◌, ◌+◌, ◌*◌, ◌<◌};
 ghost use Rattle.device_spec.specs.Ata.State.{signed, power_on_registers, is_lba, is_drive_one};
 ghost use Rattle.device_spec.specs.Ata.Address.{lba_of, chs_of, named, naming, head_of, counted, with_head};
 ghost use Rattle.device_spec.specs.Ata.Steps.{with_register, with_control};
@@ -15,14 +15,14 @@ const LBA: u8 = 0x40;
 
 const DRIVE_ONE: u8 = 0x10;
 
-const HEAD: u8 = 0x0F;
+const HEAD_BITS: u8 = 0x0F;
 
 /// Bits of device control.
 const SRST: u8 = 0x04;
 
 const NIEN: u8 = 0x02;
 
-/// The geometry of every disk.
+/// The geometry of every disk: heads, sectors of a track, and sectors of a cylinder.
 pub const HEADS: u8 = 16;
 
 pub const TRACK_SECTORS: u8 = 63;
@@ -91,7 +91,7 @@ impl TaskFile {
     pub fn head(&self) -> u8
         ensures head { result ≡ head_of (registers_of self.now) }
     {
-        self.device & HEAD
+        self.device & HEAD_BITS
     }
 
     /// The sector that the address registers name, in either form.
@@ -133,7 +133,7 @@ impl TaskFile {
             self.low = low;
             self.mid = mid;
             self.high = high;
-            self.set_head(head & HEAD);
+            self.set_head(head & HEAD_BITS);
         } else {
             let track = sector / u32::from(TRACK_SECTORS);
             let cylinder = sector / CYLINDER_SECTORS;
@@ -147,9 +147,10 @@ impl TaskFile {
     /// Writes the head, or bits 27:24 of an LBA.
     fn set_head(&mut self, head: u8)
         requires { head < 16 }
-        ensures head { registers_of self.new ≡ record (registers_of self.old) { device = with_head self.old.device head } }
+        ensures head { registers_of self.new
+            ≡ record (registers_of self.old) { device = with_head self.old.device head } }
     {
-        self.device = (self.device & !HEAD) | head;
+        self.device = (self.device & !HEAD_BITS) | head;
     }
 
     /// Counts one sector that was moved.

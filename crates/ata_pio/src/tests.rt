@@ -287,7 +287,7 @@ const VERIFY: [Step; 18] = [
     In(0x1F4, 0x01),
 ];
 
-/// A disk of so many sectors, each byte of sector s being s + 1.
+/// A disk of this many sectors, each byte of sector s being s + 1.
 fn disk_of(alloc: Global, sectors: u8) -> Result<Ata, Fail> {
     let mut bytes = Vec::new(alloc);
     for sector in 0..sectors {

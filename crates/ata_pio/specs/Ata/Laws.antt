@@ -69,7 +69,8 @@ abbrev pub stores : Access → Disk → ℕ → Bool
 stores (Read port width) disk sector = false
 stores (Write port One value) disk sector = false
 stores (Write port Two value) disk sector = word_stores disk sector
-stores (Write port Four value) disk sector = word_stores disk sector || word_stores (word_written (value % 65536) disk) sector
+stores (Write port Four value) disk sector =
+    word_stores disk sector || word_stores (word_written (value % 65536) disk) sector
 stores (Spoil s) disk sector = false
 stores Restart disk sector = false
 
@@ -80,7 +81,8 @@ after_all (access ∷ rest) disk = after_all rest (stepped access disk)
 
 abbrev pub NoneStores : List Access → Disk → ℕ → Type 0
 NoneStores [] disk sector = Unit {0}
-NoneStores (access ∷ rest) disk sector = (stores access disk sector ≡ false) × NoneStores rest (stepped access disk) sector
+NoneStores (access ∷ rest) disk sector =
+    (stores access disk sector ≡ false) × NoneStores rest (stepped access disk) sector
 
 -- A sound disk stays sound, and keeps its number of sectors.
 pub record KeepsSound (access : Access) (disk : Disk) : Type 0 where
@@ -193,18 +195,22 @@ reading_disk disk drive = with_drive disk (begin_read disk.medium drive)
 -- its words are the last; the request is the one that came with it.
 pub record ReadsSectors (disk : Disk) (sector n : ℕ) : Type 0 where
   pub words : words_read (n * 256) (reading_disk disk disk.drive) ≡ words_of_sectors disk.medium sector n
-  pub rest : after_words_read (n * 256) (reading_disk disk disk.drive) ≡ reading_disk disk (moved_on sector n disk.drive)
+  pub rest :
+      after_words_read (n * 256) (reading_disk disk disk.drive) ≡ reading_disk disk (moved_on sector n disk.drive)
   pub fails :
       (error : ℕ) → readable disk.medium (Some (sector + n)) ≡ Err error
-      → after_words_read (n * 256) (reading_disk disk disk.drive) ≡ with_drive disk (failed error (moved_on sector n disk.drive))
+      → after_words_read (n * 256) (reading_disk disk disk.drive)
+      ≡ with_drive disk (failed error (moved_on sector n disk.drive))
   pub ends :
       readable disk.medium (Some (sector + n)) ≡ Ok (sector + n) → n ≡ left_of disk.drive.registers
-      → after_words_read (suc n * 256) (reading_disk disk disk.drive) ≡ with_drive disk (finished (counted_down (moved_on sector n disk.drive)))
+      → after_words_read (suc n * 256) (reading_disk disk disk.drive)
+      ≡ with_drive disk (finished (counted_down (moved_on sector n disk.drive)))
 
 abbrev pub ReadMovesItsSectors : Type 0
 ReadMovesItsSectors =
     (disk : Disk) (sector n : ℕ) → IsChosen disk.drive → named disk.drive.registers ≡ Some sector
-    → n ≤ left_of disk.drive.registers → sector + n ≤ 65536 → AllReadable disk.medium sector n → ReadsSectors disk sector n
+    → n ≤ left_of disk.drive.registers → sector + n ≤ 65536 → AllReadable disk.medium sector n
+    → ReadsSectors disk sector n
 
 -- Verify looks at as many sectors, and stops at the first that cannot be read.
 pub record VerifiesSectors (medium : Medium) (sector n : ℕ) (drive : Drive) : Type 0 where
@@ -218,7 +224,8 @@ pub record VerifiesSectors (medium : Medium) (sector n : ℕ) (drive : Drive) : 
 abbrev pub VerifyLooksAtItsSectors : Type 0
 VerifyLooksAtItsSectors =
     (medium : Medium) (sector n : ℕ) (drive : Drive) → IsChosen drive → named drive.registers ≡ Some sector
-    → n ≤ left_of drive.registers → sector + n ≤ 65536 → AllReadable medium sector n → VerifiesSectors medium sector n drive
+    → n ≤ left_of drive.registers → sector + n ≤ 65536 → AllReadable medium sector n
+    → VerifiesSectors medium sector n drive
 
 -- the disk as a write begins, or goes on with a request
 abbrev pub writing_disk : Medium → Bool → Drive → Disk
@@ -248,12 +255,14 @@ request_of (words ∷ rest) request = true
 pub record WritesSectors (medium : Medium) (sector : ℕ) (sectors : List (List ℕ)) (request : Bool) (drive : Drive) : Type 0 where
   pub rest :
       after_words_written (all_words sectors) (writing_disk medium request drive)
-      ≡ writing_disk (all_stored medium sector sectors) (request_of sectors request) (moved_on sector (length sectors) drive)
+      ≡ writing_disk (all_stored medium sector sectors) (request_of sectors request)
+      (moved_on sector (length sectors) drive)
   pub others :
       (other : ℕ) → ((other < sector) ⊎ (sector + length sectors ≤ other))
       → sector_bytes (all_stored medium sector sectors) other ≡ sector_bytes medium other
   pub ends :
-      (last : List ℕ) → length last ≡ 256 → sector + length sectors < sectors_of medium → length sectors ≡ left_of drive.registers
+      (last : List ℕ) → length last ≡ 256 → sector + length sectors < sectors_of medium
+      → length sectors ≡ left_of drive.registers
       → after_words_written (all_words sectors ++ last) (writing_disk medium request drive)
       ≡ record {
         medium = stored (all_stored medium sector sectors) (sector + length sectors) (bytes_of_words last);
