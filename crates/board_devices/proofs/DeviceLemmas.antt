@@ -11,7 +11,6 @@ use Rattle.board_spec.specs.DeviceLaws.{PairHasSeen}
 use Rattle.board_devices.specs.Laws.{LeavesDevices}
 use Rattle.ata_pio.specs.declared.ata.AtaOpen.{AtaOpen}
 use Rattle.std.specs.Prelude.{◌↔◌, is_some, Result, Err, ◌==◌, unwrap_or, map, option_map, slice_index_or, slice_set, if◌then◌else◌}
-use Rattle.std.specs.Option.{option_map_or}
 use Rattle.board_base.specs.declared.access.PortAccess.{PortAccess}
 use Rattle.board_base.specs.declared.target.Dev.{Dev}
 use Rattle.board_base.specs.declared.target.Dev.TheVariants.{Confadd, Reset, Pic0, Pic1, Pit, System, Keyboard, Clock, Elcr, Ata, Wires, Vector, Spurious}
@@ -190,50 +189,47 @@ pub same_disk : (disk : Option Disk) → disk ≡ option_map (λ d. d) disk
 same_disk None = refl
 same_disk (Some disk) = refl
 
+-- what holds of each device with ports of its own holds of the device at a port
+at_port : (P : Dev → Type 0) (dev : Dev) (access : PortAccess) → is_port_of dev access.port (bytes_of access.width) ≡ true →
+    P Pic0 → P Pic1 → P Pit → P System → P Clock → P Elcr → P Ata → P dev
+at_port P Pic0 access port pic0 pic1 pit system clock elcr ata = pic0
+at_port P Pic1 access port pic0 pic1 pit system clock elcr ata = pic1
+at_port P Pit access port pic0 pic1 pit system clock elcr ata = pit
+at_port P System access port pic0 pic1 pit system clock elcr ata = system
+at_port P Clock access port pic0 pic1 pit system clock elcr ata = clock
+at_port P Elcr access port pic0 pic1 pit system clock elcr ata = elcr
+at_port P Ata access port pic0 pic1 pit system clock elcr ata = ata
+at_port P Confadd access port pic0 pic1 pit system clock elcr ata = cc
+at_port P Reset access port pic0 pic1 pit system clock elcr ata = cc
+at_port P Keyboard access port pic0 pic1 pit system clock elcr ata = cc
+at_port P Wires access port pic0 pic1 pit system clock elcr ata = cc
+at_port P (Vector chip) access port pic0 pic1 pit system clock elcr ata = cc
+at_port P (Spurious chip) access port pic0 pic1 pit system clock elcr ata = cc
+
 -- ---- reads
 
 pub read_at : (setup : Setup) (history : List Entry) (entry : Entry) (dev : Dev) (access : PortAccess) (devices : DevicesValue) →
     is_port_of dev access.port (bytes_of access.width) ≡ true → access.write ≡ false → Reaches history entry dev access →
     AreAfter setup history devices → AreAfter setup (entry ∷ history) (after_read dev access devices)
 unfolding after_read
-read_at setup history entry Pic0 access devices port reads reaches are =
-    all_at setup history entry Pic0 access reaches devices _ are refl refl refl refl (same_disk devices.disk) refl refl
-read_at setup history entry Pic1 access devices port reads reaches are =
-    all_at setup history entry Pic1 access reaches devices _ are refl refl refl refl (same_disk devices.disk) refl refl
-read_at setup history entry Pit access devices port reads reaches are =
-    all_at setup history entry Pit access reaches devices _ are (rw reads refl) refl refl refl (same_disk devices.disk) refl refl
-read_at setup history entry System access devices port reads reaches are =
-    all_at setup history entry System access reaches devices _ are (rw reads refl) refl (rw reads refl) refl (same_disk devices.disk) refl refl
-read_at setup history entry Clock access devices port reads reaches are =
-    all_at setup history entry Clock access reaches devices _ are refl (rw reads refl) refl refl (same_disk devices.disk) refl refl
-read_at setup history entry Elcr access devices port reads reaches are =
-    all_at setup history entry Elcr access reaches devices _ are refl refl refl (rw reads refl) (same_disk devices.disk) refl refl
-read_at setup history entry Ata access devices port reads reaches are =
-    all_at setup history entry Ata access reaches devices _ are refl refl refl refl (rw reads refl) refl refl
-read_at setup history entry Confadd access devices port reads reaches are = cc
-read_at setup history entry Reset access devices port reads reaches are = cc
-read_at setup history entry Keyboard access devices port reads reaches are = cc
-read_at setup history entry Wires access devices port reads reaches are = cc
-read_at setup history entry (Vector chip) access devices port reads reaches are = cc
-read_at setup history entry (Spurious chip) access devices port reads reaches are = cc
+read_at setup history entry dev access devices port reads reaches are =
+    at_port (λ d. Reaches history entry d access → AreAfter setup (entry ∷ history) (after_read d access devices)) dev access port
+    (λ reaches. all_at setup history entry Pic0 access reaches devices _ are refl refl refl refl (same_disk devices.disk) refl refl)
+    (λ reaches. all_at setup history entry Pic1 access reaches devices _ are refl refl refl refl (same_disk devices.disk) refl refl)
+    (λ reaches. all_at setup history entry Pit access reaches devices _ are (rw reads refl) refl refl refl (same_disk devices.disk) refl refl)
+    (λ reaches. all_at setup history entry System access reaches devices _ are (rw reads refl) refl (rw reads refl) refl (same_disk devices.disk) refl refl)
+    (λ reaches. all_at setup history entry Clock access reaches devices _ are refl (rw reads refl) refl refl (same_disk devices.disk) refl refl)
+    (λ reaches. all_at setup history entry Elcr access reaches devices _ are refl refl refl (rw reads refl) (same_disk devices.disk) refl refl)
+    (λ reaches. all_at setup history entry Ata access reaches devices _ are refl refl refl refl (rw reads refl) refl refl)
+    reaches
 
 pub read_pair : (dev : Dev) (access : PortAccess) (devices : DevicesValue) → access.write ≡ false →
     is_port_of dev access.port (bytes_of access.width) ≡ true →
     (after_read dev access devices).pair ≡ pair_accessed (Some dev) access devices.pair
 unfolding after_read
-read_pair Pic0 access devices reads port = rw reads refl
-read_pair Pic1 access devices reads port = rw reads refl
-read_pair Pit access devices reads port = refl
-read_pair System access devices reads port = refl
-read_pair Clock access devices reads port = refl
-read_pair Elcr access devices reads port = refl
-read_pair Ata access devices reads port = refl
-read_pair Confadd access devices reads port = cc
-read_pair Reset access devices reads port = cc
-read_pair Keyboard access devices reads port = cc
-read_pair Wires access devices reads port = cc
-read_pair (Vector chip) access devices reads port = cc
-read_pair (Spurious chip) access devices reads port = cc
+read_pair dev access devices reads port =
+    at_port (λ d. (after_read d access devices).pair ≡ pair_accessed (Some d) access devices.pair) dev access port
+    (rw reads refl) (rw reads refl) refl refl refl refl refl
 
 -- ---- writes
 
@@ -241,44 +237,24 @@ pub write_at : (setup : Setup) (history : List Entry) (entry : Entry) (dev : Dev
     is_port_of dev access.port (bytes_of access.width) ≡ true → access.write ≡ true → Reaches history entry dev access →
     AreAfter setup history devices → AreAfter setup (entry ∷ history) (after_write dev access devices)
 unfolding after_write
-write_at setup history entry Pic0 access devices port writes reaches are =
-    all_at setup history entry Pic0 access reaches devices _ are refl refl refl refl (same_disk devices.disk) refl refl
-write_at setup history entry Pic1 access devices port writes reaches are =
-    all_at setup history entry Pic1 access reaches devices _ are refl refl refl refl (same_disk devices.disk) refl refl
-write_at setup history entry Pit access devices port writes reaches are =
-    all_at setup history entry Pit access reaches devices _ are (rw writes refl) refl refl refl (same_disk devices.disk) refl refl
-write_at setup history entry System access devices port writes reaches are =
-    all_at setup history entry System access reaches devices _ are (rw writes refl) refl (rw writes refl) refl (same_disk devices.disk) refl refl
-write_at setup history entry Clock access devices port writes reaches are =
-    all_at setup history entry Clock access reaches devices _ are refl (rw writes refl) refl refl (same_disk devices.disk) refl refl
-write_at setup history entry Elcr access devices port writes reaches are =
-    all_at setup history entry Elcr access reaches devices _ are refl refl refl (rw writes refl) (same_disk devices.disk) refl refl
-write_at setup history entry Ata access devices port writes reaches are =
-    all_at setup history entry Ata access reaches devices _ are refl refl refl refl (rw writes refl) refl refl
-write_at setup history entry Confadd access devices port writes reaches are = cc
-write_at setup history entry Reset access devices port writes reaches are = cc
-write_at setup history entry Keyboard access devices port writes reaches are = cc
-write_at setup history entry Wires access devices port writes reaches are = cc
-write_at setup history entry (Vector chip) access devices port writes reaches are = cc
-write_at setup history entry (Spurious chip) access devices port writes reaches are = cc
+write_at setup history entry dev access devices port writes reaches are =
+    at_port (λ d. Reaches history entry d access → AreAfter setup (entry ∷ history) (after_write d access devices)) dev access port
+    (λ reaches. all_at setup history entry Pic0 access reaches devices _ are refl refl refl refl (same_disk devices.disk) refl refl)
+    (λ reaches. all_at setup history entry Pic1 access reaches devices _ are refl refl refl refl (same_disk devices.disk) refl refl)
+    (λ reaches. all_at setup history entry Pit access reaches devices _ are (rw writes refl) refl refl refl (same_disk devices.disk) refl refl)
+    (λ reaches. all_at setup history entry System access reaches devices _ are (rw writes refl) refl (rw writes refl) refl (same_disk devices.disk) refl refl)
+    (λ reaches. all_at setup history entry Clock access reaches devices _ are refl (rw writes refl) refl refl (same_disk devices.disk) refl refl)
+    (λ reaches. all_at setup history entry Elcr access reaches devices _ are refl refl refl (rw writes refl) (same_disk devices.disk) refl refl)
+    (λ reaches. all_at setup history entry Ata access reaches devices _ are refl refl refl refl (rw writes refl) refl refl)
+    reaches
 
 pub write_pair : (dev : Dev) (access : PortAccess) (devices : DevicesValue) → access.write ≡ true →
     is_port_of dev access.port (bytes_of access.width) ≡ true →
     (after_write dev access devices).pair ≡ pair_accessed (Some dev) access devices.pair
 unfolding after_write
-write_pair Pic0 access devices writes port = rw writes refl
-write_pair Pic1 access devices writes port = rw writes refl
-write_pair Pit access devices writes port = refl
-write_pair System access devices writes port = refl
-write_pair Clock access devices writes port = refl
-write_pair Elcr access devices writes port = refl
-write_pair Ata access devices writes port = refl
-write_pair Confadd access devices writes port = cc
-write_pair Reset access devices writes port = cc
-write_pair Keyboard access devices writes port = cc
-write_pair Wires access devices writes port = cc
-write_pair (Vector chip) access devices writes port = cc
-write_pair (Spurious chip) access devices writes port = cc
+write_pair dev access devices writes port =
+    at_port (λ d. (after_write d access devices).pair ≡ pair_accessed (Some d) access devices.pair) dev access port
+    (rw writes refl) (rw writes refl) refl refl refl refl refl
 
 -- what a read gives is the answer of the history
 pub value_at : (setup : Setup) (history : List Entry) (dev : Dev) (access : PortAccess) (devices : DevicesValue) →
@@ -416,6 +392,24 @@ settled_as setup history before after are others lined pair = record {
   others = subst (λ (d : DevicesValue). AreAfter setup history d) (sym others) (with_pair setup history before after.pair are);
   pair = lined ∙ sym pair;
 }
+
+-- an entry that makes `next` of the devices, and a step of the pair, before the lines reach the pair: the devices then
+-- are those of the history with the entry
+pub lined_as : (setup : Setup) (history : List Entry) (entry : Entry) (step : Pair → Pair) →
+    pair_of setup (entry ∷ history) ≡ pair_after_lines (step (pair_of setup history)) (levels_of setup (entry ∷ history)) (elcr_of (entry ∷ history)) →
+    (old next between after : DevicesValue) → AreDevicesOf setup history old → between ≡ next →
+    AreAfter setup (entry ∷ history) next → next.pair ≡ step old.pair →
+    after ≡ record between { pair = after.pair } →
+    (AreAfter setup (entry ∷ history) between →
+    after.pair ≡ pair_after_lines between.pair (levels_of setup (entry ∷ history)) (elcr_of (entry ∷ history))) →
+    AreDevicesOf setup (entry ∷ history) after
+lined_as setup history entry step stepped old next between after is made others pair kept lined =
+    let are : AreAfter setup (entry ∷ history) between =
+    subst (λ (d : DevicesValue). AreAfter setup (entry ∷ history) d) (sym made) others in
+    let seen : between.pair ≡ step (pair_of setup history) =
+    ap (λ (d : DevicesValue). d.pair) made ∙ (pair ∙ ap step is.pair) in
+    settled_as setup (entry ∷ history) between after are kept (lined are)
+    (stepped ∙ sym (ap (λ (p : Pair). pair_after_lines p (levels_of setup (entry ∷ history)) (elcr_of (entry ∷ history))) seen))
 
 -- ---- events that ask nothing of the devices
 
@@ -599,7 +593,7 @@ pub levels_pulsed : (setup : Setup) (history : List Entry) (timer later : PitSta
 unfolding levels_with
 levels_pulsed setup history timer later = rw (timer_line setup history later) refl
 
--- the devices after so many pulses of an event
+-- the devices after the first k pulses of an event
 pub record Pulsed (setup : Setup) (history : List Entry) (old devices : DevicesValue) (levels : List Bool) (elcr k : ℕ) : Type 0 where
   pub timer : devices.timer ≡ pulses k (timer_of history)
   pub pair : devices.pair ≡ pair_pulsed setup history k (pair_of setup history)

@@ -38,9 +38,6 @@ is_stale chip = has chip.latches 0 && not (has chip.inputs 0)
 pub record IsFresh (pair : Pair) : Type 0 where
   pub fresh : is_stale pair.master ≡ false
 
-abbrev of_master : Pair → Chip → Pair
-of_master pair chip = record pair { master = chip }
-
 same_zero : (latches : Levels) → has (with_level latches 2) 0 ≡ has latches 0
 unfolding levels_where
 same_zero latches = refl
@@ -180,10 +177,6 @@ same_above (x ∷ rest) l h =
     has-levels_where (λ level. not (level == 2) && has (take 8 (true ∷ rest)) level) (suc l) h
     ∙ sym (has-levels_where (λ level. not (level == 2) && has (take 8 (false ∷ rest)) level) (suc l) h)
 
-high_same : (levels : List Bool) → drop 8 (slice_set levels 0 true) ≡ drop 8 (slice_set levels 0 false)
-high_same [] = refl
-high_same (x ∷ rest) = refl
-
 -- a level of the latches after its input
 abbrev after_at : Bool → Bool → Bool → Bool
 after_at latch before now = (latch || (now && not before)) && not (before && not now)
@@ -301,7 +294,7 @@ more_rises : (n : ℕ) (b : Bool) → nat_lt 0 (n + cond b 1 0) ≡ (nat_lt 0 n 
 more_rises n true = grind (arith, nat_tests)
 more_rises n false = grind (arith, nat_tests)
 
--- where OUT 0 did not rise and is 1, it was 1 from the begin on
+-- where OUT 0 did not rise and is 1, it was 1 from the start
 was_high : (timer : PitState) (n : ℕ) → nat_lt 0 (rises n timer) ≡ false → out_of 0 (pulses n timer) ≡ true → out_of 0 timer ≡ true
 unfolding rises pulses out_of
 was_high timer zero none high = high

@@ -10,6 +10,7 @@ use Rattle.board_devices.specs.Events.{Leaves}
 -- it saw them
 abbrev pub LeavesDevices : Type 0
 LeavesDevices =
-    (setup : Setup) (history : List Entry) (entry : Entry) (devices : DevicesValue) → AreDevicesOf setup history devices →
+    (setup : Setup) (history : List Entry) (entry : Entry) (devices : DevicesValue) →
+    AreDevicesOf setup history devices →
     Leaves history entry → routes_of setup (entry ∷ history) ≡ routes_of setup history →
     AreDevicesOf setup (entry ∷ history) devices

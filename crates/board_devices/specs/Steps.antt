@@ -53,5 +53,7 @@ after_write Clock access devices = record devices { clock = clock_after_write de
 after_write Elcr access devices =
     record devices { triggers = triggers_after_write devices.triggers (access.port == elcr_ports.1) access.value }
 after_write Ata access devices =
-    record devices { disk = option_map (λ disk. disk_after_write access.port access.width access.value disk) devices.disk }
+    record devices {
+      disk = option_map (λ disk. disk_after_write access.port access.width access.value disk) devices.disk;
+    }
 after_write _ access devices = devices

@@ -30,8 +30,8 @@ use pirq_router::Pirq;
 const GATE_2: u32 = 0;
 
 impl Devices {
-    /// Reads a port of a device, which may change its state, and then the lines reach the pair. A port of the disk reads
-    /// all ones where none is fitted.
+    /// Reads a port of a device, which may change its state, and then the lines reach the pair. Without a disk
+    /// its ports read all ones.
     pub fn read(&mut self, routes: &Pirq, dev: Dev, access: &PortAccess) -> u32
         requires port { is_port_of dev access.now.port (bytes_of access.now.width) ≡ true }
         ensures value { (setup : Setup) (history : List Entry) → AreDevicesOf setup history self.old
@@ -102,8 +102,11 @@ impl Devices {
     /// Reads a port of the disk. Without one it reads all ones.
     fn read_disk(&mut self, access: &PortAccess) -> u32
         requires port { is_ata_port access.now.port (bytes_of access.now.width) ≡ true }
-        ensures value { result ≡ option_map_or (λ disk. read_of access.now.port access.now.width disk) self.old.disk (largest_of access.now.width) }
-        ensures after { self.new ≡ record self.old { disk = option_map (λ disk. disk_after_read access.now.port access.now.width disk) self.old.disk } }
+        ensures value { result ≡ option_map_or (λ disk. read_of access.now.port access.now.width disk)
+            self.old.disk (largest_of access.now.width) }
+        ensures after { self.new ≡ record self.old {
+          disk = option_map (λ disk. disk_after_read access.now.port access.now.width disk) self.old.disk;
+        } }
     {
         match &mut self.disk {
             Some(disk) => disk.port_read(access.port, access.width),
@@ -146,7 +149,10 @@ impl Devices {
     /// Writes a port of the disk, where one is fitted.
     fn write_disk(&mut self, access: &PortAccess)
         requires port { is_ata_port access.now.port (bytes_of access.now.width) ≡ true }
-        ensures after { self.new ≡ record self.old { disk = option_map (λ disk. disk_after_write access.now.port access.now.width access.now.value disk) self.old.disk } }
+        ensures after { self.new ≡ record self.old {
+          disk = option_map
+              (λ disk. disk_after_write access.now.port access.now.width access.now.value disk) self.old.disk;
+        } }
     {
         if let Some(disk) = &mut self.disk {
             disk.port_write(access.port, access.width, access.value);

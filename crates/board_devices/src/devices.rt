@@ -62,8 +62,8 @@ impl Devices {
     /// The devices at power-on, with a disk of these bytes where one is fitted. BadLength exactly where it is not 1 to
     /// 65,536 whole sectors.
     pub fn open(alloc: Global, disk: Option<&[u8]>) -> Result<Devices, AtaOpen>
-        ensures fresh { IfOk result (λ devices. (setup : Setup) → setup.disk ≡ option_map (λ bytes. bytes.now) disk.entry
-            → AreDevicesOf setup [] devices) }
+        ensures fresh { IfOk result (λ devices. (setup : Setup)
+            → setup.disk ≡ option_map (λ bytes. bytes.now) disk.entry → AreDevicesOf setup [] devices) }
         ensures bad { (result ≡ Err AtaOpen.BadLength) ↔ ¬ IsDisk (option_map (λ bytes. bytes.now) disk.entry) }
     {
         let disk = open_disk(alloc, disk)?;
@@ -88,7 +88,8 @@ impl Devices {
 
     /// Whether a disk is fitted.
     pub fn has_disk(&self) -> bool
-        ensures fitted { (setup : Setup) (history : List Entry) → AreDevicesOf setup history self.now → result ≡ is_some setup.disk }
+        ensures fitted { (setup : Setup) (history : List Entry) → AreDevicesOf setup history self.now
+            → result ≡ is_some setup.disk }
     {
         self.disk.is_some()
     }

@@ -23,7 +23,7 @@ use pirq_router::Pirq;
 use pit_8254::Rises;
 
 impl Devices {
-    /// So many pulses of the timer's clock input.
+    /// Runs the timer for `count` pulses of its clock input. The lines reach the pair as if after each single one.
     pub fn pulses(&mut self, routes: &Pirq, count: u32)
         ensures devices { (setup : Setup) (history : List Entry) (entry : Entry) → AreDevicesOf setup history self.old
             → Asks history entry (Pulses count) → AreRoutesOf setup history routes.now
@@ -57,7 +57,7 @@ impl Devices {
         self.settle(routes);
     }
 
-    /// Gives a line that is set from outside a level.
+    /// Gives a level to an interrupt line that is set from outside, which is none of 0, 2, 8, 13 and 14.
     pub fn set_line(&mut self, routes: &Pirq, irq: u8, on: bool)
         requires free { is_free_line irq ≡ true }
         ensures devices { (setup : Setup) (history : List Entry) (entry : Entry) → AreDevicesOf setup history self.old
@@ -80,7 +80,7 @@ impl Devices {
 }
 
 impl Devices {
-    /// So many pulses, after which the lines with these levels reach the pair.
+    /// Runs the timer for `count` pulses, after which the lines with these levels reach the pair.
     #[tactic(auto, unfolding(device_spec::specs::Pit::out_of))]
     fn run(&mut self, count: u32, levels: [bool; LINE_COUNT], elcr: u16)
         ensures after { self.new ≡ record self.old {
@@ -129,8 +129,8 @@ impl Devices {
     }
 }
 
-/// The lines reach the pair after pulses, and leave what they would have left after each single one: a rise of line 0
-/// that stands is a level 0 and then a level 1, whatever came before it.
+/// The lines reach the pair after pulses, and leave what they would have left after each single one. Where line 0 rose
+/// and stayed at 1, it is given at 0 and then at 1, whatever came before.
 fn reach(pair: &mut PicPair, levels: [bool; LINE_COUNT], elcr: u16, rises: Rises)
     ensures pair { pair.new ≡ pair_after_run levels elcr (nat_lt 0 rises.rose) rises.out0 pair.old }
 {
