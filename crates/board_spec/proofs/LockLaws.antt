@@ -69,11 +69,10 @@ shut_after old written = record {
 }
 
 reset_kept : (setup : Setup) → Kept (reset_byte setup smram)
-unfolding reset_byte host_bridge smram
+unfolding reset_byte host_bridge
 reset_kept setup = record { shut = λ locked. absurd (omega (arith, locked)) }
 
 changed_kept : (setup : Setup) (change : Option MapChange) (old : ℕ) → Kept old → Kept (byte_with setup change smram old)
-unfolding smram
 changed_kept setup None old kept = kept
 changed_kept setup (Some Reset) old kept = reset_kept setup
 changed_kept setup (Some (Store at width value)) old kept =
@@ -94,7 +93,6 @@ IsLocked : Setup → List Entry → Type 0
 IsLocked setup history = bit (byte_of setup history smram) 4 ≡ 1
 
 stored_stays : (setup : Setup) (change : Option MapChange) (old : ℕ) → change ≢ Some Reset → bit old 4 ≡ 1 → bit (byte_with setup change smram old) 4 ≡ 1
-unfolding smram
 stored_stays setup None old other locked = locked
 stored_stays setup (Some Reset) old other locked = absurd (other refl)
 stored_stays setup (Some (Store at width value)) old other locked =
@@ -136,7 +134,6 @@ stays_locked setup before entry soft locked =
     stored_stays setup (register_change setup before entry.event) (byte_of setup before smram) (no_reset_change setup before entry.event soft) locked
 
 set_locks : (setup : Setup) (change : Option MapChange) (old : ℕ) → SetsLock change → bit (byte_with setup change smram old) 4 ≡ 1
-unfolding smram
 set_locks setup None old sets = absurd sets
 set_locks setup (Some Reset) old sets = absurd sets
 set_locks setup (Some (Store at width value)) old sets =
@@ -209,7 +206,7 @@ shut_answers true false kind = refl
 shut_answers true true kind = grind arith
 
 no_smram : (setup : Setup) (bytes : Bytes) (addr : ℕ) (kind : Kind) → bit (bytes smram) 6 ≡ 0 → area_of setup bytes addr kind false ≢ SmramArea
-unfolding area_of smram IsNotSmram
+unfolding area_of IsNotSmram
 no_smram setup bytes addr kind shut =
     let answers : smram_answers (bytes (bridge 0x72)) kind false ≡ false =
     rw shut (shut_answers (is_bit (bytes (bridge 0x72)) 3) (is_bit (bytes (bridge 0x72)) 5) kind) in
