@@ -11,7 +11,8 @@ use Rattle.addr_decode.proofs.regs.MapRegs.store.Goals as goal
 
 pub loop-k-init : goal.loop-k-init
 loop-k-init c = record {
-  stands = λ setup bytes stands. none_stored setup bytes c.args.reg c.args.value (map_bytes c.args.self.now) c.requires.cards stands;
+  stands = λ setup bytes stands.
+      none_stored setup bytes c.args.reg c.args.value (map_bytes c.args.self.now) c.requires.cards stands;
   cards = λ setup bytes are. no_cards_stored setup bytes c.args.reg c.args.value c.args.self.now.cards.items are;
   same = refl;
 }
@@ -21,9 +22,11 @@ store_after-requires c = record {
   cards = fitted_same c.args.self.now.cards.items c.loop-k.self.cards.items c.loop-k.invariant.same c.requires.cards;
 }
 
-this_byte : (c : goal.After-store_after) → slice_index c.to_le_bytes-bytes.result c.from.result ≡ byte c.args.value c.loop-k.k
+this_byte :
+    (c : goal.After-store_after) → slice_index c.to_le_bytes-bytes.result c.from.result ≡ byte c.args.value c.loop-k.k
 this_byte c =
-    byte_in_list c.args.value c.loop-k.k c.from.result c.to_le_bytes-bytes.result c.from.ensures (omega (arith, few_bytes c.args.width)) c.to_le_bytes-bytes.ensures
+    byte_in_list c.args.value c.loop-k.k c.from.result c.to_le_bytes-bytes.result c.from.ensures
+    (omega (arith, few_bytes c.args.width)) c.to_le_bytes-bytes.ensures
 
 pub loop-k-preserved : goal.loop-k-preserved
 loop-k-preserved c = record {
