@@ -14,8 +14,8 @@ use Rattle.board_spec.proofs.StoreLemmas.{changed_byte-one_same, changed_byte-on
 
 -- the bytes with a merged byte at a place are those after a store of one byte there
 pub stored_byte :
-    (setup : Setup) (reg : Reg) (bytes masks : List ℕ) (off place written byte : ℕ) → place
-    ≡ off → off < length bytes →
+    (setup : Setup) (reg : Reg) (bytes masks : List ℕ) (off place written byte : ℕ) → place ≡ off →
+    off < length bytes →
     written < 256 → byte ≡ merged (get_or masks place 0) (get_or bytes place 0) written →
     get_or masks reg.off 0 ≡ writable_bits setup reg → is_same reg smram ≡ false →
     get_or (set bytes place byte) reg.off 0

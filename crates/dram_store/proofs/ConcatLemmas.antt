@@ -81,8 +81,8 @@ not_written_there addr at Four aligned there = grind (arith, nat_tests)
 
 put_byte :
     (banks : List (List ℕ)) (new : List ℕ) (addr : ℕ) (width : Width) (value : ℕ) → All IsBank banks → IsBank new →
-    addr / bank_size < length banks → addr % bytes_of width
-    ≡ 0 → IsPut (bank_at banks addr) (addr % bank_size) width value new →
+    addr / bank_size < length banks → addr % bytes_of width ≡ 0 →
+    IsPut (bank_at banks addr) (addr % bank_size) width value new →
     IsPut (concat banks) addr width value (concat (with_bank banks addr new))
 put_byte banks new addr width value each is inside aligned put at =
     let all : All IsBank (with_bank banks addr new) = All-set IsBank banks (addr / bank_size) new is each in
@@ -103,8 +103,8 @@ put_byte banks new addr width value each is inside aligned put at =
 
 pub changed :
     (banks : List (List ℕ)) (new : List ℕ) (addr : ℕ) (width : Width) (value : ℕ) → All IsBank banks → IsBank new →
-    addr / bank_size < length banks → addr % bytes_of width
-    ≡ 0 → IsPut (bank_at banks addr) (addr % bank_size) width value new →
+    addr / bank_size < length banks → addr % bytes_of width ≡ 0 →
+    IsPut (bank_at banks addr) (addr % bank_size) width value new →
     IsWritten (concat banks) addr width value (concat (with_bank banks addr new))
 changed banks new addr width value each is inside aligned put at =
     let same = same_length banks addr new each is in
@@ -121,10 +121,8 @@ changed banks new addr width value each is inside aligned put at =
 -- ---- a value that is read from the bank of its address
 
 byte_at : (banks : List (List ℕ)) (addr at place : ℕ) → All IsBank banks → addr / bank_size < length banks →
-    at / bank_size
-    ≡ addr / bank_size → at % bank_size
-    ≡ place → slice_index (bank_at banks addr) place
-    ≡ dram_at (concat banks) at
+    at / bank_size ≡ addr / bank_size → at % bank_size ≡ place →
+    slice_index (bank_at banks addr) place ≡ dram_at (concat banks) at
 byte_at banks addr at place each inside here is =
     let exists : nat_lt at (length (concat banks)) ≡ true = lt-ltb _ _ (omega (arith, banks_length banks each)) in
     rw (exists, bank_byte banks at each, here, is) refl

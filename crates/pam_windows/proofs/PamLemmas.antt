@@ -76,8 +76,8 @@ stored_byte setup bytes pam off written seven below h is_pam at at_h =
     let byte = merged (pam_byte pam_masks off) (pam_byte pam off) written in
     let IsStored : ℕ → Type 0 =
     λ at.
-        get_or (set pam (off - 0x59) byte) (at - 0x59) 0
-        ≡ changed_byte setup (Store (bridge off) One written) (bridge at) (bytes (bridge at)) in
+    get_or (set pam (off - 0x59) byte) (at - 0x59) 0
+    ≡ changed_byte setup (Store (bridge off) One written) (bridge at) (bytes (bridge at)) in
     elim (cases_eq at off) [
       | inl same ↦ subst IsStored (sym same) (stored_at setup bytes pam off written seven below h is_pam)
       | inr apart ↦ stored_apart setup bytes pam off written byte at h at_h apart is_pam

@@ -43,8 +43,8 @@ four_set n lane v = length-set (to_le_bytes w32 n) lane v
 
 -- the other bytes of a number of which one was set
 pub other_bytes :
-    (n lane v new j : ℕ) → lane < 4 → v < 256 → new
-    ≡ from_le_bytes w32 (set (to_le_bytes w32 n) lane v) → j < 4 → j ≢ lane →
+    (n lane v new j : ℕ) → lane < 4 → v < 256 → new ≡ from_le_bytes w32 (set (to_le_bytes w32 n) lane v) → j < 4 →
+    j ≢ lane →
     byte new j ≡ byte n j
 other_bytes n lane v new j within below is j_below apart =
     let bytes : to_le_bytes w32 new ≡ set (to_le_bytes w32 n) lane v =

@@ -66,8 +66,8 @@ small_reset_of (base ∷ later) (suc k) = small_reset_of later k
 
 -- a doubleword of the table
 reset_long :
-    (setup : Setup) (card : FittedCard) (from value : ℕ) → IsCard card → card_at setup card.dev
-    ≡ Some card → value < 2 ^ 32 →
+    (setup : Setup) (card : FittedCard) (from value : ℕ) → IsCard card → card_at setup card.dev ≡ Some card →
+    value < 2 ^ 32 →
     ((j : ℕ) → j < 4 → listed (λ entry. entry.reset) (card_function card) (from + j) ≡ byte value j) →
     HoldsLong (reset_byte setup) (card_register card.dev from) value
 reset_long setup card from value fit fitted below in_table =
@@ -183,8 +183,8 @@ stored-other setup bytes dev off written at apart =
     changed_byte-one_other setup (card_register dev at) off (bytes (card_register dev at)) written apart
 
 stored-same :
-    (setup : Setup) (bytes : Bytes) (card : FittedCard) (off written : ℕ) → IsCard card → card_at setup card.dev
-    ≡ Some card → written < 256 →
+    (setup : Setup) (bytes : Bytes) (card : FittedCard) (off written : ℕ) → IsCard card →
+    card_at setup card.dev ≡ Some card → written < 256 →
     stored setup bytes card.dev off written (card_register card.dev off)
     ≡ merged (listed (λ entry. entry.writable) (card_function card) off) (bytes (card_register card.dev off)) written
 stored-same setup bytes card off written fit fitted below =
@@ -270,10 +270,9 @@ pub record IsByteWrite (writable old lane written new : ℕ) : Type 0 where
 -- a doubleword where one of its bytes is stored
 long-stored :
     (setup : Setup) (bytes : Bytes) (card : FittedCard) (from lane written mask old new : ℕ) → IsCard card → card_at
-    setup card.dev
-    ≡ Some card → written < 256 → lane < 4 →
-    listed (λ entry. entry.writable) (card_function card) (from + lane)
-    ≡ byte mask lane → IsByteWrite mask old lane written new →
+    setup card.dev ≡ Some card → written < 256 → lane < 4 →
+    listed (λ entry. entry.writable) (card_function card) (from + lane) ≡ byte mask lane →
+    IsByteWrite mask old lane written new →
     HoldsLong bytes (card_register card.dev from) old →
     HoldsLong (stored setup bytes card.dev (from + lane) written) (card_register card.dev from) new
 long-stored setup bytes card from lane written mask old new fit fitted below in_long in_table write is =
@@ -341,7 +340,9 @@ decodes-base_stored setup bytes card off index lane written new fit below six st
     here : HeldAt setup bytes card.card.dev written off index new
     here =
         subst (λ at. HeldAt setup bytes card.card.dev written at index new) (sym store.place)
-        (long-stored setup bytes card.card (0x10 + 4 * index) lane written (of_base base_writable card.card.bases index) (slice_index card.bases index) new fit is.fitted below store.in_long
+        (long-stored setup bytes card.card (0x10 + 4 * index) lane written
+        (of_base base_writable card.card.bases index) (slice_index card.bases index) new fit is.fitted below
+        store.in_long
         (writable-base card.card index lane store.in_bases store.in_long) store.write (is.bases index store.in_bases))
 
     off_other : (k : ℕ) → k ≢ index → IsOffLong (0x10 + 4 * k) off
@@ -416,7 +417,8 @@ decodes-rom_stored setup bytes card off lane written new fit below store is =
     rom_held (Some bits) some held =
         subst (λ at. HoldsLong (stored setup bytes card.card.dev at written) (expansion_rom card.card.dev) new)
         (sym store.place)
-        (long-stored setup bytes card.card 0x30 lane written (rom_writable card.card.rom) card.rom new fit is.fitted below store.in_long
+        (long-stored setup bytes card.card 0x30 lane written (rom_writable card.card.rom) card.rom new fit is.fitted
+        below store.in_long
         (writable-rom card.card lane fit.count store.in_long) store.write held)
 
 -- ---- all the registers of the card

@@ -88,15 +88,14 @@ pick_bases counts Ports bytes dev place values on same k (IoBase bits ∷ later)
 
 -- no window of a device that does not count
 pick_none :
-    (counts : ℕ → Bool) (place dev k inside bits : ℕ) (windows : List Window) → counts dev
-    ≡ false → pick counts place windows
-    ≡ None →
+    (counts : ℕ → Bool) (place dev k inside bits : ℕ) (windows : List Window) → counts dev ≡ false →
+    pick counts place windows ≡ None →
     pick counts place (record { dev = dev; base = k; inside = inside; bits = bits } ∷ windows) ≡ None
 pick_none counts place dev k inside bits windows off rest = rw off rest
 
 pick_no_bases :
-    (counts : ℕ → Bool) (windows : Windows) (bytes : Bytes) (dev place : ℕ) → counts dev
-    ≡ false → (k : ℕ) (bases : List Base) →
+    (counts : ℕ → Bool) (windows : Windows) (bytes : Bytes) (dev place : ℕ) → counts dev ≡ false →
+    (k : ℕ) (bases : List Base) →
     pick counts place (base_windows windows bytes dev k bases) ≡ None
 pick_no_bases counts windows bytes dev place off k [] = refl
 pick_no_bases counts Memory bytes dev place off k (MemoryBase bits ∷ later) =
@@ -169,9 +168,8 @@ pick_rom_of counts UnselectedRom bytes card register place on (Some bits) some h
     ]
 
 pick_no_rom_of :
-    (counts : ℕ → Bool) (bytes : Bytes) (dev place : ℕ) → counts dev
-    ≡ false → (rom : Option ℕ) → pick counts place (rom_window_of bytes dev rom)
-    ≡ None
+    (counts : ℕ → Bool) (bytes : Bytes) (dev place : ℕ) → counts dev ≡ false → (rom : Option ℕ) →
+    pick counts place (rom_window_of bytes dev rom) ≡ None
 pick_no_rom_of counts bytes dev place off None = refl
 pick_no_rom_of counts bytes dev place off (Some bits) =
     pick_none counts place dev 6 (rom_value bytes dev) bits [] off refl
@@ -203,9 +201,8 @@ pick_vga counts UnselectedRom card place on = refl
 pick_vga counts Ports card place on = refl
 
 pick_no_vga :
-    (counts : ℕ → Bool) (windows : Windows) (card : FittedCard) (place : ℕ) → counts card.dev
-    ≡ false → pick counts place (vga_windows windows card)
-    ≡ None
+    (counts : ℕ → Bool) (windows : Windows) (card : FittedCard) (place : ℕ) → counts card.dev ≡ false →
+    pick counts place (vga_windows windows card) ≡ None
 pick_no_vga counts Memory card place off =
     elim (cases_Bool card.vga) [
       | inl vga ↦ rw vga (pick_none counts place card.dev 7 0xA_0000 17 [] off refl)

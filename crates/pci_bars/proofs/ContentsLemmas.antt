@@ -41,9 +41,8 @@ written_byte dev base off width value d b at old =
     unwrap_or (byte_put (Card dev base off) 0 width value (CardCell d b at)) old
 
 written_elsewhere :
-    (dev base off : ℕ) (width : Width) (value d b at old : ℕ) → base ≢ 6 → (dev == d && base == b)
-    ≡ false → written_byte dev base off width value d b at old
-    ≡ old
+    (dev base off : ℕ) (width : Width) (value d b at old : ℕ) → base ≢ 6 → (dev == d && base == b) ≡ false →
+    written_byte dev base off width value d b at old ≡ old
 written_elsewhere dev base off width value d b at old kept apart =
     let not_rom : (base == 6) ≡ false = ne_eqb base 6 kept in rw (not_rom, apart) refl
 
@@ -152,7 +151,8 @@ bytes_written contents dev base off width value new d b at kept lies other put =
         ]
 
 -- what a write leaves
-pub record IsWritten (old : List (List ℕ)) (dev base off : ℕ) (width : Width) (value : ℕ) (new : List (List ℕ)) : Type 0 where
+pub record IsWritten (old : List (List ℕ)) (dev base off : ℕ) (width : Width) (value : ℕ) (new : List (List ℕ))
+    : Type 0 where
   pub sizes : (d b : ℕ) → length (held new d b) ≡ length (held old d b)
   pub bytes :
       (d b at : ℕ) → IsBaseNumber d b →

@@ -8,7 +8,7 @@ use Rattle.board_spec.specs.Setup.{Base, FittedCard, Setup, IsCard, card_at}
 use Rattle.board_spec.specs.Bits.{byte, is_within, long_bytes}
 use Rattle.board_spec.specs.RegisterTable.{Line, line, read_only, card_function, function_lines, listed, base_reset, base_writable, rom_writable, reset_byte, writable_bits}
 use Rattle.board_spec.specs.RegisterNames.{card_register}
-use Rattle.board_spec.proofs.TableLemmas.{listed-past, listed-before, listed-here, each_below}
+use Rattle.board_spec.proofs.TableLemmas.{listed-past, listed-before, listed-here, Each, each_below}
 use Rattle.pci_bars.specs.Bases.{of_base}
 use Rattle.pci_bars.specs.Cards.{CardBytes, is_kept_offset, header_of}
 
@@ -168,54 +168,13 @@ pub reset-header :
     listed (λ entry. entry.reset) (card_function card.card) off ≡ get_or (header_of card) off 0
 unfolding card_function
 reset-header card off below =
-    each_below
-    (λ off. off ≢ 4 → listed (λ entry. entry.reset) (card_function card.card) off ≡ get_or (header_of card) off 0) 16
-    off (
-      λ _.
-          refl,
-      (
-        λ _.
-            refl,
-        (
-          λ _.
-              refl,
-          (
-            λ _.
-                refl,
-            (
-              λ apart.
-                  absurd (apart refl),
-              (
-                λ _.
-                    refl,
-                (
-                  λ _.
-                      refl,
-                  (
-                    λ _.
-                        refl,
-                    (
-                      λ _.
-                          refl,
-                      (
-                        λ _.
-                            refl,
-                        (
-                          λ _.
-                              refl,
-                          (λ _. refl, (λ _. refl, (λ _. refl, (λ _. refl, (λ _. refl, tt))))),
-                        ),
-                      ),
-                    ),
-                  ),
-                ),
-              ),
-            ),
-          ),
-        ),
-      ),
-    )
-    below
+    let Same : ℕ → Type 0 =
+    λ off. off ≢ 4 → listed (λ entry. entry.reset) (card_function card.card) off ≡ get_or (header_of card) off 0 in
+    let later : Each Same 8 8 =
+    (λ _. refl, (λ _. refl, (λ _. refl, (λ _. refl, (λ _. refl, (λ _. refl, (λ _. refl, (λ _. refl, tt)))))))) in
+    let middle : Each Same 4 12 =
+    (λ apart. absurd (apart refl), (λ _. refl, (λ _. refl, (λ _. refl, later)))) in
+    each_below Same 16 off (λ _. refl, (λ _. refl, (λ _. refl, (λ _. refl, middle)))) below
 
 -- what an offset has that is not kept: a byte, none of whose bits can be written
 pub record IsFixed (card : FittedCard) (off : ℕ) : Type 0 where
@@ -381,8 +340,8 @@ fixed-past card off count above (inl apart) not_line =
 
 -- an offset is none of those that a card keeps
 pub kept_nowhere :
-    (rom : Option ℕ) (off : ℕ) → (off == 0x04 || is_within 0x10 0x27 off || off == 0x3C)
-    ≡ false → (off < 0x30) ⊎ (0x34 ≤ off) →
+    (rom : Option ℕ) (off : ℕ) → (off == 0x04 || is_within 0x10 0x27 off || off == 0x3C) ≡ false →
+    (off < 0x30) ⊎ (0x34 ≤ off) →
     (off == 0x04 || is_within 0x10 0x27 off || is_some rom && is_within 0x30 0x33 off || off == 0x3C) ≡ false
 kept_nowhere None off plain off_rom = grind (arith, nat_tests)
 kept_nowhere (Some bits) off plain (inl below) = grind (arith, nat_tests)
@@ -405,9 +364,8 @@ elsewhere card off not_kept =
   where
     no_rom_here :
         (rom : Option ℕ) (off : ℕ) → 0x30 ≤ off → off ≤ 0x33 →
-        (off == 0x04 || is_within 0x10 0x27 off || is_some rom && is_within 0x30 0x33 off || off == 0x3C)
-        ≡ false → rom
-        ≡ None
+        (off == 0x04 || is_within 0x10 0x27 off || is_some rom && is_within 0x30 0x33 off || off == 0x3C) ≡ false →
+        rom ≡ None
     no_rom_here None off from to not_kept = refl
     no_rom_here (Some bits) off from to not_kept = absurd (grind (arith, nat_tests))
 

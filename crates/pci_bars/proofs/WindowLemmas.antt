@@ -47,10 +47,10 @@ size_of_bits (IoBase bits) = refl
 
 -- a window of base number k of a card
 sized :
-    (setup : Setup) (card : FittedCard) (k value : ℕ) (base : Base) → IsCard card → card_at setup card.dev
-    ≡ Some card → k < 6 →
-    slice_get card.bases k
-    ≡ Some base → IsSized setup (record { dev = card.dev; base = k; inside = value; bits = bits_of_base (Some base) })
+    (setup : Setup) (card : FittedCard) (k value : ℕ) (base : Base) → IsCard card →
+    card_at setup card.dev ≡ Some card → k < 6 →
+    slice_get card.bases k ≡ Some base →
+    IsSized setup (record { dev = card.dev; base = k; inside = value; bits = bits_of_base (Some base) })
 sized setup card k value base fit fitted below at =
     let not_vga : (k == 7) ≡ false = ne_eqb k 7 (λ (e : k ≡ 7). omega arith) in
     let not_rom : (k == 6) ≡ false = ne_eqb k 6 (λ (e : k ≡ 6). omega arith) in
@@ -85,13 +85,15 @@ sized_bases windows setup bytes card fit fitted k (base ∷ later) few same =
         All (IsSized setup) (window_in windows bytes card.dev k base)
     one Memory (MemoryBase bits) at =
         All-cons (IsSized setup) _ []
-        (sized setup card k (base_value bytes card.dev k) (MemoryBase bits) fit fitted (omega arith) at) (All-nil (IsSized setup))
+        (sized setup card k (base_value bytes card.dev k) (MemoryBase bits) fit fitted (omega arith) at)
+        (All-nil (IsSized setup))
     one Memory (IoBase bits) at = All-nil (IsSized setup)
     one UnselectedRom base at = All-nil (IsSized setup)
     one Ports (MemoryBase bits) at = All-nil (IsSized setup)
     one Ports (IoBase bits) at =
         All-cons (IsSized setup) _ []
-        (sized setup card k (base_value bytes card.dev k) (IoBase bits) fit fitted (omega arith) at) (All-nil (IsSized setup))
+        (sized setup card k (base_value bytes card.dev k) (IoBase bits) fit fitted (omega arith) at)
+        (All-nil (IsSized setup))
 
 sized_vga :
     (windows : Windows) (setup : Setup) (card : FittedCard) → IsCard card → card_at setup card.dev ≡ Some card →
@@ -222,8 +224,8 @@ fits_window place bits width above aligned =
 pub lies_in_window :
     (setup : Setup) (history : List Entry) (contents : List (List ℕ)) (window : Window) (place : ℕ) (width : Width) →
     IsSized setup window →
-    IsContentsOf setup history contents → place % bytes_of width
-    ≡ 0 → LiesIn contents window.dev window.base (place % 2 ^ window.bits) width
+    IsContentsOf setup history contents → place % bytes_of width ≡ 0 →
+    LiesIn contents window.dev window.base (place % 2 ^ window.bits) width
 lies_in_window setup history contents window place width sized is aligned =
     record {
       number = sized.number;

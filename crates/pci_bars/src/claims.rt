@@ -80,7 +80,7 @@ pub fn unselected_rom(cards: &[CardRegs], addr: u32) -> Option<u8>
 }
 
 /// Where an address or a port lies in a base of a card: the remainder by the size of the base, which is 128 KiB for
-/// base 7. 0 for a base that no card has.
+/// base 7. 0 for another base that no card has.
 pub fn offset_in(cards: &[CardRegs], dev: u8, base: u8, place: u32) -> u32
     requires cards { AreCards cards.now }
     ensures offset { (setup : Setup) → setup.cards ≡ cards_of cards.now

@@ -119,10 +119,12 @@ impl CardRegs {
         requires card { IsCard self.old.card }
         ensures written { (setup : Setup) (bytes : Bytes) → IsCardOf setup bytes self.old
             → IsCardOf setup
-            (λ reg. changed_byte setup (Store (card_register self.old.card.dev off) One byte) reg (bytes reg)) self.new }
+            (λ reg. changed_byte setup (Store (card_register self.old.card.dev off) One byte) reg (bytes reg))
+            self.new }
         ensures decodes { (setup : Setup) (bytes : Bytes) → DecodesAs setup bytes self.old
             → DecodesAs setup
-            (λ reg. changed_byte setup (Store (card_register self.old.card.dev off) One byte) reg (bytes reg)) self.new }
+            (λ reg. changed_byte setup (Store (card_register self.old.card.dev off) One byte) reg (bytes reg))
+            self.new }
         ensures same_card { self.new.card ≡ self.old.card }
     {
         match off {

@@ -13,7 +13,7 @@ use Rattle.board_spec.specs.RegisterTable.{isa_bridge, ide_function, reset_byte,
 use Rattle.board_spec.specs.RegisterNames.{isa, ide, smram, is_same}
 use Rattle.board_spec.specs.Registers.{covers, byte_after, changed_byte}
 use Rattle.board_spec.proofs.MergedLemmas.{merged-none}
-use Rattle.board_spec.proofs.TableLemmas.{each_below}
+use Rattle.board_spec.proofs.TableLemmas.{Each, each_below}
 
 -- a register has this byte at all times
 pub record IsFixedAt (setup : Setup) (reg : Reg) (byte : ℕ) : Type 0 where
@@ -71,49 +71,17 @@ isa_fixed-past setup off xbcs pirq above =
 
 isa_header_byte : (off : ℕ) → off < 16 → slice_index isa_header off < 256
 isa_header_byte off below =
-    each_below (λ k. slice_index isa_header k < 256) 16 off (
-      lit< tt,
-      (
-        lit< tt,
-        (
-          lit< tt,
-          (
-            lit< tt,
-            (
-              lit< tt,
-              (
-                lit< tt,
-                (lit< tt, (lit< tt, (lit< tt, (lit< tt, (lit< tt, (lit< tt, (lit< tt, (lit< tt, (lit< tt, (lit< tt, tt)))))))))),
-              ),
-            ),
-          ),
-        ),
-      ),
-    )
-    below
+    let later : Each (λ k. slice_index isa_header k < 256) 8 8 =
+    (lit< tt, (lit< tt, (lit< tt, (lit< tt, (lit< tt, (lit< tt, (lit< tt, (lit< tt, tt)))))))) in
+    each_below (λ k. slice_index isa_header k < 256) 16 off
+    (lit< tt, (lit< tt, (lit< tt, (lit< tt, (lit< tt, (lit< tt, (lit< tt, (lit< tt, later)))))))) below
 
 ide_header_byte : (off : ℕ) → off < 16 → slice_index ide_header off < 256
 ide_header_byte off below =
-    each_below (λ k. slice_index ide_header k < 256) 16 off (
-      lit< tt,
-      (
-        lit< tt,
-        (
-          lit< tt,
-          (
-            lit< tt,
-            (
-              lit< tt,
-              (
-                lit< tt,
-                (lit< tt, (lit< tt, (lit< tt, (lit< tt, (lit< tt, (lit< tt, (lit< tt, (lit< tt, (lit< tt, (lit< tt, tt)))))))))),
-              ),
-            ),
-          ),
-        ),
-      ),
-    )
-    below
+    let later : Each (λ k. slice_index ide_header k < 256) 8 8 =
+    (lit< tt, (lit< tt, (lit< tt, (lit< tt, (lit< tt, (lit< tt, (lit< tt, (lit< tt, tt)))))))) in
+    each_below (λ k. slice_index ide_header k < 256) 16 off
+    (lit< tt, (lit< tt, (lit< tt, (lit< tt, (lit< tt, (lit< tt, (lit< tt, (lit< tt, later)))))))) below
 
 -- all registers of the ISA bridge but XBCS and those that route interrupts
 pub isa_fixed :
@@ -123,32 +91,30 @@ unfolding reset_byte writable_bits isa_bridge
 isa_fixed setup off xbcs pirq =
     elim (cases_lt off 16) [
       | inl below ↦ record {
-        reset = each_below (λ k. slice_index isa_header k ≡ reset_byte setup (isa k)) 16 off (
-          refl,
-          (
-            refl,
-            (
-              refl,
-              (refl, (refl, (refl, (refl, (refl, (refl, (refl, (refl, (refl, (refl, (refl, (refl, (refl, tt))))))))))))),
-            ),
-          ),
-        )
-            below;
-        read_only = each_below (λ k. writable_bits setup (isa k) ≡ 0) 16 off (
-          refl,
-          (
-            refl,
-            (
-              refl,
-              (refl, (refl, (refl, (refl, (refl, (refl, (refl, (refl, (refl, (refl, (refl, (refl, (refl, tt))))))))))))),
-            ),
-          ),
-        )
-            below;
+        reset =
+            let later : Each (λ k. slice_index isa_header k ≡ reset_byte setup (isa k)) 8 8 =
+            (refl, (refl, (refl, (refl, (refl, (refl, (refl, (refl, tt)))))))) in
+            each_below (λ k. slice_index isa_header k ≡ reset_byte setup (isa k)) 16 off
+            (refl, (refl, (refl, (refl, (refl, (refl, (refl, (refl, later)))))))) below;
+        read_only =
+            let later : Each (λ k. writable_bits setup (isa k) ≡ 0) 8 8 =
+            (refl, (refl, (refl, (refl, (refl, (refl, (refl, (refl, tt)))))))) in
+            each_below (λ k. writable_bits setup (isa k) ≡ 0) 16 off
+            (refl, (refl, (refl, (refl, (refl, (refl, (refl, (refl, later)))))))) below;
         fits = isa_header_byte off below;
       }
       | inr above ↦ isa_fixed-past setup off xbcs pirq above
     ]
+
+ide_read_only : (setup : Setup) (off : ℕ) → off < 16 → off ≢ 0x04 → writable_bits setup (ide off) ≡ 0
+unfolding writable_bits ide_function
+ide_read_only setup off below =
+    let ReadOnly : ℕ → Type 0 = λ k. k ≢ 0x04 → writable_bits setup (ide k) ≡ 0 in
+    let later : Each ReadOnly 8 8 =
+    (λ _. refl, (λ _. refl, (λ _. refl, (λ _. refl, (λ _. refl, (λ _. refl, (λ _. refl, (λ _. refl, tt)))))))) in
+    let middle : Each ReadOnly 4 12 =
+    (λ apart. absurd (apart refl), (λ _. refl, (λ _. refl, (λ _. refl, later)))) in
+    each_below ReadOnly 16 off (λ _. refl, (λ _. refl, (λ _. refl, (λ _. refl, middle)))) below
 
 -- all registers of the IDE function but the low byte of the command and the two of IDETIM
 pub ide_fixed :
@@ -158,46 +124,12 @@ unfolding reset_byte writable_bits ide_function
 ide_fixed setup off command timing =
     elim (cases_lt off 16) [
       | inl below ↦ record {
-        reset = each_below (λ k. slice_index ide_header k ≡ reset_byte setup (ide k)) 16 off (
-          refl,
-          (
-            refl,
-            (
-              refl,
-              (refl, (refl, (refl, (refl, (refl, (refl, (refl, (refl, (refl, (refl, (refl, (refl, (refl, tt))))))))))))),
-            ),
-          ),
-        )
-            below;
-        read_only = each_below (λ k. k ≢ 0x04 → writable_bits setup (ide k) ≡ 0) 16 off (
-          (λ _. refl),
-          (
-            (λ _. refl),
-            (
-              (λ _. refl),
-              (
-                (λ _. refl),
-                (
-                  (λ apart. absurd (apart refl)),
-                  (
-                    (λ _. refl),
-                    (
-                      (λ _. refl),
-                      (
-                        (λ _. refl),
-                        (
-                          (λ _. refl),
-                          ((λ _. refl), ((λ _. refl), ((λ _. refl), ((λ _. refl), ((λ _. refl), ((λ _. refl), ((λ _. refl), tt))))))),
-                        ),
-                      ),
-                    ),
-                  ),
-                ),
-              ),
-            ),
-          ),
-        )
-            below command;
+        reset =
+            let later : Each (λ k. slice_index ide_header k ≡ reset_byte setup (ide k)) 8 8 =
+            (refl, (refl, (refl, (refl, (refl, (refl, (refl, (refl, tt)))))))) in
+            each_below (λ k. slice_index ide_header k ≡ reset_byte setup (ide k)) 16 off
+            (refl, (refl, (refl, (refl, (refl, (refl, (refl, (refl, later)))))))) below;
+        read_only = ide_read_only setup off below command;
         fits = ide_header_byte off below;
       }
       | inr above ↦

@@ -47,7 +47,8 @@ by_bit setup bytes port denial dev false =
 
 by_bits :
     (setup : Setup) (bytes : Bytes) (port : ℕ) (dev : Dev) (first second : Bool) →
-    ((if not first then unselected setup bytes port (Register ide_command) else if not second then unselected setup bytes port (Register idetim) else device dev).target ≡ Device dev)
+    ((if not first then unselected setup bytes port (Register ide_command) else
+    if not second then unselected setup bytes port (Register idetim) else device dev).target ≡ Device dev)
     ↔ ((first && second) ≡ true)
 by_bits setup bytes port dev true true = (λ _. refl, λ _. refl)
 by_bits setup bytes port dev true false =

@@ -87,7 +87,9 @@ returns-in-48-to-51-clause-written c =
       others = c.with_byte-self-inside.ensures.others;
     } in
     rw (← c.self.view_is)
-    (λ setup bytes is. card-rom_stored setup bytes _ c.args.off c.from-in-48-to-51.result c.args.byte c.with_byte-self-inside.result fit c.ranges.byte.fits
+    (λ setup bytes is.
+    card-rom_stored setup bytes _ c.args.off c.from-in-48-to-51.result c.args.byte c.with_byte-self-inside.result
+    fit c.ranges.byte.fits
     (record { in_long = omega arith; place = omega arith; write = write }) is)
 
 pub returns-in-48-to-51-clause-decodes : goal.returns-in-48-to-51-clause-decodes
@@ -101,7 +103,9 @@ returns-in-48-to-51-clause-decodes c =
       others = c.with_byte-self-inside.ensures.others;
     } in
     rw (← c.self.view_is)
-    (λ setup bytes is. decodes-rom_stored setup bytes _ c.args.off c.from-in-48-to-51.result c.args.byte c.with_byte-self-inside.result fit c.ranges.byte.fits
+    (λ setup bytes is.
+    decodes-rom_stored setup bytes _ c.args.off c.from-in-48-to-51.result c.args.byte
+    c.with_byte-self-inside.result fit c.ranges.byte.fits
     (record { in_long = omega arith; place = omega arith; write = write }) is)
 
 pub returns-in-60-clause-written : goal.returns-in-60-clause-written
