@@ -114,8 +114,8 @@ rises_apart (card ∷ later) rises (suc i) (suc k) d below within =
 
 -- of the cards in the list one alone has a device number
 others_differ : (cards : List CardBytes) (dev i k : ℕ) (d : CardBytes) → Rises (cards_of cards) →
-    position (λ card. card.card.dev == dev) cards
-    ≡ Some i → k < length cards → k ≢ i → (get_or cards k d).card.dev ≢ dev
+    position (λ card. card.card.dev == dev) cards ≡ Some i → k < length cards → k ≢ i →
+    (get_or cards k d).card.dev ≢ dev
 others_differ cards dev i k d rises at_i within apart same =
     let found : (i < length cards) × (((get_or cards i d).card.dev == dev) ≡ true) ×
     ((j : ℕ) → j < i → ((get_or cards j d).card.dev == dev) ≡ false) =
@@ -337,11 +337,8 @@ reset_decoded setup cards fitted reset same =
 pub one_more_pushed :
     (items : List CardBytes) (i : ℕ) (item : CardBytes) (pushed : List FittedCard) (spec : FittedCard) →
     i < length items →
-    item
-    ≡ get_or items i item → spec
-    ≡ item.card → pushed
-    ≡ take i (cards_of items) ++ spec ∷ [] → pushed
-    ≡ take (i + 1) (cards_of items)
+    item ≡ get_or items i item → spec ≡ item.card → pushed ≡ take i (cards_of items) ++ spec ∷ [] →
+    pushed ≡ take (i + 1) (cards_of items)
 one_more_pushed items i item pushed spec within at_i same is =
     let here : get_or (cards_of items) i item.card ≡ spec =
     get_or-map (λ (it : CardBytes). it.card) items i item item.card within

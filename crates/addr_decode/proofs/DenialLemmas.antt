@@ -98,11 +98,8 @@ card_denies top by addr shut rom dev is same found =
     ∙ sym (denials_in_order top shut rom addr)
 
 pub rom_denies : (top by addr : ℕ) (shut rom : Option Window) (dev : Option ℕ) →
-    None
-    ≡ board_denial by addr → by
-    ≡ top → None
-    ≡ option_map (λ window. window.dev) shut → dev
-    ≡ option_map (λ window. window.dev) rom →
+    None ≡ board_denial by addr → by ≡ top → None ≡ option_map (λ window. window.dev) shut →
+    dev ≡ option_map (λ window. window.dev) rom →
     card_denial None dev addr ≡ abort_denial top shut rom addr
 rom_denies top by addr shut rom dev is same none found =
     ap (λ (d : Option ℕ). card_denial None d addr) found ∙ card_denies top by addr shut rom None is same none

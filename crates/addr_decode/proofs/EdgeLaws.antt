@@ -155,6 +155,10 @@ start_listed from (suc count) (suc k) edge below is =
     Contains-append_right (from ∷ []) (starts (from + 0x4000) count) edge
     (start_listed (from + 0x4000) count k edge (omega arith) (omega arith))
 
+-- the fixed edges above the last start
+abbrev above_windows : List ℕ
+above_windows = 0x10_0000 ∷ 0xF0_0000 ∷ 0x100_0000 ∷ 0xFFF8_0000 ∷ 0xFFFE_0000 ∷ 0xFFFF_0000 ∷ []
+
 -- every start from C0000h to F0000h is an edge
 window_clear :
     (setup : Setup) (bytes : Bytes) (addr x k : ℕ) → Between setup bytes addr x → k < 13 →
@@ -162,9 +166,10 @@ window_clear :
 unfolding edges_of fixed_edges
 window_clear setup bytes addr x k between below =
     between.clear (0xC_0000 + 0x4000 * k)
-    (Contains-append_left fixed_edges (row_edges bytes ++ flat_map (card_edges bytes) setup.cards) (0xC_0000 + 0x4000 * k)
-    (Contains-append_right (0x8_0000 ∷ 0xA_0000 ∷ []) (starts 0xC_0000 13 ++ (0x10_0000 ∷ 0xF0_0000 ∷ 0x100_0000 ∷ 0xFFF8_0000 ∷ 0xFFFE_0000 ∷ 0xFFFF_0000 ∷ [])) (0xC_0000 + 0x4000 * k)
-    (Contains-append_left (starts 0xC_0000 13) (0x10_0000 ∷ 0xF0_0000 ∷ 0x100_0000 ∷ 0xFFF8_0000 ∷ 0xFFFE_0000 ∷ 0xFFFF_0000 ∷ []) (0xC_0000 + 0x4000 * k)
+    (Contains-append_left fixed_edges (row_edges bytes ++ flat_map (card_edges bytes) setup.cards)
+    (0xC_0000 + 0x4000 * k)
+    (Contains-append_right (0x8_0000 ∷ 0xA_0000 ∷ []) (starts 0xC_0000 13 ++ above_windows) (0xC_0000 + 0x4000 * k)
+    (Contains-append_left (starts 0xC_0000 13) above_windows (0xC_0000 + 0x4000 * k)
     (start_listed 0xC_0000 13 k (0xC_0000 + 0x4000 * k) below refl))))
 
 window_same :
@@ -376,7 +381,8 @@ cards_alike setup bytes addr x between (card ∷ later) clear =
     (all_joined (IsCoveredAlike addr x) bases rom
     (bases_alike bytes addr x card.dev between.order 0 card.bases
     (all_left (Clear addr x) base_ends (flat_map window_edges (rom_window bytes card)) here))
-    (selected_alike bytes addr x card between.order (all_right (Clear addr x) base_ends (flat_map window_edges (rom_window bytes card)) here)))
+    (selected_alike bytes addr x card between.order
+    (all_right (Clear addr x) base_ends (flat_map window_edges (rom_window bytes card)) here)))
     (vga_alike setup bytes addr x card between))
     (cards_alike setup bytes addr x between later
     (all_right (Clear addr x) (card_edges bytes card) (flat_map (card_edges bytes) later) clear))
@@ -414,18 +420,12 @@ claim_same setup bytes addr x between =
 -- ---- the areas
 
 table_same :
-    (smram : Bool) (row row' : Option ℕ) (shadowed shadowed' hole hole' rom rom' range range' legacy legacy' : Bool)
+    (smram : Bool) (row row' : Option ℕ) (shadowed shadowed' hole hole' rom rom' range range' upper upper' : Bool)
     (claim claim' : Option Window) →
-    row'
-    ≡ row → shadowed'
-    ≡ shadowed → hole'
-    ≡ hole → rom'
-    ≡ rom → range'
-    ≡ range → legacy'
-    ≡ legacy → claim'
-    ≡ claim →
-    table row' range' legacy' smram shadowed' hole' rom' claim' ≡ table row range legacy smram shadowed hole rom claim
-table_same smram row row' shadowed shadowed' hole hole' rom rom' range range' legacy legacy' claim claim' p q r s t u v =
+    row' ≡ row → shadowed' ≡ shadowed → hole' ≡ hole → rom' ≡ rom → range' ≡ range → upper' ≡ upper →
+    claim' ≡ claim →
+    table row' range' upper' smram shadowed' hole' rom' claim' ≡ table row range upper smram shadowed hole rom claim
+table_same smram row row' shadowed shadowed' hole hole' rom rom' range range' upper upper' claim claim' p q r s t u v =
     rw (p, q, r, s, t, u, v) refl
 
 area_same :

@@ -183,8 +183,8 @@ found_above addr edges (Some edge) is =
     elim (nearest_from addr edge edges None (sym is)) [ inl none ↦ absurd (none-some edge none) | inr above ↦ above ]
 
 found_reaches :
-    (addr other : ℕ) (edges : List ℕ) (found : Option ℕ) → found
-    ≡ nearest addr None edges → Contains edges other → addr < other →
+    (addr other : ℕ) (edges : List ℕ) (found : Option ℕ) → found ≡ nearest addr None edges → Contains edges other →
+    addr < other →
     other < address_count → Reaches found other
 found_reaches addr other edges found is has above below =
     subst (λ (o : Option ℕ). Reaches o other) (sym is) (nearest_reaches addr other edges None has above below)

@@ -149,7 +149,8 @@ onboard_in_order setup bytes disk timing port One is =
       selected_in_order setup bytes 0 Clock port,
       disk_in_order setup bytes disk timing port is,
     )
-    (lines_in_order setup bytes port (port == reset_control_port) (lies_in master_ports port) (lies_in slave_ports port) (lies_in timer_ports port) (port == system_port)
+    (lines_in_order setup bytes port (port == reset_control_port) (lies_in master_ports port)
+    (lies_in slave_ports port) (lies_in timer_ports port) (port == system_port)
     (lies_in elcr_ports port) (port == keyboard_data_port || port == keyboard_command_port) (lies_in clock_ports port)
     (lies_in disk_ports port || port == disk_control_port)
     (if_selected (is_bit (bytes select_register) 1) Keyboard (Register select_register))
@@ -207,10 +208,8 @@ config_target setup bytes address disk port width other here = rw (← other, �
 pub onboard_target :
     (setup : Setup) (bytes : Bytes) (address : ℕ) (disk : Bool) (port : ℕ) (width : Width) (xbcs : ℕ)
     (ide_command idetim : ℕ) (at_disk told : Onboard) →
-    false
-    ≡ (port == config_address_port && bytes_of width == 4) → false
-    ≡ is_config_port port → xbcs
-    ≡ bytes select_register → IsIdeOf bytes ide_command idetim →
+    false ≡ (port == config_address_port && bytes_of width == 4) → false ≡ is_config_port port →
+    xbcs ≡ bytes select_register → IsIdeOf bytes ide_command idetim →
     at_disk ≡ disk_by disk ide_command idetim → told ≡ onboard_at xbcs at_disk port width →
     after_onboard setup bytes port told ≡ port_target_of setup bytes address disk port width
 unfolding ports_in_order

@@ -141,9 +141,8 @@ one_stays setup bytes off written at apart =
     stored-elsewhere setup bytes (bridge off) written (bridge at) (inr (inr apart))
 
 pub rows_stored :
-    (setup : Setup) (bytes : Bytes) (drb : List ℕ) (off row written : ℕ) → length drb
-    ≡ 8 → IsRowOffset off → row
-    ≡ off - 0x60 → written < 256 →
+    (setup : Setup) (bytes : Bytes) (drb : List ℕ) (off row written : ℕ) → length drb ≡ 8 → IsRowOffset off →
+    row ≡ off - 0x60 → written < 256 →
     IsRowsOf bytes drb → IsRowsOf (stored setup bytes (bridge off) written) (set drb row written)
 rows_stored setup bytes drb off row written eight within at_row below is =
     let off_is : 0x60 + row ≡ off = omega (arith, within.0) in

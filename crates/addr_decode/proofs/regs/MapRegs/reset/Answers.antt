@@ -7,7 +7,8 @@ use Rattle.addr_decode.proofs.regs.MapRegs.reset.Goals as goal
 pub after_reset-requires-clause-cards : goal.after_reset-requires-clause-cards
 after_reset-requires-clause-cards c =
     fitted_same c.args.self.now.cards.items c.loop-card.cards.items
-    (all_pushed c.loop-card.cards.items c.as_slice-card-items.result.now c.args.self.now.cards.items c.loop-card.card-index
+    (all_pushed c.loop-card.cards.items c.as_slice-card-items.result.now c.args.self.now.cards.items
+    c.loop-card.card-index
     c.loop-card.invariant.pushed (omega arith) c.as_slice-card-items.ensures.value) c.requires.cards
 
 pub returns-clause-stands : goal.returns-clause-stands

@@ -27,7 +27,8 @@ returns-in_default-clause-stands c = λ setup bytes stands.
     subst (λ (reg : Reg). StandsFor setup (stored setup bytes reg c.args.byte)
     (record (map_bytes c.args.self.now) { cards = c.write_card.new.cards.items }))
     (in_function_0 c.args.reg c.args.reg.dev refl c.if-reg-ne0.false)
-    (card_stored setup bytes (map_bytes c.args.self.now) c.write_card.new.cards.items c.args.reg.dev c.args.reg.off c.args.byte (omega arith) (omega arith)
+    (card_stored setup bytes (map_bytes c.args.self.now) c.write_card.new.cards.items c.args.reg.dev c.args.reg.off
+    c.args.byte (omega arith) (omega arith)
     (c.write_card.ensures.decoded setup bytes stands.cards) stands)
 
 pub returns-then-reg-ne0-clause-cards : goal.returns-then-reg-ne0-clause-cards
