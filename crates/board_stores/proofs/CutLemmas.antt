@@ -99,7 +99,8 @@ next_part access parts count done part below some is on =
     ∙ ap (λ (rest : ℕ). parts ++ part ∷ parts_from access (4 - (count + 1)) (addr + bytes_of width) rest) less
     ∙ ap (λ (p : Access). parts ++ p ∷ later) is
     ∙ sym (ap (λ (rest : List Access). parts ++ rest)
-    (ap (λ (most : ℕ). parts_from access most addr left) more ∙ cond-false (left == 0) [] _ (ne_eqb left 0 (omega arith))))
+    (ap (λ (most : ℕ). parts_from access most addr left) more
+    ∙ cond-false (left == 0) [] _ (ne_eqb left 0 (omega arith))))
     ∙ on
 
 nothing : (access : WideAccess) (most addr left : ℕ) → left ≡ 0 → parts_from access most addr left ≡ []
@@ -134,9 +135,8 @@ all_parts access parts count done four on =
 
 pub all_decoded :
     (setup : Setup) (history : List Entry) (cycles : List Cycle) (cycle : Cycle) →
-    answers cycles
-    ≡ map (part_answer setup history) (accesses cycles) → cycle.answer
-    ≡ part_answer setup history cycle.access →
+    answers cycles ≡ map (part_answer setup history) (accesses cycles) →
+    cycle.answer ≡ part_answer setup history cycle.access →
     answers (cycles ++ cycle ∷ []) ≡ map (part_answer setup history) (accesses (cycles ++ cycle ∷ []))
 all_decoded setup history cycles cycle before last =
     map-append (λ (c : Cycle). c.answer) cycles (cycle ∷ [])

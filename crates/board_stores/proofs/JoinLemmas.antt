@@ -153,8 +153,8 @@ next_value value cycles i so_far shift read d within is fits short before =
 
 -- where no cycle is left
 pub whole_value :
-    (value : Cycle → ℕ) (cycles : List Cycle) (i so_far shift : ℕ) → drop i cycles
-    ≡ [] → IsSoFar value cycles i so_far shift →
+    (value : Cycle → ℕ) (cycles : List Cycle) (i so_far shift : ℕ) → drop i cycles ≡ [] →
+    IsSoFar value cycles i so_far shift →
     so_far ≡ joined_cycles value cycles
 whole_value value cycles i so_far shift end is =
     let none : joined_cycles value (drop i cycles) ≡ 0 = ap (joined_cycles value) end in

@@ -37,7 +37,8 @@ loop-cycle-preserved c =
           value_below setup history c.args.rom.now c.args.stores.now.contents _ _ _ image
           (λ at. omega (arith, c.type_inv.rom at)) (c.requires.ready i _ within).held in
           rw (c.from.ensures, c.bytes.ensures.bytes)
-          (next_value (value_of setup history) cycles i c.loop-cycle.value c.loop-cycle.shift c.read.result _ within read_is
+          (next_value (value_of setup history) cycles i c.loop-cycle.value c.loop-cycle.shift c.read.result _ within
+          read_is
           (rw read_is below) (rw c.bytes.ensures.bytes at next.0)
           (c.loop-cycle.invariant.value setup history kept image));
     }

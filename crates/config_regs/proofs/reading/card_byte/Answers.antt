@@ -9,7 +9,8 @@ use Rattle.config_regs.proofs.reading.card_byte.Goals as goal
 pub read-requires : goal.read-requires
 read-requires c = record {
   card =
-      (found (λ card. IsCard card.card) c.args.cards.now c.args.dev c.in-Some.card.now c.requires.cards (sym c.in-Some.ensures.found)).0;
+      (found (λ card. IsCard card.card) c.args.cards.now c.args.dev c.in-Some.card.now c.requires.cards
+      (sym c.in-Some.ensures.found)).0;
 }
 
 pub returns-in-Some : goal.returns-in-Some

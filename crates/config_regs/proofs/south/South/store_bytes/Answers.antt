@@ -28,7 +28,11 @@ loop-index-preserved c =
       stored = λ setup bytes is.
           let before = so_far setup bytes at c.args.value c.loop-index.index in
           one_more setup bytes at c.args.value c.loop-index.index c.write.new.self
-          (subst (λ (written : ℕ). IsSouthOf (λ r. changed_byte setup (Store (piix_register c.args.fun (c.args.off + c.loop-index.index)) One written) r (before r)) c.write.new.self) this
+          (subst (λ (written : ℕ). IsSouthOf
+          (λ r.
+          changed_byte setup (Store (piix_register c.args.fun (c.args.off + c.loop-index.index)) One written) r
+          (before r))
+          c.write.new.self) this
           (c.write.ensures.written setup before (c.loop-index.invariant.stored setup bytes is)));
     }
 
