@@ -56,7 +56,7 @@ fn byte_port(xbcs: u8, disk: Onboard, port: u16) -> Onboard
     }
 }
 
-/// What they say to an access of two or four bytes, which the data register of the disk alone takes.
+/// What the board's own devices say to an access of two or four bytes, which the disk's data register alone takes.
 fn wide_port(disk: Onboard, port: u16) -> Onboard
     ensures onboard { result ≡ wide_port disk port }
 {
