@@ -8,6 +8,7 @@ use Rattle.board_spec.specs.FlatMap.{six_areas}
 pub areas_beside_smram : (setup : Setup) (bytes : Bytes) (addr : ℕ) → is_smram_range addr ≡ false →
     six_areas setup bytes addr
     ≡ area_of setup bytes addr Read false ∷ area_of setup bytes addr Read false ∷ area_of setup bytes addr Write false
-    ∷ area_of setup bytes addr Read false ∷ area_of setup bytes addr Read false ∷ area_of setup bytes addr Write false ∷ []
+    ∷ area_of setup bytes addr Read false ∷ area_of setup bytes addr Read false ∷ area_of setup bytes addr Write false
+    ∷ []
 unfolding area_of
 areas_beside_smram setup bytes addr beside = rw beside refl

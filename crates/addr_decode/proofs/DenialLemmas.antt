@@ -5,50 +5,56 @@ use Rattle.std.proofs.lemmas.Bool.Decides.{nat_tests}
 use Rattle.board_base.specs.declared.target.Reg.{Reg}
 use Rattle.board_base.specs.declared.target.Denial.{Denial}
 use Rattle.board_base.specs.declared.target.Denial.TheVariants.{Register, NoRegister}
-use Rattle.board_spec.specs.Bits.{is_within}
+use Rattle.board_spec.specs.Ranges.{lies_in, selectable_bios, expansion_range, largest_top}
 use Rattle.board_spec.specs.Decode.{Window, first_of, line_where, is_smram_range, command_of, rom_register_of, pam_register, abort_denial}
-use Rattle.board_spec.specs.RegisterNames.{bridge, isa}
+use Rattle.board_spec.specs.RegisterNames.{drb, xbcs as select_register, smram as smram_register, fdhc as hole_register}
 use Rattle.addr_decode.specs.Memory.{board_denial, card_denial}
 
 abbrev pub after_board : Option Denial → (shut rom : Option Window) → ℕ → Denial
 after_board (Some denial) shut rom addr = denial
-after_board None shut rom addr = card_denial (option_map (λ window. window.dev) shut) (option_map (λ window. window.dev) rom) addr
+after_board None shut rom addr =
+    card_denial (option_map (λ window. window.dev) shut) (option_map (λ window. window.dev) rom) addr
 
 abbrev rest : (shut rom : Option Window) → Bool → Denial
-rest shut rom dram = first_of (option_map command_of shut ∷ option_map rom_register_of rom ∷ line_where dram (Register (bridge 0x67)) ∷ []) NoRegister
+rest shut rom dram =
+    first_of (option_map command_of shut ∷ option_map rom_register_of rom ∷ line_where dram (Register (drb 7)) ∷ [])
+    NoRegister
 
 abbrev lines : (high smram windows some low dram : Bool) → Reg → (shut rom : Option Window) → Denial
 lines high smram windows some low dram pam shut rom =
     first_of
-    (line_where high (Register (isa 0x4E))
-    ∷ line_where (smram && some) (Register (bridge 0x72))
+    (line_where high (Register select_register)
+    ∷ line_where (smram && some) (Register smram_register)
     ∷ line_where (windows && some) (Register pam)
-    ∷ line_where low (Register (bridge 0x68))
+    ∷ line_where low (Register hole_register)
     ∷ option_map command_of shut
     ∷ option_map rom_register_of rom
-    ∷ line_where dram (Register (bridge 0x67))
+    ∷ line_where dram (Register (drb 7))
     ∷ [])
     NoRegister
 
 abbrev board : (high none smram windows low : Bool) → Reg → Option Denial
 board high none smram windows low pam =
-    if high then Some (Register (isa 0x4E)) else
+    if high then Some (Register select_register) else
     if none then None else
-    if smram then Some (Register (bridge 0x72)) else if windows then Some (Register pam) else line_where low (Register (bridge 0x68))
+    if smram then Some (Register smram_register) else if windows then Some (Register pam) else line_where low
+    (Register hole_register)
 
-by_dram : (dram : Bool) → rest None None dram ≡ (if dram then Register (bridge 0x67) else NoRegister)
+by_dram : (dram : Bool) → rest None None dram ≡ (if dram then Register (drb 7) else NoRegister)
 by_dram true = refl
 by_dram false = refl
 
-rest_in_order : (shut rom : Option Window) (addr : ℕ) → rest shut rom (nat_lt addr 0x7F80_0000) ≡ after_board None shut rom addr
+rest_in_order :
+    (shut rom : Option Window) (addr : ℕ) → rest shut rom (nat_lt addr largest_top) ≡ after_board None shut rom addr
 rest_in_order (Some window) rom addr = refl
 rest_in_order None (Some window) addr = refl
-rest_in_order None None addr = by_dram (nat_lt addr 0x7F80_0000)
+rest_in_order None None addr = by_dram (nat_lt addr largest_top)
 
 in_order :
     (high none smram windows some low : Bool) (pam : Reg) (shut rom : Option Window) (addr : ℕ) →
     some ≡ not none → (none && low) ≡ false →
-    lines high smram windows some low (nat_lt addr 0x7F80_0000) pam shut rom ≡ after_board (board high none smram windows low pam) shut rom addr
+    lines high smram windows some low (nat_lt addr largest_top) pam shut rom
+    ≡ after_board (board high none smram windows low pam) shut rom addr
 in_order true none smram windows some low pam shut rom addr has apart = refl
 in_order false true true true some false pam shut rom addr has apart = rw has (rest_in_order shut rom addr)
 in_order false true true false some false pam shut rom addr has apart = rw has (rest_in_order shut rom addr)
@@ -66,10 +72,13 @@ some_dram top = grind (arith, nat_tests)
 none_below : (top addr : ℕ) → ((top == 0) && nat_lt addr top) ≡ false
 none_below top addr = grind (arith, nat_tests)
 
-pub denials_in_order : (top : ℕ) (shut rom : Option Window) (addr : ℕ) → abort_denial top shut rom addr ≡ after_board (board_denial top addr) shut rom addr
+pub denials_in_order :
+    (top : ℕ) (shut rom : Option Window) (addr : ℕ) →
+    abort_denial top shut rom addr ≡ after_board (board_denial top addr) shut rom addr
 unfolding board_denial
 denials_in_order top shut rom addr =
-    in_order (is_within 0xFFF8_0000 0xFFFE_FFFF addr) (top == 0) (is_smram_range addr) (is_within 0xC_0000 0xE_FFFF addr) (nat_lt 0 top) (nat_lt addr top)
+    in_order (lies_in selectable_bios addr) (top == 0) (is_smram_range addr) (lies_in expansion_range addr)
+    (nat_lt 0 top) (nat_lt addr top)
     (pam_register addr) shut rom addr (some_dram top) (none_below top addr)
 
 -- a register of the board denies
@@ -89,7 +98,8 @@ card_denies top by addr shut rom dev is same found =
     ∙ sym (denials_in_order top shut rom addr)
 
 pub rom_denies : (top by addr : ℕ) (shut rom : Option Window) (dev : Option ℕ) →
-    None ≡ board_denial by addr → by ≡ top → None ≡ option_map (λ window. window.dev) shut → dev ≡ option_map (λ window. window.dev) rom →
+    None ≡ board_denial by addr → by ≡ top → None ≡ option_map (λ window. window.dev) shut →
+    dev ≡ option_map (λ window. window.dev) rom →
     card_denial None dev addr ≡ abort_denial top shut rom addr
 rom_denies top by addr shut rom dev is same none found =
     ap (λ (d : Option ℕ). card_denial None d addr) found ∙ card_denies top by addr shut rom None is same none

@@ -1,40 +1,48 @@
 -- How many edges a board has, and how many of them lie above an address.
-use Rattle.std.proofs.Common.{◌≡◌, ℕ, ◌+◌, ◌*◌, ◌<◌, ◌≤◌, inl, inr, true, false, List, [], ◌∷◌, ◌++◌, length, Option, Some, None, sym, subst, arith}
+use Rattle.std.proofs.Common.{◌≡◌, ℕ, ◌+◌, ◌*◌, ◌<◌, ◌≤◌, inl, inr, true, false, List, [], ◌∷◌, ◌++◌, length, Option, Some, None, arith}
 use Rattle.std.specs.Prelude.{nat_lt, All, filter, flat_map, IfSome}
 use Rattle.std.specs.List.{Contains, enumerate_from}
 use Rattle.std.proofs.lemmas.Bool.{cases_Bool}
 use Rattle.std.proofs.lemmas.Bool.Decides.{nat_tests}
-use Rattle.std.proofs.lemmas.List.{length-append, length-map}
-use Rattle.std.proofs.lemmas.List.Elements.{All-head, All-tail, All-map}
+use Rattle.std.proofs.lemmas.List.{length-append}
+use Rattle.std.proofs.lemmas.List.Elements.{All-head, All-tail}
 use Rattle.board_spec.specs.Setup.{Base, MemoryBase, IoBase, FittedCard, Setup, IsCard, IsCardList}
 use Rattle.board_spec.specs.Decode.{Bytes, memory_window, rom_window, rom_window_of}
-use Rattle.pci_bars.specs.Cards.{CardBytes, AreDecoded, cards_of, AreFitted}
 use Rattle.addr_decode.specs.Edges.{fixed_edges, window_edges, card_edges, edges_of, edges_after, IsNextEdge, FewEdges}
 use Rattle.addr_decode.proofs.EdgeSearchLemmas.{contains_cases}
 
 few_of_bases :
     (bytes : Bytes) (dev k : ℕ) (bases : List Base) →
-    length (flat_map (λ numbered. flat_map window_edges (memory_window bytes dev numbered.0 numbered.1)) (enumerate_from k bases)) ≤ 2 * length bases
+    length
+    (flat_map (λ numbered. flat_map window_edges (memory_window bytes dev numbered.0 numbered.1))
+    (enumerate_from k bases)) ≤ 2 * length bases
 few_of_bases bytes dev k [] = omega arith
 few_of_bases bytes dev k (MemoryBase bits ∷ later) = omega (arith, few_of_bases bytes dev (k + 1) later)
 few_of_bases bytes dev k (IoBase bits ∷ later) = omega (arith, few_of_bases bytes dev (k + 1) later)
 
-few_of_rom : (bytes : Bytes) (dev : ℕ) (rom : Option ℕ) → length (flat_map window_edges (rom_window_of bytes dev rom)) ≤ 2
+few_of_rom :
+    (bytes : Bytes) (dev : ℕ) (rom : Option ℕ) → length (flat_map window_edges (rom_window_of bytes dev rom)) ≤ 2
 few_of_rom bytes dev None = omega arith
 few_of_rom bytes dev (Some bits) = omega arith
 
-few_of_cards : (bytes : Bytes) (cards : List FittedCard) → All IsCard cards → length (flat_map (card_edges bytes) cards) ≤ 14 * length cards
+few_of_cards :
+    (bytes : Bytes) (cards : List FittedCard) → All IsCard cards →
+    length (flat_map (card_edges bytes) cards) ≤ 14 * length cards
 few_of_cards bytes [] each = omega arith
 few_of_cards bytes (card ∷ later) each =
     let here : IsCard card = All-head IsCard card later each in
     let count : length card.bases ≤ 6 = here.count in
-    let bases : List ℕ = flat_map (λ numbered. flat_map window_edges (memory_window bytes card.dev numbered.0 numbered.1)) (enumerate_from 0 card.bases) in
+    let bases : List ℕ =
+    flat_map (λ numbered. flat_map window_edges (memory_window bytes card.dev numbered.0 numbered.1))
+    (enumerate_from 0 card.bases) in
     let rom : List ℕ = flat_map window_edges (rom_window bytes card) in
     let two : length (card_edges bytes card) ≡ length bases + length rom = length-append bases rom in
     let few : length bases ≤ 2 * length card.bases = few_of_bases bytes card.dev 0 card.bases in
     let few_more : length rom ≤ 2 = few_of_rom bytes card.dev card.rom in
-    let rest : length (flat_map (card_edges bytes) later) ≤ 14 * length later = few_of_cards bytes later (All-tail IsCard card later each) in
-    let all : length (card_edges bytes card ++ flat_map (card_edges bytes) later) ≡ length (card_edges bytes card) + length (flat_map (card_edges bytes) later) =
+    let rest : length (flat_map (card_edges bytes) later) ≤ 14 * length later =
+    few_of_cards bytes later (All-tail IsCard card later each) in
+    let all : length (card_edges bytes card ++ flat_map (card_edges bytes) later)
+    ≡ length (card_edges bytes card) + length (flat_map (card_edges bytes) later) =
     length-append (card_edges bytes card) (flat_map (card_edges bytes) later) in
     omega arith
 
@@ -42,7 +50,8 @@ pub few_edges : FewEdges
 unfolding edges_of fixed_edges
 few_edges setup bytes cards =
     let count : length setup.cards ≤ 8 = cards.count in
-    let few : length (flat_map (card_edges bytes) setup.cards) ≤ 14 * length setup.cards = few_of_cards bytes setup.cards cards.each in
+    let few : length (flat_map (card_edges bytes) setup.cards) ≤ 14 * length setup.cards =
+    few_of_cards bytes setup.cards cards.each in
     omega arith
 
 -- ---- above an address
@@ -56,24 +65,14 @@ few_kept addr (edge ∷ later) =
     ]
 
 -- a board has at most 141 edges above an address
-pub few_edges_after : (setup : Setup) (bytes : Bytes) (addr : ℕ) → IsCardList setup.cards → edges_after setup bytes addr ≤ 141
-few_edges_after setup bytes addr cards = omega (arith, few_kept addr (edges_of setup bytes), few_edges setup bytes cards)
+pub few_edges_after :
+    (setup : Setup) (bytes : Bytes) (addr : ℕ) → IsCardList setup.cards → edges_after setup bytes addr ≤ 141
+few_edges_after setup bytes addr cards =
+    omega (arith, few_kept addr (edges_of setup bytes), few_edges setup bytes cards)
 
--- the cards that a board's registers have are a list that a board can be fitted with
-pub fitted_setup : (setup : Setup) (cards : List CardBytes) → AreFitted cards → length cards ≤ 8 → setup.cards ≡ cards_of cards → IsCardList setup.cards
-fitted_setup setup cards fitted count same =
-    subst IsCardList (sym same) (record {
-      count = omega (arith, length-map cards (λ (card : CardBytes). card.card));
-      each = All-map IsCard (λ (card : CardBytes). card.card) cards fitted.each;
-      rises = fitted.rises;
-    })
-
-pub few_edges_of_fitted :
-    (setup : Setup) (bytes : Bytes) (addr : ℕ) (cards : List CardBytes) → AreFitted cards → length cards ≤ 8 → AreDecoded setup bytes cards →
-    edges_after setup bytes addr ≤ 141
-few_edges_of_fitted setup bytes addr cards fitted count are = few_edges_after setup bytes addr (fitted_setup setup cards fitted count are.0)
-
-pub no_more : (low high : ℕ) (edges : List ℕ) → low ≤ high → length (filter (nat_lt high) edges) ≤ length (filter (nat_lt low) edges)
+pub no_more :
+    (low high : ℕ) (edges : List ℕ) → low ≤ high →
+    length (filter (nat_lt high) edges) ≤ length (filter (nat_lt low) edges)
 no_more low high [] order = omega arith
 no_more low high (edge ∷ later) order =
     elim (cases_Bool (nat_lt high edge)) [
@@ -87,7 +86,9 @@ no_more low high (edge ∷ later) order =
           ]
     ]
 
-one_less : (addr edge : ℕ) (edges : List ℕ) → addr < edge → Contains edges edge → length (filter (nat_lt edge) edges) < length (filter (nat_lt addr) edges)
+one_less :
+    (addr edge : ℕ) (edges : List ℕ) → addr < edge → Contains edges edge →
+    length (filter (nat_lt edge) edges) < length (filter (nat_lt addr) edges)
 one_less addr edge [] above (k, within, is) = absurd (omega arith)
 one_less addr edge (first ∷ later) above has =
     elim (contains_cases first edge later has) [
@@ -109,9 +110,13 @@ one_less addr edge (first ∷ later) above has =
     ]
 
 -- fewer edges lie above the next edge
-pub fewer_after_next : (setup : Setup) (bytes : Bytes) (addr edge : ℕ) → IsNextEdge setup bytes addr edge → edges_after setup bytes edge < edges_after setup bytes addr
+pub fewer_after_next :
+    (setup : Setup) (bytes : Bytes) (addr edge : ℕ) → IsNextEdge setup bytes addr edge →
+    edges_after setup bytes edge < edges_after setup bytes addr
 fewer_after_next setup bytes addr edge next = one_less addr edge (edges_of setup bytes) next.above next.is_edge.listed
 
-pub fewer_after : (setup : Setup) (bytes : Bytes) (addr : ℕ) (found : Option ℕ) → IfSome found (IsNextEdge setup bytes addr) → IfSome found (λ edge. edges_after setup bytes edge < edges_after setup bytes addr)
+pub fewer_after :
+    (setup : Setup) (bytes : Bytes) (addr : ℕ) (found : Option ℕ) → IfSome found (IsNextEdge setup bytes addr) →
+    IfSome found (λ edge. edges_after setup bytes edge < edges_after setup bytes addr)
 fewer_after setup bytes addr None next = tt
 fewer_after setup bytes addr (Some edge) next = fewer_after_next setup bytes addr edge next

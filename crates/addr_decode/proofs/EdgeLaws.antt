@@ -1,6 +1,6 @@
 -- Between two edges all addresses have the same areas.
-use Rattle.std.proofs.Common.{◌≡◌, ℕ, zero, suc, ◌+◌, ◌-◌, ◌*◌, ◌/◌, ◌^◌, ◌<◌, ◌≤◌, inl, inr, Bool, true, false, not, ◌&&◌, List, [], ◌∷◌, ◌++◌, Option, Some, None, refl, arith}
-use Rattle.std.specs.Prelude.{◌==◌, nat_lt, nat_le, All, flat_map, is_some, unwrap_or, option_map, if◌then◌else◌, slice_index_or, IfSome, IsNone}
+use Rattle.std.proofs.Common.{◌≡◌, ℕ, zero, suc, ◌+◌, ◌-◌, ◌*◌, ◌/◌, ◌^◌, ◌<◌, ◌≤◌, inl, inr, Bool, true, false, List, [], ◌∷◌, ◌++◌, Option, Some, None, refl, arith}
+use Rattle.std.specs.Prelude.{◌==◌, nat_lt, nat_le, All, flat_map, unwrap_or, if◌then◌else◌, slice_index_or, IfSome, IsNone}
 use Rattle.std.specs.List.{Contains, AllByRecursion, enumerate_from}
 use Rattle.std.proofs.lemmas.Bool.{cases_Bool, cases_lt}
 use Rattle.std.proofs.lemmas.Bool.Decides.{nat_tests}
@@ -8,14 +8,14 @@ use Rattle.std.proofs.lemmas.Nat.{div_below, le-div, pow_pos}
 use Rattle.std.proofs.lemmas.List.Elements.{All-contains_itself, recursion_from_All, Contains-append_left, Contains-append_right}
 use Rattle.board_base.specs.declared.access.Kind.{Kind}
 use Rattle.board_base.specs.declared.access.Kind.TheVariants.{Fetch, Read, Write}
-use Rattle.board_base.specs.declared.target.Area.{Area}
-use Rattle.board_base.specs.declared.target.Area.TheVariants.{Dram, Shadow, Smram, Rom, Abort}
 use Rattle.board_base.specs.declared.target.Reg.{Reg}
 use Rattle.board_spec.specs.Setup.{Base, MemoryBase, IoBase, FittedCard, Setup}
+use Rattle.board_spec.specs.Ranges.{lies_in, smram_range, upper_memory, shadow_range, hole_at_512_kib, hole_at_15_mib, system_bios, high_bios, lower_bios, lower_high_bios, extended_bios}
 use Rattle.board_spec.specs.Bits.{is_within}
-use Rattle.board_spec.specs.Decode.{Bytes, Window, boundary, row_of, is_in, hole_of, pam_register, is_high_window, nibble, is_open, is_shadow_range, is_shadowed, smram_answers, is_smram_range, is_rom_selected, is_covered, base_value, rom_value, memory_window, rom_window, rom_window_of, is_rom_on, vga_window, memory_windows, is_enabled_for, first_window, memory_claim, line_where, first_of, card_area, area_of}
-use Rattle.board_spec.specs.RegisterNames.{bridge, isa}
+use Rattle.board_spec.specs.Decode.{Bytes, Window, boundary, row_of, is_in, hole_of, pam_register, is_high_window, nibble, is_open, is_shadow_range, is_shadowed, smram_answers, is_smram_range, is_rom_selected, is_covered, base_value, rom_value, memory_window, rom_window, rom_window_of, is_rom_on, vga_window, memory_windows, is_enabled_for, first_window, memory_claim, area_of}
+use Rattle.board_spec.specs.RegisterNames.{xbcs as select_register, smram as smram_register, fdhc as hole_register}
 use Rattle.board_spec.specs.FlatMap.{address_count, six_areas}
+use Rattle.addr_decode.proofs.MemoryLemmas.{table}
 use Rattle.addr_decode.specs.Edges.{fixed_edges, row_edges, first_address, window_edges, card_edges, edges_of, IsNextEdge, NoEdgeAbove, SameAreas, AreasChangeAtEdges}
 
 -- an edge above the first address lies above the other too
@@ -28,12 +28,18 @@ record Between (setup : Setup) (bytes : Bytes) (addr x : ℕ) : Type 0 where
   pub last : x < address_count
   pub clear : (edge : ℕ) → Contains (edges_of setup bytes) edge → Clear addr x edge
 
-fixed_clear : (setup : Setup) (bytes : Bytes) (addr x k edge : ℕ) → Between setup bytes addr x → k < 21 → slice_index_or fixed_edges k edge ≡ edge → Clear addr x edge
+fixed_clear :
+    (setup : Setup) (bytes : Bytes) (addr x k edge : ℕ) → Between setup bytes addr x → k < 21 →
+    slice_index_or fixed_edges k edge ≡ edge → Clear addr x edge
 unfolding edges_of fixed_edges
 fixed_clear setup bytes addr x k edge between within is =
-    between.clear edge (Contains-append_left fixed_edges (row_edges bytes ++ flat_map (card_edges bytes) setup.cards) edge (k, omega arith, is))
+    between.clear edge
+    (Contains-append_left fixed_edges (row_edges bytes ++ flat_map (card_edges bytes) setup.cards) edge
+    (k, omega arith, is))
 
-row_clear : (setup : Setup) (bytes : Bytes) (addr x k edge : ℕ) → Between setup bytes addr x → k < 8 → slice_index_or (row_edges bytes) k edge ≡ edge → Clear addr x edge
+row_clear :
+    (setup : Setup) (bytes : Bytes) (addr x k edge : ℕ) → Between setup bytes addr x → k < 8 →
+    slice_index_or (row_edges bytes) k edge ≡ edge → Clear addr x edge
 unfolding edges_of
 row_clear setup bytes addr x k edge between within is =
     between.clear edge
@@ -42,7 +48,9 @@ row_clear setup bytes addr x k edge between within is =
 
 -- ---- fixed ranges
 
-within_same : (first last addr x : ℕ) → addr ≤ x → Clear addr x first → Clear addr x (last + 1) → is_within first last x ≡ is_within first last addr
+within_same :
+    (first last addr x : ℕ) → addr ≤ x → Clear addr x first → Clear addr x (last + 1) →
+    is_within first last x ≡ is_within first last addr
 within_same first last addr x order at_first at_end =
     elim (cases_lt addr first) [
       | inl before ↦ let still : x < first = at_first before in grind (arith, nat_tests)
@@ -53,32 +61,53 @@ within_same first last addr x order at_first at_end =
           ]
     ]
 
-smram_range_same : (setup : Setup) (bytes : Bytes) (addr x : ℕ) → Between setup bytes addr x → is_smram_range x ≡ is_smram_range addr
+smram_range_same :
+    (setup : Setup) (bytes : Bytes) (addr x : ℕ) → Between setup bytes addr x → is_smram_range x ≡ is_smram_range addr
 unfolding fixed_edges
 smram_range_same setup bytes addr x between =
-    within_same 0xA_0000 0xB_FFFF addr x between.order (fixed_clear setup bytes addr x 1 0xA_0000 between (omega arith) refl) (fixed_clear setup bytes addr x 2 0xC_0000 between (omega arith) refl)
+    within_same smram_range.0 smram_range.1 addr x between.order
+    (fixed_clear setup bytes addr x 1 0xA_0000 between (omega arith) refl)
+    (fixed_clear setup bytes addr x 2 0xC_0000 between (omega arith) refl)
 
-legacy_range_same : (setup : Setup) (bytes : Bytes) (addr x : ℕ) → Between setup bytes addr x → is_within 0xA_0000 0xF_FFFF x ≡ is_within 0xA_0000 0xF_FFFF addr
+upper_memory_same :
+    (setup : Setup) (bytes : Bytes) (addr x : ℕ) → Between setup bytes addr x →
+    lies_in upper_memory x ≡ lies_in upper_memory addr
 unfolding fixed_edges
-legacy_range_same setup bytes addr x between =
-    within_same 0xA_0000 0xF_FFFF addr x between.order (fixed_clear setup bytes addr x 1 0xA_0000 between (omega arith) refl) (fixed_clear setup bytes addr x 15 0x10_0000 between (omega arith) refl)
+upper_memory_same setup bytes addr x between =
+    within_same upper_memory.0 upper_memory.1 addr x between.order
+    (fixed_clear setup bytes addr x 1 0xA_0000 between (omega arith) refl)
+    (fixed_clear setup bytes addr x 15 0x10_0000 between (omega arith) refl)
 
-shadow_range_same : (setup : Setup) (bytes : Bytes) (addr x : ℕ) → Between setup bytes addr x → is_shadow_range x ≡ is_shadow_range addr
+shadow_range_same :
+    (setup : Setup) (bytes : Bytes) (addr x : ℕ) → Between setup bytes addr x →
+    is_shadow_range x ≡ is_shadow_range addr
 unfolding fixed_edges
 shadow_range_same setup bytes addr x between =
-    within_same 0xC_0000 0xF_FFFF addr x between.order (fixed_clear setup bytes addr x 2 0xC_0000 between (omega arith) refl) (fixed_clear setup bytes addr x 15 0x10_0000 between (omega arith) refl)
+    within_same shadow_range.0 shadow_range.1 addr x between.order
+    (fixed_clear setup bytes addr x 2 0xC_0000 between (omega arith) refl)
+    (fixed_clear setup bytes addr x 15 0x10_0000 between (omega arith) refl)
 
-low_hole_same : (setup : Setup) (bytes : Bytes) (addr x : ℕ) → Between setup bytes addr x → is_within 0x8_0000 0x9_FFFF x ≡ is_within 0x8_0000 0x9_FFFF addr
+low_hole_same :
+    (setup : Setup) (bytes : Bytes) (addr x : ℕ) → Between setup bytes addr x →
+    lies_in hole_at_512_kib x ≡ lies_in hole_at_512_kib addr
 unfolding fixed_edges
 low_hole_same setup bytes addr x between =
-    within_same 0x8_0000 0x9_FFFF addr x between.order (fixed_clear setup bytes addr x 0 0x8_0000 between (omega arith) refl) (fixed_clear setup bytes addr x 1 0xA_0000 between (omega arith) refl)
+    within_same hole_at_512_kib.0 hole_at_512_kib.1 addr x between.order
+    (fixed_clear setup bytes addr x 0 0x8_0000 between (omega arith) refl)
+    (fixed_clear setup bytes addr x 1 0xA_0000 between (omega arith) refl)
 
-high_hole_same : (setup : Setup) (bytes : Bytes) (addr x : ℕ) → Between setup bytes addr x → is_within 0xF0_0000 0xFF_FFFF x ≡ is_within 0xF0_0000 0xFF_FFFF addr
+high_hole_same :
+    (setup : Setup) (bytes : Bytes) (addr x : ℕ) → Between setup bytes addr x →
+    lies_in hole_at_15_mib x ≡ lies_in hole_at_15_mib addr
 unfolding fixed_edges
 high_hole_same setup bytes addr x between =
-    within_same 0xF0_0000 0xFF_FFFF addr x between.order (fixed_clear setup bytes addr x 16 0xF0_0000 between (omega arith) refl) (fixed_clear setup bytes addr x 17 0x100_0000 between (omega arith) refl)
+    within_same hole_at_15_mib.0 hole_at_15_mib.1 addr x between.order
+    (fixed_clear setup bytes addr x 16 0xF0_0000 between (omega arith) refl)
+    (fixed_clear setup bytes addr x 17 0x100_0000 between (omega arith) refl)
 
-hole_same : (setup : Setup) (bytes : Bytes) (addr x fdhc : ℕ) → Between setup bytes addr x → is_in (hole_of fdhc) x ≡ is_in (hole_of fdhc) addr
+hole_same :
+    (setup : Setup) (bytes : Bytes) (addr x fdhc : ℕ) → Between setup bytes addr x →
+    is_in (hole_of fdhc) x ≡ is_in (hole_of fdhc) addr
 hole_same setup bytes addr x fdhc between =
     elim (cases_Bool (fdhc / 0x40 == 1)) [
       | inl low ↦ rw low (low_hole_same setup bytes addr x between)
@@ -90,15 +119,26 @@ hole_same setup bytes addr x fdhc between =
     ]
 
 -- the ranges of the ROM
-rom_same : (setup : Setup) (bytes : Bytes) (addr x xbcs : ℕ) → Between setup bytes addr x → is_rom_selected xbcs x ≡ is_rom_selected xbcs addr
+rom_same :
+    (setup : Setup) (bytes : Bytes) (addr x xbcs : ℕ) → Between setup bytes addr x →
+    is_rom_selected xbcs x ≡ is_rom_selected xbcs addr
 unfolding fixed_edges
 rom_same setup bytes addr x xbcs between =
     rw (
-      within_same 0xF_0000 0xF_FFFF addr x between.order (fixed_clear setup bytes addr x 14 0xF_0000 between (omega arith) refl) (fixed_clear setup bytes addr x 15 0x10_0000 between (omega arith) refl),
-      within_same 0xFFFF_0000 0xFFFF_FFFF addr x between.order (fixed_clear setup bytes addr x 20 0xFFFF_0000 between (omega arith) refl) (λ _. between.last),
-      within_same 0xE_0000 0xE_FFFF addr x between.order (fixed_clear setup bytes addr x 10 0xE_0000 between (omega arith) refl) (fixed_clear setup bytes addr x 14 0xF_0000 between (omega arith) refl),
-      within_same 0xFFFE_0000 0xFFFE_FFFF addr x between.order (fixed_clear setup bytes addr x 19 0xFFFE_0000 between (omega arith) refl) (fixed_clear setup bytes addr x 20 0xFFFF_0000 between (omega arith) refl),
-      within_same 0xFFF8_0000 0xFFFD_FFFF addr x between.order (fixed_clear setup bytes addr x 18 0xFFF8_0000 between (omega arith) refl) (fixed_clear setup bytes addr x 19 0xFFFE_0000 between (omega arith) refl),
+      within_same system_bios.0 system_bios.1 addr x between.order
+          (fixed_clear setup bytes addr x 14 0xF_0000 between (omega arith) refl)
+          (fixed_clear setup bytes addr x 15 0x10_0000 between (omega arith) refl),
+      within_same high_bios.0 high_bios.1 addr x between.order
+          (fixed_clear setup bytes addr x 20 0xFFFF_0000 between (omega arith) refl) (λ _. between.last),
+      within_same lower_bios.0 lower_bios.1 addr x between.order
+          (fixed_clear setup bytes addr x 10 0xE_0000 between (omega arith) refl)
+          (fixed_clear setup bytes addr x 14 0xF_0000 between (omega arith) refl),
+      within_same lower_high_bios.0 lower_high_bios.1 addr x between.order
+          (fixed_clear setup bytes addr x 19 0xFFFE_0000 between (omega arith) refl)
+          (fixed_clear setup bytes addr x 20 0xFFFF_0000 between (omega arith) refl),
+      within_same extended_bios.0 extended_bios.1 addr x between.order
+          (fixed_clear setup bytes addr x 18 0xFFF8_0000 between (omega arith) refl)
+          (fixed_clear setup bytes addr x 19 0xFFFE_0000 between (omega arith) refl),
     ) refl
 
 -- ---- shadow windows
@@ -112,25 +152,38 @@ start_listed : (from count k edge : ℕ) → k < count → edge ≡ from + 0x400
 start_listed from zero k edge below is = absurd (omega arith)
 start_listed from (suc count) zero edge below is = (0, omega arith, omega arith)
 start_listed from (suc count) (suc k) edge below is =
-    Contains-append_right (from ∷ []) (starts (from + 0x4000) count) edge (start_listed (from + 0x4000) count k edge (omega arith) (omega arith))
+    Contains-append_right (from ∷ []) (starts (from + 0x4000) count) edge
+    (start_listed (from + 0x4000) count k edge (omega arith) (omega arith))
+
+-- the fixed edges above the last start
+abbrev above_windows : List ℕ
+above_windows = 0x10_0000 ∷ 0xF0_0000 ∷ 0x100_0000 ∷ 0xFFF8_0000 ∷ 0xFFFE_0000 ∷ 0xFFFF_0000 ∷ []
 
 -- every start from C0000h to F0000h is an edge
-window_clear : (setup : Setup) (bytes : Bytes) (addr x k : ℕ) → Between setup bytes addr x → k < 13 → Clear addr x (0xC_0000 + 0x4000 * k)
+window_clear :
+    (setup : Setup) (bytes : Bytes) (addr x k : ℕ) → Between setup bytes addr x → k < 13 →
+    Clear addr x (0xC_0000 + 0x4000 * k)
 unfolding edges_of fixed_edges
 window_clear setup bytes addr x k between below =
     between.clear (0xC_0000 + 0x4000 * k)
-    (Contains-append_left fixed_edges (row_edges bytes ++ flat_map (card_edges bytes) setup.cards) (0xC_0000 + 0x4000 * k)
-    (Contains-append_right (0x8_0000 ∷ 0xA_0000 ∷ []) (starts 0xC_0000 13 ++ (0x10_0000 ∷ 0xF0_0000 ∷ 0x100_0000 ∷ 0xFFF8_0000 ∷ 0xFFFE_0000 ∷ 0xFFFF_0000 ∷ [])) (0xC_0000 + 0x4000 * k)
-    (Contains-append_left (starts 0xC_0000 13) (0x10_0000 ∷ 0xF0_0000 ∷ 0x100_0000 ∷ 0xFFF8_0000 ∷ 0xFFFE_0000 ∷ 0xFFFF_0000 ∷ []) (0xC_0000 + 0x4000 * k)
+    (Contains-append_left fixed_edges (row_edges bytes ++ flat_map (card_edges bytes) setup.cards)
+    (0xC_0000 + 0x4000 * k)
+    (Contains-append_right (0x8_0000 ∷ 0xA_0000 ∷ []) (starts 0xC_0000 13 ++ above_windows) (0xC_0000 + 0x4000 * k)
+    (Contains-append_left (starts 0xC_0000 13) above_windows (0xC_0000 + 0x4000 * k)
     (start_listed 0xC_0000 13 k (0xC_0000 + 0x4000 * k) below refl))))
 
-window_same : (setup : Setup) (bytes : Bytes) (addr x : ℕ) → Between setup bytes addr x → 0xC_0000 ≤ addr → addr < 0xF_0000 → x / 0x4000 ≡ addr / 0x4000
+window_same :
+    (setup : Setup) (bytes : Bytes) (addr x : ℕ) → Between setup bytes addr x → 0xC_0000 ≤ addr → addr < 0xF_0000 →
+    x / 0x4000 ≡ addr / 0x4000
 window_same setup bytes addr x between above below =
     let order : addr ≤ x = between.order in
-    let still : x < 0xC_0000 + 0x4000 * (addr / 0x4000 - 0x2F) = window_clear setup bytes addr x (addr / 0x4000 - 0x2F) between (omega arith) (omega arith) in
+    let still : x < 0xC_0000 + 0x4000 * (addr / 0x4000 - 0x2F) =
+    window_clear setup bytes addr x (addr / 0x4000 - 0x2F) between (omega arith) (omega arith) in
     omega arith
 
-governed_same : (setup : Setup) (bytes : Bytes) (addr x : ℕ) → Between setup bytes addr x → is_shadow_range addr ≡ true → (pam_register x ≡ pam_register addr) × (is_high_window x ≡ is_high_window addr)
+governed_same :
+    (setup : Setup) (bytes : Bytes) (addr x : ℕ) → Between setup bytes addr x → is_shadow_range addr ≡ true →
+    (pam_register x ≡ pam_register addr) × (is_high_window x ≡ is_high_window addr)
 unfolding fixed_edges
 governed_same setup bytes addr x between shadow =
     let order : addr ≤ x = between.order in
@@ -149,16 +202,21 @@ governed_same setup bytes addr x between shadow =
           (rw (high, high') refl, rw (high, high') refl)
     ]
 
-opened_same : (bytes : Bytes) (kind : Kind) (reg reg' : Reg) (high high' : Bool) → reg' ≡ reg → high' ≡ high → is_open (nibble (bytes reg') high') kind ≡ is_open (nibble (bytes reg) high) kind
+opened_same :
+    (bytes : Bytes) (kind : Kind) (reg reg' : Reg) (high high' : Bool) → reg' ≡ reg → high' ≡ high →
+    is_open (nibble (bytes reg') high') kind ≡ is_open (nibble (bytes reg) high) kind
 opened_same bytes kind reg reg' high high' same_reg same_high = rw (same_reg, same_high) refl
 
-shadowed_same : (setup : Setup) (bytes : Bytes) (addr x : ℕ) (kind : Kind) → Between setup bytes addr x → is_shadowed bytes x kind ≡ is_shadowed bytes addr kind
+shadowed_same :
+    (setup : Setup) (bytes : Bytes) (addr x : ℕ) (kind : Kind) → Between setup bytes addr x →
+    is_shadowed bytes x kind ≡ is_shadowed bytes addr kind
 shadowed_same setup bytes addr x kind between =
     elim (cases_Bool (is_shadow_range addr)) [
       | inr outside ↦ rw (shadow_range_same setup bytes addr x between, outside) refl
       | inl inside ↦
           let governed = governed_same setup bytes addr x between inside in
-          rw (shadow_range_same setup bytes addr x between, inside) (opened_same bytes kind _ _ _ _ governed.0 governed.1)
+          rw (shadow_range_same setup bytes addr x between, inside)
+          (opened_same bytes kind _ _ _ _ governed.0 governed.1)
     ]
 
 -- ---- rows of DRAM
@@ -170,11 +228,16 @@ before_same addr x edge order clear =
       | inr not_before ↦ grind (arith, nat_tests)
     ]
 
-below_same : (setup : Setup) (bytes : Bytes) (addr x row : ℕ) → Between setup bytes addr x → row < 8 → slice_index_or (row_edges bytes) row (boundary bytes row) ≡ boundary bytes row → nat_lt x (boundary bytes row) ≡ nat_lt addr (boundary bytes row)
+below_same :
+    (setup : Setup) (bytes : Bytes) (addr x row : ℕ) → Between setup bytes addr x → row < 8 →
+    slice_index_or (row_edges bytes) row (boundary bytes row) ≡ boundary bytes row →
+    nat_lt x (boundary bytes row) ≡ nat_lt addr (boundary bytes row)
 below_same setup bytes addr x row between within is =
-    before_same addr x (boundary bytes row) between.order (row_clear setup bytes addr x row (boundary bytes row) between within is)
+    before_same addr x (boundary bytes row) between.order
+    (row_clear setup bytes addr x row (boundary bytes row) between within is)
 
-row_same : (setup : Setup) (bytes : Bytes) (addr x : ℕ) → Between setup bytes addr x → row_of bytes x ≡ row_of bytes addr
+row_same :
+    (setup : Setup) (bytes : Bytes) (addr x : ℕ) → Between setup bytes addr x → row_of bytes x ≡ row_of bytes addr
 unfolding row_of
 row_same setup bytes addr x between =
     rw (
@@ -190,7 +253,9 @@ row_same setup bytes addr x between =
 
 -- ---- memory bases of cards
 
-covered_by : (size addr x quotient : ℕ) → 0 < size → addr ≤ x → Clear addr x (quotient * size) → Clear addr x (quotient * size + size) →
+covered_by :
+    (size addr x quotient : ℕ) → 0 < size → addr ≤ x → Clear addr x (quotient * size) →
+    Clear addr x (quotient * size + size) →
     (quotient == x / size) ≡ (quotient == addr / size)
 covered_by size addr x quotient positive order at_first at_end =
     let next : (quotient + 1) * size ≡ quotient * size + size = omega arith in
@@ -220,19 +285,26 @@ covered_by size addr x quotient positive order at_first at_end =
 abbrev IsCoveredAlike : ℕ → ℕ → Window → Type 0
 IsCoveredAlike addr x window = is_covered x window ≡ is_covered addr window
 
-covered_same : (addr x : ℕ) (window : Window) → addr ≤ x → Clear addr x (first_address window) → Clear addr x (first_address window + 2 ^ window.bits) → IsCoveredAlike addr x window
+covered_same :
+    (addr x : ℕ) (window : Window) → addr ≤ x → Clear addr x (first_address window) →
+    Clear addr x (first_address window + 2 ^ window.bits) → IsCoveredAlike addr x window
 covered_same addr x window order at_first at_end =
     covered_by (2 ^ window.bits) addr x (window.inside / 2 ^ window.bits) (pow_pos window.bits) order at_first at_end
 
-vga_same : (setup : Setup) (bytes : Bytes) (addr x dev : ℕ) → Between setup bytes addr x → IsCoveredAlike addr x (record { dev = dev; base = 7; inside = 0xA_0000; bits = 17 })
+vga_same :
+    (setup : Setup) (bytes : Bytes) (addr x dev : ℕ) → Between setup bytes addr x →
+    IsCoveredAlike addr x (record { dev = dev; base = 7; inside = 0xA_0000; bits = 17 })
 unfolding fixed_edges
 vga_same setup bytes addr x dev between =
     covered_same addr x (record { dev = dev; base = 7; inside = 0xA_0000; bits = 17 }) between.order
-    (fixed_clear setup bytes addr x 1 0xA_0000 between (omega arith) refl) (fixed_clear setup bytes addr x 2 0xC_0000 between (omega arith) refl)
+    (fixed_clear setup bytes addr x 1 0xA_0000 between (omega arith) refl)
+    (fixed_clear setup bytes addr x 2 0xC_0000 between (omega arith) refl)
 
 -- ---- lists of windows
 
-all_joined : {X : Type 0} (P : X → Type 0) (xs ys : List X) → AllByRecursion P xs → AllByRecursion P ys → AllByRecursion P (xs ++ ys)
+all_joined :
+    {X : Type 0} (P : X → Type 0) (xs ys : List X) → AllByRecursion P xs → AllByRecursion P ys →
+    AllByRecursion P (xs ++ ys)
 all_joined P [] ys all_xs all_ys = all_ys
 all_joined P (x ∷ xs) ys all_xs all_ys = (all_xs.0, all_joined P xs ys all_xs.1 all_ys)
 
@@ -246,24 +318,43 @@ all_right P (x ∷ xs) ys all = all_right P xs ys all.1
 
 bases_alike :
     (bytes : Bytes) (addr x dev : ℕ) → addr ≤ x → (k : ℕ) (bases : List Base) →
-    AllByRecursion (Clear addr x) (flat_map (λ numbered. flat_map window_edges (memory_window bytes dev numbered.0 numbered.1)) (enumerate_from k bases)) →
-    AllByRecursion (IsCoveredAlike addr x) (flat_map (λ numbered. memory_window bytes dev numbered.0 numbered.1) (enumerate_from k bases))
+    AllByRecursion (Clear addr x)
+    (flat_map (λ numbered. flat_map window_edges (memory_window bytes dev numbered.0 numbered.1))
+    (enumerate_from k bases)) →
+    AllByRecursion (IsCoveredAlike addr x)
+    (flat_map (λ numbered. memory_window bytes dev numbered.0 numbered.1) (enumerate_from k bases))
 bases_alike bytes addr x dev order k [] clear = tt
-bases_alike bytes addr x dev order k (MemoryBase bits ∷ later) clear =
-    (covered_same addr x (record { dev = dev; base = k; inside = base_value bytes dev k; bits = bits }) order clear.0 clear.1.0, bases_alike bytes addr x dev order (k + 1) later clear.1.1)
-bases_alike bytes addr x dev order k (IoBase bits ∷ later) clear = bases_alike bytes addr x dev order (k + 1) later clear
+bases_alike bytes addr x dev order k (MemoryBase bits ∷ later) clear = (
+  covered_same addr x (record { dev = dev; base = k; inside = base_value bytes dev k; bits = bits }) order clear.0
+      clear.1.0,
+  bases_alike bytes addr x dev order (k + 1) later clear.1.1,
+)
+bases_alike bytes addr x dev order k (IoBase bits ∷ later) clear =
+    bases_alike bytes addr x dev order (k + 1) later clear
 
-vga_alike : (setup : Setup) (bytes : Bytes) (addr x : ℕ) (card : FittedCard) → Between setup bytes addr x → AllByRecursion (IsCoveredAlike addr x) (vga_window card)
+vga_alike :
+    (setup : Setup) (bytes : Bytes) (addr x : ℕ) (card : FittedCard) → Between setup bytes addr x →
+    AllByRecursion (IsCoveredAlike addr x) (vga_window card)
 vga_alike setup bytes addr x card between =
-    elim (cases_Bool card.vga) [ inl vga ↦ rw vga (vga_same setup bytes addr x card.dev between, tt) | inr plain ↦ rw plain tt ]
+    elim (cases_Bool card.vga) [
+      | inl vga ↦ rw vga (vga_same setup bytes addr x card.dev between, tt)
+      | inr plain ↦ rw plain tt
+    ]
 
-rom_alike : (bytes : Bytes) (addr x dev : ℕ) → addr ≤ x → (rom : Option ℕ) → AllByRecursion (Clear addr x) (flat_map window_edges (rom_window_of bytes dev rom)) →
+rom_alike :
+    (bytes : Bytes) (addr x dev : ℕ) → addr ≤ x → (rom : Option ℕ) →
+    AllByRecursion (Clear addr x) (flat_map window_edges (rom_window_of bytes dev rom)) →
     AllByRecursion (IsCoveredAlike addr x) (rom_window_of bytes dev rom)
 rom_alike bytes addr x dev order None clear = tt
-rom_alike bytes addr x dev order (Some bits) clear =
-    (covered_same addr x (record { dev = dev; base = 6; inside = rom_value bytes dev; bits = bits }) order clear.0 clear.1.0, tt)
+rom_alike bytes addr x dev order (Some bits) clear = (
+  covered_same addr x (record { dev = dev; base = 6; inside = rom_value bytes dev; bits = bits }) order clear.0
+      clear.1.0,
+  tt,
+)
 
-selected_alike : (bytes : Bytes) (addr x : ℕ) (card : FittedCard) → addr ≤ x → AllByRecursion (Clear addr x) (flat_map window_edges (rom_window bytes card)) →
+selected_alike :
+    (bytes : Bytes) (addr x : ℕ) (card : FittedCard) → addr ≤ x →
+    AllByRecursion (Clear addr x) (flat_map window_edges (rom_window bytes card)) →
     AllByRecursion (IsCoveredAlike addr x) (if is_rom_on bytes card.dev then rom_window bytes card else [])
 selected_alike bytes addr x card order clear =
     elim (cases_Bool (is_rom_on bytes card.dev)) [
@@ -273,37 +364,54 @@ selected_alike bytes addr x card order clear =
 
 cards_alike :
     (setup : Setup) (bytes : Bytes) (addr x : ℕ) → Between setup bytes addr x → (cards : List FittedCard) →
-    AllByRecursion (Clear addr x) (flat_map (card_edges bytes) cards) → AllByRecursion (IsCoveredAlike addr x) (flat_map (memory_windows bytes) cards)
+    AllByRecursion (Clear addr x) (flat_map (card_edges bytes) cards) → AllByRecursion (IsCoveredAlike addr x)
+    (flat_map (memory_windows bytes) cards)
 cards_alike setup bytes addr x between [] clear = tt
 cards_alike setup bytes addr x between (card ∷ later) clear =
-    let bases : List Window = flat_map (λ numbered. memory_window bytes card.dev numbered.0 numbered.1) (enumerate_from 0 card.bases) in
+    let bases : List Window =
+    flat_map (λ numbered. memory_window bytes card.dev numbered.0 numbered.1) (enumerate_from 0 card.bases) in
     let rom : List Window = if is_rom_on bytes card.dev then rom_window bytes card else [] in
-    let base_ends : List ℕ = flat_map (λ numbered. flat_map window_edges (memory_window bytes card.dev numbered.0 numbered.1)) (enumerate_from 0 card.bases) in
-    let here : AllByRecursion (Clear addr x) (card_edges bytes card) = all_left (Clear addr x) (card_edges bytes card) (flat_map (card_edges bytes) later) clear in
+    let base_ends : List ℕ =
+    flat_map (λ numbered. flat_map window_edges (memory_window bytes card.dev numbered.0 numbered.1))
+    (enumerate_from 0 card.bases) in
+    let here : AllByRecursion (Clear addr x) (card_edges bytes card) =
+    all_left (Clear addr x) (card_edges bytes card) (flat_map (card_edges bytes) later) clear in
     all_joined (IsCoveredAlike addr x) (memory_windows bytes card) (flat_map (memory_windows bytes) later)
     (all_joined (IsCoveredAlike addr x) (bases ++ rom) (vga_window card)
     (all_joined (IsCoveredAlike addr x) bases rom
-    (bases_alike bytes addr x card.dev between.order 0 card.bases (all_left (Clear addr x) base_ends (flat_map window_edges (rom_window bytes card)) here))
-    (selected_alike bytes addr x card between.order (all_right (Clear addr x) base_ends (flat_map window_edges (rom_window bytes card)) here)))
+    (bases_alike bytes addr x card.dev between.order 0 card.bases
+    (all_left (Clear addr x) base_ends (flat_map window_edges (rom_window bytes card)) here))
+    (selected_alike bytes addr x card between.order
+    (all_right (Clear addr x) base_ends (flat_map window_edges (rom_window bytes card)) here)))
     (vga_alike setup bytes addr x card between))
-    (cards_alike setup bytes addr x between later (all_right (Clear addr x) (card_edges bytes card) (flat_map (card_edges bytes) later) clear))
+    (cards_alike setup bytes addr x between later
+    (all_right (Clear addr x) (card_edges bytes card) (flat_map (card_edges bytes) later) clear))
 
 -- every edge of a card is clear
-all_clear : (setup : Setup) (bytes : Bytes) (addr x : ℕ) → Between setup bytes addr x → All (Clear addr x) (edges_of setup bytes)
-all_clear setup bytes addr x between k d within = between.clear _ (All-contains_itself (edges_of setup bytes) k d within)
+all_clear :
+    (setup : Setup) (bytes : Bytes) (addr x : ℕ) → Between setup bytes addr x →
+    All (Clear addr x) (edges_of setup bytes)
+all_clear setup bytes addr x between k d within =
+    between.clear _ (All-contains_itself (edges_of setup bytes) k d within)
 
-cards_clear : (setup : Setup) (bytes : Bytes) (addr x : ℕ) → Between setup bytes addr x → AllByRecursion (Clear addr x) (flat_map (card_edges bytes) setup.cards)
+cards_clear :
+    (setup : Setup) (bytes : Bytes) (addr x : ℕ) → Between setup bytes addr x →
+    AllByRecursion (Clear addr x) (flat_map (card_edges bytes) setup.cards)
 unfolding edges_of
 cards_clear setup bytes addr x between =
     all_right (Clear addr x) (row_edges bytes) (flat_map (card_edges bytes) setup.cards)
     (all_right (Clear addr x) fixed_edges (row_edges bytes ++ flat_map (card_edges bytes) setup.cards)
     (recursion_from_All (Clear addr x) (edges_of setup bytes) (all_clear setup bytes addr x between)))
 
-found_alike : (counts : ℕ → Bool) (addr x : ℕ) (windows : List Window) → AllByRecursion (IsCoveredAlike addr x) windows → first_window counts x windows ≡ first_window counts addr windows
+found_alike :
+    (counts : ℕ → Bool) (addr x : ℕ) (windows : List Window) → AllByRecursion (IsCoveredAlike addr x) windows →
+    first_window counts x windows ≡ first_window counts addr windows
 found_alike counts addr x [] alike = refl
 found_alike counts addr x (window ∷ later) alike = rw (alike.0, found_alike counts addr x later alike.1) refl
 
-claim_same : (setup : Setup) (bytes : Bytes) (addr x : ℕ) → Between setup bytes addr x → memory_claim setup bytes x ≡ memory_claim setup bytes addr
+claim_same :
+    (setup : Setup) (bytes : Bytes) (addr x : ℕ) → Between setup bytes addr x →
+    memory_claim setup bytes x ≡ memory_claim setup bytes addr
 unfolding memory_claim
 claim_same setup bytes addr x between =
     found_alike (is_enabled_for 1 bytes) addr x (flat_map (memory_windows bytes) setup.cards)
@@ -311,33 +419,30 @@ claim_same setup bytes addr x between =
 
 -- ---- the areas
 
--- the table of the memory map over what the registers and the ranges say of an address
-abbrev table : Option ℕ → (smram shadowed hole rom smram_range legacy_range : Bool) → Option Window → Area
-table row smram shadowed hole rom smram_range legacy_range claim =
-    first_of
-    (line_where (smram_range && is_some row && smram) Smram
-    ∷ line_where (is_some row && shadowed) (Shadow (unwrap_or row 0))
-    ∷ line_where (not legacy_range && is_some row && not hole) (Dram (unwrap_or row 0))
-    ∷ line_where rom Rom
-    ∷ option_map card_area claim
-    ∷ [])
-    Abort
-
 table_same :
-    (smram : Bool) (row row' : Option ℕ) (shadowed shadowed' hole hole' rom rom' range range' legacy legacy' : Bool) (claim claim' : Option Window) →
-    row' ≡ row → shadowed' ≡ shadowed → hole' ≡ hole → rom' ≡ rom → range' ≡ range → legacy' ≡ legacy → claim' ≡ claim →
-    table row' smram shadowed' hole' rom' range' legacy' claim' ≡ table row smram shadowed hole rom range legacy claim
-table_same smram row row' shadowed shadowed' hole hole' rom rom' range range' legacy legacy' claim claim' p q r s t u v = rw (p, q, r, s, t, u, v) refl
+    (smram : Bool) (row row' : Option ℕ) (shadowed shadowed' hole hole' rom rom' range range' upper upper' : Bool)
+    (claim claim' : Option Window) →
+    row' ≡ row → shadowed' ≡ shadowed → hole' ≡ hole → rom' ≡ rom → range' ≡ range → upper' ≡ upper →
+    claim' ≡ claim →
+    table row' range' upper' smram shadowed' hole' rom' claim' ≡ table row range upper smram shadowed hole rom claim
+table_same smram row row' shadowed shadowed' hole hole' rom rom' range range' upper upper' claim claim' p q r s t u v =
+    rw (p, q, r, s, t, u, v) refl
 
-area_same : (setup : Setup) (bytes : Bytes) (addr x : ℕ) (kind : Kind) (smm : Bool) → Between setup bytes addr x → area_of setup bytes x kind smm ≡ area_of setup bytes addr kind smm
+area_same :
+    (setup : Setup) (bytes : Bytes) (addr x : ℕ) (kind : Kind) (smm : Bool) → Between setup bytes addr x →
+    area_of setup bytes x kind smm ≡ area_of setup bytes addr kind smm
 unfolding area_of
 area_same setup bytes addr x kind smm between =
-    table_same (smram_answers (bytes (bridge 0x72)) kind smm) _ _ _ _ _ _ _ _ _ _ _ _ _ _
-    (row_same setup bytes addr x between) (shadowed_same setup bytes addr x kind between) (hole_same setup bytes addr x (bytes (bridge 0x68)) between)
-    (rom_same setup bytes addr x (bytes (isa 0x4E)) between) (smram_range_same setup bytes addr x between) (legacy_range_same setup bytes addr x between)
+    table_same (smram_answers (bytes smram_register) kind smm) _ _ _ _ _ _ _ _ _ _ _ _ _ _
+    (row_same setup bytes addr x between) (shadowed_same setup bytes addr x kind between)
+    (hole_same setup bytes addr x (bytes hole_register) between)
+    (rom_same setup bytes addr x (bytes select_register) between) (smram_range_same setup bytes addr x between)
+    (upper_memory_same setup bytes addr x between)
     (claim_same setup bytes addr x between)
 
-six_same : (setup : Setup) (bytes : Bytes) (addr x : ℕ) → Between setup bytes addr x → six_areas setup bytes x ≡ six_areas setup bytes addr
+six_same :
+    (setup : Setup) (bytes : Bytes) (addr x : ℕ) → Between setup bytes addr x →
+    six_areas setup bytes x ≡ six_areas setup bytes addr
 six_same setup bytes addr x between =
     rw (
       area_same setup bytes addr x Fetch false between,
@@ -362,9 +467,12 @@ areas_change_at_edges setup bytes addr x order last clear =
 
 -- up to the next edge, or to the last address where there is none
 pub same_to_next :
-    (setup : Setup) (bytes : Bytes) (addr : ℕ) (found : Option ℕ) → IfSome found (IsNextEdge setup bytes addr) → (IsNone found → NoEdgeAbove setup bytes addr) →
+    (setup : Setup) (bytes : Bytes) (addr : ℕ) (found : Option ℕ) → IfSome found (IsNextEdge setup bytes addr) →
+    (IsNone found → NoEdgeAbove setup bytes addr) →
     SameAreas setup bytes addr (unwrap_or found address_count)
 same_to_next setup bytes addr None next none x order before =
-    areas_change_at_edges setup bytes addr x order before (λ edge there above. absurd (omega (arith, none refl edge there)))
+    areas_change_at_edges setup bytes addr x order before
+    (λ edge there above. absurd (omega (arith, none refl edge there)))
 same_to_next setup bytes addr (Some edge) next none x order before =
-    areas_change_at_edges setup bytes addr x order (omega (arith, next.is_edge.address)) (λ other there above. omega (arith, next.least other there above))
+    areas_change_at_edges setup bytes addr x order (omega (arith, next.is_edge.address))
+    (λ other there above. omega (arith, next.least other there above))

@@ -6,12 +6,14 @@ use Rattle.std.proofs.lemmas.Bool.{cases_Bool, cases_lt}
 use Rattle.std.proofs.lemmas.Bool.Decides.{nat_tests}
 use Rattle.std.proofs.lemmas.List.Elements.{All-head, All-tail}
 use Rattle.std.proofs.lemmas.List.Sums.{fold-append}
-use Rattle.std.proofs.lemmas.Option.{same_Some}
+use Rattle.std.proofs.lemmas.Option.{same_Some, none-some}
 use Rattle.board_spec.specs.Setup.{Base, MemoryBase, IoBase, Setup, IsCard}
+use Rattle.board_spec.specs.Ranges.{boundary_unit}
 use Rattle.board_spec.specs.Decode.{Bytes, boundary, base_value, memory_window, rom_window_of}
 use Rattle.board_spec.specs.RegisterNames.{bridge}
 use Rattle.board_spec.specs.FlatMap.{address_count}
 use Rattle.pmc_regs.specs.Pmc.{IsRowsOf}
+use Rattle.pmc_regs.proofs.RowLemmas.{rows_from}
 use Rattle.pci_bars.specs.Cards.{CardBytes, HoldsRom, DecodesAs, AreCards, AreDecoded, cards_of}
 use Rattle.addr_decode.specs.Edges.{fixed_edges, row_edges, window_edges, card_edges, edges_of, IsEdge, IsNextEdge, NoEdgeAbove}
 use Rattle.addr_decode.specs.EdgeSearch.{nearer, nearest, ends_from, ends_of_rom, ends_of_card}
@@ -22,11 +24,13 @@ ends_same :
     (bytes : Bytes) (dev : ℕ) (values : List ℕ) → ((k : ℕ) → k < 6 → base_value bytes dev k ≡ slice_index values k) →
     (k : ℕ) (bases : List Base) → k + length bases ≤ 6 →
     ends_from values k bases
-    ≡ flat_map (λ numbered. flat_map window_edges (memory_window bytes dev numbered.0 numbered.1)) (enumerate_from k bases)
+    ≡ flat_map (λ numbered. flat_map window_edges (memory_window bytes dev numbered.0 numbered.1))
+    (enumerate_from k bases)
 ends_same bytes dev values same k [] few = refl
 ends_same bytes dev values same k (MemoryBase bits ∷ later) few =
     rw (same k (omega arith), ends_same bytes dev values same (k + 1) later (omega arith)) refl
-ends_same bytes dev values same k (IoBase bits ∷ later) few = ends_same bytes dev values same (k + 1) later (omega arith)
+ends_same bytes dev values same k (IoBase bits ∷ later) few =
+    ends_same bytes dev values same (k + 1) later (omega arith)
 
 rom_same : (bytes : Bytes) (dev register : ℕ) (rom : Option ℕ) → HoldsRom bytes dev register rom →
     ends_of_rom rom register ≡ flat_map window_edges (rom_window_of bytes dev rom)
@@ -42,31 +46,33 @@ cards_same setup bytes (card ∷ later) fit are =
     let one : IsCard card.card = All-head (λ card. IsCard card.card) card later fit in
     let few : length card.card.bases ≤ 6 = one.count in
     let here : ends_of_card card ≡ card_edges bytes card.card =
-    rw (ends_same bytes card.card.dev card.bases (λ k below. (is.bases k below).number) 0 card.card.bases (omega arith), rom_same bytes card.card.dev card.rom card.card.rom is.rom) refl in
+    rw (
+      ends_same bytes card.card.dev card.bases (λ k below. (is.bases k below).number) 0 card.card.bases (omega arith),
+      rom_same bytes card.card.dev card.rom card.card.rom is.rom,
+    ) refl in
     let rest : flat_map ends_of_card later ≡ flat_map (card_edges bytes) (cards_of later) =
-    cards_same setup bytes later (All-tail (λ card. IsCard card.card) card later fit) (All-tail (DecodesAs setup bytes) card later are) in
+    cards_same setup bytes later (All-tail (λ card. IsCard card.card) card later fit)
+    (All-tail (DecodesAs setup bytes) card later are) in
     rw (here, rest) refl
 
-abbrev rows_from : ℕ → ℕ → List ℕ
-rows_from first zero = []
-rows_from first (suc count) = first ∷ rows_from (first + 1) count
-
 rows_same_from :
-    (bytes : Bytes) (drb : List ℕ) (first : ℕ) → ((k : ℕ) → k < length drb → slice_index drb k ≡ bytes (bridge (0x60 + first + k))) →
-    map (λ b. b * 0x80_0000) drb ≡ map (boundary bytes) (rows_from first (length drb))
+    (bytes : Bytes) (drb : List ℕ) (first : ℕ) →
+    ((k : ℕ) → k < length drb → slice_index drb k ≡ bytes (bridge (0x60 + first + k))) →
+    map (λ b. b * boundary_unit) drb ≡ map (boundary bytes) (rows_from first (length drb))
 rows_same_from bytes [] first is = refl
 rows_same_from bytes (b ∷ later) first is =
     let here : b ≡ bytes (bridge (0x60 + first)) = is 0 (omega arith) ∙ ap (λ off. bytes (bridge off)) (omega arith) in
-    let rest : map (λ b. b * 0x80_0000) later ≡ map (boundary bytes) (rows_from (first + 1) (length later)) =
-    rows_same_from bytes later (first + 1) (λ k below. is (suc k) (omega arith) ∙ ap (λ off. bytes (bridge off)) (omega arith)) in
+    let rest : map (λ b. b * boundary_unit) later ≡ map (boundary bytes) (rows_from (first + 1) (length later)) =
+    rows_same_from bytes later (first + 1)
+    (λ k below. is (suc k) (omega arith) ∙ ap (λ off. bytes (bridge off)) (omega arith)) in
     rw (here, rest) refl
 
-rows_same : (bytes : Bytes) (drb : List ℕ) → length drb ≡ 8 → IsRowsOf bytes drb → map (λ b. b * 0x80_0000) drb ≡ row_edges bytes
+rows_same :
+    (bytes : Bytes) (drb : List ℕ) → length drb ≡ 8 → IsRowsOf bytes drb →
+    map (λ b. b * boundary_unit) drb ≡ row_edges bytes
 rows_same bytes drb eight is =
-    rows_same_from bytes drb 0 (λ k within. is k (omega arith)) ∙ ap (λ count. map (boundary bytes) (rows_from 0 count)) eight
-
-none_is_not_some : (edge : ℕ) → ◌≡◌ {A = Option ℕ} None (Some edge) → ⊥
-none_is_not_some edge same = cc
+    rows_same_from bytes drb 0 (λ k within. is k (omega arith))
+    ∙ ap (λ count. map (boundary bytes) (rows_from 0 count)) eight
 
 -- ---- the least of a list of edges
 
@@ -83,11 +89,14 @@ nearer_keeps addr edge other (Some least) reaches =
       | inr not_here ↦ rw not_here reaches
     ]
 
-nearer_reaches : (addr edge : ℕ) (found : Option ℕ) → addr < edge → edge < address_count → Reaches (nearer addr found edge) edge
+nearer_reaches :
+    (addr edge : ℕ) (found : Option ℕ) → addr < edge → edge < address_count → Reaches (nearer addr found edge) edge
 nearer_reaches addr edge None above below = grind (arith, nat_tests)
 nearer_reaches addr edge (Some least) above below = grind (arith, nat_tests)
 
-nearest_keeps : (addr other : ℕ) (edges : List ℕ) (found : Option ℕ) → Reaches found other → Reaches (nearest addr found edges) other
+nearest_keeps :
+    (addr other : ℕ) (edges : List ℕ) (found : Option ℕ) → Reaches found other →
+    Reaches (nearest addr found edges) other
 unfolding nearest
 nearest_keeps addr other [] found reaches = reaches
 nearest_keeps addr other (edge ∷ later) found reaches =
@@ -101,7 +110,8 @@ contains_later : (edge x : ℕ) (later : List ℕ) → Contains later x → Cont
 contains_later edge x later (k, within, is) = (suc k, omega arith, is)
 
 nearest_reaches :
-    (addr other : ℕ) (edges : List ℕ) (found : Option ℕ) → Contains edges other → addr < other → other < address_count →
+    (addr other : ℕ) (edges : List ℕ) (found : Option ℕ) → Contains edges other → addr < other → other < address_count
+    →
     Reaches (nearest addr found edges) other
 unfolding nearest
 nearest_reaches addr other [] found (k, within, is) above below = absurd (omega arith)
@@ -109,7 +119,8 @@ nearest_reaches addr other (edge ∷ later) found has above below =
     elim (contains_cases edge other later has) [
       | inl here ↦
           nearest_keeps addr other later (nearer addr found edge)
-          (subst (λ x. Reaches (nearer addr found edge) x) here (nearer_reaches addr edge found (omega arith) (omega arith)))
+          (subst (λ x. Reaches (nearer addr found edge) x) here
+          (nearer_reaches addr edge found (omega arith) (omega arith)))
       | inr there ↦ nearest_reaches addr other later (nearer addr found edge) there above below
     ]
 
@@ -146,23 +157,34 @@ unfolding nearest
 nearest_from addr least [] found is = inl is
 nearest_from addr least (edge ∷ later) found is =
     elim (nearest_from addr least later (nearer addr found edge) is) [
-      | inr there ↦ inr (record { listed = contains_later edge least later there.listed; above = there.above; below = there.below })
+      | inr there ↦
+          inr
+          (record { listed = contains_later edge least later there.listed; above = there.above; below = there.below })
       | inl here ↦
           elim (nearer_from addr edge least found here) [
             | inl before ↦ inl before
-            | inr now ↦ inr (record { listed = (0, omega arith, now.0); above = omega (arith, now.0, now.1); below = omega (arith, now.0, now.2) })
+            | inr now ↦
+                inr
+                (record {
+                  listed = (0, omega arith, now.0);
+                  above = omega (arith, now.0, now.1);
+                  below = omega (arith, now.0, now.2);
+                })
           ]
     ]
 
 -- ---- the next edge of a board
 
-found_above : (addr : ℕ) (edges : List ℕ) (found : Option ℕ) → found ≡ nearest addr None edges → IfSome found (IsAbove addr edges)
+found_above :
+    (addr : ℕ) (edges : List ℕ) (found : Option ℕ) → found ≡ nearest addr None edges →
+    IfSome found (IsAbove addr edges)
 found_above addr edges None is = tt
 found_above addr edges (Some edge) is =
-    elim (nearest_from addr edge edges None (sym is)) [ inl none ↦ absurd (none_is_not_some edge none) | inr above ↦ above ]
+    elim (nearest_from addr edge edges None (sym is)) [ inl none ↦ absurd (none-some edge none) | inr above ↦ above ]
 
 found_reaches :
-    (addr other : ℕ) (edges : List ℕ) (found : Option ℕ) → found ≡ nearest addr None edges → Contains edges other → addr < other →
+    (addr other : ℕ) (edges : List ℕ) (found : Option ℕ) → found ≡ nearest addr None edges → Contains edges other →
+    addr < other →
     other < address_count → Reaches found other
 found_reaches addr other edges found is has above below =
     subst (λ (o : Option ℕ). Reaches o other) (sym is) (nearest_reaches addr other edges None has above below)
@@ -176,7 +198,8 @@ is_next setup bytes addr (Some edge) is =
     record {
       is_edge = record { listed = here.listed; address = here.below };
       above = here.above;
-      least = λ other there above. found_reaches addr other (edges_of setup bytes) (Some edge) is there.listed above there.address;
+      least = λ other there above.
+          found_reaches addr other (edges_of setup bytes) (Some edge) is there.listed above there.address;
     }
 
 pub is_last :
@@ -198,26 +221,34 @@ is_last setup bytes addr (Some edge) is =
 -- ---- the parts of the list
 
 abbrev pub kept_edges : (drb : List ℕ) → List CardBytes → List ℕ
-kept_edges drb cards = fixed_edges ++ (map (λ b. b * 0x80_0000) drb ++ flat_map ends_of_card cards)
+kept_edges drb cards = fixed_edges ++ (map (λ b. b * boundary_unit) drb ++ flat_map ends_of_card cards)
 
-pub kept_above : (addr : ℕ) (drb : List ℕ) (cards : List CardBytes) (found : Option ℕ) → found ≡ nearest addr None (kept_edges drb cards) → IfSome found (λ edge. addr < edge)
+pub kept_above :
+    (addr : ℕ) (drb : List ℕ) (cards : List CardBytes) (found : Option ℕ) →
+    found ≡ nearest addr None (kept_edges drb cards) → IfSome found (λ edge. addr < edge)
 kept_above addr drb cards None is = tt
 kept_above addr drb cards (Some edge) is =
-    let here : IsAbove addr (kept_edges drb cards) edge = found_above addr (kept_edges drb cards) (Some edge) is in here.above
+    let here : IsAbove addr (kept_edges drb cards) edge =
+    found_above addr (kept_edges drb cards) (Some edge) is in here.above
 
 -- one list after another, above the same address
-pub in_two : (addr addr' : ℕ) (found first all : Option ℕ) (xs ys : List ℕ) → addr' ≡ addr → first ≡ nearest addr found xs → all ≡ nearest addr' first ys →
+pub in_two :
+    (addr addr' : ℕ) (found first all : Option ℕ) (xs ys : List ℕ) → addr' ≡ addr → first ≡ nearest addr found xs →
+    all ≡ nearest addr' first ys →
     all ≡ nearest addr found (xs ++ ys)
 unfolding nearest
-in_two addr addr' found first all xs ys same is_first is_all = rw (is_all, same, is_first, fold-append (nearer addr) found xs ys) refl
+in_two addr addr' found first all xs ys same is_first is_all =
+    rw (is_all, same, is_first, fold-append (nearer addr) found xs ys) refl
 
 pub in_parts :
     (addr addr' : ℕ) (fixed rows all : Option ℕ) (drb : List ℕ) (cards : List CardBytes) → addr' ≡ addr →
-    fixed ≡ nearest addr None fixed_edges → rows ≡ nearest addr fixed (map (λ b. b * 0x80_0000) drb) →
+    fixed ≡ nearest addr None fixed_edges → rows ≡ nearest addr fixed (map (λ b. b * boundary_unit) drb) →
     all ≡ nearest addr' rows (flat_map ends_of_card cards) → all ≡ nearest addr None (kept_edges drb cards)
 in_parts addr addr' fixed rows all drb cards same is_fixed is_rows is_all =
-    in_two addr addr None fixed all fixed_edges (map (λ b. b * 0x80_0000) drb ++ flat_map ends_of_card cards) refl is_fixed
-    (in_two addr addr' fixed rows all (map (λ b. b * 0x80_0000) drb) (flat_map ends_of_card cards) same is_rows is_all)
+    in_two addr addr None fixed all fixed_edges (map (λ b. b * boundary_unit) drb ++ flat_map ends_of_card cards) refl
+    is_fixed
+    (in_two addr addr' fixed rows all (map (λ b. b * boundary_unit) drb) (flat_map ends_of_card cards) same is_rows
+    is_all)
 
 pub kept_are_edges :
     (setup : Setup) (bytes : Bytes) (drb : List ℕ) (cards : List CardBytes) → length drb ≡ 8 → IsRowsOf bytes drb →

@@ -23,9 +23,11 @@ nearest_stays : (addr least : ℕ) (edges : List ℕ) → Rise least edges → n
 unfolding nearest
 nearest_stays addr least [] rise = refl
 nearest_stays addr least (edge ∷ later) rise =
-    rw (nearer_stays addr least edge rise.0) (nearest_stays addr least later (rise_from_lower edge least later rise.0 rise.2))
+    rw (nearer_stays addr least edge rise.0)
+    (nearest_stays addr least later (rise_from_lower edge least later rise.0 rise.2))
 
-first_is_nearest : (addr from : ℕ) (edges : List ℕ) → Rise from edges → find (nat_lt addr) edges ≡ nearest addr None edges
+first_is_nearest :
+    (addr from : ℕ) (edges : List ℕ) → Rise from edges → find (nat_lt addr) edges ≡ nearest addr None edges
 unfolding nearest
 first_is_nearest addr from [] rise = refl
 first_is_nearest addr from (edge ∷ later) rise =

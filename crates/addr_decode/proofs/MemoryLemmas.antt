@@ -6,17 +6,18 @@ use Rattle.board_base.specs.declared.target.Area.{Area}
 use Rattle.board_base.specs.declared.target.Area.TheVariants.{Dram, Shadow, Smram, Rom, Abort}
 use Rattle.board_base.specs.declared.access.Kind.{Kind}
 use Rattle.board_spec.specs.Setup.{Setup}
-use Rattle.board_spec.specs.Bits.{is_within}
+use Rattle.board_spec.specs.Ranges.{lies_in, upper_memory}
 use Rattle.board_spec.specs.Decode.{Window, first_of, line_where, is_smram_range, is_shadow_range, card_area, area_under, Bytes, row_of, is_in, hole_of, pam_register, is_high_window, nibble, is_open, is_shadowed, smram_answers, is_rom_selected, memory_claim, area_of}
-use Rattle.board_spec.specs.RegisterNames.{bridge, isa}
+use Rattle.board_spec.specs.RegisterNames.{xbcs as select_register, smram as smram_register, fdhc as hole_register}
 use Rattle.addr_decode.specs.Memory.{dram_area, above_dram, area_by}
 
--- the table over the ranges that the address lies in
-abbrev table : Option ℕ → (smram shadow legacy answers open' hole rom : Bool) → Option Window → Area
-table row smram shadow legacy answers open' hole rom claim =
+-- the table of the memory map over the ranges that the address lies in, SMRAM's and all of upper memory, and over what
+-- the registers say of it
+abbrev pub table : Option ℕ → (smram legacy answers shadowed hole rom : Bool) → Option Window → Area
+table row smram legacy answers shadowed hole rom claim =
     first_of
     (line_where (smram && is_some row && answers) Smram
-    ∷ line_where (is_some row && (shadow && open')) (Shadow (unwrap_or row 0))
+    ∷ line_where (is_some row && shadowed) (Shadow (unwrap_or row 0))
     ∷ line_where (not legacy && is_some row && not hole) (Dram (unwrap_or row 0))
     ∷ line_where rom Rom
     ∷ option_map card_area claim
@@ -39,7 +40,8 @@ no_dram false (Some window) = refl
 
 same : (row : Option ℕ) (smram shadow legacy answers open' hole rom : Bool) (claim : Option Window) →
     legacy ≡ (if smram then true else shadow) → (smram && shadow) ≡ false →
-    table row smram shadow legacy answers open' hole rom claim ≡ code row smram shadow answers open' hole rom claim
+    table row smram legacy answers (shadow && open') hole rom claim
+    ≡ code row smram shadow answers open' hole rom claim
 same None true shadow legacy answers open' hole rom claim l apart = rw l (no_dram rom claim)
 same None false true legacy answers open' hole rom claim l apart = rw l (no_dram rom claim)
 same None false false legacy answers open' hole rom claim l apart = rw l (no_dram rom claim)
@@ -51,7 +53,7 @@ same (Some row) false true legacy answers false hole rom claim l apart = rw l (n
 same (Some row) false false legacy answers open' true rom claim l apart = rw l (no_dram rom claim)
 same (Some row) false false legacy answers open' false rom claim l apart = rw l refl
 
-either_range : (addr : ℕ) → is_within 0xA_0000 0xF_FFFF addr ≡ (if is_smram_range addr then true else is_shadow_range addr)
+either_range : (addr : ℕ) → lies_in upper_memory addr ≡ (if is_smram_range addr then true else is_shadow_range addr)
 either_range addr = grind (arith, nat_tests)
 
 ranges_apart : (addr : ℕ) → (is_smram_range addr && is_shadow_range addr) ≡ false
@@ -62,49 +64,62 @@ pub area_in_order :
     area_under row smram (is_shadow_range addr && open') hole rom claim addr
     ≡ above_dram (dram_area row smram (is_shadow_range addr && open') hole addr) rom claim
 area_in_order None smram open' hole rom claim addr =
-    same None (is_smram_range addr) (is_shadow_range addr) (is_within 0xA_0000 0xF_FFFF addr) smram open' hole rom claim (either_range addr) (ranges_apart addr)
+    same None (is_smram_range addr) (is_shadow_range addr) (lies_in upper_memory addr) smram open' hole rom claim
+    (either_range addr) (ranges_apart addr)
 area_in_order (Some row) smram open' hole rom claim addr =
-    same (Some row) (is_smram_range addr) (is_shadow_range addr) (is_within 0xA_0000 0xF_FFFF addr) smram open' hole rom claim (either_range addr) (ranges_apart addr)
+    same (Some row) (is_smram_range addr) (is_shadow_range addr) (lies_in upper_memory addr) smram open' hole rom
+    claim (either_range addr) (ranges_apart addr)
 
 -- where DRAM answers, over the register bytes
 abbrev pub dram_by : Bytes → ℕ → Kind → Bool → Option Area
 dram_by bytes addr kind smm =
-    dram_area (row_of bytes addr) (smram_answers (bytes (bridge 0x72)) kind smm) (is_shadowed bytes addr kind)
-    (is_in (hole_of (bytes (bridge 0x68))) addr) addr
+    dram_area (row_of bytes addr) (smram_answers (bytes smram_register) kind smm) (is_shadowed bytes addr kind)
+    (is_in (hole_of (bytes hole_register)) addr) addr
 
 by_parts : (setup : Setup) (bytes : Bytes) (addr : ℕ) (kind : Kind) (smm : Bool) →
     area_of setup bytes addr kind smm
-    ≡ above_dram (dram_by bytes addr kind smm) (is_rom_selected (bytes (isa 0x4E)) addr) (memory_claim setup bytes addr)
+    ≡ above_dram (dram_by bytes addr kind smm) (is_rom_selected (bytes select_register) addr)
+    (memory_claim setup bytes addr)
 unfolding area_of
 by_parts setup bytes addr kind smm =
-    area_in_order (row_of bytes addr) (smram_answers (bytes (bridge 0x72)) kind smm) (is_open (nibble (bytes (pam_register addr)) (is_high_window addr)) kind)
-    (is_in (hole_of (bytes (bridge 0x68))) addr) (is_rom_selected (bytes (isa 0x4E)) addr) (memory_claim setup bytes addr) addr
+    area_in_order (row_of bytes addr) (smram_answers (bytes smram_register) kind smm)
+    (is_open (nibble (bytes (pam_register addr)) (is_high_window addr)) kind)
+    (is_in (hole_of (bytes hole_register)) addr) (is_rom_selected (bytes select_register) addr)
+    (memory_claim setup bytes addr) addr
 
 pub dram_answers : (setup : Setup) (bytes : Bytes) (addr : ℕ) (kind : Kind) (smm : Bool) (area : Area) →
     Some area ≡ dram_by bytes addr kind smm → area ≡ area_of setup bytes addr kind smm
 dram_answers setup bytes addr kind smm area dram =
-    ap (λ (found : Option Area). above_dram found (is_rom_selected (bytes (isa 0x4E)) addr) (memory_claim setup bytes addr)) dram
+    ap (λ (found : Option Area). above_dram found (is_rom_selected (bytes select_register) addr)
+    (memory_claim setup bytes addr)) dram
     ∙ sym (by_parts setup bytes addr kind smm)
 
 pub rom_answers : (setup : Setup) (bytes : Bytes) (addr : ℕ) (kind : Kind) (smm : Bool) (xbcs : ℕ) →
-    None ≡ dram_by bytes addr kind smm → xbcs ≡ bytes (isa 0x4E) → true ≡ is_rom_selected xbcs addr →
+    None ≡ dram_by bytes addr kind smm → xbcs ≡ bytes select_register → true ≡ is_rom_selected xbcs addr →
     Rom ≡ area_of setup bytes addr kind smm
 rom_answers setup bytes addr kind smm xbcs dram same rom =
-    ap (λ (selected : Bool). above_dram None selected (memory_claim setup bytes addr)) (rom ∙ ap (λ (n : ℕ). is_rom_selected n addr) same)
-    ∙ ap (λ (found : Option Area). above_dram found (is_rom_selected (bytes (isa 0x4E)) addr) (memory_claim setup bytes addr)) dram
+    ap (λ (selected : Bool). above_dram None selected (memory_claim setup bytes addr))
+    (rom ∙ ap (λ (n : ℕ). is_rom_selected n addr) same)
+    ∙ ap (λ (found : Option Area). above_dram found (is_rom_selected (bytes select_register) addr)
+    (memory_claim setup bytes addr)) dram
     ∙ sym (by_parts setup bytes addr kind smm)
 
-claim_area : (claim : Option Window) → area_by (option_map (λ window. (window.dev, window.base)) claim) ≡ above_dram None false claim
+claim_area :
+    (claim : Option Window) →
+    area_by (option_map (λ window. (window.dev, window.base)) claim) ≡ above_dram None false claim
 claim_area None = refl
 claim_area (Some window) = refl
 
-pub claim_answers : (setup : Setup) (bytes : Bytes) (addr : ℕ) (kind : Kind) (smm : Bool) (xbcs : ℕ) (claim : Option (ℕ × ℕ)) →
-    None ≡ dram_by bytes addr kind smm → xbcs ≡ bytes (isa 0x4E) → false ≡ is_rom_selected xbcs addr →
+pub claim_answers :
+    (setup : Setup) (bytes : Bytes) (addr : ℕ) (kind : Kind) (smm : Bool) (xbcs : ℕ) (claim : Option (ℕ × ℕ)) →
+    None ≡ dram_by bytes addr kind smm → xbcs ≡ bytes select_register → false ≡ is_rom_selected xbcs addr →
     claim ≡ option_map (λ window. (window.dev, window.base)) (memory_claim setup bytes addr) →
     area_by claim ≡ area_of setup bytes addr kind smm
 claim_answers setup bytes addr kind smm xbcs claim dram same rom is =
     ap area_by is
     ∙ claim_area (memory_claim setup bytes addr)
-    ∙ ap (λ (selected : Bool). above_dram None selected (memory_claim setup bytes addr)) (rom ∙ ap (λ (n : ℕ). is_rom_selected n addr) same)
-    ∙ ap (λ (found : Option Area). above_dram found (is_rom_selected (bytes (isa 0x4E)) addr) (memory_claim setup bytes addr)) dram
+    ∙ ap (λ (selected : Bool). above_dram None selected (memory_claim setup bytes addr))
+    (rom ∙ ap (λ (n : ℕ). is_rom_selected n addr) same)
+    ∙ ap (λ (found : Option Area). above_dram found (is_rom_selected (bytes select_register) addr)
+    (memory_claim setup bytes addr)) dram
     ∙ sym (by_parts setup bytes addr kind smm)

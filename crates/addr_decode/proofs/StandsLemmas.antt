@@ -1,7 +1,5 @@
 -- The registers of the address map among those of a board: after a reset, and where a byte is stored.
-use Rattle.std.proofs.Common.{◌≡◌, ◌≢◌, ℕ, ◌+◌, ◌-◌, ◌<◌, ◌≤◌, ◌⊎◌, inl, inr, Option, List, [], ◌∷◌, length, get_or, set, refl, sym, ◌∙◌, ap, subst, arith, get_or-set_same, get_or-set_other, add-one}
-use Rattle.std.specs.Prelude.{slice_index}
-use Rattle.std.proofs.lemmas.Bool.{cases_eq}
+use Rattle.std.proofs.Common.{◌≡◌, ◌≢◌, ℕ, ◌+◌, ◌-◌, ◌<◌, ◌≤◌, ◌⊎◌, inl, inr, Option, List, [], ◌∷◌, length, get_or, set, refl, sym, ◌∙◌, ap, subst, arith, add-one}
 use Rattle.board_base.specs.declared.access.Width.{Width}
 use Rattle.board_base.specs.Access.{bytes_of}
 use Rattle.board_base.specs.declared.target.Reg.{Reg}
@@ -11,14 +9,13 @@ use Rattle.board_spec.specs.Bits.{merged, byte}
 use Rattle.board_spec.specs.RegisterTable.{isa_bridge, reset_byte, writable_bits}
 use Rattle.board_spec.specs.Registers.{changed_byte, smram_after}
 use Rattle.board_spec.specs.Decode.{Bytes}
-use Rattle.board_spec.specs.RegisterNames.{bridge, isa, fdhc, xbcs, card_register}
+use Rattle.board_spec.specs.RegisterNames.{bridge, isa, drb, fdhc, smram, xbcs, card_register}
 use Rattle.board_spec.specs.MapWrites.{reg_after}
 use Rattle.board_spec.specs.WideStores.{after_stores}
 use Rattle.board_spec.proofs.StoreLemmas.{changed_byte-one_same, byte_by_byte}
 use Rattle.pmc_regs.specs.Pmc.{IsRowsOf}
-use Rattle.pmc_regs.proofs.TableLemmas.{rows_at_reset, hole_at_reset, writable_bits-row}
-use Rattle.board_spec.proofs.MergedLemmas.{merged-all}
-use Rattle.pmc_regs.proofs.PmcLemmas.{there}
+use Rattle.pmc_regs.proofs.TableLemmas.{rows_at_reset, hole_at_reset}
+use Rattle.pmc_regs.proofs.PmcLemmas.{there, rows_after_store}
 use Rattle.pam_windows.specs.Pam.{IsPamOffset, IsPamOf}
 use Rattle.pam_windows.proofs.PamLemmas.{zeros_at_reset}
 use Rattle.smram_ctl.proofs.ControlLemmas.{reset_byte-smram}
@@ -27,7 +24,7 @@ use Rattle.addr_decode.specs.MapRegs.{MapBytes, IsRowOffset, StandsFor, stored}
 use Rattle.addr_decode.proofs.StoreLemmas.{stored-elsewhere}
 use Rattle.addr_decode.proofs.CardLemmas.{IsMapOffset, SameCard, decodes-same, cards_agree, reset_decoded}
 
-xbcs_at_reset : (setup : Setup) → 0x03 ≡ reset_byte setup (isa 0x4E)
+xbcs_at_reset : (setup : Setup) → 0x03 ≡ reset_byte setup xbcs
 unfolding reset_byte isa_bridge
 xbcs_at_reset setup = refl
 
@@ -42,7 +39,8 @@ map_at_reset cards = record {
   cards = cards;
 }
 
-pub stands_at_reset : (setup : Setup) (cards : List CardBytes) → AreFitted cards → AreReset cards → setup.cards ≡ cards_of cards →
+pub stands_at_reset :
+    (setup : Setup) (cards : List CardBytes) → AreFitted cards → AreReset cards → setup.cards ≡ cards_of cards →
     StandsFor setup (reset_byte setup) (map_at_reset cards)
 stands_at_reset setup cards fitted reset same = record {
   rows = rows_at_reset setup;
@@ -61,7 +59,7 @@ below_256 rom at off past (inr (inr in_rom)) = omega (arith, in_rom.2)
 -- ---- registers that agree
 
 abbrev pub SameRows : (bytes bytes' : Bytes) → Type 0
-SameRows bytes bytes' = (row : ℕ) → row < 8 → bytes' (bridge (0x60 + row)) ≡ bytes (bridge (0x60 + row))
+SameRows bytes bytes' = (row : ℕ) → row < 8 → bytes' (drb row) ≡ bytes (drb row)
 
 abbrev pub SameWindows : (bytes bytes' : Bytes) → Type 0
 SameWindows bytes bytes' = (off : ℕ) → IsPamOffset off → bytes' (bridge off) ≡ bytes (bridge off)
@@ -72,28 +70,32 @@ SameCards bytes bytes' = (rom : Option ℕ) (dev : ℕ) → 2 ≤ dev → SameCa
 -- two states of the registers are the same in all that the address map depends on
 pub record SameMap (bytes bytes' : Bytes) : Type 0 where
   pub rows : SameRows bytes bytes'
-  pub hole : bytes' (bridge 0x68) ≡ bytes (bridge 0x68)
+  pub hole : bytes' fdhc ≡ bytes fdhc
   pub windows : SameWindows bytes bytes'
-  pub smram : bytes' (bridge 0x72) ≡ bytes (bridge 0x72)
-  pub xbcs : bytes' (isa 0x4E) ≡ bytes (isa 0x4E)
+  pub smram : bytes' smram ≡ bytes smram
+  pub xbcs : bytes' xbcs ≡ bytes xbcs
   pub cards : SameCards bytes bytes'
 
 rows-same : (bytes bytes' : Bytes) (drb : List ℕ) → SameRows bytes bytes' → IsRowsOf bytes drb → IsRowsOf bytes' drb
 rows-same bytes bytes' drb same is row below = is row below ∙ sym (same row below)
 
-windows-same : (bytes bytes' : Bytes) (pam : List ℕ) → SameWindows bytes bytes' → IsPamOf bytes pam → IsPamOf bytes' pam
+windows-same :
+    (bytes bytes' : Bytes) (pam : List ℕ) → SameWindows bytes bytes' → IsPamOf bytes pam → IsPamOf bytes' pam
 windows-same bytes bytes' pam same is off within = is off within ∙ sym (same off within)
 
-cards-same : (setup : Setup) (bytes bytes' : Bytes) (cards : List CardBytes) → AreCards cards → SameCards bytes bytes' →
+cards-same :
+    (setup : Setup) (bytes bytes' : Bytes) (cards : List CardBytes) → AreCards cards → SameCards bytes bytes' →
     AreDecoded setup bytes cards → AreDecoded setup bytes' cards
 cards-same setup bytes bytes' cards each same are = (
   are.0,
   (λ k d within.
       let card : CardBytes = get_or cards k d in
-      decodes-same setup bytes bytes' card (same card.card.rom card.card.dev (each k d within).first) (are.1 k d within)),
+      decodes-same setup bytes bytes' card (same card.card.rom card.card.dev (each k d within).first)
+      (are.1 k d within)),
 )
 
-pub stands-same : (setup : Setup) (bytes bytes' : Bytes) (regs : MapBytes) → AreFitted regs.cards → SameMap bytes bytes' →
+pub stands-same :
+    (setup : Setup) (bytes bytes' : Bytes) (regs : MapBytes) → AreFitted regs.cards → SameMap bytes bytes' →
     StandsFor setup bytes regs → StandsFor setup bytes' regs
 stands-same setup bytes bytes' regs fitted same stands = record {
   rows = rows-same bytes bytes' regs.drb same.rows stands.rows;
@@ -107,67 +109,49 @@ stands-same setup bytes bytes' regs fitted same stands = record {
 -- ---- a byte is stored in the host bridge
 
 -- the bytes of all other functions stay
-isa_stays : (setup : Setup) (bytes : Bytes) (off written : ℕ) → stored setup bytes (bridge off) written (isa 0x4E) ≡ bytes (isa 0x4E)
-isa_stays setup bytes off written = stored-elsewhere setup bytes (bridge off) written (isa 0x4E) (inl (omega arith))
+isa_stays :
+    (setup : Setup) (bytes : Bytes) (off written : ℕ) → stored setup bytes (bridge off) written xbcs ≡ bytes xbcs
+isa_stays setup bytes off written = stored-elsewhere setup bytes (bridge off) written xbcs (inl (omega arith))
 
-cards_stay : (setup : Setup) (bytes : Bytes) (off written : ℕ) → SameCards bytes (stored setup bytes (bridge off) written)
+cards_stay :
+    (setup : Setup) (bytes : Bytes) (off written : ℕ) → SameCards bytes (stored setup bytes (bridge off) written)
 cards_stay setup bytes off written rom dev above at _ =
     stored-elsewhere setup bytes (bridge off) written (card_register dev at) (inl (omega arith))
 
-rows_stay : (setup : Setup) (bytes : Bytes) (off written : ℕ) → (off < 0x60) ⊎ (0x67 < off) → SameRows bytes (stored setup bytes (bridge off) written)
+rows_stay :
+    (setup : Setup) (bytes : Bytes) (off written : ℕ) → (off < 0x60) ⊎ (0x67 < off) →
+    SameRows bytes (stored setup bytes (bridge off) written)
 rows_stay setup bytes off written (inl below) row within =
-    stored-elsewhere setup bytes (bridge off) written (bridge (0x60 + row)) (inr (inr (omega arith)))
+    stored-elsewhere setup bytes (bridge off) written (drb row) (inr (inr (omega arith)))
 rows_stay setup bytes off written (inr above) row within =
-    stored-elsewhere setup bytes (bridge off) written (bridge (0x60 + row)) (inr (inr (omega arith)))
+    stored-elsewhere setup bytes (bridge off) written (drb row) (inr (inr (omega arith)))
 
-windows_stay : (setup : Setup) (bytes : Bytes) (off written : ℕ) → (off < 0x59) ⊎ (0x5F < off) → SameWindows bytes (stored setup bytes (bridge off) written)
+windows_stay :
+    (setup : Setup) (bytes : Bytes) (off written : ℕ) → (off < 0x59) ⊎ (0x5F < off) →
+    SameWindows bytes (stored setup bytes (bridge off) written)
 windows_stay setup bytes off written (inl below) at within =
     stored-elsewhere setup bytes (bridge off) written (bridge at) (inr (inr (omega (arith, within.0, within.1))))
 windows_stay setup bytes off written (inr above) at within =
     stored-elsewhere setup bytes (bridge off) written (bridge at) (inr (inr (omega (arith, within.0, within.1))))
 
-one_stays : (setup : Setup) (bytes : Bytes) (off written at : ℕ) → off ≢ at → stored setup bytes (bridge off) written (bridge at) ≡ bytes (bridge at)
-one_stays setup bytes off written at apart = stored-elsewhere setup bytes (bridge off) written (bridge at) (inr (inr apart))
-
-pub pam_stored :
-    (setup : Setup) (bytes : Bytes) (regs : MapBytes) (pam : List ℕ) (off written : ℕ) → AreFitted regs.cards → IsPamOffset off →
-    IsPamOf (stored setup bytes (bridge off) written) pam → StandsFor setup bytes regs →
-    StandsFor setup (stored setup bytes (bridge off) written) (record regs { pam = pam })
-pam_stored setup bytes regs pam off written fitted within is stands =
-    let new : Bytes = stored setup bytes (bridge off) written in
-    record {
-      rows = rows-same bytes new regs.drb (rows_stay setup bytes off written (inl (omega (arith, within.1)))) stands.rows;
-      hole = stands.hole ∙ sym (one_stays setup bytes off written 0x68 (omega (arith, within.1)));
-      windows = is;
-      smram = stands.smram ∙ sym (one_stays setup bytes off written 0x72 (omega (arith, within.1)));
-      xbcs = stands.xbcs ∙ sym (isa_stays setup bytes off written);
-      cards = cards-same setup bytes new regs.cards fitted.each (cards_stay setup bytes off written) stands.cards;
-    }
-
-row_is_stored :
-    (setup : Setup) (bytes : Bytes) (drb : List ℕ) (row written : ℕ) → length drb ≡ 8 → row < 8 → written < 256 → IsRowsOf bytes drb →
-    IsRowsOf (stored setup bytes (bridge (0x60 + row)) written) (set drb row written)
-row_is_stored setup bytes drb row written eight within below is at at_within =
-    elim (cases_eq at row) [
-      | inl same ↦ subst (λ (k : ℕ). slice_index (set drb row written) k ≡ stored setup bytes (bridge (0x60 + row)) written (bridge (0x60 + k))) (sym same)
-          (get_or-set_same drb row written 0 (omega arith)
-          ∙ sym (there setup bytes (0x60 + row) written 0xFF below (omega arith) (writable_bits-row setup row within) ∙ merged-all (bytes (bridge (0x60 + row))) written below))
-      | inr apart ↦
-          get_or-set_other drb row at written 0 apart
-          ∙ is at at_within
-          ∙ sym (one_stays setup bytes (0x60 + row) written (0x60 + at) (λ e. apart (omega arith)))
-    ]
+one_stays :
+    (setup : Setup) (bytes : Bytes) (off written at : ℕ) → off ≢ at →
+    stored setup bytes (bridge off) written (bridge at) ≡ bytes (bridge at)
+one_stays setup bytes off written at apart =
+    stored-elsewhere setup bytes (bridge off) written (bridge at) (inr (inr apart))
 
 pub rows_stored :
-    (setup : Setup) (bytes : Bytes) (drb : List ℕ) (off row written : ℕ) → length drb ≡ 8 → IsRowOffset off → row ≡ off - 0x60 → written < 256 →
+    (setup : Setup) (bytes : Bytes) (drb : List ℕ) (off row written : ℕ) → length drb ≡ 8 → IsRowOffset off →
+    row ≡ off - 0x60 → written < 256 →
     IsRowsOf bytes drb → IsRowsOf (stored setup bytes (bridge off) written) (set drb row written)
 rows_stored setup bytes drb off row written eight within at_row below is =
     let off_is : 0x60 + row ≡ off = omega (arith, within.0) in
     subst (λ (at : ℕ). IsRowsOf (stored setup bytes (bridge at) written) (set drb row written)) off_is
-    (row_is_stored setup bytes drb row written eight (omega (arith, within.1)) below is)
+    (rows_after_store setup bytes drb row written eight (omega (arith, within.1)) below is)
 
 pub row_stored :
-    (setup : Setup) (bytes : Bytes) (regs : MapBytes) (drb : List ℕ) (off written : ℕ) → AreFitted regs.cards → IsRowOffset off →
+    (setup : Setup) (bytes : Bytes) (regs : MapBytes) (drb : List ℕ) (off written : ℕ) → AreFitted regs.cards →
+    IsRowOffset off →
     IsRowsOf (stored setup bytes (bridge off) written) drb → StandsFor setup bytes regs →
     StandsFor setup (stored setup bytes (bridge off) written) (record regs { drb = drb })
 row_stored setup bytes regs drb off written fitted within is stands =
@@ -175,7 +159,9 @@ row_stored setup bytes regs drb off written fitted within is stands =
     record {
       rows = is;
       hole = stands.hole ∙ sym (one_stays setup bytes off written 0x68 (omega (arith, within.1)));
-      windows = windows-same bytes new regs.pam (windows_stay setup bytes off written (inr (omega (arith, within.0)))) stands.windows;
+      windows =
+          windows-same bytes new regs.pam (windows_stay setup bytes off written (inr (omega (arith, within.0))))
+          stands.windows;
       smram = stands.smram ∙ sym (one_stays setup bytes off written 0x72 (omega (arith, within.1)));
       xbcs = stands.xbcs ∙ sym (isa_stays setup bytes off written);
       cards = cards-same setup bytes new regs.cards fitted.each (cards_stay setup bytes off written) stands.cards;
@@ -183,32 +169,38 @@ row_stored setup bytes regs drb off written fitted within is stands =
 
 pub hole_stored :
     (setup : Setup) (bytes : Bytes) (regs : MapBytes) (written : ℕ) → AreFitted regs.cards → written < 256 →
-    StandsFor setup bytes regs → StandsFor setup (stored setup bytes (bridge 0x68) written) (record regs { fdhc = merged (writable_bits setup fdhc) regs.fdhc written })
+    StandsFor setup bytes regs → StandsFor setup (stored setup bytes fdhc written)
+    (record regs { fdhc = merged (writable_bits setup fdhc) regs.fdhc written })
 hole_stored setup bytes regs written fitted below stands =
-    let new : Bytes = stored setup bytes (bridge 0x68) written in
+    let new : Bytes = stored setup bytes fdhc written in
     record {
       rows = rows-same bytes new regs.drb (rows_stay setup bytes 0x68 written (inr (omega arith))) stands.rows;
-      hole = ap (λ (old : ℕ). merged (writable_bits setup fdhc) old written) stands.hole ∙ sym (there setup bytes 0x68 written (writable_bits setup fdhc) below (omega arith) refl);
-      windows = windows-same bytes new regs.pam (windows_stay setup bytes 0x68 written (inr (omega arith))) stands.windows;
+      hole =
+          ap (λ (old : ℕ). merged (writable_bits setup fdhc) old written) stands.hole
+          ∙ sym (there setup bytes 0x68 written (writable_bits setup fdhc) below (omega arith) refl);
+      windows =
+          windows-same bytes new regs.pam (windows_stay setup bytes 0x68 written (inr (omega arith))) stands.windows;
       smram = stands.smram ∙ sym (one_stays setup bytes 0x68 written 0x72 (omega arith));
       xbcs = stands.xbcs ∙ sym (isa_stays setup bytes 0x68 written);
       cards = cards-same setup bytes new regs.cards fitted.each (cards_stay setup bytes 0x68 written) stands.cards;
     }
 
 smram_byte : (setup : Setup) (bytes : Bytes) (written : ℕ) → written < 256 →
-    smram_after (bytes (bridge 0x72)) written ≡ stored setup bytes (bridge 0x72) written (bridge 0x72)
+    smram_after (bytes smram) written ≡ stored setup bytes smram written smram
 smram_byte setup bytes written below =
-    let whole : byte written 0 ≡ written = omega arith in ap (λ (n : ℕ). smram_after (bytes (bridge 0x72)) n) (sym whole)
+    let whole : byte written 0 ≡ written = omega arith in ap (λ (n : ℕ). smram_after (bytes smram) n) (sym whole)
 
 pub smram_stored :
     (setup : Setup) (bytes : Bytes) (regs : MapBytes) (written : ℕ) → AreFitted regs.cards → written < 256 →
-    StandsFor setup bytes regs → StandsFor setup (stored setup bytes (bridge 0x72) written) (record regs { smram = smram_after regs.smram written })
+    StandsFor setup bytes regs → StandsFor setup (stored setup bytes smram written)
+    (record regs { smram = smram_after regs.smram written })
 smram_stored setup bytes regs written fitted below stands =
-    let new : Bytes = stored setup bytes (bridge 0x72) written in
+    let new : Bytes = stored setup bytes smram written in
     record {
       rows = rows-same bytes new regs.drb (rows_stay setup bytes 0x72 written (inr (omega arith))) stands.rows;
       hole = stands.hole ∙ sym (one_stays setup bytes 0x72 written 0x68 (omega arith));
-      windows = windows-same bytes new regs.pam (windows_stay setup bytes 0x72 written (inr (omega arith))) stands.windows;
+      windows =
+          windows-same bytes new regs.pam (windows_stay setup bytes 0x72 written (inr (omega arith))) stands.windows;
       smram = ap (λ (old : ℕ). smram_after old written) stands.smram ∙ smram_byte setup bytes written below;
       xbcs = stands.xbcs ∙ sym (isa_stays setup bytes 0x72 written);
       cards = cards-same setup bytes new regs.cards fitted.each (cards_stay setup bytes 0x72 written) stands.cards;
@@ -221,7 +213,9 @@ pub record IsBeside (off : ℕ) : Type 0 where
   pub hole : off ≢ 0x68
   pub smram : off ≢ 0x72
 
-pub beside_stored : (setup : Setup) (bytes : Bytes) (off written : ℕ) → IsBeside off → SameMap bytes (stored setup bytes (bridge off) written)
+pub beside_stored :
+    (setup : Setup) (bytes : Bytes) (off written : ℕ) → IsBeside off →
+    SameMap bytes (stored setup bytes (bridge off) written)
 beside_stored setup bytes off written beside = record {
   rows = rows_stay setup bytes off written beside.rows;
   hole = one_stays setup bytes off written 0x68 beside.hole;
@@ -235,79 +229,101 @@ beside_stored setup bytes off written beside = record {
 
 isa_is_stored : (setup : Setup) (bytes : Bytes) (written : ℕ) → written < 256 →
     merged (writable_bits setup xbcs) (bytes xbcs) written ≡ stored setup bytes xbcs written xbcs
-isa_is_stored setup bytes written below = sym (changed_byte-one_same setup (isa 0x4E) (bytes (isa 0x4E)) written below refl)
+isa_is_stored setup bytes written below = sym (changed_byte-one_same setup xbcs (bytes xbcs) written below refl)
 
 beside_bridge : (setup : Setup) (bytes : Bytes) (at : Reg) (written off : ℕ) → (at.dev ≢ 0) ⊎ (at.fun ≢ 0) →
     stored setup bytes at written (bridge off) ≡ bytes (bridge off)
 beside_bridge setup bytes at written off (inl dev) = stored-elsewhere setup bytes at written (bridge off) (inl dev)
-beside_bridge setup bytes at written off (inr fun) = stored-elsewhere setup bytes at written (bridge off) (inr (inl fun))
+beside_bridge setup bytes at written off (inr fun) =
+    stored-elsewhere setup bytes at written (bridge off) (inr (inl fun))
 
-beside_cards : (setup : Setup) (bytes : Bytes) (at : Reg) (written : ℕ) → (at.dev < 2) ⊎ (at.fun ≢ 0) → SameCards bytes (stored setup bytes at written)
-beside_cards setup bytes at written (inl low) rom dev above off _ = stored-elsewhere setup bytes at written (card_register dev off) (inl (omega arith))
-beside_cards setup bytes at written (inr fun) rom dev above off _ = stored-elsewhere setup bytes at written (card_register dev off) (inr (inl fun))
+beside_cards :
+    (setup : Setup) (bytes : Bytes) (at : Reg) (written : ℕ) → (at.dev < 2) ⊎ (at.fun ≢ 0) →
+    SameCards bytes (stored setup bytes at written)
+beside_cards setup bytes at written (inl low) rom dev above off _ =
+    stored-elsewhere setup bytes at written (card_register dev off) (inl (omega arith))
+beside_cards setup bytes at written (inr fun) rom dev above off _ =
+    stored-elsewhere setup bytes at written (card_register dev off) (inr (inl fun))
 
 pub xbcs_stored :
     (setup : Setup) (bytes : Bytes) (regs : MapBytes) (written : ℕ) → AreFitted regs.cards → written < 256 →
-    StandsFor setup bytes regs → StandsFor setup (stored setup bytes (isa 0x4E) written) (record regs { xbcs = merged (writable_bits setup xbcs) regs.xbcs written })
+    StandsFor setup bytes regs → StandsFor setup (stored setup bytes xbcs written)
+    (record regs { xbcs = merged (writable_bits setup xbcs) regs.xbcs written })
 xbcs_stored setup bytes regs written fitted below stands =
-    let new : Bytes = stored setup bytes (isa 0x4E) written in
-    let stays : (off : ℕ) → new (bridge off) ≡ bytes (bridge off) = λ off. beside_bridge setup bytes (isa 0x4E) written off (inl (omega arith)) in
+    let new : Bytes = stored setup bytes xbcs written in
+    let stays : (off : ℕ) → new (bridge off) ≡ bytes (bridge off) =
+    λ off. beside_bridge setup bytes xbcs written off (inl (omega arith)) in
     record {
       rows = rows-same bytes new regs.drb (λ row _. stays (0x60 + row)) stands.rows;
       hole = stands.hole ∙ sym (stays 0x68);
       windows = windows-same bytes new regs.pam (λ off _. stays off) stands.windows;
       smram = stands.smram ∙ sym (stays 0x72);
-      xbcs = ap (λ (old : ℕ). merged (writable_bits setup xbcs) old written) stands.xbcs ∙ isa_is_stored setup bytes written below;
-      cards = cards-same setup bytes new regs.cards fitted.each (beside_cards setup bytes (isa 0x4E) written (inl (omega arith))) stands.cards;
+      xbcs =
+          ap (λ (old : ℕ). merged (writable_bits setup xbcs) old written) stands.xbcs
+          ∙ isa_is_stored setup bytes written below;
+      cards =
+          cards-same setup bytes new regs.cards fitted.each
+          (beside_cards setup bytes xbcs written (inl (omega arith))) stands.cards;
     }
 
-pub isa_beside : (setup : Setup) (bytes : Bytes) (off written : ℕ) → off ≢ 0x4E → SameMap bytes (stored setup bytes (isa off) written)
+pub isa_beside :
+    (setup : Setup) (bytes : Bytes) (off written : ℕ) → off ≢ 0x4E →
+    SameMap bytes (stored setup bytes (isa off) written)
 isa_beside setup bytes off written apart = record {
   rows = λ row _. beside_bridge setup bytes (isa off) written (0x60 + row) (inl (omega arith));
   hole = beside_bridge setup bytes (isa off) written 0x68 (inl (omega arith));
   windows = λ at _. beside_bridge setup bytes (isa off) written at (inl (omega arith));
   smram = beside_bridge setup bytes (isa off) written 0x72 (inl (omega arith));
-  xbcs = stored-elsewhere setup bytes (isa off) written (isa 0x4E) (inr (inr apart));
+  xbcs = stored-elsewhere setup bytes (isa off) written xbcs (inr (inr apart));
   cards = beside_cards setup bytes (isa off) written (inl (omega arith));
 }
 
 -- a function other than 0 has no register of the map
-pub function_beside : (setup : Setup) (bytes : Bytes) (at : Reg) (written : ℕ) → at.fun ≢ 0 → SameMap bytes (stored setup bytes at written)
+pub function_beside :
+    (setup : Setup) (bytes : Bytes) (at : Reg) (written : ℕ) → at.fun ≢ 0 →
+    SameMap bytes (stored setup bytes at written)
 function_beside setup bytes at written fun = record {
   rows = λ row _. beside_bridge setup bytes at written (0x60 + row) (inr fun);
   hole = beside_bridge setup bytes at written 0x68 (inr fun);
   windows = λ off _. beside_bridge setup bytes at written off (inr fun);
   smram = beside_bridge setup bytes at written 0x72 (inr fun);
-  xbcs = stored-elsewhere setup bytes at written (isa 0x4E) (inr (inl fun));
+  xbcs = stored-elsewhere setup bytes at written xbcs (inr (inl fun));
   cards = beside_cards setup bytes at written (inr fun);
 }
 
 -- the registers of the bridges stay where a byte is stored in a card
 pub card_stored :
-    (setup : Setup) (bytes : Bytes) (regs : MapBytes) (cards : List CardBytes) (dev off written : ℕ) → dev ≢ 0 → dev ≢ 1 →
+    (setup : Setup) (bytes : Bytes) (regs : MapBytes) (cards : List CardBytes) (dev off written : ℕ) → dev ≢ 0 → dev ≢
+    1 →
     AreDecoded setup (stored setup bytes (card_register dev off) written) cards →
-    StandsFor setup bytes regs → StandsFor setup (stored setup bytes (card_register dev off) written) (record regs { cards = cards })
+    StandsFor setup bytes regs → StandsFor setup (stored setup bytes (card_register dev off) written)
+    (record regs { cards = cards })
 card_stored setup bytes regs cards dev off written not0 not1 are stands =
     let new : Bytes = stored setup bytes (card_register dev off) written in
-    let stays : (at : ℕ) → new (bridge at) ≡ bytes (bridge at) = λ at. beside_bridge setup bytes (card_register dev off) written at (inl not0) in
+    let stays : (at : ℕ) → new (bridge at) ≡ bytes (bridge at) =
+    λ at. beside_bridge setup bytes (card_register dev off) written at (inl not0) in
     record {
       rows = rows-same bytes new regs.drb (λ row _. stays (0x60 + row)) stands.rows;
       hole = stands.hole ∙ sym (stays 0x68);
       windows = windows-same bytes new regs.pam (λ at _. stays at) stands.windows;
       smram = stands.smram ∙ sym (stays 0x72);
-      xbcs = stands.xbcs ∙ sym (stored-elsewhere setup bytes (card_register dev off) written (isa 0x4E) (inl not1));
+      xbcs = stands.xbcs ∙ sym (stored-elsewhere setup bytes (card_register dev off) written xbcs (inl not1));
       cards = are;
     }
 
 -- nor has a byte past offset FFh
-pub beyond : (setup : Setup) (bytes : Bytes) (at : Reg) (written : ℕ) → 256 ≤ at.off → SameMap bytes (stored setup bytes at written)
+pub beyond :
+    (setup : Setup) (bytes : Bytes) (at : Reg) (written : ℕ) → 256 ≤ at.off →
+    SameMap bytes (stored setup bytes at written)
 beyond setup bytes at written past = record {
-  rows = λ row below. stored-elsewhere setup bytes at written (bridge (0x60 + row)) (inr (inr (omega arith)));
-  hole = stored-elsewhere setup bytes at written (bridge 0x68) (inr (inr (omega arith)));
+  rows = λ row below. stored-elsewhere setup bytes at written (drb row) (inr (inr (omega arith)));
+  hole = stored-elsewhere setup bytes at written fdhc (inr (inr (omega arith)));
   windows = λ off within. stored-elsewhere setup bytes at written (bridge off) (inr (inr (omega (arith, within.1))));
-  smram = stored-elsewhere setup bytes at written (bridge 0x72) (inr (inr (omega arith)));
-  xbcs = stored-elsewhere setup bytes at written (isa 0x4E) (inr (inr (omega arith)));
-  cards = λ rom dev above off inside. stored-elsewhere setup bytes at written (card_register dev off) (inr (inr (below_256 rom at.off off past inside)));
+  smram = stored-elsewhere setup bytes at written smram (inr (inr (omega arith)));
+  xbcs = stored-elsewhere setup bytes at written xbcs (inr (inr (omega arith)));
+  cards = λ rom dev above off inside.
+      stored-elsewhere setup bytes at written (card_register dev off)
+      (inr (inr (below_256 rom at.off off past inside)));
 }
 
 -- ---- the bytes of a store, one after the other
@@ -315,18 +331,22 @@ beyond setup bytes at written past = record {
 abbrev pub stored_so_far : Setup → Bytes → (at : Reg) → (value count : ℕ) → Bytes
 stored_so_far setup bytes at value count = λ reg. after_stores setup at value count reg (bytes reg)
 
-pub none_stored : (setup : Setup) (bytes : Bytes) (at : Reg) (value : ℕ) (regs : MapBytes) → AreFitted regs.cards → StandsFor setup bytes regs →
+pub none_stored :
+    (setup : Setup) (bytes : Bytes) (at : Reg) (value : ℕ) (regs : MapBytes) → AreFitted regs.cards →
+    StandsFor setup bytes regs →
     StandsFor setup (stored_so_far setup bytes at value 0) regs
 unfolding after_stores
 none_stored setup bytes at value regs fitted stands = stands
 
 pub one_more_stored : (setup : Setup) (bytes : Bytes) (at : Reg) (value count : ℕ) (regs : MapBytes) →
-    StandsFor setup (stored setup (stored_so_far setup bytes at value count) (reg_after at count) (byte value count)) regs →
+    StandsFor setup (stored setup (stored_so_far setup bytes at value count) (reg_after at count) (byte value count))
+    regs →
     StandsFor setup (stored_so_far setup bytes at value (count + 1)) regs
 unfolding after_stores
 one_more_stored setup bytes at value count regs stands = rw (add-one count) stands
 
-pub all_stored : (setup : Setup) (bytes : Bytes) (at : Reg) (width : Width) (value : ℕ) (regs : MapBytes) → AreFitted regs.cards →
+pub all_stored :
+    (setup : Setup) (bytes : Bytes) (at : Reg) (width : Width) (value : ℕ) (regs : MapBytes) → AreFitted regs.cards →
     StandsFor setup (stored_so_far setup bytes at value (bytes_of width)) regs →
     StandsFor setup (λ reg. changed_byte setup (Store at width value) reg (bytes reg)) regs
 all_stored setup bytes at width value regs fitted stands =
@@ -335,30 +355,34 @@ all_stored setup bytes at width value regs fitted stands =
     let same : (reg : Reg) → new reg ≡ far reg = λ reg. byte_by_byte setup at width value reg (bytes reg) in
     stands-same setup far new regs fitted
     (record {
-      rows = λ row _. same (bridge (0x60 + row));
-      hole = same (bridge 0x68);
+      rows = λ row _. same (drb row);
+      hole = same fdhc;
       windows = λ off _. same (bridge off);
-      smram = same (bridge 0x72);
-      xbcs = same (isa 0x4E);
+      smram = same smram;
+      xbcs = same xbcs;
       cards = λ _ dev _ off _. same (card_register dev off);
     })
     stands
 
 -- and those of the cards
-pub no_cards_stored : (setup : Setup) (bytes : Bytes) (at : Reg) (value : ℕ) (cards : List CardBytes) → AreCardsOf setup bytes cards →
+pub no_cards_stored :
+    (setup : Setup) (bytes : Bytes) (at : Reg) (value : ℕ) (cards : List CardBytes) → AreCardsOf setup bytes cards →
     AreCardsOf setup (stored_so_far setup bytes at value 0) cards
 unfolding after_stores
 no_cards_stored setup bytes at value cards are = are
 
 pub more_cards_stored : (setup : Setup) (bytes : Bytes) (at : Reg) (value count : ℕ) (cards : List CardBytes) →
-    AreCardsOf setup (stored setup (stored_so_far setup bytes at value count) (reg_after at count) (byte value count)) cards →
+    AreCardsOf setup (stored setup (stored_so_far setup bytes at value count) (reg_after at count) (byte value count))
+    cards →
     AreCardsOf setup (stored_so_far setup bytes at value (count + 1)) cards
 unfolding after_stores
 more_cards_stored setup bytes at value count cards are = rw (add-one count) are
 
-pub all_cards_stored : (setup : Setup) (bytes : Bytes) (at : Reg) (width : Width) (value : ℕ) (cards : List CardBytes) → AreCards cards →
+pub all_cards_stored :
+    (setup : Setup) (bytes : Bytes) (at : Reg) (width : Width) (value : ℕ) (cards : List CardBytes) → AreCards cards →
     AreCardsOf setup (stored_so_far setup bytes at value (bytes_of width)) cards →
     AreCardsOf setup (λ reg. changed_byte setup (Store at width value) reg (bytes reg)) cards
 all_cards_stored setup bytes at width value cards each are =
-    cards_agree setup (stored_so_far setup bytes at value (bytes_of width)) (λ reg. changed_byte setup (Store at width value) reg (bytes reg)) cards each
+    cards_agree setup (stored_so_far setup bytes at value (bytes_of width))
+    (λ reg. changed_byte setup (Store at width value) reg (bytes reg)) cards each
     (λ dev off _. byte_by_byte setup at width value (card_register dev off) (bytes (card_register dev off))) are

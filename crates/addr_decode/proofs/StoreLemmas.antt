@@ -1,5 +1,5 @@
 -- A byte that is stored in one register leaves all others, and a register takes it under its mask.
-use Rattle.std.proofs.Common.{◌≡◌, ◌≢◌, ◌≤◌, ℕ, zero, suc, List, ◌<◌, false, ◌⊎◌, inl, inr, sym, ◌∙◌, ap, arith}
+use Rattle.std.proofs.Common.{◌≡◌, ◌≢◌, ◌≤◌, ℕ, List, ◌<◌, false, ◌⊎◌, inl, inr, sym, ◌∙◌, ap, arith}
 use Rattle.std.specs.Prelude.{slice_index}
 use Rattle.std.specs.Int.{w32, to_le_bytes}
 use Rattle.std.proofs.lemmas.Bool.{cond-false}
@@ -13,6 +13,7 @@ use Rattle.board_spec.specs.Bits.{byte}
 use Rattle.board_spec.specs.Registers.{covers}
 use Rattle.board_spec.specs.Decode.{Bytes}
 use Rattle.board_spec.specs.RegisterNames.{card_register}
+use Rattle.pci_bars.proofs.BaseLemmas.{long_byte}
 use Rattle.addr_decode.specs.MapRegs.{stored}
 
 abbrev pub Differs : Reg → Reg → Type 0
@@ -23,7 +24,9 @@ not_covered at reg (inl dev) = grind (arith, nat_tests)
 not_covered at reg (inr (inl fun)) = grind (arith, nat_tests)
 not_covered at reg (inr (inr off)) = grind (arith, nat_tests)
 
-pub stored-elsewhere : (setup : Setup) (bytes : Bytes) (at : Reg) (written : ℕ) (reg : Reg) → Differs at reg → stored setup bytes at written reg ≡ bytes reg
+pub stored-elsewhere :
+    (setup : Setup) (bytes : Bytes) (at : Reg) (written : ℕ) (reg : Reg) → Differs at reg →
+    stored setup bytes at written reg ≡ bytes reg
 stored-elsewhere setup bytes at written reg apart = cond-false (covers at One reg) _ _ (not_covered at reg apart)
 
 abbrev reg_made : (dev fun off : ℕ) → Reg
@@ -36,15 +39,10 @@ in_function_0 reg dev is_dev is_fun =
 
 -- ---- the bytes of a value
 
-byte_of_long : (value k : ℕ) → k < 4 → slice_index (to_le_bytes w32 value) k ≡ byte value k
-byte_of_long value zero below = omega arith
-byte_of_long value (suc zero) below = omega arith
-byte_of_long value (suc (suc zero)) below = omega arith
-byte_of_long value (suc (suc (suc zero))) below = omega arith
-byte_of_long value (suc (suc (suc (suc k)))) below = absurd (omega arith)
-
-pub byte_in_list : (value k place : ℕ) (bytes : List ℕ) → place ≡ k → k < 4 → bytes ≡ to_le_bytes w32 value → slice_index bytes place ≡ byte value k
-byte_in_list value k place bytes same below are = rw (are, same) (byte_of_long value k below)
+pub byte_in_list :
+    (value k place : ℕ) (bytes : List ℕ) → place ≡ k → k < 4 → bytes ≡ to_le_bytes w32 value →
+    slice_index bytes place ≡ byte value k
+byte_in_list value k place bytes same below are = rw (are, same) (long_byte value k below)
 
 pub few_bytes : (width : Width) → bytes_of width ≤ 4
 few_bytes One = omega arith

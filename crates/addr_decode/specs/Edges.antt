@@ -4,18 +4,19 @@ use Rattle.std.specs.List.{Contains, enumerate_from}
 use Rattle.board_spec.specs.Setup.{FittedCard, Setup, IsCardList}
 use Rattle.board_spec.specs.Decode.{Bytes, Window, boundary, memory_window, rom_window}
 use Rattle.board_spec.specs.FlatMap.{address_count, six_areas}
+use Rattle.board_spec.specs.Ranges.{smram_range, system_bios, hole_at_512_kib, hole_at_15_mib, high_bios, lower_high_bios, extended_bios}
 
 -- those that no register moves: the ends of the hole at 512 KiB, of SMRAM, of the shadow windows of 16 KiB from C0000h
 -- on and of 64 KiB at F0000h, of the hole at 15 MiB, and of the ranges of the ROM below 4 GiB
 unfoldable pub fixed_edges : List ℕ
 fixed_edges =
-    0x8_0000 ∷ 0xA_0000
+    hole_at_512_kib.0 ∷ smram_range.0
     ∷ 0xC_0000 ∷ 0xC_4000 ∷ 0xC_8000 ∷ 0xC_C000
     ∷ 0xD_0000 ∷ 0xD_4000 ∷ 0xD_8000 ∷ 0xD_C000
     ∷ 0xE_0000 ∷ 0xE_4000 ∷ 0xE_8000 ∷ 0xE_C000
-    ∷ 0xF_0000 ∷ 0x10_0000
-    ∷ 0xF0_0000 ∷ 0x100_0000
-    ∷ 0xFFF8_0000 ∷ 0xFFFE_0000 ∷ 0xFFFF_0000
+    ∷ system_bios.0 ∷ (system_bios.1 + 1)
+    ∷ hole_at_15_mib.0 ∷ (hole_at_15_mib.1 + 1)
+    ∷ extended_bios.0 ∷ lower_high_bios.0 ∷ high_bios.0
     ∷ []
 
 -- the ends of the rows of DRAM
@@ -33,7 +34,8 @@ window_edges window = first_address window ∷ (first_address window + 2 ^ windo
 -- the edges of the memory bases of a card and of its expansion ROM, whether or not they are enabled
 abbrev pub card_edges : Bytes → FittedCard → List ℕ
 card_edges bytes card =
-    flat_map (λ numbered. flat_map window_edges (memory_window bytes card.dev numbered.0 numbered.1)) (enumerate_from 0 card.bases)
+    flat_map (λ numbered. flat_map window_edges (memory_window bytes card.dev numbered.0 numbered.1))
+    (enumerate_from 0 card.bases)
     ++ flat_map window_edges (rom_window bytes card)
 
 -- all of them, in no order, and some perhaps twice

@@ -23,7 +23,8 @@ if_selected false dev denial = Denied denial
 abbrev pub disk_by : (disk : Bool) → (command timing : ℕ) → Onboard
 disk_by false command timing = Denied NoRegister
 disk_by true command timing =
-    if is_bit command 0 then if_selected (is_bit (timing / 0x100) 7) Ata (Register idetim) else Denied (Register ide_command)
+    if is_bit command 0
+    then if_selected (is_bit (timing / 0x100) 7) Ata (Register idetim) else Denied (Register ide_command)
 
 -- the registers of one byte
 unfoldable pub byte_port : (xbcs : ℕ) → (disk : Onboard) → ℕ → Onboard
@@ -34,7 +35,8 @@ byte_port xbcs disk port =
     if lies_in timer_ports port then Answers Pit else
     if port == system_port then Answers System else
     if lies_in elcr_ports port then Answers Elcr else
-    if port == keyboard_data_port || port == keyboard_command_port then if_selected (is_bit xbcs 1) Keyboard (Register select_register) else
+    if port == keyboard_data_port || port == keyboard_command_port
+    then if_selected (is_bit xbcs 1) Keyboard (Register select_register) else
     if lies_in clock_ports port then if_selected (is_bit xbcs 0) Clock (Register select_register) else
     if lies_in disk_ports port || port == disk_control_port then disk else Absent
 

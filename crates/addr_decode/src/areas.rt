@@ -1,4 +1,4 @@
-//! A row of the memory map: what every kind of access at an address reaches.
+//! The six areas of an address: what every kind of access there reaches.
 ghost use Rattle.std.specs.Prelude.{◌≡◌, ◌+◌, false};
 ghost use Rattle.board_spec.specs.Setup.{Setup};
 ghost use Rattle.board_spec.specs.Decode.{Bytes, is_smram_range};
@@ -26,7 +26,7 @@ impl Default for SixAreas {
     }
 }
 
-/// The areas of an address. It counts as one step.
+/// The six areas of an address, as `areas_at` gives them. It counts as one step.
 pub fn row<L: Ledger>(regs: &MapRegs, addr: u32, steps: &mut Steps<L>) -> SixAreas
     requires cards { AreFitted regs.now.cards.items }
     ensures areas { (setup : Setup) (bytes : Bytes) → StandsFor setup bytes (map_bytes regs.now)
@@ -37,7 +37,7 @@ pub fn row<L: Ledger>(regs: &MapRegs, addr: u32, steps: &mut Steps<L>) -> SixAre
     areas_at(regs, addr)
 }
 
-/// The areas of an address.
+/// The six areas of an address: what a fetch, a read and a write reach outside SMM and in SMM.
 pub fn areas_at(regs: &MapRegs, addr: u32) -> SixAreas
     requires cards { AreFitted regs.now.cards.items }
     ensures areas { (setup : Setup) (bytes : Bytes) → StandsFor setup bytes (map_bytes regs.now)

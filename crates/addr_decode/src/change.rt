@@ -4,7 +4,7 @@ ghost use Rattle.board_spec.specs.declared.map_change.MapChange.TheVariants.{Sto
 ghost use Rattle.board_spec.specs.Setup.{Setup};
 ghost use Rattle.board_spec.specs.Registers.{changed_byte};
 ghost use Rattle.board_spec.specs.Decode.{Bytes};
-ghost use Rattle.board_spec.specs.RegisterNames.{bridge, isa};
+ghost use Rattle.board_spec.specs.RegisterNames.{bridge, isa, pam, fdhc, smram};
 ghost use Rattle.board_spec.specs.MapWrites.{reg_after, touches_map};
 ghost use Rattle.pci_bars.specs.Cards.{AreCardsOf, AreFitted, cards_of};
 ghost use Rattle.pmc_regs.specs.Pmc.{IsRowsOf};
@@ -46,7 +46,7 @@ pub fn touches(regs: &MapRegs, reg: Reg, width: Width) -> bool
 
 /// Whether a store to the host bridge covers PAM, DRB, FDHC or SMRAM.
 fn touches_bridge(off: u8, width: Width) -> bool
-    ensures touched { result ≡ (overlaps off width 0x59 0x68 || overlaps off width 0x72 0x72) }
+    ensures touched { result ≡ (overlaps off width (pam 0).off fdhc.off || overlaps off width smram.off smram.off) }
 {
     overlaps(off, width, PAM0, FDHC) || overlaps(off, width, SMRAM, SMRAM)
 }
@@ -69,8 +69,8 @@ fn overlaps(off: u8, width: Width, first: u8, last: u8) -> bool
 }
 
 impl MapRegs {
-    /// Makes a change. Bytes of a store past offset FFh, and bits of its value past its width, do not count. Of the cards
-    /// every register changes, of the bridges those alone that the address map depends on.
+    /// Makes a change. Bytes of a store past offset FFh, and bits of its value past its width, do not count. Of the
+    /// cards every register changes, of the bridges those alone that the address map depends on.
     pub fn apply(&mut self, change: &MapChange)
         requires cards { AreFitted self.old.cards.items }
         ensures stands { (setup : Setup) (bytes : Bytes) → StandsFor setup bytes (map_bytes self.old)

@@ -3,6 +3,7 @@ ghost use Rattle.std.specs.Prelude.{◌≡◌, ◌≤◌, Some, None};
 ghost use Rattle.board_base.specs.declared.target.Denial.TheVariants.{Register};
 ghost use Rattle.board_spec.specs.Setup.{Setup};
 ghost use Rattle.board_spec.specs.Decode.{Bytes, pam_register, top_of as top_by, memory_shut, rom_unselected, abort_denial, rom_denial, denial_in};
+ghost use Rattle.board_spec.specs.Ranges.{shadow_range};
 ghost use Rattle.board_spec.specs.RegisterNames.{xbcs as select_register};
 ghost use Rattle.pci_bars.specs.Cards.{AreFitted};
 ghost use Rattle.addr_decode.specs.MapRegs.{StandsFor, map_bytes};
@@ -22,7 +23,8 @@ use xbus_select::sends_bios_writes;
 pub fn denial_in(regs: &MapRegs, area: Area, addr: u32, kind: Kind) -> Option<Denial>
     requires cards { AreFitted regs.now.cards.items }
     ensures denial { (setup : Setup) (bytes : Bytes) → StandsFor setup bytes (map_bytes regs.now)
-        → result ≡ denial_in area kind (abort_denial (top_by bytes) (memory_shut setup bytes addr) (rom_unselected setup bytes addr) addr)
+        → result ≡ denial_in area kind
+        (abort_denial (top_by bytes) (memory_shut setup bytes addr) (rom_unselected setup bytes addr) addr)
         (rom_denial (bytes select_register)) }
 {
     match area {
@@ -70,7 +72,7 @@ fn abort_denial(regs: &MapRegs, addr: u32) -> Denial
     }
 }
 
-/// What denies an access above the top of DRAM: DRB7, where it could put DRAM there.
+/// What denies an access that no other register denies: DRB7, where it could put DRAM at the address.
 fn row_denial(addr: u32) -> Denial
     ensures denial { result ≡ row_denial addr }
 {
@@ -103,7 +105,7 @@ fn board_denial(top: u32, addr: u32) -> Option<Denial>
 
 /// The PAM register of an address. None outside the shadow windows.
 fn pam_denial(addr: u32) -> Option<Denial>
-    ensures denial { 0xC_0000 ≤ addr → addr ≤ 0xF_FFFF → result ≡ Some (Register (pam_register addr)) }
+    ensures denial { shadow_range.0 ≤ addr → addr ≤ shadow_range.1 → result ≡ Some (Register (pam_register addr)) }
 {
     match window_of(addr) {
         Some(window) => Some(host_bridge(window.off)),

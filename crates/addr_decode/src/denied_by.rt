@@ -10,53 +10,40 @@ use board_spec::offset::{COMMAND, EXPANSION_ROM, HOST_BRIDGE, IDE, ISA_BRIDGE, S
 pub fn host_bridge(off: u8) -> Denial
     ensures register { result ≡ Register (bridge off) }
 {
-    Denial::Register(Reg {
-        dev: HOST_BRIDGE,
-        fun: 0,
-        off,
-    })
+    register(HOST_BRIDGE, 0, off)
 }
 
 /// A denial by a register of the ISA bridge, 01.0.
 pub fn isa_bridge(off: u8) -> Denial
     ensures register { result ≡ Register (isa off) }
 {
-    Denial::Register(Reg {
-        dev: SOUTH_BRIDGE,
-        fun: ISA_BRIDGE,
-        off,
-    })
+    register(SOUTH_BRIDGE, ISA_BRIDGE, off)
 }
 
 /// A denial by a register of the IDE function, 01.1.
 pub fn ide_function(off: u8) -> Denial
     ensures register { result ≡ Register (ide off) }
 {
-    Denial::Register(Reg {
-        dev: SOUTH_BRIDGE,
-        fun: IDE,
-        off,
-    })
+    register(SOUTH_BRIDGE, IDE, off)
 }
 
 /// A denial by the command of the card at a device number.
 pub fn card_command(dev: u8) -> Denial
     ensures register { result ≡ Register (command_register dev) }
 {
-    Denial::Register(Reg {
-        dev,
-        fun: 0,
-        off: COMMAND,
-    })
+    register(dev, 0, COMMAND)
 }
 
 /// A denial by the register of the expansion ROM of the card at a device number.
 pub fn expansion_rom(dev: u8) -> Denial
     ensures register { result ≡ Register (rom_register dev) }
 {
-    Denial::Register(Reg {
-        dev,
-        fun: 0,
-        off: EXPANSION_ROM,
-    })
+    register(dev, 0, EXPANSION_ROM)
+}
+
+/// A denial by a register of a function of bus 0.
+fn register(dev: u8, fun: u8, off: u8) -> Denial
+    ensures register { result ≡ Register (record { dev = dev; fun = fun; off = off }) }
+{
+    Denial::Register(Reg { dev, fun, off })
 }

@@ -1,4 +1,4 @@
-//! The edges of the memory map: the addresses at which a row of it may differ from the one below.
+//! The edges of the memory map: the addresses whose six areas may differ from those of the address below.
 ghost use Rattle.std.specs.Prelude.{◌≡◌, ◌<◌, ◌≤◌, ◌*◌, ◌↔◌, ◌+◌, [], ◌∷◌, IfSome, IsNone, nat_lt, find, All, length, map, unwrap_or, flat_map};
 ghost use Rattle.board_spec.specs.Setup.{Setup, IsBase, IsCard, IsExpansionRom};
 ghost use Rattle.board_spec.specs.Decode.{Bytes};
@@ -15,11 +15,9 @@ use board_spec::range::{
     EXPANSION_RANGE, EXTENDED_BIOS, HIGH_BIOS, HOLE_AT_15_MIB, HOLE_AT_512_KIB, LOWER_HIGH_BIOS,
     SMRAM_RANGE, SYSTEM_BIOS,
 };
+use pam_windows::WINDOW_SIZE;
 use pci_bars::{BASE_COUNT, BaseSpec, CardRegs};
 use pmc_regs::end_of;
-
-/// How many bytes a shadow window has, but that of the system BIOS.
-const SHADOW_WINDOW: u32 = 0x4000;
 
 /// The edges that no register moves: the ends of the hole at 512 KiB, of SMRAM, of the shadow windows, of the hole
 /// at 15 MiB, and of the ranges of the ROM below 4 GiB.
@@ -27,17 +25,17 @@ const FIXED_EDGES: [u32; 21] = [
     HOLE_AT_512_KIB.first,
     SMRAM_RANGE.first,
     EXPANSION_RANGE.first,
-    EXPANSION_RANGE.first + SHADOW_WINDOW,
-    EXPANSION_RANGE.first + 2 * SHADOW_WINDOW,
-    EXPANSION_RANGE.first + 3 * SHADOW_WINDOW,
-    EXPANSION_RANGE.first + 4 * SHADOW_WINDOW,
-    EXPANSION_RANGE.first + 5 * SHADOW_WINDOW,
-    EXPANSION_RANGE.first + 6 * SHADOW_WINDOW,
-    EXPANSION_RANGE.first + 7 * SHADOW_WINDOW,
-    EXPANSION_RANGE.first + 8 * SHADOW_WINDOW,
-    EXPANSION_RANGE.first + 9 * SHADOW_WINDOW,
-    EXPANSION_RANGE.first + 10 * SHADOW_WINDOW,
-    EXPANSION_RANGE.first + 11 * SHADOW_WINDOW,
+    EXPANSION_RANGE.first + WINDOW_SIZE,
+    EXPANSION_RANGE.first + 2 * WINDOW_SIZE,
+    EXPANSION_RANGE.first + 3 * WINDOW_SIZE,
+    EXPANSION_RANGE.first + 4 * WINDOW_SIZE,
+    EXPANSION_RANGE.first + 5 * WINDOW_SIZE,
+    EXPANSION_RANGE.first + 6 * WINDOW_SIZE,
+    EXPANSION_RANGE.first + 7 * WINDOW_SIZE,
+    EXPANSION_RANGE.first + 8 * WINDOW_SIZE,
+    EXPANSION_RANGE.first + 9 * WINDOW_SIZE,
+    EXPANSION_RANGE.first + 10 * WINDOW_SIZE,
+    EXPANSION_RANGE.first + 11 * WINDOW_SIZE,
     SYSTEM_BIOS.first,
     SYSTEM_BIOS.last + 1,
     HOLE_AT_15_MIB.first,
@@ -47,8 +45,8 @@ const FIXED_EDGES: [u32; 21] = [
     HIGH_BIOS.first,
 ];
 
-/// The least address above this one at which a row of the memory map may change. None where the row stays the same
-/// up to the last address.
+/// The least address above this one at which the six areas may change. None where they stay the same up to the last
+/// address.
 pub fn next_edge(regs: &MapRegs, addr: u32) -> Option<u32>
     requires cards { AreFitted regs.now.cards.items }
     ensures above { IfSome result (λ edge. addr < edge) }
@@ -77,7 +75,7 @@ fn first_above(addr: u32, edges: &[u32]) -> Option<u32>
     edges.iter().copied().find(|edge| addr < *edge)
 }
 
-/// The least edge above an address of those that were seen.
+/// The least edge above an address of those that were seen. Each `see` takes in more edges.
 #[derive(Clone, Copy)]
 struct Nearest {
     addr: u32,
@@ -88,7 +86,8 @@ impl Nearest {
     /// The ends of the rows of DRAM.
     #[tactic(auto, unfolding(crate::specs::EdgeSearch::nearest))]
     fn see_rows(&mut self, drb: &[u8; 8])
-        ensures nearest { self.new.edge ≡ nearest self.old.addr self.old.edge (map (λ boundary. boundary * boundary_unit) drb.now) }
+        ensures nearest { self.new.edge
+            ≡ nearest self.old.addr self.old.edge (map (λ boundary. boundary * boundary_unit) drb.now) }
         ensures same { self.new.addr ≡ self.old.addr }
     {
         for boundary in drb {
@@ -121,7 +120,8 @@ impl Nearest {
     /// The ends of the memory bases of this card.
     fn see_memory_bases(&mut self, card: &CardRegs)
         requires card { IsCard card.now.card }
-        ensures nearest { self.new.edge ≡ nearest self.old.addr self.old.edge (ends_from card.now.bases 0 card.now.card.bases) }
+        ensures nearest { self.new.edge
+            ≡ nearest self.old.addr self.old.edge (ends_from card.now.bases 0 card.now.card.bases) }
         ensures same { self.new.addr ≡ self.old.addr }
     {
         self.see_bases(&card.spec.bases, &card.bases);
@@ -132,7 +132,8 @@ impl Nearest {
     fn see_bases(&mut self, bases: &[BaseSpec], values: &[u32; BASE_COUNT])
         requires bases { All IsBase (map base_of bases.now) }
         requires count { length bases.now ≤ 6 }
-        ensures nearest { self.new.edge ≡ nearest self.old.addr self.old.edge (ends_from values.now 0 (map base_of bases.now)) }
+        ensures nearest { self.new.edge
+            ≡ nearest self.old.addr self.old.edge (ends_from values.now 0 (map base_of bases.now)) }
         ensures same { self.new.addr ≡ self.old.addr }
     {
         for (index, base) in bases.iter().enumerate() {
@@ -143,7 +144,8 @@ impl Nearest {
     /// The ends of the expansion ROM of this card.
     fn see_rom(&mut self, card: &CardRegs)
         requires card { IsCard card.now.card }
-        ensures nearest { self.new.edge ≡ nearest self.old.addr self.old.edge (ends_of_rom card.now.card.rom card.now.rom) }
+        ensures nearest { self.new.edge
+            ≡ nearest self.old.addr self.old.edge (ends_of_rom card.now.card.rom card.now.rom) }
         ensures same { self.new.addr ≡ self.old.addr }
     {
         self.see_rom_at(card.spec.rom, card.rom);

@@ -1,5 +1,5 @@
 //! The memory map of the 82441FX and the 82371SB: which area an access reaches, and what denies it.
-ghost use Rattle.std.specs.Prelude.{◌≡◌, Some, option_map};
+ghost use Rattle.std.specs.Prelude.{◌≡◌, Some};
 ghost use Rattle.board_spec.specs.Setup.{Setup};
 ghost use Rattle.board_spec.specs.Decode.{Bytes, is_in, hole_of as hole_by, row_of as row_by, is_shadowed, smram_answers, area_of, denial_of};
 ghost use Rattle.board_spec.specs.RegisterNames.{fdhc, smram};

@@ -37,7 +37,7 @@ pub fn onboard_at(xbcs: u8, disk: Onboard, port: u16, width: Width) -> Onboard
     }
 }
 
-/// A register of one byte.
+/// What the board's own devices say to an access of one byte.
 #[tactic(auto, unfolding(crate::specs::Onboard::byte_port))]
 fn byte_port(xbcs: u8, disk: Onboard, port: u16) -> Onboard
     ensures onboard { result ≡ byte_port xbcs disk port }
@@ -56,7 +56,7 @@ fn byte_port(xbcs: u8, disk: Onboard, port: u16) -> Onboard
     }
 }
 
-/// The data register of the disk, which takes two or four bytes.
+/// What the board's own devices say to an access of two or four bytes, which the disk's data register alone takes.
 fn wide_port(disk: Onboard, port: u16) -> Onboard
     ensures onboard { result ≡ wide_port disk port }
 {

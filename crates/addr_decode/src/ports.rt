@@ -5,6 +5,7 @@ ghost use Rattle.board_spec.specs.Setup.{Setup};
 ghost use Rattle.board_spec.specs.RegisterTable.{function_at, function_exists};
 ghost use Rattle.board_spec.specs.Registers.{kept_address, config_register, is_config_port};
 ghost use Rattle.board_spec.specs.Decode.{Bytes, command_of, io_claim, io_shut};
+ghost use Rattle.board_spec.specs.PortNames.{config_address_port};
 ghost use Rattle.board_spec.specs.Ports.{port_target_of, config_port, unselected, other_port};
 ghost use Rattle.pci_bars.specs.Cards.{AreCards, AreDecoded, AreFitted};
 ghost use Rattle.addr_decode.specs.MapRegs.{IsIdeOf, StandsFor, map_bytes};
@@ -60,7 +61,7 @@ pub fn decode_port(
 
 /// Whether an access reaches the configuration address.
 fn is_config_address(port: u16, width: Width) -> bool
-    ensures address { result ≡ (port == 0xCF8 && bytes_of width == 4) }
+    ensures address { result ≡ (port == config_address_port && bytes_of width == 4) }
 {
     port == CONFIG_ADDRESS && width.bytes() == 4
 }
@@ -72,14 +73,14 @@ fn is_config_data(port: u16) -> bool
     CONFIG_DATA <= port && port <= CONFIG_DATA_END
 }
 
-/// Something answers.
+/// What an access is decoded to that this target answers: nothing denies it.
 fn answered(target: Target) -> (Target, Option<Denial>)
     ensures answered { result ≡ (target, None) }
 {
     (target, None)
 }
 
-/// Nobody answers, and this is why.
+/// What an access is decoded to that nobody answers, with what denies it.
 fn denied(denial: Denial) -> (Target, Option<Denial>)
     ensures denied { result ≡ (Target.Abort, Some denial) }
 {
@@ -143,7 +144,8 @@ fn has_function_0(cards: &[CardRegs], dev: u8) -> bool
 fn claim(cards: &[CardRegs], port: u16) -> Option<Target>
     requires cards { AreCards cards.now }
     ensures claim { (setup : Setup) (bytes : Bytes) → AreDecoded setup bytes cards.now
-        → result ≡ option_map (λ window. Target.Card window.dev window.base (port % 2 ^ window.bits)) (io_claim setup bytes port) }
+        → result ≡ option_map (λ window. Target.Card window.dev window.base (port % 2 ^ window.bits))
+        (io_claim setup bytes port) }
     ensures answers { IfSome result (λ target. target ≢ Target.Abort) }
 {
     match claim_io(cards, port) {
@@ -169,8 +171,8 @@ fn claimed_or(cards: &[CardRegs], port: u16, denial: Denial) -> (Target, Option<
     }
 }
 
-/// The card that claims a port of none of the board's own devices. Where there is none, the card denies that would
-/// if it were enabled.
+/// The card that claims a port of none of the board's own devices, or else the denial by the first that would if it
+/// were enabled.
 fn other_port(cards: &[CardRegs], port: u16) -> (Target, Option<Denial>)
     requires cards { AreCards cards.now }
     ensures decoded { (setup : Setup) (bytes : Bytes) → AreDecoded setup bytes cards.now

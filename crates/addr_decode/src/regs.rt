@@ -2,7 +2,6 @@
 ghost use Rattle.std.specs.Prelude.{◌≡◌};
 ghost use Rattle.board_spec.specs.Setup.{Setup, IsCardList};
 ghost use Rattle.board_spec.specs.RegisterTable.{reset_byte};
-ghost use Rattle.board_spec.specs.Decode.{Bytes};
 ghost use Rattle.pci_bars.specs.Cards.{AreCardsOf, AreFitted, AreReset, cards_of};
 ghost use Rattle.addr_decode.specs.MapRegs.{StandsFor, map_bytes};
 
@@ -29,8 +28,10 @@ impl MapRegs {
     /// The registers after a reset of a board with these cards: at most eight, in rising order of device.
     pub fn reset_of(specs: &[CardSpec]) -> MapRegs
         requires cards { IsCardList specs.now }
-        ensures stands { (setup : Setup) → setup.cards ≡ specs.now → StandsFor setup (reset_byte setup) (map_bytes result) }
-        ensures reset { (setup : Setup) → setup.cards ≡ specs.now → AreCardsOf setup (reset_byte setup) result.cards.items }
+        ensures stands { (setup : Setup) → setup.cards ≡ specs.now
+            → StandsFor setup (reset_byte setup) (map_bytes result) }
+        ensures reset { (setup : Setup) → setup.cards ≡ specs.now
+            → AreCardsOf setup (reset_byte setup) result.cards.items }
         ensures cards { cards_of result.cards.items ≡ specs.now }
         ensures fitted { AreFitted result.cards.items }
     {
@@ -80,8 +81,10 @@ impl MapRegs {
 fn after_reset(cards: ArrayVec<CardRegs, CARD_COUNT>) -> MapRegs
     requires reset { AreReset cards.items }
     requires cards { AreFitted cards.items }
-    ensures stands { (setup : Setup) → setup.cards ≡ cards_of cards.items → StandsFor setup (reset_byte setup) (map_bytes result) }
-    ensures reset { (setup : Setup) → setup.cards ≡ cards_of cards.items → AreCardsOf setup (reset_byte setup) result.cards.items }
+    ensures stands { (setup : Setup) → setup.cards ≡ cards_of cards.items
+        → StandsFor setup (reset_byte setup) (map_bytes result) }
+    ensures reset { (setup : Setup) → setup.cards ≡ cards_of cards.items
+        → AreCardsOf setup (reset_byte setup) result.cards.items }
     ensures cards { result.cards ≡ cards }
 {
     MapRegs {

@@ -90,12 +90,17 @@ next_part access parts count done part below some is on =
     let further : access.addr + (done + bytes_of part.width) ≡ addr + bytes_of width = rw width_is (omega arith) in
     let less : access.bytes - (done + bytes_of part.width) ≡ left - bytes_of width = rw width_is (omega arith) in
     let later = parts_from access (4 - (count + 1)) (addr + bytes_of width) (left - bytes_of width) in
-    append_assoc parts (part ∷ []) (parts_from access (4 - (count + 1)) (access.addr + (done + bytes_of part.width)) (access.bytes - (done + bytes_of part.width)))
-    ∙ ap (λ (at : ℕ). parts ++ part ∷ parts_from access (4 - (count + 1)) at (access.bytes - (done + bytes_of part.width))) further
+    append_assoc parts (part ∷ [])
+    (parts_from access (4 - (count + 1)) (access.addr + (done + bytes_of part.width))
+    (access.bytes - (done + bytes_of part.width)))
+    ∙ ap
+    (λ (at : ℕ). parts ++ part ∷ parts_from access (4 - (count + 1)) at (access.bytes - (done + bytes_of part.width)))
+    further
     ∙ ap (λ (rest : ℕ). parts ++ part ∷ parts_from access (4 - (count + 1)) (addr + bytes_of width) rest) less
     ∙ ap (λ (p : Access). parts ++ p ∷ later) is
     ∙ sym (ap (λ (rest : List Access). parts ++ rest)
-    (ap (λ (most : ℕ). parts_from access most addr left) more ∙ cond-false (left == 0) [] _ (ne_eqb left 0 (omega arith))))
+    (ap (λ (most : ℕ). parts_from access most addr left) more
+    ∙ cond-false (left == 0) [] _ (ne_eqb left 0 (omega arith))))
     ∙ on
 
 nothing : (access : WideAccess) (most addr left : ℕ) → left ≡ 0 → parts_from access most addr left ≡ []
@@ -105,7 +110,8 @@ nothing access (suc most) addr left none = cond-true (left == 0) [] _ (eq-eqb le
 
 -- where nothing is left there are no more parts
 pub no_part :
-    (access : WideAccess) (parts : List Access) (count done : ℕ) → access.bytes ≤ done → GoesOn access parts count done →
+    (access : WideAccess) (parts : List Access) (count done : ℕ) → access.bytes ≤ done → GoesOn access parts count
+    done →
     GoesOn access parts (count + 1) done
 no_part access parts count done all on =
     let none : access.bytes - done ≡ 0 = omega arith in
@@ -125,17 +131,12 @@ all_parts access parts count done four on =
     ∙ sym (ap (λ (most : ℕ). parts ++ parts_from access most (access.addr + done) (access.bytes - done)) last)
     ∙ on
 
-pub first_part : (access : WideAccess) → GoesOn access [] 0 0
-first_part access =
-    let at : access.addr + 0 ≡ access.addr = omega arith in
-    let left : access.bytes - 0 ≡ access.bytes = omega arith in
-    rw (at, left) refl
-
 -- ---- their answers
 
 pub all_decoded :
     (setup : Setup) (history : List Entry) (cycles : List Cycle) (cycle : Cycle) →
-    answers cycles ≡ map (part_answer setup history) (accesses cycles) → cycle.answer ≡ part_answer setup history cycle.access →
+    answers cycles ≡ map (part_answer setup history) (accesses cycles) →
+    cycle.answer ≡ part_answer setup history cycle.access →
     answers (cycles ++ cycle ∷ []) ≡ map (part_answer setup history) (accesses (cycles ++ cycle ∷ []))
 all_decoded setup history cycles cycle before last =
     map-append (λ (c : Cycle). c.answer) cycles (cycle ∷ [])

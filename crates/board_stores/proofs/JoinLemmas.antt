@@ -5,8 +5,6 @@ use Rattle.std.proofs.Math.Seq.{drop-cons}
 use Rattle.std.proofs.Math.Nat.{mod-eq_of_lt, mul_comm, mul_assoc, add_assoc, mul-one, mul-add, mul-le-mul_left, pow-le-pow_right}
 use Rattle.std.proofs.lemmas.Nat.{pow-add}
 use Rattle.std.specs.Int.Bits.{or_shifted_r}
-use Rattle.board_base.specs.declared.access.Width.{Width}
-use Rattle.board_base.specs.declared.access.Width.TheVariants.{One, Two, Four}
 use Rattle.board_base.specs.Access.{bytes_of}
 use Rattle.board_spec.specs.declared.event.Entry.{Entry}
 use Rattle.board_spec.specs.declared.event.Part.{Part}
@@ -14,6 +12,7 @@ use Rattle.board_spec.specs.Setup.{Setup}
 use Rattle.board_spec.specs.WideParts.{joined}
 use Rattle.board_spec.specs.PartLaws.{Covers}
 use Rattle.board_spec.specs.Answer.{value_at, memory_target, part_answer}
+use Rattle.pci_bars.proofs.ContentsLemmas.{some_bytes}
 use Rattle.board_stores.specs.declared.cut.Cycle.{Cycle}
 use Rattle.board_stores.specs.Cycles.{accesses, answers}
 use Rattle.board_stores.proofs.CutLemmas.{byte_power}
@@ -29,11 +28,6 @@ covered from end [] is = let e : from ≡ end = is in omega arith
 covered from end (cycle ∷ later) is =
     let e = covered (from + bytes_of cycle.access.width) end later is.1 in omega arith
 
-pub some_bytes : (width : Width) → 1 ≤ bytes_of width
-some_bytes One = omega arith
-some_bytes Two = omega arith
-some_bytes Four = omega arith
-
 pub bytes_left : (cycles : List Cycle) (i : ℕ) (d : Cycle) → i < length cycles →
     bytes_in (drop i cycles) ≡ bytes_of (get_or cycles i d).access.width + bytes_in (drop (i + 1) cycles)
 bytes_left cycles i d within =
@@ -41,7 +35,8 @@ bytes_left cycles i d within =
     rw one (ap bytes_in (drop-cons cycles i d within))
 
 -- of eight bytes
-pub few_bytes : (from end : ℕ) (cycles : List Cycle) → Covers from end (accesses cycles) → end ≤ from + 8 → bytes_in cycles ≤ 8
+pub few_bytes :
+    (from end : ℕ) (cycles : List Cycle) → Covers from end (accesses cycles) → end ≤ from + 8 → bytes_in cycles ≤ 8
 few_bytes from end cycles covers short = let e = covered from end cycles covers in omega arith
 
 -- a shift that is passed before a cycle
@@ -73,7 +68,8 @@ joined_cycles value (cycle ∷ later) = value cycle + 256 ^ bytes_of cycle.acces
 
 -- cycles that are answered as the parts of an access have its value
 pub joined_parts :
-    (setup : Setup) (history : List Entry) (cycles : List Cycle) → answers cycles ≡ map (part_answer setup history) (accesses cycles) →
+    (setup : Setup) (history : List Entry) (cycles : List Cycle) → answers cycles
+    ≡ map (part_answer setup history) (accesses cycles) →
     joined_cycles (value_of setup history) cycles
     ≡ joined (λ part. value_at setup history (memory_target setup history part) part.addr part.width) (accesses cycles)
 unfolding part_answer
@@ -81,7 +77,8 @@ joined_parts setup history [] is = refl
 joined_parts setup history (cycle ∷ later) is =
     let here : cycle.answer ≡ part_answer setup history cycle.access = cc in
     let rest : answers later ≡ map (part_answer setup history) (accesses later) = cc in
-    let target : cycle.answer.target ≡ memory_target setup history cycle.access = ap (λ (part : Part). part.target) here in
+    let target : cycle.answer.target ≡ memory_target setup history cycle.access =
+    ap (λ (part : Part). part.target) here in
     rw (target, joined_parts setup history later rest) refl
 
 -- ---- one cycle more
@@ -107,14 +104,17 @@ value_above P B so_far read below fits =
 
 value_or :
     (so_far shift read bytes : ℕ) → so_far < 2 ^ shift → read < 256 ^ bytes → shift + 8 * bytes ≤ 64 →
-    (bit_or so_far (read * 2 ^ shift % 2 ^ 64) ≡ so_far + 2 ^ shift * read) × (so_far + 2 ^ shift * read < 2 ^ (shift + 8 * bytes))
+    (bit_or so_far (read * 2 ^ shift % 2 ^ 64) ≡ so_far + 2 ^ shift * read) ×
+    (so_far + 2 ^ shift * read < 2 ^ (shift + 8 * bytes))
 value_or so_far shift read bytes below fits short =
     let whole : so_far + 2 ^ shift * read < 2 ^ (shift + 8 * bytes) =
     rw (longer shift bytes) (value_above (2 ^ shift) (256 ^ bytes) so_far read below fits) in
     let most : 2 ^ (shift + 8 * bytes) ≤ 2 ^ 64 = pow-le-pow_right (omega arith) short in
     let turned : read * 2 ^ shift ≡ 2 ^ shift * read = mul_comm read (2 ^ shift) in
     let room : read * 2 ^ shift < 2 ^ 64 = omega (arith, whole, most, turned) in (
-      ap (λ (n : ℕ). bit_or so_far n) (mod-eq_of_lt room) ∙ or_shifted_r read shift so_far below ∙ sum_turned so_far (2 ^ shift * read) (read * 2 ^ shift) turned,
+      ap (λ (n : ℕ). bit_or so_far n) (mod-eq_of_lt room)
+          ∙ or_shifted_r read shift so_far below
+          ∙ sum_turned so_far (2 ^ shift * read) (read * 2 ^ shift) turned,
       whole,
     )
 
@@ -122,7 +122,8 @@ pub next_value :
     (value : Cycle → ℕ) (cycles : List Cycle) (i so_far shift read : ℕ) (d : Cycle) → i < length cycles →
     read ≡ value (get_or cycles i d) → read < 256 ^ bytes_of (get_or cycles i d).access.width →
     shift + 8 * bytes_of (get_or cycles i d).access.width ≤ 64 → IsSoFar value cycles i so_far shift →
-    IsSoFar value cycles (i + 1) (bit_or so_far (read * 2 ^ shift % 2 ^ 64)) (shift + 8 * bytes_of (get_or cycles i d).access.width)
+    IsSoFar value cycles (i + 1) (bit_or so_far (read * 2 ^ shift % 2 ^ 64))
+    (shift + 8 * bytes_of (get_or cycles i d).access.width)
 next_value value cycles i so_far shift read d within is fits short before =
     let bytes = bytes_of (get_or cycles i d).access.width in
     let J = joined_cycles value (drop (i + 1) cycles) in
@@ -152,7 +153,8 @@ next_value value cycles i so_far shift read d within is fits short before =
 
 -- where no cycle is left
 pub whole_value :
-    (value : Cycle → ℕ) (cycles : List Cycle) (i so_far shift : ℕ) → drop i cycles ≡ [] → IsSoFar value cycles i so_far shift →
+    (value : Cycle → ℕ) (cycles : List Cycle) (i so_far shift : ℕ) → drop i cycles ≡ [] →
+    IsSoFar value cycles i so_far shift →
     so_far ≡ joined_cycles value cycles
 whole_value value cycles i so_far shift end is =
     let none : joined_cycles value (drop i cycles) ≡ 0 = ap (joined_cycles value) end in

@@ -14,8 +14,10 @@ use Rattle.board_spec.specs.Answer.{target_at, memory_denial, part_answer}
 -- the area and the denial of an access make its answer
 pub part_answered :
     (setup : Setup) (history : List Entry) (access : Access) (area : Area) (target : Target) (denial : Option Denial) →
-    area ≡ area_of setup (byte_of setup history) access.addr access.kind access.smm → target ≡ target_at setup area access.addr →
+    area ≡ area_of setup (byte_of setup history) access.addr access.kind access.smm →
+    target ≡ target_at setup area access.addr →
     denial ≡ memory_denial setup history access →
     ◌≡◌ {A = Part} (record { target = target; denial = denial }) (part_answer setup history access)
 unfolding part_answer
-part_answered setup history access area target denial area_is target_is denial_is = rw (target_is, area_is, denial_is) refl
+part_answered setup history access area target denial area_is target_is denial_is =
+    rw (target_is, area_is, denial_is) refl

@@ -24,11 +24,14 @@ put_nothing stores = record {
   contents = λ dev base off number. refl;
 }
 
-later_first : (later first : Option ℕ) (old : ℕ) → unwrap_or later (unwrap_or first old) ≡ unwrap_or (option_or later first) old
+later_first :
+    (later first : Option ℕ) (old : ℕ) → unwrap_or later (unwrap_or first old) ≡ unwrap_or (option_or later first) old
 later_first None first old = refl
 later_first (Some byte) first old = refl
 
-in_dram : (put : Cell → Option ℕ) (old new : Stores) → ArePut put old new → HasPut (λ at. put (DramCell at)) old.dram new.dram
+in_dram :
+    (put : Cell → Option ℕ) (old new : Stores) → ArePut put old new →
+    HasPut (λ at. put (DramCell at)) old.dram new.dram
 in_dram put old new has = record { size = has.size; each = has.dram }
 
 -- bytes put after others stand over them
@@ -45,7 +48,8 @@ put_then first later old mid new before after =
       contents = λ dev base off number.
           after.contents dev base off number
           ∙ ap (λ (byte : ℕ). unwrap_or (later (CardCell dev base off)) byte) (before.contents dev base off number)
-          ∙ later_first (later (CardCell dev base off)) (first (CardCell dev base off)) (held_byte old.contents dev base off);
+          ∙ later_first (later (CardCell dev base off)) (first (CardCell dev base off))
+          (held_byte old.contents dev base off);
     }
 
 -- what cycles leave
@@ -58,7 +62,8 @@ none_put stores = put_nothing stores
 
 -- a cycle and those after it
 pub put_next :
-    (cycle : Cycle) (later : List Cycle) (old mid new : Stores) → ArePut (memory_put cycle.access cycle.answer.target) old mid →
+    (cycle : Cycle) (later : List Cycle) (old mid new : Stores) → ArePut (memory_put cycle.access cycle.answer.target)
+    old mid →
     ArePut (cycles_put later) mid new → ArePut (cycles_put (cycle ∷ later)) old new
 unfolding parts_put
 put_next cycle later old mid new first rest =
@@ -70,13 +75,15 @@ pub put_at :
     ArePut (cycles_put (drop (i + 1) cycles)) mid new → ArePut (cycles_put (drop i cycles)) old new
 put_at cycles i d old mid new within first rest =
     let one : i + 1 ≡ suc i = omega arith in
-    rw (drop-cons cycles i d within) (put_next (get_or cycles i d) (drop (suc i) cycles) old mid new first (rw one at rest))
+    rw (drop-cons cycles i d within)
+    (put_next (get_or cycles i d) (drop (suc i) cycles) old mid new first (rw one at rest))
 
 -- ---- the cycles that are left can still be done
 
 held_after :
     (rom : List ℕ) (old new : List (List ℕ)) (target : Target) (width : Width) →
-    ((dev base : ℕ) → length (held new dev base) ≡ length (held old dev base)) → IsHeld rom old target width → IsHeld rom new target width
+    ((dev base : ℕ) → length (held new dev base) ≡ length (held old dev base)) → IsHeld rom old target width → IsHeld
+    rom new target width
 held_after rom old new (Dram row) width same is = tt
 held_after rom old new (Shadow row) width same is = tt
 held_after rom old new Smram width same is = tt
@@ -89,7 +96,8 @@ held_after rom old new Abort width same is = tt
 
 pub ready_after :
     (rom : List ℕ) (old new : List (List ℕ)) (cycle : Cycle) →
-    ((dev base : ℕ) → length (held new dev base) ≡ length (held old dev base)) → IsReady rom old cycle.access cycle.answer →
+    ((dev base : ℕ) → length (held new dev base) ≡ length (held old dev base)) → IsReady rom old cycle.access
+    cycle.answer →
     IsReady rom new cycle.access cycle.answer
 ready_after rom old new cycle same ready = record {
   bus = ready.bus;

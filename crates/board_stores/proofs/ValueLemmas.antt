@@ -37,8 +37,11 @@ byte_at : (width : Width) (value : ℕ) (at : Option ℕ) →
 byte_at width value None = tt
 byte_at width value (Some k) = only_if (nat_lt k (bytes_of width)) (Some (byte value k)) (omega arith)
 
-put_is_byte : (target : Target) (addr : ℕ) (width : Width) (value : ℕ) (cell : Cell) → IsByte (byte_put target addr width value cell)
-put_is_byte target addr width value cell = byte_at width value (option_and_then (λ first. distance first cell) (first_cell target addr))
+put_is_byte :
+    (target : Target) (addr : ℕ) (width : Width) (value : ℕ) (cell : Cell) →
+    IsByte (byte_put target addr width value cell)
+put_is_byte target addr width value cell =
+    byte_at width value (option_and_then (λ first. distance first cell) (first_cell target addr))
 
 memory_is_byte : (access : Access) (target : Target) (cell : Cell) → IsByte (memory_put access target cell)
 memory_is_byte access target cell =
@@ -53,7 +56,8 @@ unfolding parts_put
 parts_are_bytes [] replies cell = tt
 parts_are_bytes (part ∷ parts) [] cell = tt
 parts_are_bytes (part ∷ parts) (reply ∷ replies) cell =
-    either_is_byte (parts_put parts replies cell) (memory_put part reply.target cell) (parts_are_bytes parts replies cell)
+    either_is_byte (parts_put parts replies cell) (memory_put part reply.target cell)
+    (parts_are_bytes parts replies cell)
     (memory_is_byte part reply.target cell)
 
 entry_is_byte : (event : Event) (reply : Reply) (cell : Cell) → IsByte (entry_put event reply cell)
@@ -85,7 +89,8 @@ stored_below : (history : List Entry) (cell : Cell) → stored_of history cell <
 unfolding stored_of
 stored_below [] cell = omega arith
 stored_below (entry ∷ before) cell =
-    put_over (entry_put entry.event entry.reply cell) (stored_of before cell) (entry_is_byte entry.event entry.reply cell)
+    put_over (entry_put entry.event entry.reply cell) (stored_of before cell)
+    (entry_is_byte entry.event entry.reply cell)
     (stored_below before cell)
 
 dram_below : (setup : Setup) (history : List Entry) (addr : ℕ) → dram_byte setup history addr < 256
@@ -104,20 +109,27 @@ card_below history dev base off =
 
 -- ---- what is read
 
-wide_below : (byte_of : ℕ → ℕ) (from : ℕ) (width : Width) → ((at : ℕ) → byte_of at < 256) → wide byte_of from width < 256 ^ bytes_of width
+wide_below :
+    (byte_of : ℕ → ℕ) (from : ℕ) (width : Width) → ((at : ℕ) → byte_of at < 256) →
+    wide byte_of from width < 256 ^ bytes_of width
 wide_below byte_of from One below = below from
 wide_below byte_of from Two below = omega (arith, below from, below (from + 1))
 wide_below byte_of from Four below =
     omega (arith, below from, below (from + 1), below (from + 2), below (from + 3))
 
 pub value_below :
-    (setup : Setup) (history : List Entry) (rom : List ℕ) (contents : List (List ℕ)) (target : Target) (place : ℕ) (width : Width) →
+    (setup : Setup) (history : List Entry) (rom : List ℕ) (contents : List (List ℕ)) (target : Target) (place : ℕ)
+    (width : Width) →
     setup.rom ≡ rom → ((at : ℕ) → slice_index rom at < 256) → IsHeld rom contents target width →
     value_at setup history target place width < 256 ^ bytes_of width
-value_below setup history rom contents (Dram row) place width image bytes is = wide_below (dram_byte setup history) place width (dram_below setup history)
-value_below setup history rom contents (Shadow row) place width image bytes is = wide_below (dram_byte setup history) place width (dram_below setup history)
-value_below setup history rom contents Smram place width image bytes is = wide_below (dram_byte setup history) place width (dram_below setup history)
-value_below setup history rom contents (Rom off) place width image bytes is = wide_below (slice_index setup.rom) off width (λ at. rw image (bytes at))
+value_below setup history rom contents (Dram row) place width image bytes is =
+    wide_below (dram_byte setup history) place width (dram_below setup history)
+value_below setup history rom contents (Shadow row) place width image bytes is =
+    wide_below (dram_byte setup history) place width (dram_below setup history)
+value_below setup history rom contents Smram place width image bytes is =
+    wide_below (dram_byte setup history) place width (dram_below setup history)
+value_below setup history rom contents (Rom off) place width image bytes is =
+    wide_below (slice_index setup.rom) off width (λ at. rw image (bytes at))
 value_below setup history rom contents (Card dev base off) place width image bytes is =
     wide_below (λ at. card_byte history dev base at) off width (card_below history dev base)
 value_below setup history rom contents Abort place One image bytes is = omega arith

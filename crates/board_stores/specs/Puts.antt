@@ -19,4 +19,5 @@ pub record ArePut (put : Cell → Option ℕ) (old new : Stores) : Type 0 where
       slice_index new.dram at ≡ unwrap_or (put (DramCell at)) (slice_index old.dram at)
   pub sizes : (dev base : ℕ) → length (held new.contents dev base) ≡ length (held old.contents dev base)
   pub contents : (dev base off : ℕ) → IsBaseNumber dev base →
-      held_byte new.contents dev base off ≡ unwrap_or (put (CardCell dev base off)) (held_byte old.contents dev base off)
+      held_byte new.contents dev base off
+      ≡ unwrap_or (put (CardCell dev base off)) (held_byte old.contents dev base off)

@@ -50,7 +50,8 @@ pub fn cycles_of(regs: &MapRegs, rom: &[u8], access: &WideAccess) -> ArrayVec<Cy
     requires cards { AreFitted regs.now.cards.items }
     requires rom { IsRomSize (length rom.now) }
     ensures parts { accesses result.items ≡ parts_of access.now }
-    ensures decoded { (setup : Setup) (history : List Entry) → StandsFor setup (byte_of setup history) (map_bytes regs.now)
+    ensures decoded { (setup : Setup) (history : List Entry)
+        → StandsFor setup (byte_of setup history) (map_bytes regs.now)
         → setup.rom ≡ rom.now → answers result.items ≡ map (part_answer setup history) (parts_of access.now) }
 {
     let mut cycles = ArrayVec::new();

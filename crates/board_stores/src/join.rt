@@ -1,4 +1,4 @@
-//! The cycles of a wide access are read or written one by one.
+//! The cycles of a wide access, read or written one after the other.
 ghost use Rattle.std.specs.Prelude.{◌≡◌, ◌≤◌, ◌+◌, ℕ, true, List, map, All};
 ghost use Rattle.board_spec.specs.declared.event.Entry.{Entry};
 ghost use Rattle.board_spec.specs.Setup.{Setup};
@@ -19,7 +19,8 @@ pub fn read_cycles(stores: &Stores, rom: &[u8], cycles: &[Cycle]) -> u64
     requires covers { (from end : ℕ) × Covers from end (accesses cycles.now) × (end ≤ from + 8) }
     ensures value { (setup : Setup) (history : List Entry) → HasStores setup history stores.now → setup.rom ≡ rom.now
         → answers cycles.now ≡ map (part_answer setup history) (accesses cycles.now)
-        → result ≡ joined (λ part. value_at setup history (memory_target setup history part) part.addr part.width) (accesses cycles.now) }
+        → result ≡ joined (λ part. value_at setup history (memory_target setup history part) part.addr part.width)
+        (accesses cycles.now) }
 {
     let mut value = 0;
     let mut shift = 0;
@@ -30,7 +31,7 @@ pub fn read_cycles(stores: &Stores, rom: &[u8], cycles: &[Cycle]) -> u64
     value
 }
 
-/// Does the cycles that write, one after the other.
+/// Does cycles that write, one after the other. Those to the ROM and to nobody are lost.
 pub fn write_cycles(stores: &mut Stores, cycles: &[Cycle])
     requires ready { (rom : List ℕ) × AreReady rom stores.old.contents cycles.now }
     requires writes { All (λ cycle. is_write cycle.access.kind ≡ true) cycles.now }

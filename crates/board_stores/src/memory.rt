@@ -1,5 +1,5 @@
-//! Accesses to memory.
-ghost use Rattle.std.specs.Prelude.{◌≡◌, ◌≤◌, ℕ, true, List, length};
+//! Accesses to memory: what each reaches, and its bytes read or written there.
+ghost use Rattle.std.specs.Prelude.{◌≡◌, ℕ, true, List, length};
 ghost use Rattle.board_spec.specs.declared.event.Entry.{Entry};
 ghost use Rattle.board_spec.specs.Setup.{Setup, IsRomSize};
 ghost use Rattle.board_spec.specs.Stored.{is_write, memory_put};
@@ -17,11 +17,12 @@ use board_spec::Part;
 use board_spec::wide::read_at;
 use pci_bars::offset_in;
 
-/// What an access reaches, and what denies it.
+/// What an access to memory reaches, and what denies it: None where something answers, unless it writes to the ROM.
 pub fn decoded(map: &MapRegs, rom: &[u8], access: &Access) -> Part
     requires cards { AreFitted map.now.cards.items }
     requires rom { IsRomSize (length rom.now) }
-    ensures decoded { (setup : Setup) (history : List Entry) → StandsFor setup (byte_of setup history) (map_bytes map.now)
+    ensures decoded { (setup : Setup) (history : List Entry)
+        → StandsFor setup (byte_of setup history) (map_bytes map.now)
         → setup.rom ≡ rom.now → result ≡ part_answer setup history access.now }
 {
     let (area, denial) = decode(map, access.addr, access.kind, access.smm);

@@ -1,5 +1,5 @@
 //! The DRAM, and the contents of the cards.
-ghost use Rattle.std.specs.Prelude.{◌≡◌, ◌≤◌, ◌%◌, ℕ, List, [], IfOk};
+ghost use Rattle.std.specs.Prelude.{◌≡◌, ◌≤◌, ◌%◌, List, [], IfOk};
 ghost use Rattle.board_base.specs.Access.{bytes_of, largest_of};
 ghost use Rattle.board_spec.specs.declared.event.Entry.{Entry};
 ghost use Rattle.board_spec.specs.Setup.{Setup, IsCardList};
@@ -21,12 +21,13 @@ pub struct Stores {
 }
 
 impl Stores {
-    /// `mib` MiB of DRAM, 1 to 64, and the contents of these cards, all zeros.
+    /// `mib` MiB of DRAM, 1 to 64, and the contents of these cards, all zeros. No later call takes memory.
     pub fn open(alloc: Global, mib: u32, specs: &[CardSpec]) -> Result<Stores, NoMemory>
         requires low { 1 ≤ mib }
         requires high { mib ≤ 64 }
         requires cards { IsCardList specs.now }
-        ensures fresh { IfOk result (λ stores. (setup : Setup) → setup.mib ≡ mib → setup.cards ≡ specs.now → HasStores setup [] stores) }
+        ensures fresh { IfOk result (λ stores. (setup : Setup) → setup.mib ≡ mib → setup.cards ≡ specs.now
+            → HasStores setup [] stores) }
     {
         let dram = Dram::open(alloc, mib)?;
         let contents = Contents::open(alloc, specs)?;

@@ -13,7 +13,13 @@ use Rattle.board_spec.specs.RegisterNames.{smram, is_same}
 use Rattle.board_spec.proofs.StoreLemmas.{changed_byte-one_same, changed_byte-one_other}
 
 -- the bytes with a merged byte at a place are those after a store of one byte there
-pub stored_byte : (setup : Setup) (reg : Reg) (bytes masks : List ℕ) (off place written byte : ℕ) → place ≡ off → off < length bytes → written < 256 → byte ≡ merged (get_or masks place 0) (get_or bytes place 0) written → get_or masks reg.off 0 ≡ writable_bits setup reg → is_same reg smram ≡ false → get_or (set bytes place byte) reg.off 0 ≡ changed_byte setup (Store (record reg { off = off }) One written) reg (get_or bytes reg.off 0)
+pub stored_byte :
+    (setup : Setup) (reg : Reg) (bytes masks : List ℕ) (off place written byte : ℕ) → place ≡ off →
+    off < length bytes →
+    written < 256 → byte ≡ merged (get_or masks place 0) (get_or bytes place 0) written →
+    get_or masks reg.off 0 ≡ writable_bits setup reg → is_same reg smram ≡ false →
+    get_or (set bytes place byte) reg.off 0
+    ≡ changed_byte setup (Store (record reg { off = off }) One written) reg (get_or bytes reg.off 0)
 stored_byte setup reg bytes masks off place written byte at_off within below byte_is mask_is plain =
     elim (cases_eq reg.off off) [
       | inl same ↦

@@ -22,7 +22,8 @@ pub struct Selected {
     pub reg: Reg,
 }
 
-/// The configuration address register at port 0CF8h. Contracts see the number that it holds.
+/// The configuration address register at port 0CF8h: enable in bit 31, and from bit 23 down 8 bits of bus, 5 of
+/// device, 3 of function and 8 of register, whose low two are 0. Contracts see the number that it holds.
 #[derive(Drop)]
 pub struct ConfAdd {
     value: u32,
@@ -54,7 +55,7 @@ impl ConfAdd {
         self.value = kept(value);
     }
 
-    /// The four bytes of the register.
+    /// The number that the register holds. Reserved bits read 0.
     pub fn read(&self) -> u32
         ensures value { result ≡ self.now }
         ensures kept { kept_address result ≡ result }
@@ -62,15 +63,15 @@ impl ConfAdd {
         self.value
     }
 
-    /// Sets the register to 0.
+    /// Gives the register its value after a reset, 0.
     pub fn reset(&mut self)
         ensures zero { self.new ≡ 0 }
     {
         self.value = 0;
     }
 
-    /// The register that an access at one of the ports 0CFCh to 0CFFh reaches, whether or not its
-    /// function exists. None where the enable bit is 0. An aligned access stays within the function's 256 bytes.
+    /// What an access at one of the ports 0CFCh to 0CFFh reaches: `select` of the number that the register holds.
+    /// None where the enable bit is 0.
     pub fn select(&self, port: u16) -> Option<Selected>
         requires config_port { IsTrue (is_config_port port) }
         ensures none { IsNone result ↔ (is_enabled self.now ≡ false) }

@@ -13,8 +13,7 @@ ghost use Rattle.cfg_ports.specs.Space.{byte_at, mask_at, reset_at, SameTable};
 use board_spec::bits::merged;
 use std::marker::Model;
 
-/// The 256 bytes of a function's configuration space. Each has a value after a reset, and bits that
-/// can be written.
+/// The 256 bytes of a function's configuration space. Each has a value after a reset, and bits that can be written.
 #[derive(Drop)]
 pub struct Space {
     reset: [u8; 256],
@@ -42,7 +41,7 @@ impl Space {
         }
     }
 
-    /// The byte at an offset.
+    /// The byte at an offset, as the last write or reset left it.
     pub fn read(&self, off: u8) -> u8
         ensures byte { result ≡ byte_at self.now off }
     {

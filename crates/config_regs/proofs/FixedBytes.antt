@@ -1,61 +1,59 @@
 -- A register that nothing changes holds after every history what a reset leaves.
-use Rattle.std.proofs.Common.{◌≡◌, ◌≢◌, ◌-◌, ◌<◌, ℕ, List, [], ◌∷◌, false, Option, Some, None, ◌∙◌, refl, ap, inl, inr, arith}
-use Rattle.std.proofs.lemmas.Bool.{cases_Bool, cases_lt, cond-true, cond-false, ne_eqb}
+use Rattle.std.proofs.Common.{◌≡◌, ◌≢◌, ◌<◌, ℕ, List, [], ◌∷◌, false, Option, Some, None, refl, inl, inr, arith}
+use Rattle.std.proofs.lemmas.Bool.{cases_lt, ne_eqb}
 use Rattle.board_base.specs.declared.target.Reg.{Reg}
 use Rattle.board_spec.specs.declared.event.Entry.{Entry}
 use Rattle.board_spec.specs.declared.map_change.MapChange.{MapChange}
 use Rattle.board_spec.specs.declared.map_change.MapChange.TheVariants.{Store, Reset}
 use Rattle.board_spec.specs.Setup.{Setup}
-use Rattle.board_spec.specs.Bits.{byte, merged}
 use Rattle.board_spec.specs.RegisterNames.{bridge, isa, smram, is_same}
-use Rattle.board_spec.specs.RegisterTable.{reset_byte, writable_bits}
-use Rattle.board_spec.specs.Registers.{covers, byte_after, byte_with, register_change, byte_of}
-use Rattle.board_spec.proofs.MergedLemmas.{merged-none}
+use Rattle.board_spec.specs.RegisterTable.{reset_byte}
+use Rattle.board_spec.specs.Registers.{byte_with, register_change, byte_of}
 use Rattle.pmc_regs.specs.Pmc.{IsFixedOffset}
 use Rattle.pmc_regs.proofs.TableLemmas.{writable_bits-fixed}
 use Rattle.pmc_regs.proofs.PmcLemmas.{reset_byte-small}
 use Rattle.xbus_select.specs.Piix.{IsIsaFixed}
+use Rattle.xbus_select.proofs.FixedLemmas.{IsFixedAt, kept_byte}
 use Rattle.xbus_select.proofs.PiixLemmas.{fixed_at}
 
-record IsFixed (setup : Setup) (reg : Reg) : Type 0 where
-  plain : is_same reg smram ≡ false
-  read_only : writable_bits setup reg ≡ 0
-  fits : reset_byte setup reg < 256
+-- a register that cannot be written has its byte of a reset at all times
+abbrev IsFixed : Setup → Reg → Type 0
+IsFixed setup reg = IsFixedAt setup reg (reset_byte setup reg)
 
-stays : (setup : Setup) (change : Option MapChange) (reg : Reg) (old : ℕ) → IsFixed setup reg → old ≡ reset_byte setup reg →
-    byte_with setup change reg old ≡ reset_byte setup reg
-stays setup None reg old fixed is = is
-stays setup (Some Reset) reg old fixed is = refl
-stays setup (Some (Store at width value)) reg old fixed is =
-    let put : ℕ = byte value (reg.off - at.off) in
-    elim (cases_Bool (covers at width reg)) [
-      | inl covered ↦
-          cond-true (covers at width reg) (byte_after setup reg old put) old covered
-          ∙ cond-false (is_same reg smram) _ _ fixed.plain
-          ∙ ap (λ mask. merged mask old put) fixed.read_only
-          ∙ merged-none old put (rw is fixed.fits)
-          ∙ is
-      | inr apart ↦ cond-false (covers at width reg) (byte_after setup reg old put) old apart ∙ is
-    ]
+stays :
+    (setup : Setup) (change : Option MapChange) (reg : Reg) (old : ℕ) → is_same reg smram ≡ false → IsFixed setup reg →
+    old ≡ reset_byte setup reg → byte_with setup change reg old ≡ reset_byte setup reg
+stays setup None reg old plain fixed is = is
+stays setup (Some Reset) reg old plain fixed is = refl
+stays setup (Some (Store at width value)) reg old plain fixed is =
+    kept_byte setup at width value reg old (reset_byte setup reg) plain fixed is
 
-always : (setup : Setup) (history : List Entry) (reg : Reg) → IsFixed setup reg → byte_of setup history reg ≡ reset_byte setup reg
+always :
+    (setup : Setup) (history : List Entry) (reg : Reg) → is_same reg smram ≡ false → IsFixed setup reg →
+    byte_of setup history reg ≡ reset_byte setup reg
 unfolding byte_of
-always setup [] reg fixed = refl
-always setup (entry ∷ before) reg fixed =
-    stays setup (register_change setup before entry.event) reg (byte_of setup before reg) fixed (always setup before reg fixed)
+always setup [] reg plain fixed = refl
+always setup (entry ∷ before) reg plain fixed =
+    stays setup (register_change setup before entry.event) reg (byte_of setup before reg) plain fixed
+    (always setup before reg plain fixed)
 
-pub bridge_always : (setup : Setup) (history : List Entry) (off : ℕ) → IsFixedOffset off → byte_of setup history (bridge off) ≡ reset_byte setup (bridge off)
+pub bridge_always :
+    (setup : Setup) (history : List Entry) (off : ℕ) → IsFixedOffset off →
+    byte_of setup history (bridge off) ≡ reset_byte setup (bridge off)
 bridge_always setup history off fixed =
-    always setup history (bridge off) (record {
-      plain = ne_eqb off 0x72 (omega arith);
+    always setup history (bridge off) (ne_eqb off 0x72 (omega arith)) (record {
+      reset = refl;
       read_only = writable_bits-fixed setup off fixed;
       fits = reset_byte-small setup off fixed;
     })
 
-pub isa_always : (setup : Setup) (history : List Entry) (off : ℕ) → IsIsaFixed off → byte_of setup history (isa off) ≡ reset_byte setup (isa off)
+pub isa_always :
+    (setup : Setup) (history : List Entry) (off : ℕ) → IsIsaFixed off →
+    byte_of setup history (isa off) ≡ reset_byte setup (isa off)
 isa_always setup history off fixed =
     let it = fixed_at setup off fixed in
-    always setup history (isa off) (record { plain = refl; read_only = it.read_only; fits = rw (← it.reset) it.fits })
+    always setup history (isa off) refl
+    (record { reset = refl; read_only = it.read_only; fits = rw (← it.reset) it.fits })
 
 pub fixed_below : (off : ℕ) → off < 0x59 → IsFixedOffset off
 fixed_below off below = ((omega arith, inl below, inl (omega arith)), inl (omega arith))

@@ -1,16 +1,17 @@
 -- Which functions exist, and the card at a device number.
-use Rattle.std.proofs.Common.{◌≡◌, ◌≢◌, ℕ, ◌+◌, ◌<◌, ◌⊎◌, inl, inr, true, false, List, [], ◌∷◌, Option, Some, None, refl, sym, ◌∙◌, ap, subst, arith}
-use Rattle.std.specs.Prelude.{◌==◌, All, find, is_some, option_map}
-use Rattle.std.proofs.lemmas.Bool.{cases_Bool, cases_eq, eqb-true, ne_eqb}
-use Rattle.std.proofs.lemmas.List.Elements.{All-head, All-tail}
+use Rattle.std.proofs.Common.{◌≡◌, ◌≢◌, ℕ, ◌+◌, ◌<◌, ◌⊎◌, inl, inr, true, false, List, None, refl, sym, ◌∙◌, ap, arith}
+use Rattle.std.specs.Prelude.{◌==◌, find, is_some}
+use Rattle.std.proofs.lemmas.Bool.{cases_eq, ne_eqb, false≢true}
 use Rattle.board_base.specs.declared.access.Width.{Width}
 use Rattle.board_base.specs.declared.access.Width.TheVariants.{One, Two, Four}
 use Rattle.board_base.specs.declared.target.Reg.{Reg}
 use Rattle.board_base.specs.Access.{bytes_of}
-use Rattle.board_spec.specs.Setup.{Setup, FittedCard, card_at}
+use Rattle.board_spec.specs.Setup.{Setup, card_at}
 use Rattle.board_spec.specs.Bits.{wide}
-use Rattle.board_spec.specs.RegisterTable.{card_function, function_at}
+use Rattle.board_spec.specs.RegisterTable.{function_at}
 use Rattle.pci_bars.specs.Cards.{CardBytes, cards_of}
+use Rattle.pci_bars.proofs.CardListLemmas.{card_is}
+use Rattle.addr_decode.proofs.PortLemmas.{card_exists as function_of_card}
 
 -- ---- the functions that exist
 
@@ -34,50 +35,30 @@ south_function setup dev fun at exists' =
       ]
     ]
 
-fitted_card : (fitted : Option FittedCard) → is_some (option_map card_function fitted) ≡ true → is_some fitted ≡ true
-fitted_card None none = absurd (cc)
-fitted_card (Some card) some = refl
-
-pub card_exists : (setup : Setup) (dev fun : ℕ) → dev ≢ 0 → dev ≢ 1 → Exists setup dev fun → (fun ≡ 0) × (is_some (card_at setup dev) ≡ true)
+pub card_exists :
+    (setup : Setup) (dev fun : ℕ) → dev ≢ 0 → dev ≢ 1 → Exists setup dev fun →
+    (fun ≡ 0) × (is_some (card_at setup dev) ≡ true)
 card_exists setup dev fun not0 not1 exists' =
     elim (cases_eq fun 0) [
-      | inl zero' ↦ (zero', fitted_card (card_at setup dev) (rw (ne_eqb dev 0 not0, ne_eqb dev 1 not1, zero') at exists'))
-      | inr apart ↦ let none : false ≡ true = rw (ne_eqb dev 0 not0, ne_eqb dev 1 not1, ne_eqb fun 0 apart) at exists' in absurd (cc)
+      | inl zero' ↦ (zero', function_of_card setup dev not0 not1 ∙ rw zero' at exists')
+      | inr apart ↦
+          let none : false
+          ≡ true = rw (ne_eqb dev 0 not0, ne_eqb dev 1 not1, ne_eqb fun 0 apart) at exists' in absurd (cc)
     ]
 
 -- ---- a card is found by its device
 
-pub found : (P : CardBytes → Type 0) (cards : List CardBytes) (dev : ℕ) (card : CardBytes) → All P cards →
-    find (λ card. card.card.dev == dev) cards ≡ Some card → P card × (card.card.dev ≡ dev)
-found P [] dev card each is = absurd (cc)
-found P (first ∷ later) dev card each is =
-    elim (cases_Bool (first.card.dev == dev)) [
-      | inl here ↦
-          let same : Some first ≡ Some card = rw here at is in
-          let first_is : first ≡ card = cc in
-          (subst P first_is (All-head P first later each), ap (λ (it : CardBytes). it.card.dev) (sym first_is) ∙ eqb-true _ _ here)
-      | inr not ↦ found P later dev card (All-tail P first later each) (rw not at is)
-    ]
-
-not_found : (cards : List CardBytes) (dev : ℕ) → find (λ card. card.card.dev == dev) cards ≡ None →
-    is_some (find (λ card. card.dev == dev) (cards_of cards)) ≡ false
-not_found [] dev none = refl
-not_found (first ∷ later) dev none =
-    elim (cases_Bool (first.card.dev == dev)) [
-      | inl here ↦ let some : Some first ≡ None = rw here at none in absurd (cc)
-      | inr not ↦ rw not (not_found later dev (rw not at none))
-    ]
-
-pub no_card : (setup : Setup) (cards : List CardBytes) (dev : ℕ) → setup.cards ≡ cards_of cards → find (λ card. card.card.dev == dev) cards ≡ None →
-    is_some (card_at setup dev) ≡ true → ⊥
+pub no_card :
+    (setup : Setup) (cards : List CardBytes) (dev : ℕ) → setup.cards ≡ cards_of cards →
+    None ≡ find (λ card. card.card.dev == dev) cards → is_some (card_at setup dev) ≡ true → ⊥
 no_card setup cards dev same none exists' =
-    let not : is_some (card_at setup dev) ≡ false =
-    ap (λ (fitted : List FittedCard). is_some (find (λ card. card.dev == dev) fitted)) same ∙ not_found cards dev none in
-    cc
+    false≢true (ap is_some (card_is setup cards dev None same none) ∙ exists')
 
 -- ---- several bytes
 
-pub wide_shifted : (f g : ℕ → ℕ) (at : ℕ) (width : Width) → ((k : ℕ) → k < bytes_of width → f k ≡ g (at + k)) → wide f 0 width ≡ wide g at width
+pub wide_shifted :
+    (f g : ℕ → ℕ) (at : ℕ) (width : Width) → ((k : ℕ) → k < bytes_of width → f k ≡ g (at + k)) →
+    wide f 0 width ≡ wide g at width
 wide_shifted f g at One same = same 0 (omega arith) ∙ ap g (omega arith)
 wide_shifted f g at Two same =
     let none : at + 0 ≡ at = omega arith in

@@ -22,7 +22,8 @@ use Rattle.config_regs.specs.Config.{IsSouthOf}
 abbrev pub SameSouth : (bytes bytes' : Bytes) → Type 0
 SameSouth bytes bytes' = (fun off : ℕ) → bytes' (piix_register fun off) ≡ bytes (piix_register fun off)
 
-pub south_agrees : (bytes bytes' : Bytes) (south : South) → SameSouth bytes bytes' → IsSouthOf bytes south → IsSouthOf bytes' south
+pub south_agrees :
+    (bytes bytes' : Bytes) (south : South) → SameSouth bytes bytes' → IsSouthOf bytes south → IsSouthOf bytes' south
 south_agrees bytes bytes' south same is = record {
   routes = rw (same 0 0x60, same 0 0x61, same 0 0x62, same 0 0x63) is.routes;
   ide = record {
@@ -34,15 +35,21 @@ south_agrees bytes bytes' south same is = record {
 }
 
 -- a store to another function leaves a register
-elsewhere : (setup : Setup) (at : Reg) (width : Width) (value : ℕ) (reg : Reg) (old : ℕ) → (at.dev == reg.dev && at.fun == reg.fun) ≡ false →
+elsewhere :
+    (setup : Setup) (at : Reg) (width : Width) (value : ℕ) (reg : Reg) (old : ℕ) →
+    (at.dev == reg.dev && at.fun == reg.fun) ≡ false →
     changed_byte setup (Store at width value) reg old ≡ old
 elsewhere setup at width value reg old apart = cond-false (covers at width reg) _ _ (and_left _ _ (and_left _ _ apart))
 
-pub other_device : (setup : Setup) (bytes : Bytes) (at : Reg) (width : Width) (value : ℕ) (south : South) → at.dev ≢ 1 → IsSouthOf bytes south →
+pub other_device :
+    (setup : Setup) (bytes : Bytes) (at : Reg) (width : Width) (value : ℕ) (south : South) → at.dev ≢ 1 →
+    IsSouthOf bytes south →
     IsSouthOf (λ r. changed_byte setup (Store at width value) r (bytes r)) south
 other_device setup bytes at width value south apart =
     south_agrees bytes (λ r. changed_byte setup (Store at width value) r (bytes r)) south
-    (λ fun off. elsewhere setup at width value (piix_register fun off) (bytes (piix_register fun off)) (and_left _ _ (ne_eqb at.dev 1 apart)))
+    (λ fun off.
+    elsewhere setup at width value (piix_register fun off) (bytes (piix_register fun off))
+    (and_left _ _ (ne_eqb at.dev 1 apart)))
 
 -- ---- the bytes of a value, one after the other
 
@@ -50,18 +57,26 @@ other_device setup bytes at width value south apart =
 abbrev pub so_far : Setup → Bytes → Reg → (value count : ℕ) → Bytes
 so_far setup bytes at value count = λ r. after_stores setup at value count r (bytes r)
 
-pub none_so_far : (setup : Setup) (bytes : Bytes) (at : Reg) (value : ℕ) (south : South) → IsSouthOf bytes south → IsSouthOf (so_far setup bytes at value 0) south
+pub none_so_far :
+    (setup : Setup) (bytes : Bytes) (at : Reg) (value : ℕ) (south : South) → IsSouthOf bytes south →
+    IsSouthOf (so_far setup bytes at value 0) south
 unfolding after_stores
 none_so_far setup bytes at value south is = is
 
 pub one_more : (setup : Setup) (bytes : Bytes) (at : Reg) (value count : ℕ) (south : South) →
-    IsSouthOf (λ r. changed_byte setup (Store (reg_after at count) One (byte value count)) r (so_far setup bytes at value count r)) south →
+    IsSouthOf
+    (λ r.
+    changed_byte setup (Store (reg_after at count) One (byte value count)) r (so_far setup bytes at value count r))
+    south →
     IsSouthOf (so_far setup bytes at value (count + 1)) south
 unfolding after_stores
 one_more setup bytes at value count south is = rw (add-one count) is
 
-pub all_so_far : (setup : Setup) (bytes : Bytes) (at : Reg) (width : Width) (value : ℕ) (south : South) → IsSouthOf (so_far setup bytes at value (bytes_of width)) south →
+pub all_so_far :
+    (setup : Setup) (bytes : Bytes) (at : Reg) (width : Width) (value : ℕ) (south : South) →
+    IsSouthOf (so_far setup bytes at value (bytes_of width)) south →
     IsSouthOf (λ r. changed_byte setup (Store at width value) r (bytes r)) south
 all_so_far setup bytes at width value south is =
-    south_agrees (so_far setup bytes at value (bytes_of width)) (λ r. changed_byte setup (Store at width value) r (bytes r)) south
+    south_agrees (so_far setup bytes at value (bytes_of width))
+    (λ r. changed_byte setup (Store at width value) r (bytes r)) south
     (λ fun off. byte_by_byte setup at width value (piix_register fun off) (bytes (piix_register fun off))) is

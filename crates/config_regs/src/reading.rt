@@ -1,4 +1,4 @@
-//! Reads of registers.
+//! Reads of registers in configuration space, by function and then by offset.
 ghost use Rattle.std.specs.Prelude.{◌≡◌, ◌+◌, ◌≤◌, true, List, is_some};
 ghost use Rattle.board_base.specs.Access.{bytes_of};
 ghost use Rattle.board_spec.specs.declared.event.Entry.{Entry};
@@ -9,8 +9,9 @@ ghost use Rattle.board_spec.specs.RegisterTable.{function_exists};
 ghost use Rattle.board_spec.specs.Registers.{byte_of};
 ghost use Rattle.board_spec.specs.Decode.{Bytes};
 ghost use Rattle.pci_bars.specs.Cards.{AreCards, AreCardsOf, AreFitted};
+ghost use Rattle.xbus_select.specs.Piix.{piix_register};
 ghost use Rattle.addr_decode.specs.MapRegs.{StandsFor, map_bytes};
-ghost use Rattle.config_regs.specs.Config.{AreKeptOf, IsSouthOf};
+ghost use Rattle.config_regs.specs.Config.{AreKeptOf};
 
 use crate::south::South;
 use addr_decode::MapRegs;
@@ -26,7 +27,8 @@ use pci_bars::{CardRegs, card_at};
 pub fn read(regs: &MapRegs, south: &South, reg: Reg, width: Width) -> u32
     requires within { reg.off + bytes_of width ≤ 0x100 }
     requires cards { AreFitted regs.now.cards.items }
-    ensures value { (setup : Setup) (history : List Entry) → AreKeptOf setup (byte_of setup history) (map_bytes regs.now) south.now
+    ensures value { (setup : Setup) (history : List Entry)
+        → AreKeptOf setup (byte_of setup history) (map_bytes regs.now) south.now
         → function_exists setup 0 reg.dev reg.fun ≡ true
         → result ≡ wide (λ off. byte_of setup history (record reg { off = off })) reg.off width }
 {
@@ -44,7 +46,8 @@ pub fn read(regs: &MapRegs, south: &South, reg: Reg, width: Width) -> u32
 /// The register byte of a function that exists.
 pub fn read_byte(regs: &MapRegs, south: &South, reg: Reg) -> u8
     requires cards { AreFitted regs.now.cards.items }
-    ensures byte { (setup : Setup) (history : List Entry) → AreKeptOf setup (byte_of setup history) (map_bytes regs.now) south.now
+    ensures byte { (setup : Setup) (history : List Entry)
+        → AreKeptOf setup (byte_of setup history) (map_bytes regs.now) south.now
         → function_exists setup 0 reg.dev reg.fun ≡ true → result ≡ byte_of setup history reg }
 {
     match reg.dev {
@@ -56,7 +59,8 @@ pub fn read_byte(regs: &MapRegs, south: &South, reg: Reg) -> u8
 
 /// A register of the host bridge.
 fn bridge_byte(regs: &MapRegs, off: u8) -> u8
-    ensures byte { (setup : Setup) (history : List Entry) → StandsFor setup (byte_of setup history) (map_bytes regs.now)
+    ensures byte { (setup : Setup) (history : List Entry)
+        → StandsFor setup (byte_of setup history) (map_bytes regs.now)
         → result ≡ byte_of setup history (bridge off) }
 {
     match off {
@@ -70,8 +74,9 @@ fn bridge_byte(regs: &MapRegs, off: u8) -> u8
 
 /// A register of the 82371SB, of its ISA bridge or else of its IDE function.
 fn south_byte(regs: &MapRegs, south: &South, fun: u8, off: u8) -> u8
-    ensures byte { (setup : Setup) (history : List Entry) → AreKeptOf setup (byte_of setup history) (map_bytes regs.now) south.now
-        → function_exists setup 0 1 fun ≡ true → result ≡ byte_of setup history (record { dev = 1; fun = fun; off = off }) }
+    ensures byte { (setup : Setup) (history : List Entry)
+        → AreKeptOf setup (byte_of setup history) (map_bytes regs.now) south.now
+        → function_exists setup 0 1 fun ≡ true → result ≡ byte_of setup history (piix_register fun off) }
 {
     match fun {
         ISA_BRIDGE => isa_byte(regs, south, off),
@@ -81,7 +86,8 @@ fn south_byte(regs: &MapRegs, south: &South, fun: u8, off: u8) -> u8
 
 /// A register of the ISA bridge.
 fn isa_byte(regs: &MapRegs, south: &South, off: u8) -> u8
-    ensures byte { (setup : Setup) (history : List Entry) → AreKeptOf setup (byte_of setup history) (map_bytes regs.now) south.now
+    ensures byte { (setup : Setup) (history : List Entry)
+        → AreKeptOf setup (byte_of setup history) (map_bytes regs.now) south.now
         → result ≡ byte_of setup history (isa off) }
 {
     match off {
@@ -94,7 +100,8 @@ fn isa_byte(regs: &MapRegs, south: &South, off: u8) -> u8
 /// A register of the card at a device number, and 0 where there is none.
 fn card_byte(cards: &[CardRegs], dev: u8, off: u8) -> u8
     requires cards { AreCards cards.now }
-    ensures byte { (setup : Setup) (bytes : Bytes) → AreCardsOf setup bytes cards.now → is_some (card_at setup dev) ≡ true
+    ensures byte { (setup : Setup) (bytes : Bytes)
+        → AreCardsOf setup bytes cards.now → is_some (card_at setup dev) ≡ true
         → result ≡ bytes (card_register dev off) }
 {
     match card_at(cards, dev) {

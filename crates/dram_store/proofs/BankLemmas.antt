@@ -6,7 +6,7 @@ use Rattle.std.proofs.lemmas.Bool.{cases_lt}
 use Rattle.board_base.specs.declared.access.Width.{Width}
 use Rattle.board_base.specs.Access.{bytes_of}
 use Rattle.board_spec.specs.Bits.{byte}
-use Rattle.dram_store.specs.Bank.{bank_of}
+use Rattle.dram_store.specs.Bank.{bank_size, bank_of}
 
 zero_at : (count at : ℕ) → slice_index (replicate count 0) at ≡ 0
 zero_at count at =
@@ -28,11 +28,14 @@ same_byte kept count at =
 -- a value put into a list of bytes
 abbrev pub IsPut : List ℕ → ℕ → Width → ℕ → List ℕ → Type 0
 IsPut old from width value new =
-    (at : ℕ) → slice_index new at ≡ (if nat_le from at && nat_lt at (from + bytes_of width) then byte value (at - from) else slice_index old at)
+    (at : ℕ) → slice_index new at
+    ≡ (if nat_le from at && nat_lt at (from + bytes_of width) then byte value (at - from) else slice_index old at)
 
 -- so many more bytes are kept, and then a value is put into the kept ones
 pub put_in_kept : (kept new : List ℕ) (count from : ℕ) (width : Width) (value : ℕ) →
     IsPut (kept ++ replicate count 0) from width value new → IsPut (bank_of kept) from width value (bank_of new)
 put_in_kept kept new count from width value put at =
-    rw (same_byte new (0x10_0000 - length new) at, same_byte kept (0x10_0000 - length kept) at)
-    (put at ∙ ap (λ b. if nat_le from at && nat_lt at (from + bytes_of width) then byte value (at - from) else b) (same_byte kept count at))
+    rw (same_byte new (bank_size - length new) at, same_byte kept (bank_size - length kept) at)
+    (put at
+    ∙ ap (λ b. if nat_le from at && nat_lt at (from + bytes_of width) then byte value (at - from) else b)
+    (same_byte kept count at))

@@ -12,88 +12,99 @@ use Rattle.board_base.specs.declared.access.Width.{Width}
 use Rattle.board_base.specs.declared.access.Width.TheVariants.{One, Two, Four}
 use Rattle.board_base.specs.Access.{bytes_of}
 use Rattle.board_spec.specs.Bits.{byte, wide}
-use Rattle.dram_store.specs.Bank.{IsBank, IsZero}
+use Rattle.dram_store.specs.Bank.{bank_size, IsBank, IsZero}
 use Rattle.dram_store.specs.Dram.{dram_at}
 use Rattle.dram_store.proofs.BankLemmas.{IsPut}
 use Rattle.dram_store.proofs.DramLemmas.{IsWritten}
 
 -- the bank of an address, empty past the last, and the banks with another in its place
 abbrev pub bank_at : List (List ℕ) → ℕ → List ℕ
-bank_at banks addr = get_or banks (addr / 0x10_0000) []
+bank_at banks addr = get_or banks (addr / bank_size) []
 
 abbrev pub with_bank : List (List ℕ) → ℕ → List ℕ → List (List ℕ)
-with_bank banks addr bank = set banks (addr / 0x10_0000) bank
+with_bank banks addr bank = set banks (addr / bank_size) bank
 
-pub banks_length : (banks : List (List ℕ)) → All IsBank banks → length (concat banks) ≡ length banks * 0x10_0000
+pub banks_length : (banks : List (List ℕ)) → All IsBank banks → length (concat banks) ≡ length banks * bank_size
 banks_length [] each = refl
 banks_length (bank ∷ later) each =
-    let here : length bank ≡ 0x10_0000 = All-head IsBank bank later each in
+    let here : length bank ≡ bank_size = All-head IsBank bank later each in
     let rest = banks_length later (All-tail IsBank bank later each) in
     omega (arith, length-append bank (concat later), here, rest)
 
 pub same_length : (banks : List (List ℕ)) (addr : ℕ) (new : List ℕ) → All IsBank banks → IsBank new →
     length (concat (with_bank banks addr new)) ≡ length (concat banks)
 same_length banks addr new each is =
-    let all : All IsBank (with_bank banks addr new) = All-set IsBank banks (addr / 0x10_0000) new is each in
-    omega (arith, banks_length banks each, banks_length (with_bank banks addr new) all, length-set banks (addr / 0x10_0000) new)
+    let all : All IsBank (with_bank banks addr new) = All-set IsBank banks (addr / bank_size) new is each in
+    omega (
+      arith,
+      banks_length banks each,
+      banks_length (with_bank banks addr new) all,
+      length-set banks (addr / bank_size) new,
+    )
 
 -- each byte is its bank's
 pub bank_byte : (banks : List (List ℕ)) (at : ℕ) → All IsBank banks →
-    slice_index (concat banks) at ≡ slice_index (bank_at banks at) (at % 0x10_0000)
+    slice_index (concat banks) at ≡ slice_index (bank_at banks at) (at % bank_size)
 bank_byte [] at each = refl
 bank_byte (bank ∷ later) at each =
-    let here : length bank ≡ 0x10_0000 = All-head IsBank bank later each in
-    elim (cases_lt at 0x10_0000) [
+    let here : length bank ≡ bank_size = All-head IsBank bank later each in
+    elim (cases_lt at bank_size) [
       | inl below ↦
-          let first : at / 0x10_0000 ≡ 0 = omega arith in
-          let place : at % 0x10_0000 ≡ at = omega arith in
+          let first : at / bank_size ≡ 0 = omega arith in
+          let place : at % bank_size ≡ at = omega arith in
           rw (first, place) (get_or_append_left bank (concat later) 0 at (omega arith))
       | inr above ↦
-          let next : at / 0x10_0000 ≡ suc ((at - 0x10_0000) / 0x10_0000) = omega arith in
-          let place : at % 0x10_0000 ≡ (at - 0x10_0000) % 0x10_0000 = omega arith in
-          let rest = bank_byte later (at - 0x10_0000) (All-tail IsBank bank later each) in
-          rw (next, place) (get_or-append_right bank (concat later) 0x10_0000 at 0 here above ∙ rest)
+          let next : at / bank_size ≡ suc ((at - bank_size) / bank_size) = omega arith in
+          let place : at % bank_size ≡ (at - bank_size) % bank_size = omega arith in
+          let rest = bank_byte later (at - bank_size) (All-tail IsBank bank later each) in
+          rw (next, place) (get_or-append_right bank (concat later) bank_size at 0 here above ∙ rest)
     ]
 
 -- ---- a value that is written to the bank of its address
 
 -- a place of that bank is written where it is in the bank
-is_written_here : (addr at count : ℕ) → at / 0x10_0000 ≡ addr / 0x10_0000 →
-    (nat_le (addr % 0x10_0000) (at % 0x10_0000) && nat_lt (at % 0x10_0000) (addr % 0x10_0000 + count))
+is_written_here : (addr at count : ℕ) → at / bank_size ≡ addr / bank_size →
+    (nat_le (addr % bank_size) (at % bank_size) && nat_lt (at % bank_size) (addr % bank_size + count))
     ≡ (nat_le addr at && nat_lt at (addr + count))
 is_written_here addr at count here =
-    let from : nat_le (addr % 0x10_0000) (at % 0x10_0000) ≡ nat_le addr at = grind (arith, nat_tests) in
-    let to : nat_lt (at % 0x10_0000) (addr % 0x10_0000 + count) ≡ nat_lt at (addr + count) = grind (arith, nat_tests) in
+    let from : nat_le (addr % bank_size) (at % bank_size) ≡ nat_le addr at = grind (arith, nat_tests) in
+    let to : nat_lt (at % bank_size) (addr % bank_size + count) ≡ nat_lt at (addr + count) =
+    grind (arith, nat_tests) in
     rw (from, to) refl
 
 -- no place of another bank is written
-not_written_there : (addr at : ℕ) (width : Width) → addr % bytes_of width ≡ 0 → at / 0x10_0000 ≢ addr / 0x10_0000 →
+not_written_there : (addr at : ℕ) (width : Width) → addr % bytes_of width ≡ 0 → at / bank_size ≢ addr / bank_size →
     (nat_le addr at && nat_lt at (addr + bytes_of width)) ≡ false
 not_written_there addr at One aligned there = grind (arith, nat_tests)
 not_written_there addr at Two aligned there = grind (arith, nat_tests)
 not_written_there addr at Four aligned there = grind (arith, nat_tests)
 
-put_byte : (banks : List (List ℕ)) (new : List ℕ) (addr : ℕ) (width : Width) (value : ℕ) → All IsBank banks → IsBank new →
-    addr / 0x10_0000 < length banks → addr % bytes_of width ≡ 0 → IsPut (bank_at banks addr) (addr % 0x10_0000) width value new →
+put_byte :
+    (banks : List (List ℕ)) (new : List ℕ) (addr : ℕ) (width : Width) (value : ℕ) → All IsBank banks → IsBank new →
+    addr / bank_size < length banks → addr % bytes_of width ≡ 0 →
+    IsPut (bank_at banks addr) (addr % bank_size) width value new →
     IsPut (concat banks) addr width value (concat (with_bank banks addr new))
 put_byte banks new addr width value each is inside aligned put at =
-    let all : All IsBank (with_bank banks addr new) = All-set IsBank banks (addr / 0x10_0000) new is each in
+    let all : All IsBank (with_bank banks addr new) = All-set IsBank banks (addr / bank_size) new is each in
     let old_byte = bank_byte banks at each in
     let new_byte = bank_byte (with_bank banks addr new) at all in
-    elim (cases_eq (at / 0x10_0000) (addr / 0x10_0000)) [
+    elim (cases_eq (at / bank_size) (addr / bank_size)) [
       | inl here ↦
-          let apart : at % 0x10_0000 - addr % 0x10_0000 ≡ at - addr = omega arith in
-          let found : bank_at (with_bank banks addr new) addr ≡ new = get_or-set_same banks (addr / 0x10_0000) new [] inside in
-          let written = put (at % 0x10_0000) in
+          let apart : at % bank_size - addr % bank_size ≡ at - addr = omega arith in
+          let found : bank_at (with_bank banks addr new) addr ≡ new =
+          get_or-set_same banks (addr / bank_size) new [] inside in
+          let written = put (at % bank_size) in
           rw (new_byte, old_byte, here, found, ← is_written_here addr at (bytes_of width) here, ← apart) written
       | inr there ↦
           let kept : bank_at (with_bank banks addr new) at ≡ bank_at banks at =
-          get_or-set_other banks (addr / 0x10_0000) (at / 0x10_0000) new [] there in
+          get_or-set_other banks (addr / bank_size) (at / bank_size) new [] there in
           rw (new_byte, old_byte, not_written_there addr at width aligned there, kept) refl
     ]
 
-pub changed : (banks : List (List ℕ)) (new : List ℕ) (addr : ℕ) (width : Width) (value : ℕ) → All IsBank banks → IsBank new →
-    addr / 0x10_0000 < length banks → addr % bytes_of width ≡ 0 → IsPut (bank_at banks addr) (addr % 0x10_0000) width value new →
+pub changed :
+    (banks : List (List ℕ)) (new : List ℕ) (addr : ℕ) (width : Width) (value : ℕ) → All IsBank banks → IsBank new →
+    addr / bank_size < length banks → addr % bytes_of width ≡ 0 →
+    IsPut (bank_at banks addr) (addr % bank_size) width value new →
     IsWritten (concat banks) addr width value (concat (with_bank banks addr new))
 changed banks new addr width value each is inside aligned put at =
     let same = same_length banks addr new each is in
@@ -109,25 +120,28 @@ changed banks new addr width value each is inside aligned put at =
 
 -- ---- a value that is read from the bank of its address
 
-byte_at : (banks : List (List ℕ)) (addr at place : ℕ) → All IsBank banks → addr / 0x10_0000 < length banks →
-    at / 0x10_0000 ≡ addr / 0x10_0000 → at % 0x10_0000 ≡ place → slice_index (bank_at banks addr) place ≡ dram_at (concat banks) at
+byte_at : (banks : List (List ℕ)) (addr at place : ℕ) → All IsBank banks → addr / bank_size < length banks →
+    at / bank_size ≡ addr / bank_size → at % bank_size ≡ place →
+    slice_index (bank_at banks addr) place ≡ dram_at (concat banks) at
 byte_at banks addr at place each inside here is =
     let exists : nat_lt at (length (concat banks)) ≡ true = lt-ltb _ _ (omega (arith, banks_length banks each)) in
     rw (exists, bank_byte banks at each, here, is) refl
 
-pub read_here : (banks : List (List ℕ)) (addr : ℕ) (width : Width) → All IsBank banks → addr / 0x10_0000 < length banks →
+pub read_here :
+    (banks : List (List ℕ)) (addr : ℕ) (width : Width) → All IsBank banks → addr / bank_size < length banks →
     addr % bytes_of width ≡ 0 →
-    wide (slice_index (bank_at banks addr)) (addr % 0x10_0000) width ≡ wide (λ at. dram_at (concat banks) at) addr width
-read_here banks addr One each inside aligned = byte_at banks addr addr (addr % 0x10_0000) each inside refl refl
+    wide (slice_index (bank_at banks addr)) (addr % bank_size) width
+    ≡ wide (λ at. dram_at (concat banks) at) addr width
+read_here banks addr One each inside aligned = byte_at banks addr addr (addr % bank_size) each inside refl refl
 read_here banks addr Two each inside aligned =
-    let byte0 = byte_at banks addr addr (addr % 0x10_0000) each inside refl refl in
-    let byte1 = byte_at banks addr (addr + 1) (addr % 0x10_0000 + 1) each inside (omega arith) (omega arith) in
+    let byte0 = byte_at banks addr addr (addr % bank_size) each inside refl refl in
+    let byte1 = byte_at banks addr (addr + 1) (addr % bank_size + 1) each inside (omega arith) (omega arith) in
     rw (byte0, byte1) refl
 read_here banks addr Four each inside aligned =
-    let byte0 = byte_at banks addr addr (addr % 0x10_0000) each inside refl refl in
-    let byte1 = byte_at banks addr (addr + 1) (addr % 0x10_0000 + 1) each inside (omega arith) (omega arith) in
-    let byte2 = byte_at banks addr (addr + 2) (addr % 0x10_0000 + 2) each inside (omega arith) (omega arith) in
-    let byte3 = byte_at banks addr (addr + 3) (addr % 0x10_0000 + 3) each inside (omega arith) (omega arith) in
+    let byte0 = byte_at banks addr addr (addr % bank_size) each inside refl refl in
+    let byte1 = byte_at banks addr (addr + 1) (addr % bank_size + 1) each inside (omega arith) (omega arith) in
+    let byte2 = byte_at banks addr (addr + 2) (addr % bank_size + 2) each inside (omega arith) (omega arith) in
+    let byte3 = byte_at banks addr (addr + 3) (addr % bank_size + 3) each inside (omega arith) (omega arith) in
     rw (byte0, byte1, byte2, byte3) refl
 
 -- ---- banks of zeros
@@ -138,11 +152,15 @@ all_zeros (byte ∷ later) zero = rw (zero 0, ← all_zeros later (λ at. zero (
 
 zero_at : (banks : List (List ℕ)) (at : ℕ) → All IsBank banks → All IsZero banks → slice_index (concat banks) at ≡ 0
 zero_at banks at each zeros =
-    bank_byte banks at each ∙ elim (cases_lt (at / 0x10_0000) (length banks)) [
-      | inl inside ↦ zeros (at / 0x10_0000) [] inside (at % 0x10_0000)
-      | inr past ↦ ap (λ (bank : List ℕ). slice_index bank (at % 0x10_0000)) (get_or_past banks (at / 0x10_0000) [] past)
+    bank_byte banks at each ∙ elim (cases_lt (at / bank_size) (length banks)) [
+      | inl inside ↦ zeros (at / bank_size) [] inside (at % bank_size)
+      | inr past ↦
+          ap (λ (bank : List ℕ). slice_index bank (at % bank_size)) (get_or_past banks (at / bank_size) [] past)
     ]
 
-pub zero_banks : (banks : List (List ℕ)) → All IsBank banks → All IsZero banks → concat banks ≡ replicate (length banks * 0x10_0000) 0
+pub zero_banks :
+    (banks : List (List ℕ)) → All IsBank banks → All IsZero banks →
+    concat banks ≡ replicate (length banks * bank_size) 0
 zero_banks banks each zeros =
-    all_zeros (concat banks) (λ at. zero_at banks at each zeros) ∙ ap (λ (count : ℕ). replicate count 0) (banks_length banks each)
+    all_zeros (concat banks) (λ at. zero_at banks at each zeros)
+    ∙ ap (λ (count : ℕ). replicate count 0) (banks_length banks each)

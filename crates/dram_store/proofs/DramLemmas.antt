@@ -18,13 +18,20 @@ use Rattle.dram_store.specs.Dram.{dram_at, IsDramOf}
 -- the bytes of a DRAM after a value was written to it from an address on, as `write` says
 abbrev pub IsWritten : List ℕ → ℕ → Width → ℕ → List ℕ → Type 0
 IsWritten old addr width value new =
-    (at : ℕ) → dram_at new at ≡ (if nat_le addr at && nat_lt at (addr + bytes_of width) && nat_lt at (length old) then byte value (at - addr) else dram_at old at)
+    (at : ℕ) → dram_at new at
+    ≡
+    (if nat_le addr at && nat_lt at (addr + bytes_of width) && nat_lt at (length old) then byte value (at - addr) else
+    dram_at old at)
 
 pub fresh : (setup : Setup) (dram : List ℕ) → dram ≡ replicate (installed setup) 0 → IsDramOf setup [] dram
 unfolding stored_of
 fresh setup dram is = record {
   size = rw is (length-replicate {A = ℕ} (installed setup) 0);
-  each = λ addr within. rw is (get_or-replicate (installed setup) addr 0 0 (omega (arith, length-replicate {A = ℕ} (installed setup) 0, ap (λ (d : List ℕ). length d) is)));
+  each =
+      λ addr within.
+      rw is
+      (get_or-replicate (installed setup) addr 0 0
+      (omega (arith, length-replicate {A = ℕ} (installed setup) 0, ap (λ (d : List ℕ). length d) is)));
 }
 
 -- ---- bytes put into the DRAM
@@ -35,13 +42,17 @@ pub record HasPut (put : ℕ → Option ℕ) (old new : List ℕ) : Type 0 where
   pub each : (at : ℕ) → at < length old → slice_index new at ≡ unwrap_or (put at) (slice_index old at)
 
 -- the same bytes, said of another event
-pub put_as : (put other : ℕ → Option ℕ) (old new : List ℕ) → ((at : ℕ) → other at ≡ put at) → HasPut put old new → HasPut other old new
+pub put_as :
+    (put other : ℕ → Option ℕ) (old new : List ℕ) → ((at : ℕ) → other at ≡ put at) → HasPut put old new →
+    HasPut other old new
 put_as put other old new same has = record {
   size = has.size;
-  each = λ at within. has.each at within ∙ ap (λ (byte : Option ℕ). unwrap_or byte (slice_index old at)) (sym (same at));
+  each =
+      λ at within. has.each at within ∙ ap (λ (byte : Option ℕ). unwrap_or byte (slice_index old at)) (sym (same at));
 }
 
-later_first : (later first : Option ℕ) (old : ℕ) → unwrap_or later (unwrap_or first old) ≡ unwrap_or (option_or later first) old
+later_first :
+    (later first : Option ℕ) (old : ℕ) → unwrap_or later (unwrap_or first old) ≡ unwrap_or (option_or later first) old
 later_first None first old = refl
 later_first (Some byte) first old = refl
 
@@ -58,7 +69,8 @@ put_then first later old mid new before after = record {
 
 -- a byte of the DRAM that is written, or is not
 put_cell : (old : List ℕ) (addr : ℕ) (width : Width) (value at was : ℕ) → at < length old → slice_index old at ≡ was →
-    (if nat_le addr at && nat_lt at (addr + bytes_of width) && nat_lt at (length old) then byte value (at - addr) else dram_at old at)
+    (if nat_le addr at && nat_lt at (addr + bytes_of width) && nat_lt at (length old) then byte value (at - addr) else
+    dram_at old at)
     ≡ unwrap_or (byte_put (Dram 0) addr width value (DramCell at)) was
 put_cell old addr width value at was within is = grind (arith, nat_tests)
 
@@ -66,42 +78,54 @@ here : (dram : List ℕ) (at : ℕ) → at < length dram → dram_at dram at ≡
 here dram at within = let exists : nat_lt at (length dram) ≡ true = lt-ltb _ _ within in rw exists refl
 
 -- what `write` says of the bytes
-pub put_written : (old new : List ℕ) (addr : ℕ) (width : Width) (value : ℕ) → IsWritten old addr width value new → length new ≡ length old →
+pub put_written :
+    (old new : List ℕ) (addr : ℕ) (width : Width) (value : ℕ) → IsWritten old addr width value new →
+    length new ≡ length old →
     HasPut (λ at. byte_put (Dram 0) addr width value (DramCell at)) old new
 put_written old new addr width value is_written same = record {
   size = same;
   each = λ at within.
-      sym (here new at (omega arith)) ∙ is_written at ∙ put_cell old addr width value at (slice_index old at) within refl;
+      sym (here new at (omega arith))
+      ∙ is_written at
+      ∙ put_cell old addr width value at (slice_index old at) within refl;
 }
 
 -- a value written past the end is lost
-pub lost : (dram : List ℕ) (addr : ℕ) (width : Width) (value : ℕ) → length dram ≤ addr → IsWritten dram addr width value dram
+pub lost :
+    (dram : List ℕ) (addr : ℕ) (width : Width) (value : ℕ) → length dram ≤ addr → IsWritten dram addr width value dram
 lost dram addr width value past at = grind (arith, nat_tests)
 
 -- ---- one entry more
 
 -- an entry that puts the bytes which were put
-pub put_by_entry : (setup : Setup) (history : List Entry) (entry : Entry) (old new : List ℕ) → IsDramOf setup history old →
+pub put_by_entry :
+    (setup : Setup) (history : List Entry) (entry : Entry) (old new : List ℕ) → IsDramOf setup history old →
     HasPut (λ at. entry_put entry.event entry.reply (DramCell at)) old new → IsDramOf setup (entry ∷ history) new
 unfolding stored_of
 put_by_entry setup history entry old new kept has = record {
   size = has.size ∙ kept.size;
   each = λ at within.
       let before : at < length old = omega (arith, has.size) in
-      has.each at before ∙ ap (λ (byte : ℕ). unwrap_or (entry_put entry.event entry.reply (DramCell at)) byte) (kept.each at before);
+      has.each at before
+      ∙ ap (λ (byte : ℕ). unwrap_or (entry_put entry.event entry.reply (DramCell at)) byte) (kept.each at before);
 }
 
-pub stored : (setup : Setup) (history : List Entry) (entry : Entry) (old : List ℕ) (addr : ℕ) (width : Width) (value : ℕ) (new : List ℕ) →
+pub stored :
+    (setup : Setup) (history : List Entry) (entry : Entry) (old : List ℕ) (addr : ℕ) (width : Width) (value : ℕ)
+    (new : List ℕ) →
     IsWritten old addr width value new → length new ≡ length old → IsDramOf setup history old →
     ((at : ℕ) → entry_put entry.event entry.reply (DramCell at) ≡ byte_put (Dram 0) addr width value (DramCell at)) →
     IsDramOf setup (entry ∷ history) new
 stored setup history entry old addr width value new is_written same kept put =
     put_by_entry setup history entry old new kept
-    (put_as (λ at. byte_put (Dram 0) addr width value (DramCell at)) _ old new put (put_written old new addr width value is_written same))
+    (put_as (λ at. byte_put (Dram 0) addr width value (DramCell at)) _ old new put
+    (put_written old new addr width value is_written same))
 
 -- ---- values that are read
 
-at_stored : (setup : Setup) (history : List Entry) (dram : List ℕ) (at : ℕ) → IsDramOf setup history dram → dram_at dram at ≡ dram_byte setup history at
+at_stored :
+    (setup : Setup) (history : List Entry) (dram : List ℕ) (at : ℕ) → IsDramOf setup history dram →
+    dram_at dram at ≡ dram_byte setup history at
 at_stored setup history dram at is =
     elim (cases_lt at (length dram)) [
       | inl within ↦
@@ -113,14 +137,23 @@ at_stored setup history dram at is =
     ]
 
 -- the bytes of a DRAM are those of its history
-pub read_stored : (setup : Setup) (history : List Entry) (dram : List ℕ) (addr : ℕ) (width : Width) → IsDramOf setup history dram →
+pub read_stored :
+    (setup : Setup) (history : List Entry) (dram : List ℕ) (addr : ℕ) (width : Width) → IsDramOf setup history dram →
     wide (λ at. dram_at dram at) addr width ≡ wide (λ at. dram_byte setup history at) addr width
 read_stored setup history dram addr One is = at_stored setup history dram addr is
-read_stored setup history dram addr Two is = rw (at_stored setup history dram addr is, at_stored setup history dram (addr + 1) is) refl
+read_stored setup history dram addr Two is =
+    rw (at_stored setup history dram addr is, at_stored setup history dram (addr + 1) is) refl
 read_stored setup history dram addr Four is =
-    rw (at_stored setup history dram addr is, at_stored setup history dram (addr + 1) is, at_stored setup history dram (addr + 2) is, at_stored setup history dram (addr + 3) is) refl
+    rw (
+      at_stored setup history dram addr is,
+      at_stored setup history dram (addr + 1) is,
+      at_stored setup history dram (addr + 2) is,
+      at_stored setup history dram (addr + 3) is,
+    ) refl
 
-pub read_past : (dram : List ℕ) (addr : ℕ) (width : Width) → length dram ≤ addr → largest_of width ≡ wide (λ at. dram_at dram at) addr width
+pub read_past :
+    (dram : List ℕ) (addr : ℕ) (width : Width) → length dram ≤ addr →
+    largest_of width ≡ wide (λ at. dram_at dram at) addr width
 read_past dram addr One past = grind (arith, nat_tests)
 read_past dram addr Two past = grind (arith, nat_tests)
 read_past dram addr Four past = grind (arith, nat_tests)

@@ -3,7 +3,7 @@ use Rattle.std.specs.Prelude.{ℕ, ◌≡◌, ◌≤◌, ◌<◌, ◌*◌, nat_l
 use Rattle.board_spec.specs.declared.event.Entry.{Entry}
 use Rattle.board_spec.specs.Setup.{Setup, installed}
 use Rattle.board_spec.specs.Stored.{DramCell, stored_of}
-use Rattle.dram_store.specs.Bank.{IsBank}
+use Rattle.dram_store.specs.Bank.{bank_size, IsBank}
 
 -- the DRAM of a setup, up to 64 MiB
 pub record IsDramSize (size : ℕ) : Type 0 where
@@ -13,7 +13,7 @@ pub record IsDramSize (size : ℕ) : Type 0 where
 
 -- the banks of a DRAM, one for each MiB
 pub record AreBanks (banks : List (List ℕ)) : Type 0 where
-  pub size : IsDramSize (length banks * 0x10_0000)
+  pub size : IsDramSize (length banks * bank_size)
   pub each : All IsBank banks
 
 -- the byte at an address, FFh at and past the end

@@ -2,17 +2,17 @@
 ghost use Rattle.std.specs.Prelude.{◌≡◌, ◌≤◌, ◌<◌, ◌+◌, ◌-◌, ◌%◌, ◌&&◌, ℕ, ◌++◌, nat_le, nat_lt, if◌then◌else◌, length, replicate, slice_index, vec_capacity, IfOk};
 ghost use Rattle.board_base.specs.Access.{bytes_of, largest_of};
 ghost use Rattle.board_spec.specs.Bits.{byte, wide};
-ghost use Rattle.dram_store.specs.Bank.{IsBank, IsZero, page_end};
+ghost use Rattle.dram_store.specs.Bank.{IsBank, IsZero, bank_size, page_end};
 
 use board_base::{NoMemory, Width};
 use board_spec::wide::{read_at, write_at};
 use std::alloc::Global;
 use std::marker::Model;
 
-/// The bytes of a bank.
+/// How many bytes a bank has.
 pub(crate) const BANK: usize = 0x10_0000;
 
-/// The bytes of a page.
+/// How many bytes a page has.
 const PAGE: usize = 0x1_0000;
 
 /// A mebibyte of memory. Contracts see the list of its bytes.
@@ -48,7 +48,7 @@ impl Bank {
 
     /// Reads the bytes from a place on, which is a multiple of the width, the low byte first.
     pub(crate) fn read(&self, at: usize, width: Width) -> u32
-        requires inside { at < 0x10_0000 }
+        requires inside { at < bank_size }
         requires aligned { at % bytes_of width ≡ 0 }
         ensures value { result ≡ wide (slice_index self.now) at width }
     {
@@ -62,7 +62,7 @@ impl Bank {
     /// Writes a value that fits the width to the bytes from a place on, which is a multiple of the width, the
     /// low byte first.
     pub(crate) fn write(&mut self, at: usize, width: Width, value: u32)
-        requires inside { at < 0x10_0000 }
+        requires inside { at < bank_size }
         requires aligned { at % bytes_of width ≡ 0 }
         requires fits { value ≤ largest_of width }
         ensures length { length self.new ≡ length self.old }

@@ -37,7 +37,8 @@ impl Dram {
     pub fn open(alloc: Global, mib: u32) -> Result<Dram, NoMemory>
         requires some { 1 ≤ mib }
         requires most { mib ≤ 64 }
-        ensures zeros { IfOk result (λ dram. (setup : Setup) → setup.mib ≡ mib → dram ≡ replicate (installed setup) 0) }
+        ensures zeros { IfOk result (λ dram. (setup : Setup) → setup.mib ≡ mib
+            → dram ≡ replicate (installed setup) 0) }
         ensures fresh { IfOk result (λ dram. (setup : Setup) → setup.mib ≡ mib → IsDramOf setup [] dram) }
     {
         let mut banks = Vec::with_capacity(alloc, mib as usize)?;

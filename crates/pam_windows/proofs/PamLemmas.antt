@@ -19,26 +19,36 @@ each_offset P each off h = each_from P 0x59 7 off each h.0 (omega (arith, h.1))
 
 reset_byte-pam : (setup : Setup) (off : ℕ) → IsPamOffset off → reset_byte setup (bridge off) ≡ 0
 unfolding reset_byte host_bridge
-reset_byte-pam setup = each_offset (λ off. reset_byte setup (bridge off) ≡ 0) (refl, (refl, (refl, (refl, (refl, (refl, (refl, tt)))))))
+reset_byte-pam setup =
+    each_offset (λ off. reset_byte setup (bridge off) ≡ 0) (refl, (refl, (refl, (refl, (refl, (refl, (refl, tt)))))))
 
 -- the writable bits of PAM0 to PAM6
 abbrev pub pam_masks : List ℕ
 pam_masks = 0x30 ∷ 0x33 ∷ 0x33 ∷ 0x33 ∷ 0x33 ∷ 0x33 ∷ 0x33 ∷ []
 
-writable_bits-pam : (setup : Setup) (off : ℕ) → IsPamOffset off → pam_byte pam_masks off ≡ writable_bits setup (bridge off)
+writable_bits-pam :
+    (setup : Setup) (off : ℕ) → IsPamOffset off → pam_byte pam_masks off ≡ writable_bits setup (bridge off)
 unfolding writable_bits host_bridge
 writable_bits-pam setup =
-    each_offset (λ off. pam_byte pam_masks off ≡ writable_bits setup (bridge off)) (refl, (refl, (refl, (refl, (refl, (refl, (refl, tt)))))))
+    each_offset (λ off. pam_byte pam_masks off ≡ writable_bits setup (bridge off))
+    (refl, (refl, (refl, (refl, (refl, (refl, (refl, tt)))))))
 
 plain_register : (off : ℕ) → IsPamOffset off → is_same (bridge off) smram ≡ false
-plain_register = each_offset (λ off. is_same (bridge off) smram ≡ false) (refl, (refl, (refl, (refl, (refl, (refl, (refl, tt)))))))
+plain_register =
+    each_offset (λ off. is_same (bridge off) smram ≡ false) (refl, (refl, (refl, (refl, (refl, (refl, (refl, tt)))))))
 
 pub zeros_at_reset : (setup : Setup) → IsPamOf (reset_byte setup) (0 ∷ 0 ∷ 0 ∷ 0 ∷ 0 ∷ 0 ∷ 0 ∷ [])
 zeros_at_reset setup off h =
-    each_offset (λ off. pam_byte (0 ∷ 0 ∷ 0 ∷ 0 ∷ 0 ∷ 0 ∷ 0 ∷ []) off ≡ 0) (refl, (refl, (refl, (refl, (refl, (refl, (refl, tt))))))) off h ∙ sym (reset_byte-pam setup off h)
+    each_offset (λ off. pam_byte (0 ∷ 0 ∷ 0 ∷ 0 ∷ 0 ∷ 0 ∷ 0 ∷ []) off ≡ 0)
+    (refl, (refl, (refl, (refl, (refl, (refl, (refl, tt))))))) off h
+    ∙ sym (reset_byte-pam setup off h)
 
 -- a store of one byte to a PAM register, as the registers keep it
-stored_at : (setup : Setup) (bytes : Bytes) (pam : List ℕ) (off written : ℕ) → length pam ≡ 7 → written < 256 → IsPamOffset off → IsPamOf bytes pam → get_or (set pam (off - 0x59) (merged (pam_byte pam_masks off) (pam_byte pam off) written)) (off - 0x59) 0 ≡ changed_byte setup (Store (bridge off) One written) (bridge off) (bytes (bridge off))
+stored_at :
+    (setup : Setup) (bytes : Bytes) (pam : List ℕ) (off written : ℕ) → length pam ≡ 7 → written < 256 →
+    IsPamOffset off → IsPamOf bytes pam →
+    get_or (set pam (off - 0x59) (merged (pam_byte pam_masks off) (pam_byte pam off) written)) (off - 0x59) 0
+    ≡ changed_byte setup (Store (bridge off) One written) (bridge off) (bytes (bridge off))
 stored_at setup bytes pam off written seven below h is_pam =
     let within : off - 0x59 < length pam = omega arith in
     get_or-set_same pam (off - 0x59) (merged (pam_byte pam_masks off) (pam_byte pam off) written) 0 within
@@ -46,15 +56,29 @@ stored_at setup bytes pam off written seven below h is_pam =
     ∙ ap (λ old. merged (writable_bits setup (bridge off)) old written) (is_pam off h)
     ∙ sym (changed_byte-one_same setup (bridge off) (bytes (bridge off)) written below (plain_register off h))
 
-stored_apart : (setup : Setup) (bytes : Bytes) (pam : List ℕ) (off written byte at : ℕ) → IsPamOffset off → IsPamOffset at → at ≢ off → IsPamOf bytes pam → get_or (set pam (off - 0x59) byte) (at - 0x59) 0 ≡ changed_byte setup (Store (bridge off) One written) (bridge at) (bytes (bridge at))
+stored_apart :
+    (setup : Setup) (bytes : Bytes) (pam : List ℕ) (off written byte at : ℕ) → IsPamOffset off → IsPamOffset at →
+    at ≢ off → IsPamOf bytes pam →
+    get_or (set pam (off - 0x59) byte) (at - 0x59) 0
+    ≡ changed_byte setup (Store (bridge off) One written) (bridge at) (bytes (bridge at))
 stored_apart setup bytes pam off written byte at h at_h apart is_pam =
     let elsewhere : at - 0x59 ≢ off - 0x59 = λ e. apart (omega arith) in
     get_or-set_other pam (off - 0x59) (at - 0x59) byte 0 elsewhere
     ∙ is_pam at at_h
     ∙ sym (changed_byte-one_other setup (bridge at) off (bytes (bridge at)) written apart)
 
-pub stored_byte : (setup : Setup) (bytes : Bytes) (pam : List ℕ) (off written : ℕ) → length pam ≡ 7 → written < 256 → IsPamOffset off → IsPamOf bytes pam → IsPamOf (λ reg. changed_byte setup (Store (bridge off) One written) reg (bytes reg)) (set pam (off - 0x59) (merged (pam_byte pam_masks off) (pam_byte pam off) written))
+pub stored_byte :
+    (setup : Setup) (bytes : Bytes) (pam : List ℕ) (off written : ℕ) → length pam ≡ 7 → written < 256 →
+    IsPamOffset off → IsPamOf bytes pam →
+    IsPamOf (λ reg. changed_byte setup (Store (bridge off) One written) reg (bytes reg))
+    (set pam (off - 0x59) (merged (pam_byte pam_masks off) (pam_byte pam off) written))
 stored_byte setup bytes pam off written seven below h is_pam at at_h =
     let byte = merged (pam_byte pam_masks off) (pam_byte pam off) written in
-    let IsStored : ℕ → Type 0 = λ at. get_or (set pam (off - 0x59) byte) (at - 0x59) 0 ≡ changed_byte setup (Store (bridge off) One written) (bridge at) (bytes (bridge at)) in
-    elim (cases_eq at off) [ inl same ↦ subst IsStored (sym same) (stored_at setup bytes pam off written seven below h is_pam) | inr apart ↦ stored_apart setup bytes pam off written byte at h at_h apart is_pam ]
+    let IsStored : ℕ → Type 0 =
+    λ at.
+    get_or (set pam (off - 0x59) byte) (at - 0x59) 0
+    ≡ changed_byte setup (Store (bridge off) One written) (bridge at) (bytes (bridge at)) in
+    elim (cases_eq at off) [
+      | inl same ↦ subst IsStored (sym same) (stored_at setup bytes pam off written seven below h is_pam)
+      | inr apart ↦ stored_apart setup bytes pam off written byte at h at_h apart is_pam
+    ]

@@ -7,8 +7,12 @@ use Rattle.board_spec.specs.Ranges.{expansion_range, system_bios}
 abbrev pub last_window : ℕ
 last_window = 12
 
+-- how many bytes each of the others has
+abbrev pub window_size : ℕ
+window_size = 0x4000
+
 abbrev pub first_address : ℕ → ℕ
-first_address index = expansion_range.0 + 0x4000 * index
+first_address index = expansion_range.0 + window_size * index
 
 abbrev pub last_address : ℕ → ℕ
 last_address index = if index == last_window then system_bios.1 else first_address (index + 1) - 1

@@ -6,4 +6,4 @@ mod pam;
 mod window;
 
 pub use pam::{PAM_RESET, Pam, store_pam};
-pub use window::{Window, window_of};
+pub use window::{WINDOW_SIZE, Window, window_of};

@@ -77,7 +77,8 @@ impl Pam {
     }
 }
 
-/// Stores a byte in one of seven PAM registers that stand as plain bytes, by its offset. Reserved bits stay as they were.
+/// Stores a byte in one of seven PAM registers that stand as plain bytes, by its offset from PAM0 to PAM6. Reserved
+/// bits stay as they were.
 pub fn store_pam(pam: &mut [u8; 7], off: u8, byte: u8)
     requires offset { IsPamOffset off }
     ensures stored { (setup : Setup) (bytes : Bytes) → IsPamOf bytes pam.old

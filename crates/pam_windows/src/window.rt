@@ -13,9 +13,9 @@ use board_spec::range::{EXPANSION_RANGE, SYSTEM_BIOS};
 /// the last window alone.
 const PAM1: u8 = PAM0 + 1;
 
-/// How many bytes each window has but the last.
-const SIZE: u32 = 0x4000;
-/// The number of the last window, the system BIOS.
+/// How many bytes each window has but the last, the system BIOS.
+pub const WINDOW_SIZE: u32 = 0x4000;
+/// The number of the last window.
 const LAST: u8 = 12;
 
 /// The bit of a window's nibble that sends reads and fetches to DRAM.
@@ -83,12 +83,12 @@ pub fn window_of(addr: u32) -> Option<Window>
     if !EXPANSION_RANGE.contains(addr) {
         return None;
     }
-    let index = (addr - EXPANSION_RANGE.first) / SIZE;
-    let lo = EXPANSION_RANGE.first + index * SIZE;
+    let index = (addr - EXPANSION_RANGE.first) / WINDOW_SIZE;
+    let lo = EXPANSION_RANGE.first + index * WINDOW_SIZE;
     Some(Window {
         index: index as u8,
         lo,
-        hi: lo + (SIZE - 1),
+        hi: lo + (WINDOW_SIZE - 1),
         off: PAM1 + (index / 2) as u8,
     })
 }

@@ -15,7 +15,7 @@ use Rattle.pci_bars.specs.Bases.{base_of}
 
 -- ---- four bytes
 
-long_byte : (n j : ℕ) → j < 4 → get_or (to_le_bytes w32 n) j 0 ≡ byte n j
+pub long_byte : (n j : ℕ) → j < 4 → get_or (to_le_bytes w32 n) j 0 ≡ byte n j
 long_byte n zero below = omega arith
 long_byte n (suc zero) below = omega arith
 long_byte n (suc (suc zero)) below = omega arith
@@ -32,7 +32,9 @@ small_long n (suc (suc (suc (suc j)))) = lit< tt
 small_set : (n lane v i : ℕ) → lane < 4 → v < 256 → get_or (set (to_le_bytes w32 n) lane v) i 0 < 256
 small_set n lane v i within below =
     elim (cases_eq i lane) [
-      | inl same ↦ subst (λ k. get_or (set (to_le_bytes w32 n) lane v) k 0 < 256) (sym same) (subst (λ b. b < 256) (sym (get_or-set_same (to_le_bytes w32 n) lane v 0 within)) below)
+      | inl same ↦
+          subst (λ k. get_or (set (to_le_bytes w32 n) lane v) k 0 < 256) (sym same)
+          (subst (λ b. b < 256) (sym (get_or-set_same (to_le_bytes w32 n) lane v 0 within)) below)
       | inr apart ↦ subst (λ b. b < 256) (sym (get_or-set_other (to_le_bytes w32 n) lane i v 0 apart)) (small_long n i)
     ]
 
@@ -41,7 +43,8 @@ four_set n lane v = length-set (to_le_bytes w32 n) lane v
 
 -- the other bytes of a number of which one was set
 pub other_bytes :
-    (n lane v new j : ℕ) → lane < 4 → v < 256 → new ≡ from_le_bytes w32 (set (to_le_bytes w32 n) lane v) → j < 4 → j ≢ lane →
+    (n lane v new j : ℕ) → lane < 4 → v < 256 → new ≡ from_le_bytes w32 (set (to_le_bytes w32 n) lane v) → j < 4 →
+    j ≢ lane →
     byte new j ≡ byte n j
 other_bytes n lane v new j within below is j_below apart =
     let bytes : to_le_bytes w32 new ≡ set (to_le_bytes w32 n) lane v =
@@ -53,13 +56,18 @@ other_bytes n lane v new j within below is j_below apart =
 
 -- ---- bases by their numbers
 
-pub is_base : (bases : List Base) (k : ℕ) (base : Base) → All IsBase bases → slice_get bases k ≡ Some base → IsBase base
+pub is_base :
+    (bases : List Base) (k : ℕ) (base : Base) → All IsBase bases → slice_get bases k ≡ Some base → IsBase base
 is_base bases k base each there =
-    subst IsBase (get_or_from_slice_get bases k base base there) (All-get_or IsBase bases k base (slice_get_within bases k base there) each)
+    subst IsBase (get_or_from_slice_get bases k base base there)
+    (All-get_or IsBase bases k base (slice_get_within bases k base there) each)
 
-pub base_within : (bases : List BaseSpec) (k : ℕ) (d : BaseSpec) → All IsBase (map base_of bases) → k < length bases → IsBase (base_of (get_or bases k d))
+pub base_within :
+    (bases : List BaseSpec) (k : ℕ) (d : BaseSpec) → All IsBase (map base_of bases) → k < length bases →
+    IsBase (base_of (get_or bases k d))
 base_within bases k d each below =
-    subst IsBase (get_or-map base_of bases k d (base_of d) below) (All-get_or IsBase (map base_of bases) k (base_of d) (omega (arith, length-map bases base_of)) each)
+    subst IsBase (get_or-map base_of bases k d (base_of d) below)
+    (All-get_or IsBase (map base_of bases) k (base_of d) (omega (arith, length-map bases base_of)) each)
 
 -- the size of an expansion ROM
 pub rom_size : (bits : ℕ) → 11 ≤ bits → bits ≤ 24 → (2 ^ 11 ≤ 2 ^ bits) × (2 ^ bits ≤ 2 ^ 24)

@@ -1,10 +1,8 @@
 -- The registers of a card after a reset, as they are read, and after a store of one byte.
 use Rattle.std.proofs.Common.{◌≡◌, ◌≢◌, ◌⊎◌, ℕ, zero, suc, ◌+◌, ◌-◌, ◌*◌, ◌^◌, ◌<◌, ◌≤◌, false, Option, None, List, [], ◌∷◌, length, get_or, set, Some, inl, inr, ◌∙◌, refl, sym, ap, subst, arith, lit<, lit≤, add-zero, get_or-set_same, get_or-set_other}
-use Rattle.std.specs.Prelude.{◌==◌, bit_and, slice_index}
+use Rattle.std.specs.Prelude.{◌==◌, slice_index}
 use Rattle.std.proofs.lemmas.Bool.{and_left, ne_eqb, cases_eq, cases_lt}
 use Rattle.std.proofs.lemmas.Bool.Decides.{nat_tests}
-use Rattle.std.proofs.lemmas.Nat.{and_mask}
-use Rattle.std.specs.Int.Bits.{and_zero_r, or_zero_l, or_zero_r}
 use Rattle.board_base.specs.declared.access.Width.TheVariants.{One, Four}
 use Rattle.board_base.specs.declared.target.Reg.{Reg}
 use Rattle.board_spec.specs.declared.map_change.MapChange.TheVariants.{Store}
@@ -15,6 +13,7 @@ use Rattle.board_spec.specs.Registers.{changed_byte}
 use Rattle.board_spec.specs.MapWrites.{reg_after}
 use Rattle.board_spec.specs.Decode.{Bytes}
 use Rattle.board_spec.specs.RegisterNames.{card_register, base_register, expansion_rom, smram, is_same}
+use Rattle.board_spec.proofs.MergedLemmas.{merged-all, merged-none}
 use Rattle.board_spec.proofs.StoreLemmas.{changed_byte-one_same, changed_byte-one_other}
 use Rattle.pci_bars.specs.Bases.{of_base}
 use Rattle.pci_bars.specs.Cards.{CardBytes, HoldsLong, HoldsRom, DecodesAs, IsCardOf, is_kept_offset, header_of}
@@ -33,11 +32,20 @@ wide_of_bytes f from n below each =
 
 -- where the bytes are the same, so is the doubleword
 pub holds-same :
-    (bytes bytes' : Bytes) (first : Reg) (value : ℕ) → ((j : ℕ) → j < 4 → bytes' (reg_after first j) ≡ bytes (reg_after first j)) →
+    (bytes bytes' : Bytes) (first : Reg) (value : ℕ) →
+    ((j : ℕ) → j < 4 → bytes' (reg_after first j) ≡ bytes (reg_after first j)) →
     HoldsLong bytes first value → HoldsLong bytes' first value
 holds-same bytes bytes' first value same is =
-    let zero_on : record first { off = first.off + 0 } ≡ record first { off = first.off } = ap (λ off. record first { off = off }) (add-zero first.off) in
-    let b0 : bytes' (record first { off = first.off }) ≡ bytes (record first { off = first.off }) = ap bytes' (sym zero_on) ∙ same 0 (lit< tt) ∙ ap bytes zero_on in
+    let zero_on : record first {
+      off =
+          first.off + 0;
+    } ≡ record first { off = first.off } = ap (λ off. record first { off = off }) (add-zero first.off) in
+    let b0 : bytes' (record first {
+      off =
+          first.off;
+    }) ≡ bytes (record first {
+      off = first.off;
+    }) = ap bytes' (sym zero_on) ∙ same 0 (lit< tt) ∙ ap bytes zero_on in
     record {
       number = rw (b0, same 1 (lit< tt), same 2 (lit< tt), same 3 (lit< tt)) is.number;
       each = λ j below. same j below ∙ is.each j below;
@@ -58,7 +66,8 @@ small_reset_of (base ∷ later) (suc k) = small_reset_of later k
 
 -- a doubleword of the table
 reset_long :
-    (setup : Setup) (card : FittedCard) (from value : ℕ) → IsCard card → card_at setup card.dev ≡ Some card → value < 2 ^ 32 →
+    (setup : Setup) (card : FittedCard) (from value : ℕ) → IsCard card → card_at setup card.dev ≡ Some card →
+    value < 2 ^ 32 →
     ((j : ℕ) → j < 4 → listed (λ entry. entry.reset) (card_function card) (from + j) ≡ byte value j) →
     HoldsLong (reset_byte setup) (card_register card.dev from) value
 reset_long setup card from value fit fitted below in_table =
@@ -74,7 +83,8 @@ reset_rom :
     (rom : Option ℕ) → HoldsRom (reset_byte setup) card.dev 0 rom
 reset_rom setup card fit fitted None = tt
 reset_rom setup card fit fitted (Some bits) =
-    reset_long setup card 0x30 0 fit fitted (lit< tt) (λ j below. reset-rom card j fit.count below ∙ sym (byte_of_zero j))
+    reset_long setup card 0x30 0 fit fitted (lit< tt)
+    (λ j below. reset-rom card j fit.count below ∙ sym (byte_of_zero j))
 
 pub card_at_reset :
     (setup : Setup) (card : FittedCard) (values : List ℕ) → IsCard card → card_at setup card.dev ≡ Some card →
@@ -99,51 +109,53 @@ card_at_reset setup card values fit fitted is_reset =
 
 -- what is not kept reads as after a reset
 pub read-fixed :
-    (setup : Setup) (bytes : Bytes) (card : CardBytes) (off : ℕ) → IsCard card.card → IsCardOf setup bytes card → is_kept_offset card.card off ≡ false →
+    (setup : Setup) (bytes : Bytes) (card : CardBytes) (off : ℕ) → IsCard card.card → IsCardOf setup bytes card →
+    is_kept_offset card.card off
+    ≡ false →
     bytes (card_register card.card.dev off) ≡ listed (λ entry. entry.reset) (card_function card.card) off
 read-fixed setup bytes card off fit is not_kept =
     is.fixed off not_kept ∙ reset_byte-card setup card.card off fit.first is.decodes.fitted
 
 pub read-header :
-    (setup : Setup) (bytes : Bytes) (card : CardBytes) (off : ℕ) → IsCard card.card → IsCardOf setup bytes card → off < 16 →
+    (setup : Setup) (bytes : Bytes) (card : CardBytes) (off : ℕ) → IsCard card.card → IsCardOf setup bytes card → off
+    < 16 →
     get_or (header_of card) off 0 ≡ bytes (card_register card.card.dev off)
 read-header setup bytes card off fit is below =
     elim (cases_eq off 4) [
       | inl command ↦ rw command (sym is.decodes.command)
       | inr apart ↦
           sym (reset-header card off below apart)
-          ∙ sym (read-fixed setup bytes card off fit is (kept_nowhere card.card.rom off (grind (arith, nat_tests)) (inl (omega arith))))
+          ∙ sym (read-fixed setup bytes card off fit is
+          (kept_nowhere card.card.rom off (grind (arith, nat_tests)) (inl (omega arith))))
     ]
 
-pub read-base :
-    (setup : Setup) (bytes : Bytes) (card : CardBytes) (off k j : ℕ) → DecodesAs setup bytes card → k < 6 → j < 4 → off ≡ 0x10 + 4 * k + j →
-    byte (slice_index card.bases k) j ≡ bytes (card_register card.card.dev off)
-read-base setup bytes card off k j is k_below j_below place =
-    let held : HoldsLong bytes (base_register card.card.dev k) (slice_index card.bases k) = is.bases k k_below in
-    sym (held.each j j_below) ∙ ap (λ at. bytes (card_register card.card.dev at)) (sym place)
-
 pub read-rom :
-    (setup : Setup) (bytes : Bytes) (card : CardBytes) (off : ℕ) → IsCard card.card → IsCardOf setup bytes card → 0x30 ≤ off → off ≤ 0x33 →
+    (setup : Setup) (bytes : Bytes) (card : CardBytes) (off : ℕ) → IsCard card.card → IsCardOf setup bytes card → 0x30
+    ≤ off → off ≤ 0x33 →
     byte card.rom (off - 0x30) ≡ bytes (card_register card.card.dev off)
 read-rom setup bytes card off fit is from to = of_rom card.card.rom refl is.decodes.rom
   where
     place : 0x30 + (off - 0x30) ≡ off
     place = omega arith
 
-    of_rom : (rom : Option ℕ) → card.card.rom ≡ rom → HoldsRom bytes card.card.dev card.rom rom → byte card.rom (off - 0x30) ≡ bytes (card_register card.card.dev off)
+    of_rom :
+        (rom : Option ℕ) → card.card.rom ≡ rom → HoldsRom bytes card.card.dev card.rom rom →
+        byte card.rom (off - 0x30) ≡ bytes (card_register card.card.dev off)
     of_rom None none held =
         ap (λ n. byte n (off - 0x30)) (is.no_rom none)
         ∙ byte_of_zero (off - 0x30)
         ∙ sym (reset-rom card.card (off - 0x30) fit.count (omega arith))
         ∙ ap (λ at. listed (λ entry. entry.reset) (card_function card.card) at) place
         ∙ sym (read-fixed setup bytes card off fit is (rw none (grind (arith, nat_tests))))
-    of_rom (Some bits) some held = sym (held.each (off - 0x30) (omega arith)) ∙ ap (λ at. bytes (card_register card.card.dev at)) place
+    of_rom (Some bits) some held =
+        sym (held.each (off - 0x30) (omega arith)) ∙ ap (λ at. bytes (card_register card.card.dev at)) place
 
 pub read-pin :
     (setup : Setup) (bytes : Bytes) (card : CardBytes) → IsCard card.card → IsCardOf setup bytes card →
     1 ≡ bytes (card_register card.card.dev 0x3D)
 read-pin setup bytes card fit is =
-    sym (reset-pin card.card fit.count) ∙ sym (read-fixed setup bytes card 0x3D fit is (kept_nowhere card.card.rom 0x3D refl (inr (lit≤ tt))))
+    sym (reset-pin card.card fit.count)
+    ∙ sym (read-fixed setup bytes card 0x3D fit is (kept_nowhere card.card.rom 0x3D refl (inr (lit≤ tt))))
 
 pub read-rest :
     (setup : Setup) (bytes : Bytes) (card : CardBytes) (off : ℕ) → IsCard card.card → IsCardOf setup bytes card →
@@ -156,11 +168,13 @@ read-rest setup bytes card off fit is above off_rom not_line not_pin =
 
 -- the registers after a byte is stored at an offset of a card
 abbrev pub stored : Setup → Bytes → (dev off written : ℕ) → Bytes
-stored setup bytes dev off written = λ reg. changed_byte setup (Store (card_register dev off) One written) reg (bytes reg)
+stored setup bytes dev off written =
+    λ reg. changed_byte setup (Store (card_register dev off) One written) reg (bytes reg)
 
 not_smram : (dev off : ℕ) → 2 ≤ dev → is_same (card_register dev off) smram ≡ false
 not_smram dev off above =
-    let not_bridge : (dev == 0) ≡ false = ne_eqb dev 0 (λ (e : dev ≡ 0). omega arith) in and_left _ _ (and_left _ _ not_bridge)
+    let not_bridge : (dev == 0)
+    ≡ false = ne_eqb dev 0 (λ (e : dev ≡ 0). omega arith) in and_left _ _ (and_left _ _ not_bridge)
 
 stored-other :
     (setup : Setup) (bytes : Bytes) (dev off written at : ℕ) → at ≢ off →
@@ -169,12 +183,15 @@ stored-other setup bytes dev off written at apart =
     changed_byte-one_other setup (card_register dev at) off (bytes (card_register dev at)) written apart
 
 stored-same :
-    (setup : Setup) (bytes : Bytes) (card : FittedCard) (off written : ℕ) → IsCard card → card_at setup card.dev ≡ Some card → written < 256 →
+    (setup : Setup) (bytes : Bytes) (card : FittedCard) (off written : ℕ) → IsCard card →
+    card_at setup card.dev ≡ Some card → written < 256 →
     stored setup bytes card.dev off written (card_register card.dev off)
     ≡ merged (listed (λ entry. entry.writable) (card_function card) off) (bytes (card_register card.dev off)) written
 stored-same setup bytes card off written fit fitted below =
-    changed_byte-one_same setup (card_register card.dev off) (bytes (card_register card.dev off)) written below (not_smram card.dev off fit.first)
-    ∙ ap (λ mask. merged mask (bytes (card_register card.dev off)) written) (writable_bits-card setup card off fit.first fitted)
+    changed_byte-one_same setup (card_register card.dev off) (bytes (card_register card.dev off)) written below
+    (not_smram card.dev off fit.first)
+    ∙ ap (λ mask. merged mask (bytes (card_register card.dev off)) written)
+    (writable_bits-card setup card off fit.first fitted)
 
 -- an offset lies in none of the four registers from another on
 abbrev pub IsOffLong : (from off : ℕ) → Type 0
@@ -182,17 +199,23 @@ IsOffLong from off = (off < from) ⊎ (from + 4 ≤ off)
 
 -- a doubleword where the byte is stored elsewhere
 long-apart :
-    (setup : Setup) (bytes : Bytes) (dev off written from value : ℕ) → IsOffLong from off → HoldsLong bytes (card_register dev from) value →
+    (setup : Setup) (bytes : Bytes) (dev off written from value : ℕ) → IsOffLong from off → HoldsLong bytes
+    (card_register dev from) value →
     HoldsLong (stored setup bytes dev off written) (card_register dev from) value
 long-apart setup bytes dev off written from value outside is =
     holds-same bytes (stored setup bytes dev off written) (card_register dev from) value
-    (λ j below. stored-other setup bytes dev off written (from + j) (λ e. elim outside [ inl before ↦ omega arith | inr past ↦ omega arith ])) is
+    (λ j below.
+    stored-other setup bytes dev off written (from + j)
+    (λ e. elim outside [ inl before ↦ omega arith | inr past ↦ omega arith ]))
+    is
 
 rom-apart :
-    (setup : Setup) (bytes : Bytes) (dev off written value : ℕ) → IsOffLong 0x30 off → (rom : Option ℕ) → HoldsRom bytes dev value rom →
+    (setup : Setup) (bytes : Bytes) (dev off written value : ℕ) → IsOffLong 0x30 off → (rom : Option ℕ) → HoldsRom
+    bytes dev value rom →
     HoldsRom (stored setup bytes dev off written) dev value rom
 rom-apart setup bytes dev off written value outside None is = is
-rom-apart setup bytes dev off written value outside (Some bits) is = long-apart setup bytes dev off written 0x30 value outside is
+rom-apart setup bytes dev off written value outside (Some bits) is =
+    long-apart setup bytes dev off written 0x30 value outside is
 
 -- an offset on which the address map does not depend
 pub record IsApart (off : ℕ) : Type 0 where
@@ -205,19 +228,25 @@ off_base off k (inl below) within = inl (omega arith)
 off_base off k (inr above) within = inr (omega arith)
 
 pub decodes-apart :
-    (setup : Setup) (bytes : Bytes) (card : CardBytes) (line off written : ℕ) → IsApart off → DecodesAs setup bytes card →
+    (setup : Setup) (bytes : Bytes) (card : CardBytes) (line off written : ℕ) → IsApart off → DecodesAs setup bytes
+    card →
     DecodesAs setup (stored setup bytes card.card.dev off written) (record card { line = line })
 decodes-apart setup bytes card line off written apart is =
     record {
       fitted = is.fitted;
       command = stored-other setup bytes card.card.dev off written 0x04 (λ e. apart.command (sym e)) ∙ is.command;
-      bases = λ k below. long-apart setup bytes card.card.dev off written (0x10 + 4 * k) (slice_index card.bases k) (off_base off k apart.bases below) (is.bases k below);
+      bases =
+          λ k below.
+          long-apart setup bytes card.card.dev off written (0x10 + 4 * k) (slice_index card.bases k)
+          (off_base off k apart.bases below) (is.bases k below);
       rom = rom-apart setup bytes card.card.dev off written card.rom apart.rom card.card.rom is.rom;
     }
 
 pub decodes-command :
-    (setup : Setup) (bytes : Bytes) (card : CardBytes) (written : ℕ) → IsCard card.card → written < 256 → DecodesAs setup bytes card →
-    DecodesAs setup (stored setup bytes card.card.dev 0x04 written) (record card { command = merged 0x07 card.command written })
+    (setup : Setup) (bytes : Bytes) (card : CardBytes) (written : ℕ) → IsCard card.card → written < 256 → DecodesAs
+    setup bytes card →
+    DecodesAs setup (stored setup bytes card.card.dev 0x04 written)
+    (record card { command = merged 0x07 card.command written })
 decodes-command setup bytes card written fit below is =
     record {
       fitted = is.fitted;
@@ -225,7 +254,10 @@ decodes-command setup bytes card written fit below is =
           stored-same setup bytes card.card 0x04 written fit is.fitted below
           ∙ ap (λ mask. merged mask (bytes (card_register card.card.dev 0x04)) written) (writable-command card.card)
           ∙ ap (λ old. merged 0x07 old written) is.command;
-      bases = λ k k_below. long-apart setup bytes card.card.dev 0x04 written (0x10 + 4 * k) (slice_index card.bases k) (inl (omega arith)) (is.bases k k_below);
+      bases =
+          λ k k_below.
+          long-apart setup bytes card.card.dev 0x04 written (0x10 + 4 * k) (slice_index card.bases k)
+          (inl (omega arith)) (is.bases k k_below);
       rom = rom-apart setup bytes card.card.dev 0x04 written card.rom (inl (lit< tt)) card.card.rom is.rom;
     }
 
@@ -237,12 +269,19 @@ pub record IsByteWrite (writable old lane written new : ℕ) : Type 0 where
 
 -- a doubleword where one of its bytes is stored
 long-stored :
-    (setup : Setup) (bytes : Bytes) (card : FittedCard) (from lane written mask old new : ℕ) → IsCard card → card_at setup card.dev ≡ Some card → written < 256 → lane < 4 →
-    listed (λ entry. entry.writable) (card_function card) (from + lane) ≡ byte mask lane → IsByteWrite mask old lane written new →
+    (setup : Setup) (bytes : Bytes) (card : FittedCard) (from lane written mask old new : ℕ) → IsCard card → card_at
+    setup card.dev ≡ Some card → written < 256 → lane < 4 →
+    listed (λ entry. entry.writable) (card_function card) (from + lane) ≡ byte mask lane →
+    IsByteWrite mask old lane written new →
     HoldsLong bytes (card_register card.dev from) old →
     HoldsLong (stored setup bytes card.dev (from + lane) written) (card_register card.dev from) new
 long-stored setup bytes card from lane written mask old new fit fitted below in_long in_table write is =
-    record { number = wide_of_bytes (λ at. stored setup bytes card.dev (from + lane) written (card_register card.dev at)) from new write.fits each; each = each }
+    record {
+      number =
+          wide_of_bytes (λ at. stored setup bytes card.dev (from + lane) written (card_register card.dev at)) from new
+          write.fits each;
+      each = each;
+    }
   where
     here : stored setup bytes card.dev (from + lane) written (card_register card.dev (from + lane)) ≡ byte new lane
     here =
@@ -251,18 +290,20 @@ long-stored setup bytes card from lane written mask old new fit fitted below in_
         ∙ ap (λ byte_before. merged (byte mask lane) byte_before written) (is.each lane in_long)
         ∙ sym write.here
 
-    each : (j : ℕ) → j < 4 → stored setup bytes card.dev (from + lane) written (card_register card.dev (from + j)) ≡ byte new j
+    each :
+        (j : ℕ) → j < 4 →
+        stored setup bytes card.dev (from + lane) written (card_register card.dev (from + j)) ≡ byte new j
     each j j_below =
         elim (cases_eq j lane) [
-          | inl same ↦ subst (λ i. stored setup bytes card.dev (from + lane) written (card_register card.dev (from + i)) ≡ byte new i) (sym same) here
+          | inl same ↦
+              subst
+              (λ i. stored setup bytes card.dev (from + lane) written (card_register card.dev (from + i)) ≡ byte new i)
+              (sym same) here
           | inr apart ↦
               stored-other setup bytes card.dev (from + lane) written (from + j) (λ e. apart (omega arith))
               ∙ is.each j j_below
               ∙ sym (write.others j j_below apart)
         ]
-
-merged_none : (old written : ℕ) → old < 256 → merged 0 old written ≡ old
-merged_none old written below = rw (and_zero_r written, or_zero_l (bit_and old 255)) (and_mask old 8 ∙ omega arith)
 
 -- ---- a byte of a base, and of the expansion ROM's register
 
@@ -278,21 +319,30 @@ abbrev HeldAt : Setup → Bytes → (dev written off k value : ℕ) → Type 0
 HeldAt setup bytes dev written off k value = HoldsLong (stored setup bytes dev off written) (base_register dev k) value
 
 pub decodes-base_stored :
-    (setup : Setup) (bytes : Bytes) (card : CardBytes) (off index lane written new : ℕ) → IsCard card.card → written < 256 → length card.bases ≡ 6 →
+    (setup : Setup) (bytes : Bytes) (card : CardBytes) (off index lane written new : ℕ) → IsCard card.card → written <
+    256 → length card.bases
+    ≡ 6 →
     IsBaseStore card off index lane written new → DecodesAs setup bytes card →
     DecodesAs setup (stored setup bytes card.card.dev off written) (record card { bases = set card.bases index new })
 decodes-base_stored setup bytes card off index lane written new fit below six store is =
     record {
       fitted = is.fitted;
-      command = stored-other setup bytes card.card.dev off written 0x04 (λ e. let place = store.place in omega arith) ∙ is.command;
+      command =
+          stored-other setup bytes card.card.dev off written 0x04 (λ e. let place = store.place in omega arith)
+          ∙ is.command;
       bases = base_at;
-      rom = rom-apart setup bytes card.card.dev off written card.rom (inl (let place = store.place in let i = store.in_bases in let j = store.in_long in omega arith)) card.card.rom is.rom;
+      rom =
+          rom-apart setup bytes card.card.dev off written card.rom
+          (inl (let place = store.place in let i = store.in_bases in let j = store.in_long in omega arith))
+          card.card.rom is.rom;
     }
   where
     here : HeldAt setup bytes card.card.dev written off index new
     here =
         subst (λ at. HeldAt setup bytes card.card.dev written at index new) (sym store.place)
-        (long-stored setup bytes card.card (0x10 + 4 * index) lane written (of_base base_writable card.card.bases index) (slice_index card.bases index) new fit is.fitted below store.in_long
+        (long-stored setup bytes card.card (0x10 + 4 * index) lane written
+        (of_base base_writable card.card.bases index) (slice_index card.bases index) new fit is.fitted below
+        store.in_long
         (writable-base card.card index lane store.in_bases store.in_long) store.write (is.bases index store.in_bases))
 
     off_other : (k : ℕ) → k ≢ index → IsOffLong (0x10 + 4 * k) off
@@ -300,13 +350,19 @@ decodes-base_stored setup bytes card off index lane written new fit below six st
         let place = store.place in let in_long = store.in_long in
         elim (cases_lt k index) [ inl before ↦ inr (omega arith) | inr after ↦ inl (omega arith) ]
 
-    base_at : (k : ℕ) → k < 6 → HeldAt setup bytes card.card.dev written off k (slice_index (set card.bases index new) k)
+    base_at :
+        (k : ℕ) → k < 6 → HeldAt setup bytes card.card.dev written off k (slice_index (set card.bases index new) k)
     base_at k k_below =
         elim (cases_eq k index) [
-          | inl same ↦ rw same (subst (HeldAt setup bytes card.card.dev written off index) (sym (get_or-set_same card.bases index new 0 (let i = store.in_bases in omega arith))) here)
+          | inl same ↦
+              rw same
+              (subst (HeldAt setup bytes card.card.dev written off index)
+              (sym (get_or-set_same card.bases index new 0 (let i = store.in_bases in omega arith))) here)
           | inr apart ↦
-              subst (HeldAt setup bytes card.card.dev written off k) (sym (get_or-set_other card.bases index k new 0 apart))
-              (long-apart setup bytes card.card.dev off written (0x10 + 4 * k) (slice_index card.bases k) (off_other k apart) (is.bases k k_below))
+              subst (HeldAt setup bytes card.card.dev written off k)
+              (sym (get_or-set_other card.bases index k new 0 apart))
+              (long-apart setup bytes card.card.dev off written (0x10 + 4 * k) (slice_index card.bases k)
+              (off_other k apart) (is.bases k k_below))
         ]
 
 -- what the register of a card's expansion ROM is after a byte at an offset is written
@@ -318,16 +374,24 @@ pub record IsRomStore (card : CardBytes) (off lane written new : ℕ) : Type 0 w
 -- nothing is written to the register of a ROM that a card does not have
 none_written : (lane written new : ℕ) → lane < 4 → IsByteWrite 0 0 lane written new → new ≡ 0
 none_written lane written new in_long write =
-    let here : byte new lane ≡ 0 = write.here ∙ rw (byte_of_zero lane) (merged_none 0 written (lit< tt)) in
+    let here : byte new lane ≡ 0 = write.here ∙ rw (byte_of_zero lane) (merged-none 0 written (lit< tt)) in
     let each : (j : ℕ) → j < 4 → byte new j ≡ 0 =
-    λ j below. elim (cases_eq j lane) [ inl same ↦ ap (byte new) same ∙ here | inr apart ↦ write.others j below apart ∙ byte_of_zero j ] in
+    λ j below.
+    elim (cases_eq j lane) [
+      | inl same ↦ ap (byte new) same ∙ here
+      | inr apart ↦ write.others j below apart ∙ byte_of_zero j
+    ] in
     let fits = write.fits in
     let b0 = each 0 (lit< tt) in let b1 = each 1 (lit< tt) in let b2 = each 2 (lit< tt) in let b3 = each 3 (lit< tt) in
     omega arith
 
-rom-none : (card : CardBytes) (off lane written new : ℕ) → IsRomStore card off lane written new → card.rom ≡ 0 → card.card.rom ≡ None → new ≡ 0
+rom-none :
+    (card : CardBytes) (off lane written new : ℕ) → IsRomStore card off lane written new → card.rom ≡ 0 →
+    card.card.rom ≡ None → new ≡ 0
 rom-none card off lane written new store held none =
-    none_written lane written new store.in_long (subst (λ old. IsByteWrite 0 old lane written new) held (subst (λ rom. IsByteWrite (rom_writable rom) card.rom lane written new) none store.write))
+    none_written lane written new store.in_long
+    (subst (λ old. IsByteWrite 0 old lane written new) held
+    (subst (λ rom. IsByteWrite (rom_writable rom) card.rom lane written new) none store.write))
 
 pub decodes-rom_stored :
     (setup : Setup) (bytes : Bytes) (card : CardBytes) (off lane written new : ℕ) → IsCard card.card → written < 256 →
@@ -336,55 +400,73 @@ pub decodes-rom_stored :
 decodes-rom_stored setup bytes card off lane written new fit below store is =
     record {
       fitted = is.fitted;
-      command = stored-other setup bytes card.card.dev off written 0x04 (λ e. let place = store.place in omega arith) ∙ is.command;
-      bases = λ k k_below. long-apart setup bytes card.card.dev off written (0x10 + 4 * k) (slice_index card.bases k) (inr (let place = store.place in omega arith)) (is.bases k k_below);
+      command =
+          stored-other setup bytes card.card.dev off written 0x04 (λ e. let place = store.place in omega arith)
+          ∙ is.command;
+      bases =
+          λ k k_below.
+          long-apart setup bytes card.card.dev off written (0x10 + 4 * k) (slice_index card.bases k)
+          (inr (let place = store.place in omega arith)) (is.bases k k_below);
       rom = rom_held card.card.rom refl is.rom;
     }
   where
-    rom_held : (rom : Option ℕ) → card.card.rom ≡ rom → HoldsRom bytes card.card.dev card.rom rom → HoldsRom (stored setup bytes card.card.dev off written) card.card.dev new rom
+    rom_held :
+        (rom : Option ℕ) → card.card.rom ≡ rom → HoldsRom bytes card.card.dev card.rom rom →
+        HoldsRom (stored setup bytes card.card.dev off written) card.card.dev new rom
     rom_held None none held = tt
     rom_held (Some bits) some held =
-        subst (λ at. HoldsLong (stored setup bytes card.card.dev at written) (expansion_rom card.card.dev) new) (sym store.place)
-        (long-stored setup bytes card.card 0x30 lane written (rom_writable card.card.rom) card.rom new fit is.fitted below store.in_long
+        subst (λ at. HoldsLong (stored setup bytes card.card.dev at written) (expansion_rom card.card.dev) new)
+        (sym store.place)
+        (long-stored setup bytes card.card 0x30 lane written (rom_writable card.card.rom) card.rom new fit is.fitted
+        below store.in_long
         (writable-rom card.card lane fit.count store.in_long) store.write held)
 
 -- ---- all the registers of the card
 
-merged_all : (old written : ℕ) → written < 256 → merged 0xFF old written ≡ written
-merged_all old written below = rw (and_zero_r old, or_zero_r (bit_and written 255)) (and_mask written 8 ∙ omega arith)
-
 -- what is not kept stays, wherever the byte is stored
 pub fixed-stored :
-    (setup : Setup) (bytes : Bytes) (card : CardBytes) (off written : ℕ) → IsCard card.card → written < 256 → IsCardOf setup bytes card →
+    (setup : Setup) (bytes : Bytes) (card : CardBytes) (off written : ℕ) → IsCard card.card → written < 256 → IsCardOf
+    setup bytes card →
     (at : ℕ) → is_kept_offset card.card at ≡ false →
-    stored setup bytes card.card.dev off written (card_register card.card.dev at) ≡ reset_byte setup (card_register card.card.dev at)
+    stored setup bytes card.card.dev off written (card_register card.card.dev at)
+    ≡ reset_byte setup (card_register card.card.dev at)
 fixed-stored setup bytes card off written fit below is at not_kept =
     elim (cases_eq at off) [
-      | inl same ↦ subst (λ o. stored setup bytes card.card.dev o written (card_register card.card.dev at) ≡ reset_byte setup (card_register card.card.dev at)) same (here at not_kept)
+      | inl same ↦
+          subst (λ o.
+          stored setup bytes card.card.dev o written (card_register card.card.dev at)
+          ≡ reset_byte setup (card_register card.card.dev at))
+          same (here at not_kept)
       | inr apart ↦ stored-other setup bytes card.card.dev off written at apart ∙ is.fixed at not_kept
     ]
   where
-    here : (at : ℕ) → is_kept_offset card.card at ≡ false → stored setup bytes card.card.dev at written (card_register card.card.dev at) ≡ reset_byte setup (card_register card.card.dev at)
+    here :
+        (at : ℕ) → is_kept_offset card.card at ≡ false →
+        stored setup bytes card.card.dev at written (card_register card.card.dev at)
+        ≡ reset_byte setup (card_register card.card.dev at)
     here at not_kept =
         let fixed = is_fixed card.card fit at not_kept in
         let stands = is.fixed at not_kept in
         let in_table = reset_byte-card setup card.card at fit.first is.decodes.fitted in
         stored-same setup bytes card.card at written fit is.decodes.fitted below
         ∙ ap (λ mask. merged mask (bytes (card_register card.card.dev at)) written) fixed.writable
-        ∙ merged_none (bytes (card_register card.card.dev at)) written (subst (λ n. n < 256) (sym (stands ∙ in_table)) fixed.byte)
+        ∙ merged-none (bytes (card_register card.card.dev at)) written
+        (subst (λ n. n < 256) (sym (stands ∙ in_table)) fixed.byte)
         ∙ stands
 
 pub line-stored :
-    (setup : Setup) (bytes : Bytes) (card : CardBytes) (written : ℕ) → IsCard card.card → written < 256 → IsCardOf setup bytes card →
+    (setup : Setup) (bytes : Bytes) (card : CardBytes) (written : ℕ) → IsCard card.card → written < 256 → IsCardOf
+    setup bytes card →
     stored setup bytes card.card.dev 0x3C written (card_register card.card.dev 0x3C) ≡ written
 line-stored setup bytes card written fit below is =
     stored-same setup bytes card.card 0x3C written fit is.decodes.fitted below
     ∙ ap (λ mask. merged mask (bytes (card_register card.card.dev 0x3C)) written) (writable-line card.card fit.count)
-    ∙ merged_all (bytes (card_register card.card.dev 0x3C)) written below
+    ∙ merged-all (bytes (card_register card.card.dev 0x3C)) written below
 
 -- a store elsewhere than at the interrupt line
 pub card-stored :
-    (setup : Setup) (bytes : Bytes) (card new : CardBytes) (off written : ℕ) → IsCard card.card → written < 256 → IsCardOf setup bytes card →
+    (setup : Setup) (bytes : Bytes) (card new : CardBytes) (off written : ℕ) → IsCard card.card → written < 256 →
+    IsCardOf setup bytes card →
     off ≢ 0x3C → new.card ≡ card.card → new.line ≡ card.line → (card.card.rom ≡ None → new.rom ≡ 0) →
     DecodesAs setup (stored setup bytes card.card.dev off written) new →
     IsCardOf setup (stored setup bytes card.card.dev off written) new
@@ -392,43 +474,56 @@ card-stored setup bytes card new off written fit below is apart same_card same_l
     record {
       decodes = decodes;
       no_rom = rw same_card no_rom;
-      line = rw (same_card, same_line) (stored-other setup bytes card.card.dev off written 0x3C (λ e. apart (sym e)) ∙ is.line);
+      line =
+          rw (same_card, same_line)
+          (stored-other setup bytes card.card.dev off written 0x3C (λ e. apart (sym e)) ∙ is.line);
       fixed = rw same_card (fixed-stored setup bytes card off written fit below is);
     }
 
 pub card-line_stored :
-    (setup : Setup) (bytes : Bytes) (card : CardBytes) (written : ℕ) → IsCard card.card → written < 256 → IsCardOf setup bytes card →
+    (setup : Setup) (bytes : Bytes) (card : CardBytes) (written : ℕ) → IsCard card.card → written < 256 → IsCardOf
+    setup bytes card →
     IsCardOf setup (stored setup bytes card.card.dev 0x3C written) (record card { line = written })
 card-line_stored setup bytes card written fit below is =
     record {
-      decodes = decodes-apart setup bytes card written 0x3C written (record { command = λ e. grind arith; bases = inr (lit≤ tt); rom = inr (lit≤ tt) }) is.decodes;
+      decodes =
+          decodes-apart setup bytes card written 0x3C written
+          (record { command = λ e. grind arith; bases = inr (lit≤ tt); rom = inr (lit≤ tt) }) is.decodes;
       line = line-stored setup bytes card written fit below is;
       no_rom = is.no_rom;
       fixed = fixed-stored setup bytes card 0x3C written fit below is;
     }
 
 pub card-apart :
-    (setup : Setup) (bytes : Bytes) (card : CardBytes) (off written : ℕ) → IsCard card.card → written < 256 → IsApart off → off ≢ 0x3C →
+    (setup : Setup) (bytes : Bytes) (card : CardBytes) (off written : ℕ) → IsCard card.card → written < 256 → IsApart
+    off → off ≢ 0x3C →
     IsCardOf setup bytes card → IsCardOf setup (stored setup bytes card.card.dev off written) card
 card-apart setup bytes card off written fit below apart not_line is =
-    card-stored setup bytes card card off written fit below is not_line refl refl is.no_rom (decodes-apart setup bytes card card.line off written apart is.decodes)
+    card-stored setup bytes card card off written fit below is not_line refl refl is.no_rom
+    (decodes-apart setup bytes card card.line off written apart is.decodes)
 
 pub card-command :
-    (setup : Setup) (bytes : Bytes) (card : CardBytes) (written : ℕ) → IsCard card.card → written < 256 → IsCardOf setup bytes card →
-    IsCardOf setup (stored setup bytes card.card.dev 0x04 written) (record card { command = merged 0x07 card.command written })
+    (setup : Setup) (bytes : Bytes) (card : CardBytes) (written : ℕ) → IsCard card.card → written < 256 → IsCardOf
+    setup bytes card →
+    IsCardOf setup (stored setup bytes card.card.dev 0x04 written)
+    (record card { command = merged 0x07 card.command written })
 card-command setup bytes card written fit below is =
-    card-stored setup bytes card (record card { command = merged 0x07 card.command written }) 0x04 written fit below is (λ e. grind arith) refl refl is.no_rom
+    card-stored setup bytes card (record card { command = merged 0x07 card.command written }) 0x04 written fit below
+    is (λ e. grind arith) refl refl is.no_rom
     (decodes-command setup bytes card written fit below is.decodes)
 
 pub card-base_stored :
-    (setup : Setup) (bytes : Bytes) (card : CardBytes) (off index lane written new : ℕ) → IsCard card.card → written < 256 → length card.bases ≡ 6 →
+    (setup : Setup) (bytes : Bytes) (card : CardBytes) (off index lane written new : ℕ) → IsCard card.card → written <
+    256 → length card.bases
+    ≡ 6 →
     IsBaseStore card off index lane written new → IsCardOf setup bytes card →
     IsCardOf setup (stored setup bytes card.card.dev off written) (record card { bases = set card.bases index new })
 card-base_stored setup bytes card off index lane written new fit below six store is =
     let in_bases = store.in_bases in
     let in_long = store.in_long in
     let place = store.place in
-    card-stored setup bytes card (record card { bases = set card.bases index new }) off written fit below is (λ e. omega arith) refl refl is.no_rom
+    card-stored setup bytes card (record card { bases = set card.bases index new }) off written fit below is
+    (λ e. omega arith) refl refl is.no_rom
     (decodes-base_stored setup bytes card off index lane written new fit below six store is.decodes)
 
 pub card-rom_stored :

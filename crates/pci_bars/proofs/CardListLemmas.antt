@@ -1,6 +1,6 @@
 -- The cards in a list by their device numbers.
 use Rattle.std.proofs.Common.{◌≡◌, ℕ, Bor, true, false, get_or, List, [], ◌∷◌, length, Option, Some, None, inl, inr, ◌∙◌, refl, sym, ap, subst}
-use Rattle.std.specs.Prelude.{◌==◌, All, find, option_map, nat_lt, if◌then◌else◌, is_some, slice_get}
+use Rattle.std.specs.Prelude.{◌==◌, All, find, option_map, nat_lt, is_some, slice_get}
 use Rattle.std.specs.Option.{IfSome}
 use Rattle.std.specs.List.{position, position_or_len}
 use Rattle.std.proofs.lemmas.Bool.{cases_Bool, cases_lt, cond-true, cond-false, eqb-true, lt-ltb, le-ltb}
@@ -13,12 +13,14 @@ use Rattle.pci_bars.specs.Cards.{CardBytes, cards_of}
 
 -- the card at a device number, among the cards' registers and among the cards
 pub find-cards : (cards : List CardBytes) (dev : ℕ) →
-    option_map (λ card. card.card) (find (λ card. card.card.dev == dev) cards) ≡ find (λ card. card.dev == dev) (cards_of cards)
+    option_map (λ card. card.card) (find (λ card. card.card.dev == dev) cards)
+    ≡ find (λ card. card.dev == dev) (cards_of cards)
 find-cards [] dev = refl
 find-cards (card ∷ later) dev =
     elim (cases_Bool (card.card.dev == dev)) [ inl here ↦ rw here refl | inr apart ↦ rw apart (find-cards later dev) ]
 
-pub card_is : (setup : Setup) (cards : List CardBytes) (dev : ℕ) (found : Option CardBytes) → setup.cards ≡ cards_of cards →
+pub card_is :
+    (setup : Setup) (cards : List CardBytes) (dev : ℕ) (found : Option CardBytes) → setup.cards ≡ cards_of cards →
     found ≡ find (λ card. card.card.dev == dev) cards → option_map (λ card. card.card) found ≡ card_at setup dev
 card_is setup cards dev found same is =
     ap (option_map (λ (card : CardBytes). card.card)) is
@@ -33,24 +35,23 @@ found P (first ∷ later) dev card each is =
     elim (cases_Bool (first.card.dev == dev)) [
       | inl here ↦
           let same : Some first ≡ Some card = rw here at is in
-          let first_is : first ≡ card = cc in
-          (subst P first_is (All-head P first later each), ap (λ (it : CardBytes). it.card.dev) (sym first_is) ∙ eqb-true _ _ here)
+          let first_is : first ≡ card = cc in (
+            subst P first_is (All-head P first later each),
+            ap (λ (it : CardBytes). it.card.dev) (sym first_is)
+                ∙ eqb-true _ _ here,
+          )
       | inr apart ↦ found P later dev card (All-tail P first later each) (rw apart at is)
     ]
 
 -- ---- by the place in the list
-
-position_is : (cards : List CardBytes) (dev : ℕ) →
-    position (λ card. card.card.dev == dev) cards
-    ≡ (if nat_lt (position_or_len (λ card. card.card.dev == dev) cards) (length cards) then Some (position_or_len (λ card. card.card.dev == dev) cards) else None)
-position_is cards dev = refl
 
 pub at_position : (cards : List CardBytes) (dev i : ℕ) → Some i ≡ position (λ card. card.card.dev == dev) cards →
     slice_get cards i ≡ find (λ card. card.card.dev == dev) cards
 at_position cards dev i is =
     elim (cases_lt (position_or_len (λ card. card.card.dev == dev) cards) (length cards)) [
       | inl within ↦
-          let here : Some i ≡ Some (position_or_len (λ card. card.card.dev == dev) cards) = is ∙ cond-true _ _ _ (lt-ltb _ _ within) in
+          let here : Some i ≡ Some (position_or_len (λ card. card.card.dev == dev) cards) = is
+          ∙ cond-true _ _ _ (lt-ltb _ _ within) in
           let same : i ≡ position_or_len (λ card. card.card.dev == dev) cards = cc in
           ap (slice_get cards) same ∙ sym (find_at (λ card. card.card.dev == dev) cards)
       | inr past ↦ let none : Some i ≡ None = is ∙ cond-false _ _ _ (le-ltb _ _ past) in absurd (cc)
@@ -60,12 +61,17 @@ pub no_position : (cards : List CardBytes) (dev : ℕ) → None ≡ position (λ
     None ≡ find (λ card. card.card.dev == dev) cards
 no_position cards dev is =
     elim (cases_lt (position_or_len (λ card. card.card.dev == dev) cards) (length cards)) [
-      | inl within ↦ let some : None ≡ Some (position_or_len (λ card. card.card.dev == dev) cards) = is ∙ cond-true _ _ _ (lt-ltb _ _ within) in absurd (cc)
-      | inr past ↦ sym (find_at (λ card. card.card.dev == dev) cards ∙ slice_get_past cards (position_or_len (λ card. card.card.dev == dev) cards) past)
+      | inl within ↦
+          let some : None ≡ Some (position_or_len (λ card. card.card.dev == dev) cards) = is
+          ∙ cond-true _ _ _ (lt-ltb _ _ within) in absurd (cc)
+      | inr past ↦
+          sym (find_at (λ card. card.card.dev == dev) cards
+          ∙ slice_get_past cards (position_or_len (λ card. card.card.dev == dev) cards) past)
     ]
 
 -- the card at a place of the list
-pub at_index : (cards : List CardBytes) (i : ℕ) (lent : Option (Bor CardRegs)) → is_some lent ≡ nat_lt i (length cards) →
+pub at_index :
+    (cards : List CardBytes) (i : ℕ) (lent : Option (Bor CardRegs)) → is_some lent ≡ nat_lt i (length cards) →
     IfSome lent (λ card. card.now ≡ get_or cards i card.now) → option_map (λ card. card.now) lent ≡ slice_get cards i
 at_index cards i None within is =
     elim (cases_lt i (length cards)) [
@@ -79,6 +85,7 @@ at_index cards i (Some card) within is =
     ]
 
 pub map_twice : (lent : Option (Bor CardRegs)) →
-    option_map (λ card. card.now.card) lent ≡ option_map (λ (card : CardBytes). card.card) (option_map (λ card. card.now) lent)
+    option_map (λ card. card.now.card) lent
+    ≡ option_map (λ (card : CardBytes). card.card) (option_map (λ card. card.now) lent)
 map_twice None = refl
 map_twice (Some card) = refl

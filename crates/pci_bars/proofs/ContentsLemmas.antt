@@ -1,9 +1,9 @@
 -- The bytes behind the bases: as they begin, and after a write.
-use Rattle.std.proofs.Common.{◌≡◌, ◌≢◌, ℕ, ◌+◌, ◌-◌, ◌/◌, ◌%◌, ◌<◌, ◌≤◌, true, false, ◌&&◌, List, [], ◌∷◌, ◌++◌, map, Vec, Global, length, get_or, set, replicate, inl, inr, ◌∙◌, refl, sym, ap, subst, arith, lit≤, length-append, get_or-set_same, get_or-set_other}
+use Rattle.std.proofs.Common.{◌≡◌, ◌≢◌, ℕ, ◌+◌, ◌-◌, ◌/◌, ◌%◌, ◌<◌, ◌≤◌, true, false, ◌&&◌, List, [], ◌∷◌, map, Vec, Global, length, get_or, set, replicate, inl, inr, ◌∙◌, refl, sym, ap, arith, lit≤, get_or-set_same, get_or-set_other}
 use Rattle.std.specs.Prelude.{◌==◌, nat_le, nat_lt, find, if◌then◌else◌, slice_index, unwrap_or, vec_len}
 use Rattle.std.specs.Vec.{with_items}
 use Rattle.std.proofs.lemmas.Bool.{and_from, and_left, and_right, eq-eqb, ne_eqb, le-leb, lt-leb, lt-ltb, le-ltb, cases_lt, cases_eq}
-use Rattle.std.proofs.lemmas.List.{get_or_append_left, get_or-replicate, get_or_past, set_past, get_or_push, length-replicate, length-map, map-set, get_or-map, with_items_is}
+use Rattle.std.proofs.lemmas.List.{get_or-replicate, get_or_past, set_past, length-replicate, length-map, map-set, get_or-map, with_items_is}
 use Rattle.board_base.specs.declared.access.Width.{Width}
 use Rattle.board_base.specs.declared.access.Width.TheVariants.{One, Two, Four}
 use Rattle.board_base.specs.declared.target.Target.TheVariants.{Card}
@@ -37,10 +37,12 @@ sizes_stay contents slot new i same =
 
 -- what a write of a value puts into a byte of a base
 abbrev pub written_byte : (dev base off : ℕ) → Width → (value : ℕ) → (d b at old : ℕ) → ℕ
-written_byte dev base off width value d b at old = unwrap_or (byte_put (Card dev base off) 0 width value (CardCell d b at)) old
+written_byte dev base off width value d b at old =
+    unwrap_or (byte_put (Card dev base off) 0 width value (CardCell d b at)) old
 
 written_elsewhere :
-    (dev base off : ℕ) (width : Width) (value d b at old : ℕ) → base ≢ 6 → (dev == d && base == b) ≡ false → written_byte dev base off width value d b at old ≡ old
+    (dev base off : ℕ) (width : Width) (value d b at old : ℕ) → base ≢ 6 → (dev == d && base == b) ≡ false →
+    written_byte dev base off width value d b at old ≡ old
 written_elsewhere dev base off width value d b at old kept apart =
     let not_rom : (base == 6) ≡ false = ne_eqb base 6 kept in rw (not_rom, apart) refl
 
@@ -67,7 +69,9 @@ written_here dev base off width value at old kept =
           ]
     ]
 
-other_slot : (dev base d b : ℕ) → IsBaseNumber dev base → IsBaseNumber d b → slot_number d b ≢ slot_number dev base → (dev == d && base == b) ≡ false
+other_slot :
+    (dev base d b : ℕ) → IsBaseNumber dev base → IsBaseNumber d b → slot_number d b ≢ slot_number dev base →
+    (dev == d && base == b) ≡ false
 other_slot dev base d b place other apart =
     elim (cases_eq dev d) [
       | inl same ↦ elim (cases_eq base b) [
@@ -77,19 +81,23 @@ other_slot dev base d b place other apart =
       | inr differ ↦ let e : (dev == d) ≡ false = ne_eqb dev d differ in and_left _ _ e
     ]
 
-same_slot : (dev base d b : ℕ) → IsBaseNumber dev base → IsBaseNumber d b → slot_number d b ≡ slot_number dev base → (d ≡ dev) × (b ≡ base)
+same_slot :
+    (dev base d b : ℕ) → IsBaseNumber dev base → IsBaseNumber d b → slot_number d b ≡ slot_number dev base →
+    (d ≡ dev) × (b ≡ base)
 same_slot dev base d b place other same =
     let f1 = place.first in let f2 = other.first in let b1 = place.below in let b2 = other.below in
     let same_dev : d ≡ dev = omega arith in
     (same_dev, omega arith)
 
-some_bytes : (width : Width) → 1 ≤ bytes_of width
+pub some_bytes : (width : Width) → 1 ≤ bytes_of width
 some_bytes One = lit≤ tt
 some_bytes Two = lit≤ tt
 some_bytes Four = lit≤ tt
 
 -- a base that has bytes is there
-pub slot_within : (contents : List (List ℕ)) (slot off : ℕ) (width : Width) → off + bytes_of width ≤ length (at_slot contents slot) → slot < length contents
+pub slot_within :
+    (contents : List (List ℕ)) (slot off : ℕ) (width : Width) →
+    off + bytes_of width ≤ length (at_slot contents slot) → slot < length contents
 slot_within contents slot off width fits =
     elim (cases_lt slot (length contents)) [
       | inl below ↦ below
@@ -98,17 +106,23 @@ slot_within contents slot off width fits =
           let some = some_bytes width in absurd (omega arith)
     ]
 
-kept_byte : (contents : List (List ℕ)) (dev base off : ℕ) → base ≢ 6 → held_byte contents dev base off ≡ slice_index (held contents dev base) off
+kept_byte :
+    (contents : List (List ℕ)) (dev base off : ℕ) → base ≢ 6 →
+    held_byte contents dev base off ≡ slice_index (held contents dev base) off
 kept_byte contents dev base off kept = let not_rom : (base == 6) ≡ false = ne_eqb base 6 kept in rw not_rom refl
 
 pub bytes_written :
     (contents : List (List ℕ)) (dev base off : ℕ) (width : Width) (value : ℕ) (new : List ℕ) (d b at : ℕ) → base ≢ 6 →
     LiesIn contents dev base off width → IsBaseNumber d b →
     ((k : ℕ) → slice_index new k ≡ put_byte (held contents dev base) off (bytes_of width) value k) →
-    held_byte (set contents (slot_number dev base) new) d b at ≡ written_byte dev base off width value d b at (held_byte contents d b at)
+    held_byte (set contents (slot_number dev base) new) d b at
+    ≡ written_byte dev base off width value d b at (held_byte contents d b at)
 bytes_written contents dev base off width value new d b at kept lies other put =
     elim (cases_eq b 6) [
-      | inl rom ↦ rw rom (sym (written_elsewhere dev base off width value d 6 at (expansion_byte d at) kept (and_right (dev == d) (base == 6) (ne_eqb base 6 kept))))
+      | inl rom ↦
+          rw rom
+          (sym (written_elsewhere dev base off width value d 6 at (expansion_byte d at) kept
+          (and_right (dev == d) (base == 6) (ne_eqb base 6 kept))))
       | inr held_b ↦
           kept_byte (set contents (slot_number dev base) new) d b at held_b
           ∙ in_lists held_b
@@ -124,22 +138,32 @@ bytes_written contents dev base off width value new d b at kept lies other put =
           | inl same ↦
               let both = same_slot dev base d b lies.number other same in
               rw (both.0, both.1) (
-              ap (λ bytes. slice_index bytes at) (get_or-set_same contents (slot_number dev base) new [] (slot_within contents (slot_number dev base) off width (lies.fits kept)))
+              ap (λ bytes. slice_index bytes at)
+              (get_or-set_same contents (slot_number dev base) new []
+              (slot_within contents (slot_number dev base) off width (lies.fits kept)))
               ∙ put at
               ∙ sym (written_here dev base off width value at (slice_index (held contents dev base) at) kept))
           | inr apart ↦
-              ap (λ bytes. slice_index bytes at) (get_or-set_other contents (slot_number dev base) (slot_number d b) new [] apart)
-              ∙ sym (written_elsewhere dev base off width value d b at (slice_index (held contents d b) at) kept (other_slot dev base d b lies.number other apart))
+              ap (λ bytes. slice_index bytes at)
+              (get_or-set_other contents (slot_number dev base) (slot_number d b) new [] apart)
+              ∙ sym (written_elsewhere dev base off width value d b at (slice_index (held contents d b) at) kept
+              (other_slot dev base d b lies.number other apart))
         ]
 
 -- what a write leaves
-pub record IsWritten (old : List (List ℕ)) (dev base off : ℕ) (width : Width) (value : ℕ) (new : List (List ℕ)) : Type 0 where
+pub record IsWritten (old : List (List ℕ)) (dev base off : ℕ) (width : Width) (value : ℕ) (new : List (List ℕ))
+    : Type 0 where
   pub sizes : (d b : ℕ) → length (held new d b) ≡ length (held old d b)
-  pub bytes : (d b at : ℕ) → IsBaseNumber d b → held_byte new d b at ≡ written_byte dev base off width value d b at (held_byte old d b at)
+  pub bytes :
+      (d b at : ℕ) → IsBaseNumber d b →
+      held_byte new d b at ≡ written_byte dev base off width value d b at (held_byte old d b at)
 
 pub written :
-    (old : List (List ℕ)) (dev base off : ℕ) (width : Width) (value : ℕ) (new : List ℕ) → base ≢ 6 → LiesIn old dev base off width →
-    length new ≡ length (held old dev base) → ((k : ℕ) → slice_index new k ≡ put_byte (held old dev base) off (bytes_of width) value k) →
+    (old : List (List ℕ)) (dev base off : ℕ) (width : Width) (value : ℕ) (new : List ℕ) → base ≢ 6 → LiesIn old dev
+    base off width →
+    length new
+    ≡ length (held old dev base) →
+    ((k : ℕ) → slice_index new k ≡ put_byte (held old dev base) off (bytes_of width) value k) →
     IsWritten old dev base off width value (set old (slot_number dev base) new)
 written old dev base off width value new kept lies long put =
     record {
@@ -148,14 +172,18 @@ written old dev base off width value new kept lies long put =
     }
 
 -- a write to an expansion ROM leaves all
-pub lost : (contents : List (List ℕ)) (dev off : ℕ) (width : Width) (value : ℕ) → IsWritten contents dev 6 off width value contents
+pub lost :
+    (contents : List (List ℕ)) (dev off : ℕ) (width : Width) (value : ℕ) →
+    IsWritten contents dev 6 off width value contents
 lost contents dev off width value = record { sizes = λ d b. refl; bytes = λ d b at number. refl }
 
 -- contents whose bytes are those after a write
 pub stored_written :
-    (setup : Setup) (history : List Entry) (entry : Entry) (place : ℕ) (contents new : List (List ℕ)) (dev base off : ℕ) (width : Width) (value : ℕ) →
+    (setup : Setup) (history : List Entry) (entry : Entry) (place : ℕ) (contents new : List (List ℕ))
+    (dev base off : ℕ) (width : Width) (value : ℕ) →
     IsWritten contents dev base off width value new → IsContentsOf setup history contents →
-    ((d b at : ℕ) → entry_put entry.event entry.reply (CardCell d b at) ≡ byte_put (Card dev base off) place width value (CardCell d b at)) →
+    ((d b at : ℕ) → entry_put entry.event entry.reply (CardCell d b at)
+    ≡ byte_put (Card dev base off) place width value (CardCell d b at)) →
     IsContentsOf setup (entry ∷ history) new
 unfolding stored_of
 stored_written setup history entry place contents new dev base off width value written is wrote =
@@ -165,7 +193,8 @@ stored_written setup history entry place contents new dev base off width value w
         | inl rom ↦ rw rom refl
         | inr kept ↦
             let not_rom : (b == 6) ≡ false = ne_eqb b 6 kept in
-            let before : held_byte contents d b at ≡ stored_of history (CardCell d b at) = is.bytes d b at number below ∙ rw not_rom refl in
+            let before : held_byte contents d b at ≡ stored_of history (CardCell d b at) =
+            is.bytes d b at number below ∙ rw not_rom refl in
             written.bytes d b at number
             ∙ ap (written_byte dev base off width value d b at) before
             ∙ rw not_rom (ap (λ byte. unwrap_or byte (stored_of history (CardCell d b at))) (sym (wrote d b at)))
@@ -182,21 +211,6 @@ pub record IsFilled (cards : List FittedCard) (count : ℕ) (contents : List (Li
   pub long : length contents ≡ count
   pub each : (i : ℕ) → i < count → at_slot contents i ≡ zeros_at cards i
 
-pub filled_more :
-    (cards : List FittedCard) (count : ℕ) (contents : List (List ℕ)) (new : List ℕ) → IsFilled cards count contents → new ≡ zeros_at cards count →
-    IsFilled cards (count + 1) (contents ++ new ∷ [])
-filled_more cards count contents new is zeros =
-    let long = is.long in
-    record {
-      long = omega (arith, length-append contents (new ∷ []));
-      each = λ i below. elim (cases_lt i count) [
-        | inl before ↦ get_or_append_left contents (new ∷ []) [] i (omega arith) ∙ is.each i before
-        | inr here ↦
-            let at : i ≡ count = omega arith in
-            subst (λ k. at_slot (contents ++ new ∷ []) k ≡ zeros_at cards k) (sym at) (get_or_push contents new [] count long ∙ zeros)
-      ];
-    }
-
 zero_byte : (n k : ℕ) → slice_index (replicate n 0) k ≡ 0
 zero_byte n k =
     elim (cases_lt k n) [
@@ -205,38 +219,50 @@ zero_byte n k =
     ]
 
 pub zeros_held :
-    (cards : List FittedCard) (contents : List (List ℕ)) → IsFilled cards 64 contents → (dev base off : ℕ) → base ≢ 6 → held_byte contents dev base off ≡ 0
+    (cards : List FittedCard) (contents : List (List ℕ)) → IsFilled cards 64 contents → (dev base off : ℕ) → base ≢ 6
+    → held_byte contents dev base off
+    ≡ 0
 zeros_held cards contents is dev base off kept =
     kept_byte contents dev base off kept ∙
     let slot = slot_number dev base in
     let long = is.long in
     elim (cases_lt slot 64) [
-      | inl within ↦ ap (λ bytes. slice_index bytes off) (is.each slot within) ∙ zero_byte (kept_size (find (λ card. card.dev == 2 + slot / 8) cards) (slot % 8)) off
+      | inl within ↦
+          ap (λ bytes. slice_index bytes off) (is.each slot within)
+          ∙ zero_byte (kept_size (find (λ card. card.dev == 2 + slot / 8) cards) (slot % 8)) off
       | inr past ↦ ap (λ bytes. slice_index bytes off) (get_or_past contents slot [] (omega arith))
     ]
 
 pub size_held :
-    (cards : List FittedCard) (contents : List (List ℕ)) → IsFilled cards 64 contents → (dev base : ℕ) → IsBaseNumber dev base →
+    (cards : List FittedCard) (contents : List (List ℕ)) → IsFilled cards 64 contents → (dev base : ℕ) → IsBaseNumber
+    dev base →
     length (held contents dev base) ≡ kept_size (find (λ card. card.dev == dev) cards) base
 size_held cards contents is dev base number =
     let first = number.first in let last = number.last in let below = number.below in
     let device : 2 + slot_number dev base / 8 ≡ dev = omega arith in
     let in_device : slot_number dev base % 8 ≡ base = omega arith in
     ap length (is.each (slot_number dev base) (omega arith))
-    ∙ length-replicate (kept_size (find (λ card. card.dev == 2 + slot_number dev base / 8) cards) (slot_number dev base % 8)) 0
+    ∙ length-replicate
+    (kept_size (find (λ card. card.dev == 2 + slot_number dev base / 8) cards) (slot_number dev base % 8)) 0
     ∙ ap (λ d. kept_size (find (λ card. card.dev == d) cards) (slot_number dev base % 8)) device
     ∙ ap (kept_size (find (λ card. card.dev == dev) cards)) in_device
 
 pub stored_at_first :
-    (setup : Setup) (cards : List FittedCard) (contents : List (List ℕ)) → IsFilled cards 64 contents → setup.cards ≡ cards →
+    (setup : Setup) (cards : List FittedCard) (contents : List (List ℕ)) → IsFilled cards 64 contents → setup.cards
+    ≡ cards →
     IsContentsOf setup [] contents
 unfolding stored_of
 stored_at_first setup cards contents is same =
     record {
-      sizes = λ dev base number. size_held cards contents is dev base number ∙ ap (λ fitted. kept_size (find (λ card. card.dev == dev) fitted) base) (sym same);
+      sizes =
+          λ dev base number.
+          size_held cards contents is dev base number
+          ∙ ap (λ fitted. kept_size (find (λ card. card.dev == dev) fitted) base) (sym same);
       bytes = λ dev base off _ _. elim (cases_eq base 6) [
         | inl rom ↦ rw rom refl
-        | inr kept ↦ let not_rom : (base == 6) ≡ false = ne_eqb base 6 kept in zeros_held cards contents is dev base off kept ∙ rw not_rom refl
+        | inr kept ↦
+            let not_rom : (base == 6) ≡ false = ne_eqb base 6 kept in zeros_held cards contents is dev base off kept
+            ∙ rw not_rom refl
       ];
     }
 
@@ -245,15 +271,18 @@ abbrev pub lists : List (Vec ℕ Global) → List (List ℕ)
 lists buffers = map (λ buffer. buffer.items) buffers
 
 pub lists-set :
-    (buffers : List (Vec ℕ Global)) (slot : ℕ) (buffer : Vec ℕ Global) (bytes : List ℕ) → length bytes ≡ vec_len buffer →
+    (buffers : List (Vec ℕ Global)) (slot : ℕ) (buffer : Vec ℕ Global) (bytes : List ℕ) → length bytes
+    ≡ vec_len buffer →
     lists (set buffers slot (with_items buffer bytes)) ≡ set (lists buffers) slot bytes
 lists-set buffers slot buffer bytes same =
     map-set (λ (buffer : Vec ℕ Global). buffer.items) buffers slot (with_items buffer bytes)
     ∙ ap (set (lists buffers) slot) (with_items_is buffer bytes same)
 
 pub lists-at :
-    (buffers : List (Vec ℕ Global)) (slot : ℕ) (buffer : Vec ℕ Global) → slot < length (lists buffers) → buffer ≡ get_or buffers slot buffer →
+    (buffers : List (Vec ℕ Global)) (slot : ℕ) (buffer : Vec ℕ Global) → slot < length (lists buffers) → buffer
+    ≡ get_or buffers slot buffer →
     at_slot (lists buffers) slot ≡ buffer.items
 lists-at buffers slot buffer within is =
-    get_or-map (λ (buffer : Vec ℕ Global). buffer.items) buffers slot buffer [] (omega (arith, length-map buffers (λ (buffer : Vec ℕ Global). buffer.items)))
+    get_or-map (λ (buffer : Vec ℕ Global). buffer.items) buffers slot buffer []
+    (omega (arith, length-map buffers (λ (buffer : Vec ℕ Global). buffer.items)))
     ∙ ap (λ (found : Vec ℕ Global). found.items) (sym is)

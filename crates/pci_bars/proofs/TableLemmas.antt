@@ -8,7 +8,7 @@ use Rattle.board_spec.specs.Setup.{Base, FittedCard, Setup, IsCard, card_at}
 use Rattle.board_spec.specs.Bits.{byte, is_within, long_bytes}
 use Rattle.board_spec.specs.RegisterTable.{Line, line, read_only, card_function, function_lines, listed, base_reset, base_writable, rom_writable, reset_byte, writable_bits}
 use Rattle.board_spec.specs.RegisterNames.{card_register}
-use Rattle.board_spec.proofs.TableLemmas.{listed-past, listed-before, listed-here, each_below}
+use Rattle.board_spec.proofs.TableLemmas.{listed-past, listed-before, listed-here, Each, each_below}
 use Rattle.pci_bars.specs.Bases.{of_base}
 use Rattle.pci_bars.specs.Cards.{CardBytes, is_kept_offset, header_of}
 
@@ -65,7 +65,8 @@ get_or-base_bytes number_of (base ∷ later) zero j below =
     ∙ ap (λ i. get_or (long_bytes (number_of base)) i 0) (omega arith)
     ∙ long_byte (number_of base) j below
 get_or-base_bytes number_of (base ∷ later) (suc k) j below =
-    get_or-append_right (long_bytes (number_of base)) (base_bytes number_of later) 4 (4 * suc k + j) 0 refl (omega arith)
+    get_or-append_right (long_bytes (number_of base)) (base_bytes number_of later) 4 (4 * suc k + j) 0 refl
+    (omega arith)
     ∙ ap (λ i. get_or (base_bytes number_of later) i 0) (omega arith)
     ∙ get_or-base_bytes number_of later k j below
 
@@ -81,10 +82,15 @@ base_line column number_of bases entry later k j first count same below rest =
     ∙ get_or-base_bytes number_of bases k j below in
     elim (cases_lt (0x10 + 4 * k + j) (entry.first + length entry.reset)) [
       | inl within ↦ listed-here column entry later (0x10 + 4 * k + j) (omega arith) within ∙ inside
-      | inr past ↦ listed-past column entry later (0x10 + 4 * k + j) past ∙ rest ∙ sym (past_bases number_of bases k j (omega arith))
+      | inr past ↦
+          listed-past column entry later (0x10 + 4 * k + j) past
+          ∙ rest
+          ∙ sym (past_bases number_of bases k j (omega arith))
     ]
   where
-    past_bases : (number_of : Base → ℕ) (bases : List Base) (k j : ℕ) → length bases ≤ k → byte (of_base number_of bases k) j ≡ 0
+    past_bases :
+        (number_of : Base → ℕ) (bases : List Base) (k j : ℕ) → length bases ≤ k →
+        byte (of_base number_of bases k) j ≡ 0
     past_bases number_of [] k j past = byte_of_zero j
     past_bases number_of (base ∷ later) zero j past = absurd (omega arith)
     past_bases number_of (base ∷ later) (suc k) j past = past_bases number_of later k j (omega arith)
@@ -112,14 +118,18 @@ past_header :
     listed column (card_function card) off ≡ listed column (base_entry card ∷ rom_entry card ∷ last_entry ∷ []) off
 unfolding card_function
 past_header column card off above =
-    listed-past column (ids_entry card) (command_entry ∷ class_entry card ∷ base_entry card ∷ rom_entry card ∷ last_entry ∷ []) off (omega arith)
-    ∙ listed-past column command_entry (class_entry card ∷ base_entry card ∷ rom_entry card ∷ last_entry ∷ []) off (omega arith)
+    listed-past column (ids_entry card)
+    (command_entry ∷ class_entry card ∷ base_entry card ∷ rom_entry card ∷ last_entry ∷ []) off (omega arith)
+    ∙ listed-past column command_entry (class_entry card ∷ base_entry card ∷ rom_entry card ∷ last_entry ∷ []) off
+    (omega arith)
     ∙ listed-past column (class_entry card) (base_entry card ∷ rom_entry card ∷ last_entry ∷ []) off (omega arith)
 
 before_last : (column : Line → List ℕ) (off : ℕ) → off < 0x3C → listed column (last_entry ∷ []) off ≡ 0
 before_last column off below = listed-before column last_entry [] off below
 
-before_rom : (column : Line → List ℕ) (card : FittedCard) (off : ℕ) → off < 0x30 → listed column (rom_entry card ∷ last_entry ∷ []) off ≡ 0
+before_rom :
+    (column : Line → List ℕ) (card : FittedCard) (off : ℕ) → off < 0x30 →
+    listed column (rom_entry card ∷ last_entry ∷ []) off ≡ 0
 before_rom column card off below =
     listed-before column (rom_entry card) (last_entry ∷ []) off below ∙ before_last column off (omega arith)
 
@@ -128,15 +138,18 @@ pub reset-base :
     listed (λ entry. entry.reset) (card_function card) (0x10 + 4 * k + j) ≡ byte (of_base base_reset card.bases k) j
 reset-base card k j k_below j_below =
     past_header (λ entry. entry.reset) card (0x10 + 4 * k + j) (omega arith)
-    ∙ base_line (λ entry. entry.reset) base_reset card.bases (base_entry card) (rom_entry card ∷ last_entry ∷ []) k j refl (length-base_bytes base_reset card.bases) refl j_below
+    ∙ base_line (λ entry. entry.reset) base_reset card.bases (base_entry card) (rom_entry card ∷ last_entry ∷ []) k j
+    refl (length-base_bytes base_reset card.bases) refl j_below
     (before_rom (λ entry. entry.reset) card (0x10 + 4 * k + j) (omega arith))
 
 pub writable-base :
     (card : FittedCard) (k j : ℕ) → k < 6 → j < 4 →
-    listed (λ entry. entry.writable) (card_function card) (0x10 + 4 * k + j) ≡ byte (of_base base_writable card.bases k) j
+    listed (λ entry. entry.writable) (card_function card) (0x10 + 4 * k + j)
+    ≡ byte (of_base base_writable card.bases k) j
 writable-base card k j k_below j_below =
     past_header (λ entry. entry.writable) card (0x10 + 4 * k + j) (omega arith)
-    ∙ base_line (λ entry. entry.writable) base_writable card.bases (base_entry card) (rom_entry card ∷ last_entry ∷ []) k j refl (length-base_bytes base_reset card.bases) refl j_below
+    ∙ base_line (λ entry. entry.writable) base_writable card.bases (base_entry card)
+    (rom_entry card ∷ last_entry ∷ []) k j refl (length-base_bytes base_reset card.bases) refl j_below
     (before_rom (λ entry. entry.writable) card (0x10 + 4 * k + j) (omega arith))
 
 -- past the bases
@@ -145,7 +158,8 @@ past_bases :
     listed column (card_function card) off ≡ listed column (rom_entry card ∷ last_entry ∷ []) off
 past_bases column card off count above =
     past_header column card off (omega arith)
-    ∙ listed-past column (base_entry card) (rom_entry card ∷ last_entry ∷ []) off (let size = length-base_bytes base_reset card.bases in omega arith)
+    ∙ listed-past column (base_entry card) (rom_entry card ∷ last_entry ∷ []) off
+    (let size = length-base_bytes base_reset card.bases in omega arith)
 
 -- ---- the header, and what is not kept
 
@@ -154,8 +168,13 @@ pub reset-header :
     listed (λ entry. entry.reset) (card_function card.card) off ≡ get_or (header_of card) off 0
 unfolding card_function
 reset-header card off below =
-    each_below (λ off. off ≢ 4 → listed (λ entry. entry.reset) (card_function card.card) off ≡ get_or (header_of card) off 0) 16 off
-    (λ _. refl, (λ _. refl, (λ _. refl, (λ _. refl, (λ apart. absurd (apart refl), (λ _. refl, (λ _. refl, (λ _. refl, (λ _. refl, (λ _. refl, (λ _. refl, (λ _. refl, (λ _. refl, (λ _. refl, (λ _. refl, (λ _. refl, tt)))))))))))))))) below
+    let Same : ℕ → Type 0 =
+    λ off. off ≢ 4 → listed (λ entry. entry.reset) (card_function card.card) off ≡ get_or (header_of card) off 0 in
+    let later : Each Same 8 8 =
+    (λ _. refl, (λ _. refl, (λ _. refl, (λ _. refl, (λ _. refl, (λ _. refl, (λ _. refl, (λ _. refl, tt)))))))) in
+    let middle : Each Same 4 12 =
+    (λ apart. absurd (apart refl), (λ _. refl, (λ _. refl, (λ _. refl, later)))) in
+    each_below Same 16 off (λ _. refl, (λ _. refl, (λ _. refl, (λ _. refl, middle)))) below
 
 -- what an offset has that is not kept: a byte, none of whose bits can be written
 pub record IsFixed (card : FittedCard) (off : ℕ) : Type 0 where
@@ -234,13 +253,16 @@ no_byte (suc (suc zero)) below = refl
 no_byte (suc (suc (suc zero))) below = refl
 no_byte (suc (suc (suc (suc j)))) below = absurd (omega arith)
 
-pub reset-rom : (card : FittedCard) (j : ℕ) → length card.bases ≤ 6 → j < 4 → listed (λ entry. entry.reset) (card_function card) (0x30 + j) ≡ 0
+pub reset-rom :
+    (card : FittedCard) (j : ℕ) → length card.bases ≤ 6 → j < 4 →
+    listed (λ entry. entry.reset) (card_function card) (0x30 + j) ≡ 0
 reset-rom card j count below = in_rom (λ entry. entry.reset) card j count below ∙ no_byte j below
 
 pub writable-rom :
     (card : FittedCard) (j : ℕ) → length card.bases ≤ 6 → j < 4 →
     listed (λ entry. entry.writable) (card_function card) (0x30 + j) ≡ byte (rom_writable card.rom) j
-writable-rom card j count below = in_rom (λ entry. entry.writable) card j count below ∙ long_byte (rom_writable card.rom) j below
+writable-rom card j count below =
+    in_rom (λ entry. entry.writable) card j count below ∙ long_byte (rom_writable card.rom) j below
 
 past_rom :
     (column : Line → List ℕ) (card : FittedCard) (off : ℕ) → length card.bases ≤ 6 → 0x34 ≤ off →
@@ -251,9 +273,11 @@ past_rom column card off count above =
 
 -- past the bases only the expansion ROM and the interrupt line and pin are listed
 pub past_pin :
-    (column : Line → List ℕ) (card : FittedCard) (off : ℕ) → length card.bases ≤ 6 → 0x28 ≤ off → (off < 0x30) ⊎ (0x34 ≤ off) → off ≢ 0x3C → off ≢ 0x3D →
+    (column : Line → List ℕ) (card : FittedCard) (off : ℕ) → length card.bases ≤ 6 → 0x28 ≤ off → (off < 0x30) ⊎
+    (0x34 ≤ off) → off ≢ 0x3C → off ≢ 0x3D →
     listed column (card_function card) off ≡ 0
-past_pin column card off count above (inl before) not_line not_pin = past_bases column card off count above ∙ before_rom column card off before
+past_pin column card off count above (inl before) not_line not_pin =
+    past_bases column card off count above ∙ before_rom column card off before
 past_pin column card off count above (inr past) not_line not_pin =
     past_rom column card off count past
     ∙ elim (cases_lt off 0x3C) [
@@ -261,16 +285,20 @@ past_pin column card off count above (inr past) not_line not_pin =
       | inr beyond ↦ listed-past column last_entry [] off (omega arith)
     ]
 
-pub reset-pin : (card : FittedCard) → length card.bases ≤ 6 → listed (λ entry. entry.reset) (card_function card) 0x3D ≡ 1
+pub reset-pin :
+    (card : FittedCard) → length card.bases ≤ 6 → listed (λ entry. entry.reset) (card_function card) 0x3D ≡ 1
 reset-pin card count = past_rom (λ entry. entry.reset) card 0x3D count (lit≤ tt)
 
-writable-pin : (card : FittedCard) → length card.bases ≤ 6 → listed (λ entry. entry.writable) (card_function card) 0x3D ≡ 0
+writable-pin :
+    (card : FittedCard) → length card.bases ≤ 6 → listed (λ entry. entry.writable) (card_function card) 0x3D ≡ 0
 writable-pin card count = past_rom (λ entry. entry.writable) card 0x3D count (lit≤ tt)
 
-pub reset-line : (card : FittedCard) → length card.bases ≤ 6 → listed (λ entry. entry.reset) (card_function card) 0x3C ≡ 0
+pub reset-line :
+    (card : FittedCard) → length card.bases ≤ 6 → listed (λ entry. entry.reset) (card_function card) 0x3C ≡ 0
 reset-line card count = past_rom (λ entry. entry.reset) card 0x3C count (lit≤ tt)
 
-pub writable-line : (card : FittedCard) → length card.bases ≤ 6 → listed (λ entry. entry.writable) (card_function card) 0x3C ≡ 0xFF
+pub writable-line :
+    (card : FittedCard) → length card.bases ≤ 6 → listed (λ entry. entry.writable) (card_function card) 0x3C ≡ 0xFF
 writable-line card count = past_rom (λ entry. entry.writable) card 0x3C count (lit≤ tt)
 
 pub reset-command : (card : FittedCard) → listed (λ entry. entry.reset) (card_function card) 0x04 ≡ 0
@@ -292,12 +320,16 @@ no_rom card j count none below = record {
   writable = writable-rom card j count below ∙ ap (λ rom. byte (rom_writable rom) j) none ∙ byte_of_zero j;
 }
 
-fixed-past : (card : FittedCard) (off : ℕ) → length card.bases ≤ 6 → 0x28 ≤ off → IsOffRom card off → off ≢ 0x3C → IsFixed card off
+fixed-past :
+    (card : FittedCard) (off : ℕ) → length card.bases ≤ 6 → 0x28 ≤ off → IsOffRom card off → off ≢ 0x3C →
+    IsFixed card off
 fixed-past card off count above (inr (none, from, to)) not_line =
     subst (IsFixed card) (omega arith) (no_rom card (off - 0x30) count none (omega arith))
 fixed-past card off count above (inl apart) not_line =
     elim (cases_eq off 0x3D) [
-      | inl pin ↦ subst (IsFixed card) (sym pin) (record { byte = rw (reset-pin card count) (lit< tt); writable = writable-pin card count })
+      | inl pin ↦
+          subst (IsFixed card) (sym pin)
+          (record { byte = rw (reset-pin card count) (lit< tt); writable = writable-pin card count })
       | inr not_pin ↦ record {
         byte = rw (past_pin (λ entry. entry.reset) card off count above apart not_line not_pin) (lit< tt);
         writable = past_pin (λ entry. entry.writable) card off count above apart not_line not_pin;
@@ -308,7 +340,8 @@ fixed-past card off count above (inl apart) not_line =
 
 -- an offset is none of those that a card keeps
 pub kept_nowhere :
-    (rom : Option ℕ) (off : ℕ) → (off == 0x04 || is_within 0x10 0x27 off || off == 0x3C) ≡ false → (off < 0x30) ⊎ (0x34 ≤ off) →
+    (rom : Option ℕ) (off : ℕ) → (off == 0x04 || is_within 0x10 0x27 off || off == 0x3C) ≡ false →
+    (off < 0x30) ⊎ (0x34 ≤ off) →
     (off == 0x04 || is_within 0x10 0x27 off || is_some rom && is_within 0x30 0x33 off || off == 0x3C) ≡ false
 kept_nowhere None off plain off_rom = grind (arith, nat_tests)
 kept_nowhere (Some bits) off plain (inl below) = grind (arith, nat_tests)
@@ -331,7 +364,8 @@ elsewhere card off not_kept =
   where
     no_rom_here :
         (rom : Option ℕ) (off : ℕ) → 0x30 ≤ off → off ≤ 0x33 →
-        (off == 0x04 || is_within 0x10 0x27 off || is_some rom && is_within 0x30 0x33 off || off == 0x3C) ≡ false → rom ≡ None
+        (off == 0x04 || is_within 0x10 0x27 off || is_some rom && is_within 0x30 0x33 off || off == 0x3C) ≡ false →
+        rom ≡ None
     no_rom_here None off from to not_kept = refl
     no_rom_here (Some bits) off from to not_kept = absurd (grind (arith, nat_tests))
 

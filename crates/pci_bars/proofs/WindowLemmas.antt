@@ -27,7 +27,9 @@ pub record IsSized (setup : Setup) (window : Window) : Type 0 where
   pub bits : window.bits ≡ window_bits setup window.dev window.base
   pub size : window.base ≢ 6 → kept_size (card_at setup window.dev) window.base ≡ 2 ^ window.bits
 
-All-find : (P : Window → Type 0) (test : Window → Bool) (windows : List Window) (window : Window) → All P windows → find test windows ≡ Some window → P window
+All-find :
+    (P : Window → Type 0) (test : Window → Bool) (windows : List Window) (window : Window) → All P windows →
+    find test windows ≡ Some window → P window
 All-find P test [] window each found = absurd (cc)
 All-find P test (first ∷ later) window each found =
     elim (cases_Bool (test first)) [
@@ -45,8 +47,10 @@ size_of_bits (IoBase bits) = refl
 
 -- a window of base number k of a card
 sized :
-    (setup : Setup) (card : FittedCard) (k value : ℕ) (base : Base) → IsCard card → card_at setup card.dev ≡ Some card → k < 6 →
-    slice_get card.bases k ≡ Some base → IsSized setup (record { dev = card.dev; base = k; inside = value; bits = bits_of_base (Some base) })
+    (setup : Setup) (card : FittedCard) (k value : ℕ) (base : Base) → IsCard card →
+    card_at setup card.dev ≡ Some card → k < 6 →
+    slice_get card.bases k ≡ Some base →
+    IsSized setup (record { dev = card.dev; base = k; inside = value; bits = bits_of_base (Some base) })
 sized setup card k value base fit fitted below at =
     let not_vga : (k == 7) ≡ false = ne_eqb k 7 (λ (e : k ≡ 7). omega arith) in
     let not_rom : (k == 6) ≡ false = ne_eqb k 6 (λ (e : k ≡ 6). omega arith) in
@@ -58,14 +62,17 @@ sized setup card k value base fit fitted below at =
     }
 
 sized_bases :
-    (windows : Windows) (setup : Setup) (bytes : Bytes) (card : FittedCard) → IsCard card → card_at setup card.dev ≡ Some card →
+    (windows : Windows) (setup : Setup) (bytes : Bytes) (card : FittedCard) → IsCard card → card_at setup card.dev
+    ≡ Some card →
     (k : ℕ) (bases : List Base) → k + length bases ≤ 6 → ((i : ℕ) → slice_get card.bases (k + i) ≡ slice_get bases i) →
     All (IsSized setup) (base_windows windows bytes card.dev k bases)
 sized_bases windows setup bytes card fit fitted k [] few same = All-nil (IsSized setup)
 sized_bases windows setup bytes card fit fitted k (base ∷ later) few same =
-    All-append (IsSized setup) (window_in windows bytes card.dev k base) (base_windows windows bytes card.dev (k + 1) later)
+    All-append (IsSized setup) (window_in windows bytes card.dev k base)
+    (base_windows windows bytes card.dev (k + 1) later)
     (one windows base (ap (slice_get card.bases) (plus_zero k) ∙ same 0))
-    (sized_bases windows setup bytes card fit fitted (k + 1) later (omega arith) (λ i. ap (slice_get card.bases) (omega arith) ∙ same (i + 1) ∙ next later base i))
+    (sized_bases windows setup bytes card fit fitted (k + 1) later (omega arith)
+    (λ i. ap (slice_get card.bases) (omega arith) ∙ same (i + 1) ∙ next later base i))
   where
     plus_zero : (k : ℕ) → k ≡ k + 0
     plus_zero k = omega arith
@@ -73,14 +80,24 @@ sized_bases windows setup bytes card fit fitted k (base ∷ later) few same =
     next : (later : List Base) (base : Base) (i : ℕ) → slice_get (base ∷ later) (i + 1) ≡ slice_get later i
     next later base i = grind arith
 
-    one : (windows : Windows) (base : Base) → slice_get card.bases k ≡ Some base → All (IsSized setup) (window_in windows bytes card.dev k base)
-    one Memory (MemoryBase bits) at = All-cons (IsSized setup) _ [] (sized setup card k (base_value bytes card.dev k) (MemoryBase bits) fit fitted (omega arith) at) (All-nil (IsSized setup))
+    one :
+        (windows : Windows) (base : Base) → slice_get card.bases k ≡ Some base →
+        All (IsSized setup) (window_in windows bytes card.dev k base)
+    one Memory (MemoryBase bits) at =
+        All-cons (IsSized setup) _ []
+        (sized setup card k (base_value bytes card.dev k) (MemoryBase bits) fit fitted (omega arith) at)
+        (All-nil (IsSized setup))
     one Memory (IoBase bits) at = All-nil (IsSized setup)
     one UnselectedRom base at = All-nil (IsSized setup)
     one Ports (MemoryBase bits) at = All-nil (IsSized setup)
-    one Ports (IoBase bits) at = All-cons (IsSized setup) _ [] (sized setup card k (base_value bytes card.dev k) (IoBase bits) fit fitted (omega arith) at) (All-nil (IsSized setup))
+    one Ports (IoBase bits) at =
+        All-cons (IsSized setup) _ []
+        (sized setup card k (base_value bytes card.dev k) (IoBase bits) fit fitted (omega arith) at)
+        (All-nil (IsSized setup))
 
-sized_vga : (windows : Windows) (setup : Setup) (card : FittedCard) → IsCard card → card_at setup card.dev ≡ Some card → All (IsSized setup) (vga_windows windows card)
+sized_vga :
+    (windows : Windows) (setup : Setup) (card : FittedCard) → IsCard card → card_at setup card.dev ≡ Some card →
+    All (IsSized setup) (vga_windows windows card)
 sized_vga Memory setup card fit fitted =
     elim (cases_Bool card.vga) [
       | inl vga ↦
@@ -108,7 +125,8 @@ sized_rom_of setup bytes card fit fitted (Some bits) some size =
     }) (All-nil (IsSized setup))
 
 sized_rom :
-    (windows : Windows) (setup : Setup) (bytes : Bytes) (card : FittedCard) → IsCard card → card_at setup card.dev ≡ Some card →
+    (windows : Windows) (setup : Setup) (bytes : Bytes) (card : FittedCard) → IsCard card → card_at setup card.dev
+    ≡ Some card →
     All (IsSized setup) (rom_windows windows bytes card)
 sized_rom Memory setup bytes card fit fitted =
     elim (cases_Bool (is_rom_on bytes card.dev)) [
@@ -123,73 +141,96 @@ sized_rom UnselectedRom setup bytes card fit fitted =
 sized_rom Ports setup bytes card fit fitted = All-nil (IsSized setup)
 
 sized_card :
-    (windows : Windows) (setup : Setup) (bytes : Bytes) (card : FittedCard) → IsCard card → card_at setup card.dev ≡ Some card →
+    (windows : Windows) (setup : Setup) (bytes : Bytes) (card : FittedCard) → IsCard card → card_at setup card.dev
+    ≡ Some card →
     All (IsSized setup) (windows_in windows bytes card)
 sized_card windows setup bytes card fit fitted =
-    All-append (IsSized setup) (base_windows windows bytes card.dev 0 card.bases ++ rom_windows windows bytes card) (vga_windows windows card)
+    All-append (IsSized setup) (base_windows windows bytes card.dev 0 card.bases ++ rom_windows windows bytes card)
+    (vga_windows windows card)
     (All-append (IsSized setup) (base_windows windows bytes card.dev 0 card.bases) (rom_windows windows bytes card)
-    (sized_bases windows setup bytes card fit fitted 0 card.bases (let few = fit.count in omega arith) (λ i. ap (slice_get card.bases) (omega arith)))
+    (sized_bases windows setup bytes card fit fitted 0 card.bases (let few = fit.count in omega arith)
+    (λ i. ap (slice_get card.bases) (omega arith)))
     (sized_rom windows setup bytes card fit fitted))
     (sized_vga windows setup card fit fitted)
 
 sized_cards :
-    (windows : Windows) (setup : Setup) (bytes : Bytes) (cards : List CardBytes) → AreCards cards → All (DecodesAs setup bytes) cards →
+    (windows : Windows) (setup : Setup) (bytes : Bytes) (cards : List CardBytes) → AreCards cards → All
+    (DecodesAs setup bytes) cards →
     All (IsSized setup) (flat_map (windows_in windows bytes) (cards_of cards))
 sized_cards windows setup bytes [] fit are = All-nil (IsSized setup)
 sized_cards windows setup bytes (card ∷ later) fit are =
     let is : DecodesAs setup bytes card = All-head (DecodesAs setup bytes) card later are in
-    All-append (IsSized setup) (windows_in windows bytes card.card) (flat_map (windows_in windows bytes) (cards_of later))
+    All-append (IsSized setup) (windows_in windows bytes card.card)
+    (flat_map (windows_in windows bytes) (cards_of later))
     (sized_card windows setup bytes card.card (All-head (λ card. IsCard card.card) card later fit) is.fitted)
-    (sized_cards windows setup bytes later (All-tail (λ card. IsCard card.card) card later fit) (All-tail (DecodesAs setup bytes) card later are))
+    (sized_cards windows setup bytes later (All-tail (λ card. IsCard card.card) card later fit)
+    (All-tail (DecodesAs setup bytes) card later are))
 
 -- the window that claims an address is that of a base
 pub memory_claim_sized :
-    (setup : Setup) (bytes : Bytes) (cards : List CardBytes) (addr : ℕ) (window : Window) → AreCards cards → AreDecoded setup bytes cards →
+    (setup : Setup) (bytes : Bytes) (cards : List CardBytes) (addr : ℕ) (window : Window) → AreCards cards →
+    AreDecoded setup bytes cards →
     memory_claim setup bytes addr ≡ Some window → IsSized setup window
 unfolding memory_claim
 memory_claim_sized setup bytes cards addr window fit are found =
-    All-find (IsSized setup) (λ window. is_enabled_for 1 bytes window.dev && is_covered addr window) (flat_map (windows_in Memory bytes) (cards_of cards)) window
+    All-find (IsSized setup) (λ window. is_enabled_for 1 bytes window.dev && is_covered addr window)
+    (flat_map (windows_in Memory bytes) (cards_of cards)) window
     (sized_cards Memory setup bytes cards fit are.1) (rw are.0 at found)
 
 -- and so is the window that claims a port
 pub io_claim_sized :
-    (setup : Setup) (bytes : Bytes) (cards : List CardBytes) (port : ℕ) (window : Window) → AreCards cards → AreDecoded setup bytes cards →
+    (setup : Setup) (bytes : Bytes) (cards : List CardBytes) (port : ℕ) (window : Window) → AreCards cards →
+    AreDecoded setup bytes cards →
     io_claim setup bytes port ≡ Some window → IsSized setup window
 unfolding io_claim
 io_claim_sized setup bytes cards port window fit are found =
-    All-find (IsSized setup) (λ window. is_enabled_for 0 bytes window.dev && is_covered port window) (flat_map (windows_in Ports bytes) (cards_of cards)) window
+    All-find (IsSized setup) (λ window. is_enabled_for 0 bytes window.dev && is_covered port window)
+    (flat_map (windows_in Ports bytes) (cards_of cards)) window
     (sized_cards Ports setup bytes cards fit are.1)
-    (same_windows (is_enabled_for 0 bytes) port (windows_in Ports bytes) (io_windows bytes) (io_windows_are bytes) (cards_of cards) ∙ rw are.0 at found)
+    (same_windows (is_enabled_for 0 bytes) port (windows_in Ports bytes) (io_windows bytes) (io_windows_are bytes)
+    (cards_of cards)
+    ∙ rw are.0 at found)
 
 -- ---- an aligned access in a window
 
 -- the low two bits of a place are those of its offset
 low_two : (place bits : ℕ) → 2 ≤ bits → place % 2 ^ bits % 4 ≡ place % 4
 low_two place bits above =
-    let split : place % 2 ^ (bits - 2 + 2) ≡ (place / 2 ^ 2 % 2 ^ (bits - 2)) * 2 ^ 2 + place % 2 ^ 2 = mod-pow-add place (bits - 2) 2 in
+    let split : place % 2 ^ (bits - 2 + 2) ≡ (place / 2 ^ 2 % 2 ^ (bits - 2)) * 2 ^ 2 + place % 2 ^ 2 =
+    mod-pow-add place (bits - 2) 2 in
     ap (λ n. place % 2 ^ n % 4) (omega arith) ∙ ap (λ n. n % 4) split ∙ omega arith
 
 quarter : (bits : ℕ) → 2 ≤ bits → 2 ^ bits ≡ 2 ^ (bits - 2) * 4
 quarter bits above = ap (λ n. 2 ^ n) (omega arith) ∙ pow-add 2 (bits - 2) 2
 
-fits_below : (place off size : ℕ) (width : Width) → off < size * 4 → off % 4 ≡ place % 4 → place % bytes_of width ≡ 0 → off + bytes_of width ≤ size * 4
+fits_below :
+    (place off size : ℕ) (width : Width) → off < size * 4 → off % 4 ≡ place % 4 → place % bytes_of width ≡ 0 →
+    off + bytes_of width ≤ size * 4
 fits_below place off size One below same aligned = omega arith
 fits_below place off size Two below same aligned = omega arith
 fits_below place off size Four below same aligned = omega arith
 
-fits_window : (place bits : ℕ) (width : Width) → 2 ≤ bits → place % bytes_of width ≡ 0 → place % 2 ^ bits + bytes_of width ≤ 2 ^ bits
+fits_window :
+    (place bits : ℕ) (width : Width) → 2 ≤ bits → place % bytes_of width ≡ 0 →
+    place % 2 ^ bits + bytes_of width ≤ 2 ^ bits
 fits_window place bits width above aligned =
     let whole : 2 ^ bits ≡ 2 ^ (bits - 2) * 4 = quarter bits above in
     let below : place % 2 ^ bits < 2 ^ bits = mod-lt place (pow_pos bits) in
     subst (λ size. place % 2 ^ bits + bytes_of width ≤ size) (sym whole)
-    (fits_below place (place % 2 ^ bits) (2 ^ (bits - 2)) width (subst (λ size. place % 2 ^ bits < size) whole below) (low_two place bits above) aligned)
+    (fits_below place (place % 2 ^ bits) (2 ^ (bits - 2)) width (subst (λ size. place % 2 ^ bits < size) whole below)
+    (low_two place bits above) aligned)
 
 -- an access that a window claims lies in the contents of its base
 pub lies_in_window :
-    (setup : Setup) (history : List Entry) (contents : List (List ℕ)) (window : Window) (place : ℕ) (width : Width) → IsSized setup window →
-    IsContentsOf setup history contents → place % bytes_of width ≡ 0 → LiesIn contents window.dev window.base (place % 2 ^ window.bits) width
+    (setup : Setup) (history : List Entry) (contents : List (List ℕ)) (window : Window) (place : ℕ) (width : Width) →
+    IsSized setup window →
+    IsContentsOf setup history contents → place % bytes_of width ≡ 0 →
+    LiesIn contents window.dev window.base (place % 2 ^ window.bits) width
 lies_in_window setup history contents window place width sized is aligned =
     record {
       number = sized.number;
-      fits = λ not_rom. rw (is.sizes window.dev window.base sized.number ∙ sized.size not_rom) (fits_window place window.bits width sized.least aligned);
+      fits =
+          λ not_rom.
+          rw (is.sizes window.dev window.base sized.number ∙ sized.size not_rom)
+          (fits_window place window.bits width sized.least aligned);
     }

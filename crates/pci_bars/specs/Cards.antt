@@ -1,5 +1,5 @@
 -- The registers of a card, and what it means that they are those of a board's configuration space.
-use Rattle.std.specs.Prelude.{◌≡◌, ℕ, ◌<◌, ◌==◌, Bool, false, ◌&&◌, ◌||◌, List, map, All, slice_index, Option, Some, None, is_some, [], ◌∷◌, if◌then◌else◌}
+use Rattle.std.specs.Prelude.{◌≡◌, ℕ, ◌+◌, ◌<◌, ◌==◌, Bool, false, ◌&&◌, ◌||◌, List, map, All, slice_index, Option, Some, None, is_some, [], ◌∷◌, if◌then◌else◌}
 use Rattle.board_base.specs.declared.access.Width.TheVariants.{Four}
 use Rattle.board_base.specs.declared.target.Reg.{Reg}
 use Rattle.board_spec.specs.Setup.{FittedCard, Setup, IsCard, Rises, card_at}
@@ -39,10 +39,13 @@ pub record DecodesAs (setup : Setup) (bytes : Bytes) (card : CardBytes) : Type 0
 -- the offsets at which a card keeps what is written: command, bases, expansion ROM and interrupt line
 abbrev pub is_kept_offset : FittedCard → ℕ → Bool
 is_kept_offset card off =
-    off == 0x04 || is_within 0x10 0x27 off || is_some card.rom && is_within 0x30 0x33 off || off == 0x3C
+    off == (card_command card.dev).off
+    || is_within (base_register card.dev 0).off ((base_register card.dev 5).off + 3) off
+    || is_some card.rom && is_within (expansion_rom card.dev).off ((expansion_rom card.dev).off + 3) off
+    || off == (interrupt_line card.dev).off
 
--- these are all the registers of a card of the setup. Those that it does not keep stand as after a reset, and that of an
--- expansion ROM which it does not have is 0
+-- these are all the registers of a card of the setup. Those that it does not keep stand as after a reset, and that of
+-- an expansion ROM which it does not have is 0
 pub record IsCardOf (setup : Setup) (bytes : Bytes) (card : CardBytes) : Type 0 where
   pub decodes : DecodesAs setup bytes card
   pub line : bytes (interrupt_line card.card.dev) ≡ card.line

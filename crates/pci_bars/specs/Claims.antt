@@ -71,5 +71,6 @@ abbrev pub first_claim : Windows → Gate → (place : ℕ) → List CardBytes �
 first_claim windows gate place [] = None
 first_claim windows gate place (card ∷ later) =
     option_or
-    (if is_gate gate (is_enabled windows card) then option_map (λ base. (card.card.dev, base)) (covering_base windows place card) else None)
+    (if is_gate gate (is_enabled windows card)
+    then option_map (λ base. (card.card.dev, base)) (covering_base windows place card) else None)
     (first_claim windows gate place later)

@@ -8,15 +8,10 @@ ghost use Rattle.pci_bars.specs.Cards.{AreCards, AreDecoded, cards_of};
 ghost use Rattle.pci_bars.specs.Claims.{covers, covering, covering_base, first_claim, gate_of, is_enabled, rom_claim, rom_covers, vga_claim};
 
 use crate::cards::card_at;
-use crate::regs::CardRegs;
+use crate::regs::{CardRegs, IO_SPACE_ENABLE, MEMORY_SPACE_ENABLE};
 use crate::spec::{BASE_COUNT, BaseSpec, ROM_BASE, ROM_ENABLE, VGA_BASE, VGA_BITS};
 use board_spec::bits::is_set;
 use board_spec::range::SMRAM_RANGE;
-
-/// The bit of the command register that lets a card decode memory.
-const MEMORY_ENABLE: u32 = 1;
-/// The bit of the command register that lets a card decode I/O ports.
-const IO_ENABLE: u32 = 0;
 
 /// Which windows of a card are asked: those in memory, an expansion ROM that is not selected, or those among the
 /// I/O ports.
@@ -84,8 +79,8 @@ pub fn unselected_rom(cards: &[CardRegs], addr: u32) -> Option<u8>
     first_device(cards, Windows::UnselectedRom, Gate::Open, addr)
 }
 
-/// Where a place lies in a base of a card: the remainder by the size of the base, which is 128 KiB for
-/// base 7. A base that no card has counts as a single place.
+/// Where an address or a port lies in a base of a card: the remainder by the size of the base, which is 128 KiB for
+/// base 7. 0 for another base that no card has.
 pub fn offset_in(cards: &[CardRegs], dev: u8, base: u8, place: u32) -> u32
     requires cards { AreCards cards.now }
     ensures offset { (setup : Setup) → setup.cards ≡ cards_of cards.now
@@ -156,8 +151,8 @@ fn gate_of(card: &CardRegs, windows: Windows) -> Gate
     ensures gate { result ≡ gate_of (is_enabled windows card.now) }
 {
     let enable = match windows {
-        Windows::Memory | Windows::UnselectedRom => MEMORY_ENABLE,
-        Windows::Ports => IO_ENABLE,
+        Windows::Memory | Windows::UnselectedRom => MEMORY_SPACE_ENABLE,
+        Windows::Ports => IO_SPACE_ENABLE,
     };
     if is_set(u32::from(card.command), enable) {
         Gate::Open

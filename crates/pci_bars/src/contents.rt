@@ -9,16 +9,17 @@ ghost use Rattle.board_spec.specs.Bits.{wide};
 ghost use Rattle.board_spec.specs.Stored.{CardCell, byte_put, card_byte, entry_put, expansion_byte};
 ghost use Rattle.pci_bars.specs.Contents.{IsBaseNumber, slot_number, held, held_byte, kept_size, LiesIn, IsContentsOf};
 
+use crate::cards::CARD_COUNT;
 use crate::spec::{CardSpec, ROM_BASE};
 use board_base::{NoMemory, Width};
 use board_spec::wide::{read_at, write_at};
 use std::alloc::Global;
 use std::marker::Model;
 
-/// The first device number that a card can have, and how many there are.
+/// The first device number that a card can have.
 const FIRST_DEVICE: u8 = 2;
-
-const DEVICES: u8 = 8;
+/// How many device numbers a card can have, 2 to 9.
+const DEVICES: u8 = CARD_COUNT as u8;
 /// How many base numbers a card has: 0 to 5 for its bases, 6 for its expansion ROM, and 7 for the VGA window.
 const BASE_NUMBERS: u8 = 8;
 
@@ -47,7 +48,7 @@ impl Model for Contents {
 }
 
 impl Contents {
-    /// The contents of these cards, all zeros.
+    /// The contents of these cards, all zeros. It takes all their memory, and no later call takes any.
     pub fn open(alloc: Global, specs: &[CardSpec]) -> Result<Contents, NoMemory>
         requires cards { All IsCard specs.now }
         ensures sizes { IfOk result (λ contents. (dev base : ℕ) → IsBaseNumber dev base
@@ -123,7 +124,7 @@ fn slot_of(dev: u8, base: u8) -> usize
     usize::from((dev - FIRST_DEVICE) * BASE_NUMBERS + base)
 }
 
-/// How many bytes a base of a device has. None where it does not exist.
+/// How many bytes are kept of a base of a device. 0 where it does not exist, and of an expansion ROM.
 fn size_of(specs: &[CardSpec], dev: u8, base: u8) -> usize
     requires cards { All IsCard specs.now }
     ensures size { result ≡ kept_size (find (λ card. card.dev == dev) specs.now) base }

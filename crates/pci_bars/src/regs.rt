@@ -17,8 +17,16 @@ use board_spec::offset::{
 };
 use std::marker::Model;
 
-/// The bits of the command register that can be written: I/O ports, memory and bus master.
-const COMMAND_WRITABLE: u8 = 0x07;
+/// The bit of the command register that lets a card decode I/O ports.
+pub(crate) const IO_SPACE_ENABLE: u32 = 0;
+/// The bit of the command register that lets a card decode memory.
+pub(crate) const MEMORY_SPACE_ENABLE: u32 = 1;
+/// The bit of the command register that lets a card be a bus master.
+const BUS_MASTER_ENABLE: u32 = 2;
+/// The bits of the command register that can be written. The others read 0.
+const COMMAND_WRITABLE: u8 = 1 << IO_SPACE_ENABLE
+    | 1 << MEMORY_SPACE_ENABLE
+    | 1 << BUS_MASTER_ENABLE;
 /// The value of the interrupt pin register for INTA#.
 const INTA: u8 = 0x01;
 
@@ -38,7 +46,13 @@ impl Model for CardRegs {
 
     ghost Value = { CardBytes };
 
-    ghost view = { λ regs. record { card = regs.spec; command = regs.command; line = regs.line; bases = regs.bases; rom = regs.rom } };
+    ghost view = { λ regs. record {
+      card = regs.spec;
+      command = regs.command;
+      line = regs.line;
+      bases = regs.bases;
+      rom = regs.rom;
+    } };
 }
 
 impl Default for CardRegs {
@@ -57,7 +71,8 @@ impl CardRegs {
     /// The registers of a card after a reset.
     pub fn new(spec: CardSpec) -> CardRegs
         requires card { IsCard spec }
-        ensures reset { (setup : Setup) → card_at setup spec.dev ≡ Some spec → IsCardOf setup (reset_byte setup) result }
+        ensures reset { (setup : Setup) → card_at setup spec.dev ≡ Some spec
+            → IsCardOf setup (reset_byte setup) result }
         ensures card { result.card ≡ spec }
     {
         let bases = spec.reset_bases();
@@ -103,9 +118,13 @@ impl CardRegs {
     pub fn write(&mut self, off: u8, byte: u8)
         requires card { IsCard self.old.card }
         ensures written { (setup : Setup) (bytes : Bytes) → IsCardOf setup bytes self.old
-            → IsCardOf setup (λ reg. changed_byte setup (Store (card_register self.old.card.dev off) One byte) reg (bytes reg)) self.new }
+            → IsCardOf setup
+            (λ reg. changed_byte setup (Store (card_register self.old.card.dev off) One byte) reg (bytes reg))
+            self.new }
         ensures decodes { (setup : Setup) (bytes : Bytes) → DecodesAs setup bytes self.old
-            → DecodesAs setup (λ reg. changed_byte setup (Store (card_register self.old.card.dev off) One byte) reg (bytes reg)) self.new }
+            → DecodesAs setup
+            (λ reg. changed_byte setup (Store (card_register self.old.card.dev off) One byte) reg (bytes reg))
+            self.new }
         ensures same_card { self.new.card ≡ self.old.card }
     {
         match off {
@@ -129,7 +148,7 @@ impl CardRegs {
         }
     }
 
-    /// Sets every register as after a reset.
+    /// Gives each register its value after a reset.
     pub fn reset(&mut self)
         requires card { IsCard self.old.card }
         ensures reset { (setup : Setup) → card_at setup self.old.card.dev ≡ Some self.old.card

@@ -13,16 +13,16 @@ use std::marker::Model;
 pub const BASE_COUNT: usize = 6;
 /// The base number of the expansion ROM.
 pub const ROM_BASE: u8 = 6;
-/// The base number of the VGA window, which has 2^17 bytes from A0000h on.
+/// The base number of the VGA window, A0000h to BFFFFh.
 pub const VGA_BASE: u8 = 7;
-
+/// log2 of the size of the VGA window.
 pub const VGA_BITS: u8 = 17;
 
-/// The number of the bit of the expansion ROM's register that selects the ROM.
+/// The bit of the expansion ROM's register that selects the ROM (PCI Local Bus 2.1, section 6.2.5.2).
 pub const ROM_ENABLE: u32 = 0;
 
-/// A base address register for memory or for I/O ports, by the power of two of its size: 4 to 24 for
-/// memory, and 2 to 8 for ports.
+/// A base address register for memory or for I/O ports, by log2 of its size in bytes or ports: 4 to 24 for memory, and
+/// 2 to 8 for ports.
 #[derive(Clone, Copy, PartialEq, Eq, Debug)]
 pub enum BaseSpec {
     Memory(u8),
@@ -93,7 +93,12 @@ impl Model for CardSpec {
 
     ghost Value = { FittedCard };
 
-    ghost view = { λ card. record { dev = card.dev; vga = card.vga; bases = map base_of card.bases.items; rom = card.rom } };
+    ghost view = { λ card. record {
+      dev = card.dev;
+      vga = card.vga;
+      bases = map base_of card.bases.items;
+      rom = card.rom;
+    } };
 }
 
 impl Default for CardSpec {

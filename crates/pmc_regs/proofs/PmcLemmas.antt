@@ -12,7 +12,7 @@ use Rattle.board_spec.specs.Decode.{Bytes}
 use Rattle.board_spec.specs.RegisterNames.{bridge, fdhc, smram, is_same}
 use Rattle.board_spec.proofs.MergedLemmas.{merged-all, merged-none}
 use Rattle.board_spec.proofs.StoreLemmas.{changed_byte-one_same, changed_byte-one_other}
-use Rattle.pmc_regs.specs.Pmc.{PmcBytes, IsFixedOffset, IsPmcOf}
+use Rattle.pmc_regs.specs.Pmc.{PmcBytes, IsFixedOffset, IsRowsOf, IsPmcOf}
 use Rattle.pmc_regs.proofs.TableLemmas.{header_byte, rows_at_reset, hole_at_reset, writable_bits-row, reset_byte-header, reset_byte-blank, writable_bits-fixed}
 
 -- ---- after a reset
@@ -21,9 +21,14 @@ reset_byte-same : (setup other : Setup) (off : ℕ) → reset_byte setup (bridge
 unfolding reset_byte
 reset_byte-same setup other off = refl
 
-pub pmc_at_reset : (setup : Setup) → IsPmcOf (reset_byte setup) (record { drb = 1 ∷ 1 ∷ 1 ∷ 1 ∷ 1 ∷ 1 ∷ 1 ∷ 1 ∷ []; fdhc = 0 })
+pub pmc_at_reset :
+    (setup : Setup) → IsPmcOf (reset_byte setup) (record { drb = 1 ∷ 1 ∷ 1 ∷ 1 ∷ 1 ∷ 1 ∷ 1 ∷ 1 ∷ []; fdhc = 0 })
 pmc_at_reset setup =
-    record { rows = rows_at_reset setup; hole = hole_at_reset setup; fixed = λ other off fixed. reset_byte-same setup other off }
+    record {
+      rows = rows_at_reset setup;
+      hole = hole_at_reset setup;
+      fixed = λ other off fixed. reset_byte-same setup other off;
+    }
 
 -- ---- a store to one register
 
@@ -31,13 +36,19 @@ pmc_at_reset setup =
 abbrev pub after_store : Setup → Bytes → (off written : ℕ) → Bytes
 after_store setup bytes off written reg = changed_byte setup (Store (bridge off) One written) reg (bytes reg)
 
-pub elsewhere : (setup : Setup) (bytes : Bytes) (off written at : ℕ) → at ≢ off → after_store setup bytes off written (bridge at) ≡ bytes (bridge at)
-elsewhere setup bytes off written at apart = changed_byte-one_other setup (bridge at) off (bytes (bridge at)) written apart
+pub elsewhere :
+    (setup : Setup) (bytes : Bytes) (off written at : ℕ) → at ≢ off →
+    after_store setup bytes off written (bridge at) ≡ bytes (bridge at)
+elsewhere setup bytes off written at apart =
+    changed_byte-one_other setup (bridge at) off (bytes (bridge at)) written apart
 
 plain_register : (off : ℕ) → off ≢ 0x72 → is_same (bridge off) smram ≡ false
 plain_register off apart = ne_eqb off 0x72 apart
 
-pub there : (setup : Setup) (bytes : Bytes) (off written mask : ℕ) → written < 256 → off ≢ 0x72 → writable_bits setup (bridge off) ≡ mask → after_store setup bytes off written (bridge off) ≡ merged mask (bytes (bridge off)) written
+pub there :
+    (setup : Setup) (bytes : Bytes) (off written mask : ℕ) → written < 256 → off ≢ 0x72 →
+    writable_bits setup (bridge off) ≡ mask →
+    after_store setup bytes off written (bridge off) ≡ merged mask (bytes (bridge off)) written
 there setup bytes off written mask below apart is_mask =
     changed_byte-one_same setup (bridge off) (bytes (bridge off)) written below (plain_register off apart)
     ∙ ap (λ m. merged m (bytes (bridge off)) written) is_mask
@@ -54,52 +65,87 @@ reset_byte-small setup off fixed =
 abbrev IsFixedIn : Bytes → Type 0
 IsFixedIn bytes = (setup : Setup) (off : ℕ) → IsFixedOffset off → bytes (bridge off) ≡ reset_byte setup (bridge off)
 
-fixed_there : (setup : Setup) (bytes : Bytes) (off written : ℕ) → written < 256 → IsFixedIn bytes → (other : Setup) → IsFixedOffset off → after_store setup bytes off written (bridge off) ≡ reset_byte other (bridge off)
+fixed_there :
+    (setup : Setup) (bytes : Bytes) (off written : ℕ) → written < 256 → IsFixedIn bytes → (other : Setup) →
+    IsFixedOffset off → after_store setup bytes off written (bridge off) ≡ reset_byte other (bridge off)
 fixed_there setup bytes off written below fixed other is_fixed =
     let apart : off ≢ 0x72 = omega arith in
     there setup bytes off written 0 below apart (writable_bits-fixed setup off is_fixed)
     ∙ ap (λ old. merged 0 old written) (fixed other off is_fixed)
     ∙ merged-none (reset_byte other (bridge off)) written (reset_byte-small other off is_fixed)
 
-pub fixed_stay : (setup : Setup) (bytes : Bytes) (off written : ℕ) → written < 256 → IsFixedIn bytes → IsFixedIn (after_store setup bytes off written)
+pub fixed_stay :
+    (setup : Setup) (bytes : Bytes) (off written : ℕ) → written < 256 → IsFixedIn bytes →
+    IsFixedIn (after_store setup bytes off written)
 fixed_stay setup bytes off written below fixed other at is_fixed =
     elim (cases_eq at off) [
-      | inl same ↦ subst (λ o. after_store setup bytes o written (bridge at) ≡ reset_byte other (bridge at)) same (fixed_there setup bytes at written below fixed other is_fixed)
+      | inl same ↦
+          subst (λ o. after_store setup bytes o written (bridge at) ≡ reset_byte other (bridge at)) same
+          (fixed_there setup bytes at written below fixed other is_fixed)
       | inr apart ↦ elsewhere setup bytes off written at apart ∙ fixed other at is_fixed
     ]
 
 -- ---- the three kinds of registers
 
-pub stored_row : (setup : Setup) (bytes : Bytes) (drb : List ℕ) (hole row written : ℕ) → length drb ≡ 8 → row < 8 → written < 256 → IsPmcOf bytes (record { drb = drb; fdhc = hole }) → IsPmcOf (after_store setup bytes (0x60 + row) written) (record { drb = set drb row written; fdhc = hole })
+-- the boundaries after a byte is stored in one of their registers
+pub rows_after_store :
+    (setup : Setup) (bytes : Bytes) (drb : List ℕ) (row written : ℕ) → length drb ≡ 8 → row < 8 → written < 256 →
+    IsRowsOf bytes drb → IsRowsOf (after_store setup bytes (0x60 + row) written) (set drb row written)
+rows_after_store setup bytes drb row written eight within below is_rows at at_within =
+    elim (cases_eq at row) [
+      | inl same ↦
+          subst
+          (λ k. slice_index (set drb row written) k ≡ after_store setup bytes (0x60 + row) written (bridge (0x60 + k)))
+          (sym same)
+          (get_or-set_same drb row written 0 (omega arith)
+          ∙ sym (there setup bytes (0x60 + row) written 0xFF below (omega arith) (writable_bits-row setup row within)
+          ∙ merged-all (bytes (bridge (0x60 + row))) written below))
+      | inr apart ↦
+          get_or-set_other drb row at written 0 apart
+          ∙ is_rows at at_within
+          ∙ sym (elsewhere setup bytes (0x60 + row) written (0x60 + at) (λ e. apart (omega arith)))
+    ]
+
+pub stored_row :
+    (setup : Setup) (bytes : Bytes) (drb : List ℕ) (hole row written : ℕ) → length drb ≡ 8 → row < 8 → written < 256 →
+    IsPmcOf bytes (record { drb = drb; fdhc = hole }) →
+    IsPmcOf (after_store setup bytes (0x60 + row) written) (record { drb = set drb row written; fdhc = hole })
 stored_row setup bytes drb hole row written eight within below is_pmc =
     record {
-      rows = λ at at_within. elim (cases_eq at row) [
-        | inl same ↦ subst (λ k. slice_index (set drb row written) k ≡ after_store setup bytes (0x60 + row) written (bridge (0x60 + k))) (sym same)
-            (get_or-set_same drb row written 0 (omega arith)
-            ∙ sym (there setup bytes (0x60 + row) written 0xFF below (omega arith) (writable_bits-row setup row within) ∙ merged-all (bytes (bridge (0x60 + row))) written below))
-        | inr apart ↦
-            get_or-set_other drb row at written 0 apart
-            ∙ is_pmc.rows at at_within
-            ∙ sym (elsewhere setup bytes (0x60 + row) written (0x60 + at) (λ e. apart (omega arith)))
-      ];
+      rows = rows_after_store setup bytes drb row written eight within below is_pmc.rows;
       hole = is_pmc.hole ∙ sym (elsewhere setup bytes (0x60 + row) written 0x68 (omega arith));
       fixed = fixed_stay setup bytes (0x60 + row) written below is_pmc.fixed;
     }
 
-pub stored_hole : (setup : Setup) (bytes : Bytes) (drb : List ℕ) (old written : ℕ) → written < 256 → IsPmcOf bytes (record { drb = drb; fdhc = old }) → IsPmcOf (after_store setup bytes fdhc.off written) (record { drb = drb; fdhc = merged (writable_bits setup fdhc) old written })
+pub stored_hole :
+    (setup : Setup) (bytes : Bytes) (drb : List ℕ) (old written : ℕ) → written < 256 →
+    IsPmcOf bytes (record { drb = drb; fdhc = old }) →
+    IsPmcOf (after_store setup bytes fdhc.off written)
+    (record { drb = drb; fdhc = merged (writable_bits setup fdhc) old written })
 stored_hole setup bytes drb old written below is_pmc =
     record {
-      rows = λ at at_within. is_pmc.rows at at_within ∙ sym (elsewhere setup bytes fdhc.off written (0x60 + at) (omega arith));
+      rows =
+          λ at at_within.
+          is_pmc.rows at at_within ∙ sym (elsewhere setup bytes fdhc.off written (0x60 + at) (omega arith));
       hole = ap (λ byte. merged (writable_bits setup fdhc) byte written) is_pmc.hole
           ∙ sym (there setup bytes fdhc.off written (writable_bits setup fdhc) below (omega arith) refl);
       fixed = fixed_stay setup bytes fdhc.off written below is_pmc.fixed;
     }
 
-pub stored_nowhere : (setup : Setup) (bytes : Bytes) (pmc : PmcBytes) (off written : ℕ) → written < 256 → ((off < 0x60) ⊎ (0x68 < off)) → IsPmcOf bytes pmc → IsPmcOf (after_store setup bytes off written) pmc
+pub stored_nowhere :
+    (setup : Setup) (bytes : Bytes) (pmc : PmcBytes) (off written : ℕ) → written < 256 →
+    ((off < 0x60) ⊎ (0x68 < off)) → IsPmcOf bytes pmc → IsPmcOf (after_store setup bytes off written) pmc
 stored_nowhere setup bytes pmc off written below outside is_pmc =
     record {
-      rows = λ at at_within. is_pmc.rows at at_within ∙ sym (elsewhere setup bytes off written (0x60 + at) (elim outside [ inl low ↦ omega arith | inr high ↦ omega arith ]));
-      hole = is_pmc.hole ∙ sym (elsewhere setup bytes off written 0x68 (elim outside [ inl low ↦ omega arith | inr high ↦ omega arith ]));
+      rows =
+          λ at at_within.
+          is_pmc.rows at at_within
+          ∙ sym (elsewhere setup bytes off written (0x60 + at)
+          (elim outside [ inl low ↦ omega arith | inr high ↦ omega arith ]));
+      hole =
+          is_pmc.hole
+          ∙ sym
+          (elsewhere setup bytes off written 0x68 (elim outside [ inl low ↦ omega arith | inr high ↦ omega arith ]));
       fixed = fixed_stay setup bytes off written below is_pmc.fixed;
     }
 
@@ -108,5 +154,7 @@ stored_nowhere setup bytes pmc off written below outside is_pmc =
 abbrev bare : Setup
 bare = record { mib = 0; cards = []; rom = []; disk = None }
 
-pub fixed_read : (bytes : Bytes) (pmc : PmcBytes) (off byte : ℕ) → IsPmcOf bytes pmc → IsFixedOffset off → ((setup : Setup) → byte ≡ reset_byte setup (bridge off)) → byte ≡ bytes (bridge off)
+pub fixed_read :
+    (bytes : Bytes) (pmc : PmcBytes) (off byte : ℕ) → IsPmcOf bytes pmc → IsFixedOffset off →
+    ((setup : Setup) → byte ≡ reset_byte setup (bridge off)) → byte ≡ bytes (bridge off)
 fixed_read bytes pmc off byte is_pmc is_fixed is_reset = is_reset bare ∙ sym (is_pmc.fixed bare off is_fixed)

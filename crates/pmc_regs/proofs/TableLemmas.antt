@@ -5,7 +5,7 @@ use Rattle.std.proofs.lemmas.Bool.{cases_lt}
 use Rattle.board_spec.specs.Setup.{Setup}
 use Rattle.board_spec.specs.RegisterTable.{Line, host_bridge, listed, reset_byte, writable_bits}
 use Rattle.board_spec.specs.RegisterNames.{bridge}
-use Rattle.board_spec.proofs.TableLemmas.{listed-past, listed-before, each_below}
+use Rattle.board_spec.proofs.TableLemmas.{listed-past, listed-before, Each, each_below}
 use Rattle.pmc_regs.specs.Pmc.{IsFixedOffset, IsRowsOf}
 
 -- ---- the rows and the hole
@@ -14,13 +14,15 @@ pub rows_at_reset : (setup : Setup) → IsRowsOf (reset_byte setup) (1 ∷ 1 ∷
 unfolding reset_byte host_bridge
 rows_at_reset setup =
     λ row below.
-    each_below (λ row. slice_index (1 ∷ 1 ∷ 1 ∷ 1 ∷ 1 ∷ 1 ∷ 1 ∷ 1 ∷ []) row ≡ reset_byte setup (bridge (0x60 + row))) 8 row
+    each_below (λ row. slice_index (1 ∷ 1 ∷ 1 ∷ 1 ∷ 1 ∷ 1 ∷ 1 ∷ 1 ∷ []) row ≡ reset_byte setup (bridge (0x60 + row)))
+    8 row
     (refl, (refl, (refl, (refl, (refl, (refl, (refl, (refl, tt)))))))) below
 
 pub writable_bits-row : (setup : Setup) (row : ℕ) → row < 8 → writable_bits setup (bridge (0x60 + row)) ≡ 0xFF
 unfolding writable_bits host_bridge
 writable_bits-row setup row below =
-    each_below (λ row. writable_bits setup (bridge (0x60 + row)) ≡ 0xFF) 8 row (refl, (refl, (refl, (refl, (refl, (refl, (refl, (refl, tt)))))))) below
+    each_below (λ row. writable_bits setup (bridge (0x60 + row)) ≡ 0xFF) 8 row
+    (refl, (refl, (refl, (refl, (refl, (refl, (refl, (refl, tt)))))))) below
 
 pub hole_at_reset : (setup : Setup) → 0 ≡ reset_byte setup (bridge 0x68)
 unfolding reset_byte host_bridge
@@ -50,8 +52,10 @@ writable_bits-header setup off below =
 
 pub header_byte : (off : ℕ) → off < 12 → slice_index header off < 256
 header_byte off below =
+    let later : Each (λ off. slice_index header off < 256) 6 6 =
+    (lit< tt, (lit< tt, (lit< tt, (lit< tt, (lit< tt, (lit< tt, tt)))))) in
     each_below (λ off. slice_index header off < 256) 12 off
-    (lit< tt, (lit< tt, (lit< tt, (lit< tt, (lit< tt, (lit< tt, (lit< tt, (lit< tt, (lit< tt, (lit< tt, (lit< tt, (lit< tt, tt)))))))))))) below
+    (lit< tt, (lit< tt, (lit< tt, (lit< tt, (lit< tt, (lit< tt, later)))))) below
 
 -- an offset lies outside all lines
 abbrev IsOutside : ℕ → List Line → Type 0
@@ -72,13 +76,16 @@ outside off fixed from =
     elim fixed.1 [
       | inl below_rows ↦
           elim fixed.0.1 [
-            | inl below_pam ↦ (inr (omega arith), (inr (omega arith), (inr (omega arith), (inl (omega arith), (inl (omega arith), (inl (omega arith), (inl (omega arith), (inl (omega arith), tt))))))))
+            | inl below_pam ↦
+                (inr (omega arith), (inr (omega arith), (inr (omega arith), (inl (omega arith), (inl (omega arith), (inl (omega arith), (inl (omega arith), (inl (omega arith), tt))))))))
             | inr above_pam ↦ absurd (omega arith)
           ]
       | inr above_hole ↦
           elim fixed.0.2 [
-            | inl below_smram ↦ (inr (omega arith), (inr (omega arith), (inr (omega arith), (inr (omega arith), (inr (omega arith), (inr (omega arith), (inr (omega arith), (inl (omega arith), tt))))))))
-            | inr above_smram ↦ (inr (omega arith), (inr (omega arith), (inr (omega arith), (inr (omega arith), (inr (omega arith), (inr (omega arith), (inr (omega arith), (inr (omega arith), tt))))))))
+            | inl below_smram ↦
+                (inr (omega arith), (inr (omega arith), (inr (omega arith), (inr (omega arith), (inr (omega arith), (inr (omega arith), (inr (omega arith), (inl (omega arith), tt))))))))
+            | inr above_smram ↦
+                (inr (omega arith), (inr (omega arith), (inr (omega arith), (inr (omega arith), (inr (omega arith), (inr (omega arith), (inr (omega arith), (inr (omega arith), tt))))))))
           ]
     ]
 

@@ -25,7 +25,8 @@ IsFixedOffset off = IsPmcOffset off × ((off < (drb 0).off) ⊎ (fdhc.off < off)
 abbrev pub IsRowsOf : Bytes → List ℕ → Type 0
 IsRowsOf bytes ends = (row : ℕ) → row < 8 → slice_index ends row ≡ bytes (drb row)
 
--- these are the registers of the host bridge among a board's register bytes, which hold the fixed ones as a reset leaves them
+-- these are the registers of the host bridge among a board's register bytes, which hold the fixed ones as a reset
+-- leaves them
 pub record IsPmcOf (bytes : Bytes) (pmc : PmcBytes) : Type 0 where
   pub rows : IsRowsOf bytes pmc.drb
   pub hole : pmc.fdhc ≡ bytes fdhc

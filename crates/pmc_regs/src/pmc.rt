@@ -8,7 +8,7 @@
 //! | 60-67  | DRB0 to DRB7    | 01h each     | FF each  | where a row of DRAM ends, in 8 MiB |
 //! | 68     | FDHC            | 00h          | C0       | the hole in DRAM, by bits 7 and 6  |
 //! | others | reserved        | 00h          | 00       |                                    |
-ghost use Rattle.std.specs.Prelude.{◌≡◌, ◌≤◌, ◌<◌, ◌↔◌, ℕ, IsNone, IfSome};
+ghost use Rattle.std.specs.Prelude.{◌≡◌, ◌≤◌, ◌<◌, ◌↔◌, IsNone, IfSome};
 ghost use Rattle.board_base.specs.declared.access.Width.TheVariants.{One};
 ghost use Rattle.board_spec.specs.declared.map_change.MapChange.TheVariants.{Store};
 ghost use Rattle.board_spec.specs.Setup.{Setup};

@@ -4,7 +4,7 @@ use Rattle.std.specs.Prelude.{slice_index}
 use Rattle.std.proofs.lemmas.Bool.{cases_lt, cases_eq, cases_Bool, cond-true, cond-false}
 use Rattle.std.proofs.lemmas.Bool.Decides.{nat_tests}
 use Rattle.std.proofs.lemmas.List.{get_or_past}
-use Rattle.board_base.specs.declared.access.Width.TheVariants.{One}
+use Rattle.board_base.specs.declared.access.Width.{Width}
 use Rattle.board_base.specs.declared.target.Reg.{Reg}
 use Rattle.board_spec.specs.declared.map_change.MapChange.TheVariants.{Store}
 use Rattle.board_spec.specs.Setup.{Setup}
@@ -13,7 +13,7 @@ use Rattle.board_spec.specs.RegisterTable.{isa_bridge, ide_function, reset_byte,
 use Rattle.board_spec.specs.RegisterNames.{isa, ide, smram, is_same}
 use Rattle.board_spec.specs.Registers.{covers, byte_after, changed_byte}
 use Rattle.board_spec.proofs.MergedLemmas.{merged-none}
-use Rattle.board_spec.proofs.TableLemmas.{each_below}
+use Rattle.board_spec.proofs.TableLemmas.{Each, each_below}
 
 -- a register has this byte at all times
 pub record IsFixedAt (setup : Setup) (reg : Reg) (byte : ℕ) : Type 0 where
@@ -23,92 +23,140 @@ pub record IsFixedAt (setup : Setup) (reg : Reg) (byte : ℕ) : Type 0 where
 
 -- the headers of the ISA bridge and of the IDE function
 abbrev pub isa_header : List ℕ
-isa_header = 0x86 ∷ 0x80 ∷ 0x00 ∷ 0x70 ∷ 0x07 ∷ 0x00 ∷ 0x80 ∷ 0x02 ∷ 0x00 ∷ 0x00 ∷ 0x01 ∷ 0x06 ∷ 0x00 ∷ 0x00 ∷ 0x80 ∷ 0x00 ∷ []
+isa_header =
+    0x86 ∷ 0x80 ∷ 0x00 ∷ 0x70 ∷ 0x07 ∷ 0x00 ∷ 0x80 ∷ 0x02 ∷ 0x00 ∷ 0x00 ∷ 0x01 ∷ 0x06 ∷ 0x00 ∷ 0x00 ∷ 0x80 ∷ 0x00 ∷ []
 
 abbrev pub ide_header : List ℕ
-ide_header = 0x86 ∷ 0x80 ∷ 0x10 ∷ 0x70 ∷ 0x00 ∷ 0x00 ∷ 0x80 ∷ 0x02 ∷ 0x00 ∷ 0x80 ∷ 0x01 ∷ 0x01 ∷ 0x00 ∷ 0x00 ∷ 0x00 ∷ 0x00 ∷ []
+ide_header =
+    0x86 ∷ 0x80 ∷ 0x10 ∷ 0x70 ∷ 0x00 ∷ 0x00 ∷ 0x80 ∷ 0x02 ∷ 0x00 ∷ 0x80 ∷ 0x01 ∷ 0x01 ∷ 0x00 ∷ 0x00 ∷ 0x00 ∷ 0x00 ∷ []
 
-reset_byte-isa_past : (setup : Setup) (off : ℕ) → 16 ≤ off → off ≢ 0x4E → off ≢ 0x4F → is_within 0x60 0x63 off ≡ false → reset_byte setup (isa off) ≡ 0
+reset_byte-isa_past :
+    (setup : Setup) (off : ℕ) → 16 ≤ off → off ≢ 0x4E → off ≢ 0x4F → is_within 0x60 0x63 off ≡ false →
+    reset_byte setup (isa off) ≡ 0
 unfolding reset_byte isa_bridge
 reset_byte-isa_past setup off above xbcs high pirq = grind (arith, nat_tests)
 
-writable_bits-isa_past : (setup : Setup) (off : ℕ) → 16 ≤ off → off ≢ 0x4E → off ≢ 0x4F → is_within 0x60 0x63 off ≡ false → writable_bits setup (isa off) ≡ 0
+writable_bits-isa_past :
+    (setup : Setup) (off : ℕ) → 16 ≤ off → off ≢ 0x4E → off ≢ 0x4F → is_within 0x60 0x63 off ≡ false →
+    writable_bits setup (isa off) ≡ 0
 unfolding writable_bits isa_bridge
 writable_bits-isa_past setup off above xbcs high pirq = grind (arith, nat_tests)
 
-reset_byte-ide_past : (setup : Setup) (off : ℕ) → 16 ≤ off → is_within 0x40 0x41 off ≡ false → reset_byte setup (ide off) ≡ 0
+reset_byte-ide_past :
+    (setup : Setup) (off : ℕ) → 16 ≤ off → is_within 0x40 0x41 off ≡ false → reset_byte setup (ide off) ≡ 0
 unfolding reset_byte ide_function
 reset_byte-ide_past setup off above timing = grind (arith, nat_tests)
 
-writable_bits-ide_past : (setup : Setup) (off : ℕ) → 16 ≤ off → is_within 0x40 0x41 off ≡ false → writable_bits setup (ide off) ≡ 0
+writable_bits-ide_past :
+    (setup : Setup) (off : ℕ) → 16 ≤ off → is_within 0x40 0x41 off ≡ false → writable_bits setup (ide off) ≡ 0
 unfolding writable_bits ide_function
 writable_bits-ide_past setup off above timing = grind (arith, nat_tests)
 
-isa_fixed-past : (setup : Setup) (off : ℕ) → off ≢ 0x4E → is_within 0x60 0x63 off ≡ false → 16 ≤ off → IsFixedAt setup (isa off) (slice_index isa_header off)
+isa_fixed-past :
+    (setup : Setup) (off : ℕ) → off ≢ 0x4E → is_within 0x60 0x63 off ≡ false → 16 ≤ off →
+    IsFixedAt setup (isa off) (slice_index isa_header off)
 unfolding reset_byte writable_bits isa_bridge
 isa_fixed-past setup off xbcs pirq above =
     rw (get_or_past {X = ℕ} isa_header off 0 above) elim (cases_eq off 0x4F) [
-      | inl high ↦ subst (λ k. IsFixedAt setup (isa k) 0) (sym high) (record { reset = refl; read_only = refl; fits = omega arith })
-      | inr low ↦ record { reset = sym (reset_byte-isa_past setup off above xbcs low pirq); read_only = writable_bits-isa_past setup off above xbcs low pirq; fits = omega arith }
+      | inl high ↦
+          subst (λ k. IsFixedAt setup (isa k) 0) (sym high)
+          (record { reset = refl; read_only = refl; fits = omega arith })
+      | inr low ↦
+          record {
+            reset = sym (reset_byte-isa_past setup off above xbcs low pirq);
+            read_only = writable_bits-isa_past setup off above xbcs low pirq;
+            fits = omega arith;
+          }
     ]
 
 isa_header_byte : (off : ℕ) → off < 16 → slice_index isa_header off < 256
 isa_header_byte off below =
+    let later : Each (λ k. slice_index isa_header k < 256) 8 8 =
+    (lit< tt, (lit< tt, (lit< tt, (lit< tt, (lit< tt, (lit< tt, (lit< tt, (lit< tt, tt)))))))) in
     each_below (λ k. slice_index isa_header k < 256) 16 off
-    (lit< tt, (lit< tt, (lit< tt, (lit< tt, (lit< tt, (lit< tt, (lit< tt, (lit< tt, (lit< tt, (lit< tt, (lit< tt, (lit< tt, (lit< tt, (lit< tt, (lit< tt, (lit< tt, tt)))))))))))))))) below
+    (lit< tt, (lit< tt, (lit< tt, (lit< tt, (lit< tt, (lit< tt, (lit< tt, (lit< tt, later)))))))) below
 
 ide_header_byte : (off : ℕ) → off < 16 → slice_index ide_header off < 256
 ide_header_byte off below =
+    let later : Each (λ k. slice_index ide_header k < 256) 8 8 =
+    (lit< tt, (lit< tt, (lit< tt, (lit< tt, (lit< tt, (lit< tt, (lit< tt, (lit< tt, tt)))))))) in
     each_below (λ k. slice_index ide_header k < 256) 16 off
-    (lit< tt, (lit< tt, (lit< tt, (lit< tt, (lit< tt, (lit< tt, (lit< tt, (lit< tt, (lit< tt, (lit< tt, (lit< tt, (lit< tt, (lit< tt, (lit< tt, (lit< tt, (lit< tt, tt)))))))))))))))) below
+    (lit< tt, (lit< tt, (lit< tt, (lit< tt, (lit< tt, (lit< tt, (lit< tt, (lit< tt, later)))))))) below
 
 -- all registers of the ISA bridge but XBCS and those that route interrupts
-pub isa_fixed : (setup : Setup) (off : ℕ) → off ≢ 0x4E → is_within 0x60 0x63 off ≡ false → IsFixedAt setup (isa off) (slice_index isa_header off)
+pub isa_fixed :
+    (setup : Setup) (off : ℕ) → off ≢ 0x4E → is_within 0x60 0x63 off ≡ false →
+    IsFixedAt setup (isa off) (slice_index isa_header off)
 unfolding reset_byte writable_bits isa_bridge
 isa_fixed setup off xbcs pirq =
     elim (cases_lt off 16) [
       | inl below ↦ record {
-        reset = each_below (λ k. slice_index isa_header k ≡ reset_byte setup (isa k)) 16 off
-            (refl, (refl, (refl, (refl, (refl, (refl, (refl, (refl, (refl, (refl, (refl, (refl, (refl, (refl, (refl, (refl, tt)))))))))))))))) below;
-        read_only = each_below (λ k. writable_bits setup (isa k) ≡ 0) 16 off
-            (refl, (refl, (refl, (refl, (refl, (refl, (refl, (refl, (refl, (refl, (refl, (refl, (refl, (refl, (refl, (refl, tt)))))))))))))))) below;
+        reset =
+            let later : Each (λ k. slice_index isa_header k ≡ reset_byte setup (isa k)) 8 8 =
+            (refl, (refl, (refl, (refl, (refl, (refl, (refl, (refl, tt)))))))) in
+            each_below (λ k. slice_index isa_header k ≡ reset_byte setup (isa k)) 16 off
+            (refl, (refl, (refl, (refl, (refl, (refl, (refl, (refl, later)))))))) below;
+        read_only =
+            let later : Each (λ k. writable_bits setup (isa k) ≡ 0) 8 8 =
+            (refl, (refl, (refl, (refl, (refl, (refl, (refl, (refl, tt)))))))) in
+            each_below (λ k. writable_bits setup (isa k) ≡ 0) 16 off
+            (refl, (refl, (refl, (refl, (refl, (refl, (refl, (refl, later)))))))) below;
         fits = isa_header_byte off below;
       }
       | inr above ↦ isa_fixed-past setup off xbcs pirq above
     ]
 
+ide_read_only : (setup : Setup) (off : ℕ) → off < 16 → off ≢ 0x04 → writable_bits setup (ide off) ≡ 0
+unfolding writable_bits ide_function
+ide_read_only setup off below =
+    let ReadOnly : ℕ → Type 0 = λ k. k ≢ 0x04 → writable_bits setup (ide k) ≡ 0 in
+    let later : Each ReadOnly 8 8 =
+    (λ _. refl, (λ _. refl, (λ _. refl, (λ _. refl, (λ _. refl, (λ _. refl, (λ _. refl, (λ _. refl, tt)))))))) in
+    let middle : Each ReadOnly 4 12 =
+    (λ apart. absurd (apart refl), (λ _. refl, (λ _. refl, (λ _. refl, later)))) in
+    each_below ReadOnly 16 off (λ _. refl, (λ _. refl, (λ _. refl, (λ _. refl, middle)))) below
+
 -- all registers of the IDE function but the low byte of the command and the two of IDETIM
-pub ide_fixed : (setup : Setup) (off : ℕ) → off ≢ 0x04 → is_within 0x40 0x41 off ≡ false → IsFixedAt setup (ide off) (slice_index ide_header off)
+pub ide_fixed :
+    (setup : Setup) (off : ℕ) → off ≢ 0x04 → is_within 0x40 0x41 off ≡ false →
+    IsFixedAt setup (ide off) (slice_index ide_header off)
 unfolding reset_byte writable_bits ide_function
 ide_fixed setup off command timing =
     elim (cases_lt off 16) [
       | inl below ↦ record {
-        reset = each_below (λ k. slice_index ide_header k ≡ reset_byte setup (ide k)) 16 off
-            (refl, (refl, (refl, (refl, (refl, (refl, (refl, (refl, (refl, (refl, (refl, (refl, (refl, (refl, (refl, (refl, tt)))))))))))))))) below;
-        read_only = each_below (λ k. k ≢ 0x04 → writable_bits setup (ide k) ≡ 0) 16 off
-            ((λ _. refl), ((λ _. refl), ((λ _. refl), ((λ _. refl), ((λ apart. absurd (apart refl)), ((λ _. refl), ((λ _. refl), ((λ _. refl), ((λ _. refl), ((λ _. refl), ((λ _. refl), ((λ _. refl), ((λ _. refl), ((λ _. refl), ((λ _. refl), ((λ _. refl), tt))))))))))))))))
-            below command;
+        reset =
+            let later : Each (λ k. slice_index ide_header k ≡ reset_byte setup (ide k)) 8 8 =
+            (refl, (refl, (refl, (refl, (refl, (refl, (refl, (refl, tt)))))))) in
+            each_below (λ k. slice_index ide_header k ≡ reset_byte setup (ide k)) 16 off
+            (refl, (refl, (refl, (refl, (refl, (refl, (refl, (refl, later)))))))) below;
+        read_only = ide_read_only setup off below command;
         fits = ide_header_byte off below;
       }
       | inr above ↦
           rw (get_or_past {X = ℕ} ide_header off 0 above)
-          (record { reset = sym (reset_byte-ide_past setup off above timing); read_only = writable_bits-ide_past setup off above timing; fits = omega arith })
+          (record {
+            reset = sym (reset_byte-ide_past setup off above timing);
+            read_only = writable_bits-ide_past setup off above timing;
+            fits = omega arith;
+          })
     ]
 
 -- a board with nothing on it: the chip's registers are those of every board
 pub bare : Setup
 bare = record { mib = 1; cards = []; rom = []; disk = None }
 
--- a store of a byte leaves a register that cannot be written
-pub kept_byte : (setup : Setup) (at : Reg) (written : ℕ) (reg : Reg) (old fixed : ℕ) → is_same reg smram ≡ false → IsFixedAt setup reg fixed → old ≡ fixed → changed_byte setup (Store at One written) reg old ≡ fixed
-kept_byte setup at written reg old fixed plain is_fixed is_old =
+-- a store leaves a register that cannot be written
+pub kept_byte :
+    (setup : Setup) (at : Reg) (width : Width) (written : ℕ) (reg : Reg) (old fixed : ℕ) → is_same reg smram ≡ false →
+    IsFixedAt setup reg fixed → old ≡ fixed → changed_byte setup (Store at width written) reg old ≡ fixed
+kept_byte setup at width written reg old fixed plain is_fixed is_old =
     let put : ℕ = byte written (reg.off - at.off) in
-    elim (cases_Bool (covers at One reg)) [
+    elim (cases_Bool (covers at width reg)) [
       | inl covered ↦
-          cond-true (covers at One reg) (byte_after setup reg old put) old covered
+          cond-true (covers at width reg) (byte_after setup reg old put) old covered
           ∙ cond-false (is_same reg smram) _ _ plain
           ∙ ap (λ mask. merged mask old put) is_fixed.read_only
           ∙ merged-none old put (rw is_old is_fixed.fits)
           ∙ is_old
-      | inr apart ↦ cond-false (covers at One reg) (byte_after setup reg old put) old apart ∙ is_old
+      | inr apart ↦ cond-false (covers at width reg) (byte_after setup reg old put) old apart ∙ is_old
     ]

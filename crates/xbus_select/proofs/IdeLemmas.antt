@@ -10,7 +10,7 @@ use Rattle.board_spec.specs.Bits.{merged}
 use Rattle.board_spec.specs.RegisterTable.{ide_function, reset_byte, writable_bits}
 use Rattle.board_spec.specs.Registers.{changed_byte}
 use Rattle.board_spec.specs.Decode.{Bytes}
-use Rattle.board_spec.specs.RegisterNames.{ide}
+use Rattle.board_spec.specs.RegisterNames.{ide, ide_command, idetim, idetim_high}
 use Rattle.board_spec.proofs.MergedLemmas.{merged-all}
 use Rattle.board_spec.proofs.StoreLemmas.{changed_byte-one_same, changed_byte-one_other}
 use Rattle.xbus_select.specs.Ide.{IdeBytes, IsIdeFixed, IsIdeOf}
@@ -22,10 +22,13 @@ fixed_at setup off is_fixed =
     let high : off ≢ 0x41 = is_fixed.timing_high in
     ide_fixed setup off is_fixed.command (grind (arith, nat_tests))
 
-pub ide_byte : (bytes : Bytes) (regs : IdeBytes) (off : ℕ) → IsIdeOf bytes regs → IsIdeFixed off → slice_index ide_header off ≡ bytes (ide off)
+pub ide_byte :
+    (bytes : Bytes) (regs : IdeBytes) (off : ℕ) → IsIdeOf bytes regs → IsIdeFixed off →
+    slice_index ide_header off ≡ bytes (ide off)
 ide_byte bytes regs off is_ide is_fixed = (fixed_at bare off is_fixed).reset ∙ sym (is_ide.fixed bare off is_fixed)
 
-pub ide_at_reset : (setup : Setup) → IsIdeOf (reset_byte setup) (record { command = 0; timing_low = 0; timing_high = 0 })
+pub ide_at_reset :
+    (setup : Setup) → IsIdeOf (reset_byte setup) (record { command = 0; timing_low = 0; timing_high = 0 })
 unfolding reset_byte ide_function
 ide_at_reset setup =
     record {
@@ -37,42 +40,59 @@ ide_at_reset setup =
 
 -- after a store of a byte anywhere
 pub ide_stored_at : (setup : Setup) (bytes : Bytes) (old new : IdeBytes) (at : Reg) (written : ℕ) → IsIdeOf bytes old →
-    new.command ≡ changed_byte setup (Store at One written) (ide 0x04) old.command →
-    new.timing_low ≡ changed_byte setup (Store at One written) (ide 0x40) old.timing_low →
-    new.timing_high ≡ changed_byte setup (Store at One written) (ide 0x41) old.timing_high →
+    new.command ≡ changed_byte setup (Store at One written) ide_command old.command →
+    new.timing_low ≡ changed_byte setup (Store at One written) idetim old.timing_low →
+    new.timing_high ≡ changed_byte setup (Store at One written) idetim_high old.timing_high →
     IsIdeOf (λ reg. changed_byte setup (Store at One written) reg (bytes reg)) new
 ide_stored_at setup bytes old new at written is_ide command timing_low timing_high =
     record {
-      command = command ∙ ap (λ (now : ℕ). changed_byte setup (Store at One written) (ide 0x04) now) is_ide.command;
-      timing_low = timing_low ∙ ap (λ (now : ℕ). changed_byte setup (Store at One written) (ide 0x40) now) is_ide.timing_low;
-      timing_high = timing_high ∙ ap (λ (now : ℕ). changed_byte setup (Store at One written) (ide 0x41) now) is_ide.timing_high;
+      command = command ∙ ap (λ (now : ℕ). changed_byte setup (Store at One written) ide_command now) is_ide.command;
+      timing_low =
+          timing_low ∙ ap (λ (now : ℕ). changed_byte setup (Store at One written) idetim now) is_ide.timing_low;
+      timing_high =
+          timing_high ∙ ap (λ (now : ℕ). changed_byte setup (Store at One written) idetim_high now) is_ide.timing_high;
       fixed = λ other off is_fixed.
-          kept_byte setup at written (ide off) (bytes (ide off)) (slice_index ide_header off) refl (fixed_at setup off is_fixed)
+          kept_byte setup at One written (ide off) (bytes (ide off)) (slice_index ide_header off) refl
+          (fixed_at setup off is_fixed)
           (is_ide.fixed setup off is_fixed ∙ sym (fixed_at setup off is_fixed).reset)
           ∙ (fixed_at other off is_fixed).reset;
     }
 
-pub command_stored : (setup : Setup) (bytes : Bytes) (old : IdeBytes) (written : ℕ) → written < 256 → IsIdeOf bytes old → IsIdeOf (λ reg. changed_byte setup (Store (ide 0x04) One written) reg (bytes reg)) (record old { command = merged 0x05 old.command written })
+pub command_stored :
+    (setup : Setup) (bytes : Bytes) (old : IdeBytes) (written : ℕ) → written < 256 → IsIdeOf bytes old →
+    IsIdeOf (λ reg. changed_byte setup (Store ide_command One written) reg (bytes reg))
+    (record old { command = merged 0x05 old.command written })
 unfolding writable_bits ide_function
 command_stored setup bytes old written below is_ide =
-    ide_stored_at setup bytes old (record old { command = merged 0x05 old.command written }) (ide 0x04) written is_ide
-    (sym (changed_byte-one_same setup (ide 0x04) old.command written below refl)) refl refl
+    ide_stored_at setup bytes old (record old { command = merged 0x05 old.command written }) ide_command written is_ide
+    (sym (changed_byte-one_same setup ide_command old.command written below refl)) refl refl
 
-pub timing_low_stored : (setup : Setup) (bytes : Bytes) (old : IdeBytes) (written : ℕ) → written < 256 → IsIdeOf bytes old → IsIdeOf (λ reg. changed_byte setup (Store (ide 0x40) One written) reg (bytes reg)) (record old { timing_low = written })
+pub timing_low_stored :
+    (setup : Setup) (bytes : Bytes) (old : IdeBytes) (written : ℕ) → written < 256 → IsIdeOf bytes old →
+    IsIdeOf (λ reg. changed_byte setup (Store idetim One written) reg (bytes reg))
+    (record old { timing_low = written })
 unfolding writable_bits ide_function
 timing_low_stored setup bytes old written below is_ide =
-    ide_stored_at setup bytes old (record old { timing_low = written }) (ide 0x40) written is_ide refl
-    (sym (changed_byte-one_same setup (ide 0x40) old.timing_low written below refl ∙ merged-all old.timing_low written below)) refl
+    ide_stored_at setup bytes old (record old { timing_low = written }) idetim written is_ide refl
+    (sym
+    (changed_byte-one_same setup idetim old.timing_low written below refl ∙ merged-all old.timing_low written below))
+    refl
 
-pub timing_high_stored : (setup : Setup) (bytes : Bytes) (old : IdeBytes) (written : ℕ) → written < 256 → IsIdeOf bytes old → IsIdeOf (λ reg. changed_byte setup (Store (ide 0x41) One written) reg (bytes reg)) (record old { timing_high = written })
+pub timing_high_stored :
+    (setup : Setup) (bytes : Bytes) (old : IdeBytes) (written : ℕ) → written < 256 → IsIdeOf bytes old →
+    IsIdeOf (λ reg. changed_byte setup (Store idetim_high One written) reg (bytes reg))
+    (record old { timing_high = written })
 unfolding writable_bits ide_function
 timing_high_stored setup bytes old written below is_ide =
-    ide_stored_at setup bytes old (record old { timing_high = written }) (ide 0x41) written is_ide refl refl
-    (sym (changed_byte-one_same setup (ide 0x41) old.timing_high written below refl ∙ merged-all old.timing_high written below))
+    ide_stored_at setup bytes old (record old { timing_high = written }) idetim_high written is_ide refl refl
+    (sym (changed_byte-one_same setup idetim_high old.timing_high written below refl
+    ∙ merged-all old.timing_high written below))
 
-pub ide_stored : (setup : Setup) (bytes : Bytes) (old : IdeBytes) (off written : ℕ) → 0x04 ≢ off → 0x40 ≢ off → 0x41 ≢ off → IsIdeOf bytes old → IsIdeOf (λ reg. changed_byte setup (Store (ide off) One written) reg (bytes reg)) old
+pub ide_stored :
+    (setup : Setup) (bytes : Bytes) (old : IdeBytes) (off written : ℕ) → 0x04 ≢ off → 0x40 ≢ off → 0x41 ≢ off →
+    IsIdeOf bytes old → IsIdeOf (λ reg. changed_byte setup (Store (ide off) One written) reg (bytes reg)) old
 ide_stored setup bytes old off written command low high is_ide =
     ide_stored_at setup bytes old old (ide off) written is_ide
-    (sym (changed_byte-one_other setup (ide 0x04) off old.command written command))
-    (sym (changed_byte-one_other setup (ide 0x40) off old.timing_low written low))
-    (sym (changed_byte-one_other setup (ide 0x41) off old.timing_high written high))
+    (sym (changed_byte-one_other setup ide_command off old.command written command))
+    (sym (changed_byte-one_other setup idetim off old.timing_low written low))
+    (sym (changed_byte-one_other setup idetim_high off old.timing_high written high))

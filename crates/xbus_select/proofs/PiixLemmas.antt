@@ -10,10 +10,10 @@ use Rattle.board_spec.specs.Bits.{merged}
 use Rattle.board_spec.specs.RegisterTable.{isa_bridge, reset_byte, writable_bits}
 use Rattle.board_spec.specs.Registers.{changed_byte}
 use Rattle.board_spec.specs.Decode.{Bytes}
-use Rattle.board_spec.specs.RegisterNames.{isa, ide}
+use Rattle.board_spec.specs.RegisterNames.{isa, ide, xbcs as select_register}
 use Rattle.board_spec.proofs.StoreLemmas.{changed_byte-one_same, changed_byte-one_other}
 use Rattle.xbus_select.specs.Ide.{IdeBytes, IsIdeOf}
-use Rattle.xbus_select.specs.Piix.{PiixBytes, IsPiixRegister, IsOffRouting, IsIsaFixed, IsPiixOf}
+use Rattle.xbus_select.specs.Piix.{PiixBytes, IsPiixRegister, IsIsaFixed, IsPiixOf}
 use Rattle.xbus_select.proofs.FixedLemmas.{IsFixedAt, isa_header, isa_fixed, kept_byte, bare}
 use Rattle.xbus_select.proofs.IdeLemmas.{ide_stored_at}
 
@@ -22,20 +22,20 @@ fixed_at setup off is_fixed =
     isa_fixed setup off is_fixed.select
     (elim is_fixed.routing [ inl below ↦ grind (arith, nat_tests) | inr above ↦ grind (arith, nat_tests) ])
 
-pub isa_byte : (bytes : Bytes) (piix : PiixBytes) (off byte : ℕ) → IsPiixOf bytes piix → IsIsaFixed off → ((setup : Setup) → byte ≡ reset_byte setup (isa off)) → byte ≡ bytes (isa off)
+pub isa_byte :
+    (bytes : Bytes) (piix : PiixBytes) (off byte : ℕ) → IsPiixOf bytes piix → IsIsaFixed off →
+    ((setup : Setup) → byte ≡ reset_byte setup (isa off)) → byte ≡ bytes (isa off)
 isa_byte bytes piix off byte is_piix is_fixed is_reset = is_reset bare ∙ sym (is_piix.fixed bare off is_fixed)
 
 pub ide_function_alone : (fun off : ℕ) → IsPiixRegister fun off → fun ≢ 0 → fun ≡ 1
 ide_function_alone fun off (inl isa) apart = absurd (apart isa.0)
 ide_function_alone fun off (inr ide) apart = ide
 
-pub isa_function_alone : (fun off : ℕ) → IsPiixRegister fun off → fun ≡ 0 → IsOffRouting off
-isa_function_alone fun off (inl isa) is = isa.1
-isa_function_alone fun off (inr ide) is = absurd (omega arith)
-
 -- ---- after a reset
 
-pub registers_at_reset : (setup : Setup) (regs : IdeBytes) → IsIdeOf (reset_byte setup) regs → IsPiixOf (reset_byte setup) (record { xbcs = 3; ide = regs })
+pub registers_at_reset :
+    (setup : Setup) (regs : IdeBytes) → IsIdeOf (reset_byte setup) regs →
+    IsPiixOf (reset_byte setup) (record { xbcs = 3; ide = regs })
 unfolding reset_byte isa_bridge
 registers_at_reset setup regs is_ide =
     record {
@@ -46,39 +46,49 @@ registers_at_reset setup regs is_ide =
 
 -- ---- a store of one byte
 
-pub writable_bits-xbcs : (setup : Setup) → writable_bits setup (isa 0x4E) ≡ 0xC7
+pub writable_bits-xbcs : (setup : Setup) → writable_bits setup select_register ≡ 0xC7
 unfolding writable_bits isa_bridge
 writable_bits-xbcs setup = refl
 
 fixed_stays : (setup : Setup) (bytes : Bytes) (old : PiixBytes) (at : Reg) (written : ℕ) → IsPiixOf bytes old →
-    (other : Setup) (off : ℕ) → IsIsaFixed off → changed_byte setup (Store at One written) (isa off) (bytes (isa off)) ≡ reset_byte other (isa off)
+    (other : Setup) (off : ℕ) → IsIsaFixed off → changed_byte setup (Store at One written) (isa off) (bytes (isa off))
+    ≡ reset_byte other (isa off)
 fixed_stays setup bytes old at written is_piix other off is_fixed =
-    kept_byte setup at written (isa off) (bytes (isa off)) (slice_index isa_header off) refl (fixed_at setup off is_fixed)
+    kept_byte setup at One written (isa off) (bytes (isa off)) (slice_index isa_header off) refl
+    (fixed_at setup off is_fixed)
     (is_piix.fixed setup off is_fixed ∙ sym (fixed_at setup off is_fixed).reset)
     ∙ (fixed_at other off is_fixed).reset
 
 -- to a register of the ISA bridge
 isa_stored_at : (setup : Setup) (bytes : Bytes) (old : PiixBytes) (off new written : ℕ) → IsPiixOf bytes old →
-    new ≡ changed_byte setup (Store (isa off) One written) (isa 0x4E) old.xbcs →
+    new ≡ changed_byte setup (Store (isa off) One written) select_register old.xbcs →
     IsPiixOf (λ reg. changed_byte setup (Store (isa off) One written) reg (bytes reg)) (record old { xbcs = new })
 isa_stored_at setup bytes old off new written is_piix xbcs =
     record {
-      xbcs = xbcs ∙ ap (λ (now : ℕ). changed_byte setup (Store (isa off) One written) (isa 0x4E) now) is_piix.xbcs;
+      xbcs =
+          xbcs ∙ ap (λ (now : ℕ). changed_byte setup (Store (isa off) One written) select_register now) is_piix.xbcs;
       ide = ide_stored_at setup bytes old.ide old.ide (isa off) written is_piix.ide refl refl refl;
       fixed = fixed_stays setup bytes old (isa off) written is_piix;
     }
 
-pub xbcs_stored : (setup : Setup) (bytes : Bytes) (old : PiixBytes) (written : ℕ) → written < 256 → IsPiixOf bytes old → IsPiixOf (λ reg. changed_byte setup (Store (isa 0x4E) One written) reg (bytes reg)) (record old { xbcs = merged (writable_bits setup (isa 0x4E)) old.xbcs written })
+pub xbcs_stored :
+    (setup : Setup) (bytes : Bytes) (old : PiixBytes) (written : ℕ) → written < 256 → IsPiixOf bytes old →
+    IsPiixOf (λ reg. changed_byte setup (Store select_register One written) reg (bytes reg))
+    (record old { xbcs = merged (writable_bits setup select_register) old.xbcs written })
 xbcs_stored setup bytes old written below is_piix =
-    isa_stored_at setup bytes old 0x4E (merged (writable_bits setup (isa 0x4E)) old.xbcs written) written is_piix
-    (sym (changed_byte-one_same setup (isa 0x4E) old.xbcs written below refl))
+    isa_stored_at setup bytes old 0x4E (merged (writable_bits setup select_register) old.xbcs written) written is_piix
+    (sym (changed_byte-one_same setup select_register old.xbcs written below refl))
 
-pub isa_stored : (setup : Setup) (bytes : Bytes) (old : PiixBytes) (off written : ℕ) → 0x4E ≢ off → IsPiixOf bytes old → IsPiixOf (λ reg. changed_byte setup (Store (isa off) One written) reg (bytes reg)) old
+pub isa_stored :
+    (setup : Setup) (bytes : Bytes) (old : PiixBytes) (off written : ℕ) → 0x4E ≢ off → IsPiixOf bytes old →
+    IsPiixOf (λ reg. changed_byte setup (Store (isa off) One written) reg (bytes reg)) old
 isa_stored setup bytes old off written apart is_piix =
-    isa_stored_at setup bytes old off old.xbcs written is_piix (sym (changed_byte-one_other setup (isa 0x4E) off old.xbcs written apart))
+    isa_stored_at setup bytes old off old.xbcs written is_piix
+    (sym (changed_byte-one_other setup select_register off old.xbcs written apart))
 
 -- to a register of the IDE function
-pub ide_stored_in : (setup : Setup) (bytes : Bytes) (old : PiixBytes) (new : IdeBytes) (off written : ℕ) → IsPiixOf bytes old →
+pub ide_stored_in :
+    (setup : Setup) (bytes : Bytes) (old : PiixBytes) (new : IdeBytes) (off written : ℕ) → IsPiixOf bytes old →
     IsIdeOf (λ reg. changed_byte setup (Store (ide off) One written) reg (bytes reg)) new →
     IsPiixOf (λ reg. changed_byte setup (Store (ide off) One written) reg (bytes reg)) (record old { ide = new })
 ide_stored_in setup bytes old new off written is_piix is_ide =

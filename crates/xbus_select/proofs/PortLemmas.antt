@@ -14,7 +14,7 @@ use Rattle.board_base.specs.declared.target.Denial.TheVariants.{Register}
 use Rattle.board_spec.specs.Setup.{Setup}
 use Rattle.board_spec.specs.Bits.{is_bit}
 use Rattle.board_spec.specs.Decode.{Bytes, Window, io_claim}
-use Rattle.board_spec.specs.RegisterNames.{isa, ide}
+use Rattle.board_spec.specs.RegisterNames.{xbcs as select_register, ide_command, idetim, idetim_high}
 use Rattle.board_spec.specs.Ports.{device, nobody, card_port, unselected, is_ata_port, port_target_of}
 use Rattle.xbus_select.specs.PortSelects.{AnswersAt, KeyboardAnswers, ClockAnswers, DiskAnswers}
 
@@ -24,24 +24,37 @@ abbrev is_device : Target → Bool
 is_device (Device dev) = true
 is_device _ = false
 
-card_or_nobody : (claim : Option Window) (port : ℕ) (denial : Denial) → is_device (unwrap_or (option_map (card_port port) claim) (nobody denial)).target ≡ false
+card_or_nobody :
+    (claim : Option Window) (port : ℕ) (denial : Denial) →
+    is_device (unwrap_or (option_map (card_port port) claim) (nobody denial)).target ≡ false
 card_or_nobody None port denial = refl
 card_or_nobody (Some window) port denial = refl
 
-not_device : (setup : Setup) (bytes : Bytes) (port : ℕ) (denial : Denial) (dev : Dev) → (unselected setup bytes port denial).target ≢ Device dev
+not_device :
+    (setup : Setup) (bytes : Bytes) (port : ℕ) (denial : Denial) (dev : Dev) →
+    (unselected setup bytes port denial).target ≢ Device dev
 not_device setup bytes port denial dev is =
     false≢true (rw (← card_or_nobody (io_claim setup bytes port) port denial) (ap is_device is))
 
 -- ---- a device that answers where a bit is set, or two
 
-by_bit : (setup : Setup) (bytes : Bytes) (port : ℕ) (denial : Denial) (dev : Dev) (selected : Bool) → ((if selected then device dev else unselected setup bytes port denial).target ≡ Device dev) ↔ (selected ≡ true)
+by_bit :
+    (setup : Setup) (bytes : Bytes) (port : ℕ) (denial : Denial) (dev : Dev) (selected : Bool) →
+    ((if selected then device dev else unselected setup bytes port denial).target ≡ Device dev) ↔ (selected ≡ true)
 by_bit setup bytes port denial dev true = (λ _. refl, λ _. refl)
-by_bit setup bytes port denial dev false = (λ is. absurd (not_device setup bytes port denial dev is), λ no. absurd (false≢true no))
+by_bit setup bytes port denial dev false =
+    (λ is. absurd (not_device setup bytes port denial dev is), λ no. absurd (false≢true no))
 
-by_bits : (setup : Setup) (bytes : Bytes) (port : ℕ) (dev : Dev) (first second : Bool) → ((if not first then unselected setup bytes port (Register (ide 0x04)) else if not second then unselected setup bytes port (Register (ide 0x40)) else device dev).target ≡ Device dev) ↔ ((first && second) ≡ true)
+by_bits :
+    (setup : Setup) (bytes : Bytes) (port : ℕ) (dev : Dev) (first second : Bool) →
+    ((if not first then unselected setup bytes port (Register ide_command) else
+    if not second then unselected setup bytes port (Register idetim) else device dev).target ≡ Device dev)
+    ↔ ((first && second) ≡ true)
 by_bits setup bytes port dev true true = (λ _. refl, λ _. refl)
-by_bits setup bytes port dev true false = (λ is. absurd (not_device setup bytes port (Register (ide 0x40)) dev is), λ no. absurd (false≢true no))
-by_bits setup bytes port dev false second = (λ is. absurd (not_device setup bytes port (Register (ide 0x04)) dev is), λ no. absurd (false≢true no))
+by_bits setup bytes port dev true false =
+    (λ is. absurd (not_device setup bytes port (Register idetim) dev is), λ no. absurd (false≢true no))
+by_bits setup bytes port dev false second =
+    (λ is. absurd (not_device setup bytes port (Register ide_command) dev is), λ no. absurd (false≢true no))
 
 -- ---- the ports one by one
 
@@ -53,8 +66,8 @@ pub keyboard_answers : KeyboardAnswers
 unfolding port_target_of
 keyboard_answers setup bytes address disk port is =
     let At : ℕ → Type 0 = AnswersAt setup bytes address disk One Keyboard in
-    let selected : Bool = is_bit (bytes (isa 0x4E)) 1 in
-    let denial : Denial = Register (isa 0x4E) in
+    let selected : Bool = is_bit (bytes select_register) 1 in
+    let denial : Denial = Register select_register in
     at_or_else At 0x60 port (by_bit setup bytes 0x60 denial Keyboard selected)
     (λ a. at_or_else At 0x64 port (by_bit setup bytes 0x64 denial Keyboard selected)
     (λ b. absurd (grind (arith, nat_tests))))
@@ -63,34 +76,40 @@ pub clock_answers : ClockAnswers
 unfolding port_target_of
 clock_answers setup bytes address disk port is =
     let At : ℕ → Type 0 = AnswersAt setup bytes address disk One Clock in
-    let selected : Bool = is_bit (bytes (isa 0x4E)) 0 in
-    let denial : Denial = Register (isa 0x4E) in
+    let selected : Bool = is_bit (bytes select_register) 0 in
+    let denial : Denial = Register select_register in
     at_or_else At 0x70 port (by_bit setup bytes 0x70 denial Clock selected)
     (λ a. at_or_else At 0x71 port (by_bit setup bytes 0x71 denial Clock selected)
     (λ b. absurd (grind (arith, nat_tests))))
 
 -- the data port, in words and doublewords
-word_answers : (setup : Setup) (bytes : Bytes) (address port : ℕ) → is_ata_port port 2 ≡ true → AnswersAt setup bytes address true Two Ata port
+word_answers :
+    (setup : Setup) (bytes : Bytes) (address port : ℕ) → is_ata_port port 2 ≡ true →
+    AnswersAt setup bytes address true Two Ata port
 unfolding port_target_of
 word_answers setup bytes address port is =
     at_or_else (AnswersAt setup bytes address true Two Ata) 0x1F0 port
-    (by_bits setup bytes 0x1F0 Ata (is_bit (bytes (ide 0x04)) 0) (is_bit (bytes (ide 0x41)) 7))
+    (by_bits setup bytes 0x1F0 Ata (is_bit (bytes ide_command) 0) (is_bit (bytes idetim_high) 7))
     (λ a. absurd (grind (arith, nat_tests)))
 
-long_answers : (setup : Setup) (bytes : Bytes) (address port : ℕ) → is_ata_port port 4 ≡ true → AnswersAt setup bytes address true Four Ata port
+long_answers :
+    (setup : Setup) (bytes : Bytes) (address port : ℕ) → is_ata_port port 4 ≡ true →
+    AnswersAt setup bytes address true Four Ata port
 unfolding port_target_of
 long_answers setup bytes address port is =
     at_or_else (AnswersAt setup bytes address true Four Ata) 0x1F0 port
-    (by_bits setup bytes 0x1F0 Ata (is_bit (bytes (ide 0x04)) 0) (is_bit (bytes (ide 0x41)) 7))
+    (by_bits setup bytes 0x1F0 Ata (is_bit (bytes ide_command) 0) (is_bit (bytes idetim_high) 7))
     (λ a. absurd (grind (arith, nat_tests)))
 
 -- the other registers of the channel, in bytes
-register_answers : (setup : Setup) (bytes : Bytes) (address port : ℕ) → is_ata_port port 1 ≡ true → AnswersAt setup bytes address true One Ata port
+register_answers :
+    (setup : Setup) (bytes : Bytes) (address port : ℕ) → is_ata_port port 1 ≡ true →
+    AnswersAt setup bytes address true One Ata port
 unfolding port_target_of
 register_answers setup bytes address port is =
     let At : ℕ → Type 0 = AnswersAt setup bytes address true One Ata in
-    let enabled : Bool = is_bit (bytes (ide 0x04)) 0 in
-    let decoded : Bool = is_bit (bytes (ide 0x41)) 7 in
+    let enabled : Bool = is_bit (bytes ide_command) 0 in
+    let decoded : Bool = is_bit (bytes idetim_high) 7 in
     at_or_else At 0x1F1 port (by_bits setup bytes 0x1F1 Ata enabled decoded)
     (λ a. at_or_else At 0x1F2 port (by_bits setup bytes 0x1F2 Ata enabled decoded)
     (λ b. at_or_else At 0x1F3 port (by_bits setup bytes 0x1F3 Ata enabled decoded)

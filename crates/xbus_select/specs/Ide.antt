@@ -24,7 +24,8 @@ pub record IsIdeOf (bytes : Bytes) (regs : IdeBytes) : Type 0 where
   pub command : regs.command ≡ bytes ide_command
   pub timing_low : regs.timing_low ≡ bytes idetim
   pub timing_high : regs.timing_high ≡ bytes idetim_high
-  pub fixed : (setup : Setup) (off : ℕ) → IsIdeFixed off → bytes (ide_register off) ≡ reset_byte setup (ide_register off)
+  pub fixed : (setup : Setup) (off : ℕ) → IsIdeFixed off →
+      bytes (ide_register off) ≡ reset_byte setup (ide_register off)
 
 -- the function decodes the disk's ports by bit 0 of its command and bit 15 of IDETIM
 abbrev pub is_ide_decoded : Bytes → Bool

@@ -15,7 +15,7 @@ use board_spec::bits::{is_set, merged};
 use board_spec::offset::{COMMAND, IDETIM, IDETIM_HIGH};
 use std::marker::Model;
 
-/// The bit of the command that lets the function answer at its ports.
+/// The bit of the command that lets the function answer at I/O ports.
 const IO_SPACE_ENABLE: u32 = 0;
 /// The bit of the command that lets the function be a bus master.
 const BUS_MASTER_ENABLE: u32 = 2;
@@ -46,11 +46,15 @@ impl Model for Ide {
 
     ghost Value = { IdeBytes };
 
-    ghost view = { λ ide. record { command = ide.command; timing_low = ide.timing_low; timing_high = ide.timing_high } };
+    ghost view = { λ ide. record {
+      command = ide.command;
+      timing_low = ide.timing_low;
+      timing_high = ide.timing_high;
+    } };
 }
 
 impl Ide {
-    /// The registers after a reset, with no port decoded.
+    /// The registers after a reset: no port is decoded.
     pub fn new() -> Ide
         ensures reset { (setup : Setup) → IsIdeOf (reset_byte setup) result }
     {
@@ -100,7 +104,7 @@ impl Ide {
         self.command
     }
 
-    /// The timing register of the primary channel.
+    /// IDETIM, the timing register of the primary channel.
     pub fn timing(&self) -> u16
         ensures timing { result ≡ self.now.timing_low + 0x100 * self.now.timing_high }
         ensures high { result / 0x100 ≡ self.now.timing_high }
@@ -113,7 +117,7 @@ impl Ide {
     pub(crate) fn decodes(&self) -> bool
         ensures decodes { (bytes : Bytes) → IsIdeOf bytes self.now → result ≡ is_ide_decoded bytes }
     {
-        enables_ide_ports(self.command) && is_set(self.timing_high.into(), IDE_DECODE_ENABLE)
+        enables_ide_ports(self.command) && decodes_ide_channel(self.timing())
     }
 }
 

@@ -8,5 +8,7 @@ pub returns-clause-denial : goal.returns-clause-denial
 unfolding denial_of
 returns-clause-denial c = λ setup bytes stands.
     c.denial_in.ensures.denial setup bytes stands
-    ∙ ap (λ (area : Area). denial_in area c.args.kind (abort_denial (top_of bytes) (memory_shut setup bytes c.args.addr) (rom_unselected setup bytes c.args.addr) c.args.addr) (rom_denial (bytes (isa 0x4E))))
+    ∙ ap (λ (area : Area). denial_in area c.args.kind
+    (abort_denial (top_of bytes) (memory_shut setup bytes c.args.addr) (rom_unselected setup bytes c.args.addr)
+    c.args.addr) (rom_denial (bytes (isa 0x4E))))
     (c.area_of-area.ensures.area setup bytes stands)

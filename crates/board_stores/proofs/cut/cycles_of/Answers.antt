@@ -25,7 +25,8 @@ loop-preserved c =
           let width_is : part.width ≡ width = ap (λ (p : Access). p.width) w.part_at-part.ensures.part in
           let some : c.loop.done < access.bytes = w.if-done-access.true in
           let fits : bytes_of width ≤ left = part_within (access.addr + c.loop.done) left (omega arith) in
-          let done_is : c.if-done-access.done ≡ c.loop.done + bytes_of part.width = w.done-is ∙ ap (λ (n : ℕ). c.loop.done + n) w.bytes.ensures.bytes in
+          let done_is : c.if-done-access.done ≡ c.loop.done + bytes_of part.width =
+          w.done-is ∙ ap (λ (n : ℕ). c.loop.done + n) w.bytes.ensures.bytes in
           let items : c.if-done-access.cycles.items ≡ cycles ++ cycle ∷ [] =
           ap (λ (v : ArrayVec Cycle). v.items) w.cycles-is ∙ w.push.ensures.items in
           record {
@@ -46,17 +47,22 @@ loop-preserved c =
           record {
             inside = rw w.done-is c.loop.invariant.inside;
             few = rw w.cycles-is (omega (arith, c.loop.invariant.few));
-            parts = rw (w.cycles-is, w.done-is) (no_part access (accesses c.loop.cycles.items) c.loop.counter c.loop.done all c.loop.invariant.parts);
-            decoded = λ setup history stands image. rw w.cycles-is (c.loop.invariant.decoded setup history stands image);
+            parts =
+                rw (w.cycles-is, w.done-is)
+                (no_part access (accesses c.loop.cycles.items) c.loop.counter c.loop.done all c.loop.invariant.parts);
+            decoded = λ setup history stands image.
+                rw w.cycles-is (c.loop.invariant.decoded setup history stands image);
           }
     ]
 
 pub returns-clause-parts : goal.returns-clause-parts
 returns-clause-parts c =
-    all_parts c.args.access.now (accesses c.loop.cycles.items) c.loop.counter c.loop.done (omega arith) c.loop.invariant.parts
+    all_parts c.args.access.now (accesses c.loop.cycles.items) c.loop.counter c.loop.done (omega arith)
+    c.loop.invariant.parts
 
 pub returns-clause-decoded : goal.returns-clause-decoded
 returns-clause-decoded c = λ setup history stands image.
     c.loop.invariant.decoded setup history stands image
     ∙ ap (map (part_answer setup history))
-    (all_parts c.args.access.now (accesses c.loop.cycles.items) c.loop.counter c.loop.done (omega arith) c.loop.invariant.parts)
+    (all_parts c.args.access.now (accesses c.loop.cycles.items) c.loop.counter c.loop.done (omega arith)
+    c.loop.invariant.parts)

@@ -13,6 +13,8 @@ invariant-loop l = record {
   inside : l.done ≤ l.access.bytes;
   few : length l.cycles.items ≤ l.counter;
   parts : GoesOn l.access (accesses l.cycles.items) l.counter l.done;
-  decoded : (setup : Setup) (history : List Entry) → StandsFor setup (byte_of setup history) (map_bytes l.regs) → setup.rom ≡ l.rom →
+  decoded :
+      (setup : Setup) (history : List Entry) → StandsFor setup (byte_of setup history) (map_bytes l.regs) →
+      setup.rom ≡ l.rom →
       answers l.cycles.items ≡ map (part_answer setup history) (accesses l.cycles.items);
 }

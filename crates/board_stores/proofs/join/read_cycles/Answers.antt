@@ -26,17 +26,21 @@ loop-cycle-preserved c =
     let i = c.loop-cycle.cycle-index in
     let within = c.loop-cycle-test.true in
     let next =
-    next_shift cycles i c.loop-cycle.shift c.bytes.result _ within (few_bytes covers.0 covers.1 cycles covers.2 covers.3)
+    next_shift cycles i c.loop-cycle.shift c.bytes.result _ within
+    (few_bytes covers.0 covers.1 cycles covers.2 covers.3)
     c.bytes.ensures.bytes c.loop-cycle.invariant.shift in
     record {
       shift = next.1;
       value = λ setup history kept image.
           let read_is = c.read.ensures.value setup history kept image in
           let below =
-          value_below setup history c.args.rom.now c.args.stores.now.contents _ _ _ image (λ at. omega (arith, c.type_inv.rom at)) (c.requires.ready i _ within).held in
+          value_below setup history c.args.rom.now c.args.stores.now.contents _ _ _ image
+          (λ at. omega (arith, c.type_inv.rom at)) (c.requires.ready i _ within).held in
           rw (c.from.ensures, c.bytes.ensures.bytes)
-          (next_value (value_of setup history) cycles i c.loop-cycle.value c.loop-cycle.shift c.read.result _ within read_is
-          (rw read_is below) (rw c.bytes.ensures.bytes at next.0) (c.loop-cycle.invariant.value setup history kept image));
+          (next_value (value_of setup history) cycles i c.loop-cycle.value c.loop-cycle.shift c.read.result _ within
+          read_is
+          (rw read_is below) (rw c.bytes.ensures.bytes at next.0)
+          (c.loop-cycle.invariant.value setup history kept image));
     }
 
 pub returns : goal.returns
@@ -45,7 +49,8 @@ returns c =
     let end : drop c.loop-cycle.cycle-index cycles ≡ [] = drop_all c.loop-cycle.cycle-index cycles (omega arith) in
     record {
       value = λ setup history kept image answered.
-          whole_value (value_of setup history) cycles c.loop-cycle.cycle-index c.loop-cycle.value c.loop-cycle.shift end
+          whole_value (value_of setup history) cycles c.loop-cycle.cycle-index c.loop-cycle.value c.loop-cycle.shift
+          end
           (c.loop-cycle.invariant.value setup history kept image)
           ∙ joined_parts setup history cycles answered;
     }

@@ -10,9 +10,13 @@ loop-cycle-preserved c =
     let new = c.write.new.stores in
     let ready = c.loop-cycle.invariant.ready in
     record {
-      ready = (ready.0, λ k d within. ready_after ready.0 now.contents new.contents _ c.write.ensures.put.sizes (ready.1 k d within));
+      ready = (
+        ready.0,
+        λ k d within. ready_after ready.0 now.contents new.contents _ c.write.ensures.put.sizes (ready.1 k d within),
+      );
       put = λ last rest.
-          c.loop-cycle.invariant.put last (put_at cycles c.loop-cycle.cycle-index _ now new last c.loop-cycle-test.true c.write.ensures.put rest);
+          c.loop-cycle.invariant.put last
+          (put_at cycles c.loop-cycle.cycle-index _ now new last c.loop-cycle-test.true c.write.ensures.put rest);
     }
 
 pub returns : goal.returns

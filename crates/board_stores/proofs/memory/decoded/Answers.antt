@@ -6,6 +6,8 @@ pub returns : goal.returns
 returns c = record {
   decoded = λ setup history stands image.
       let area = c.decode-area.ensures.area setup (byte_of setup history) stands in
-      part_answered setup history c.args.access.now c.decode-area.result.0 c.target_in.result c.decode-area.result.1 area
-      (c.target_in.ensures.target setup stands.cards.0 image) (c.decode-area.ensures.denial setup (byte_of setup history) stands);
+      part_answered setup history c.args.access.now c.decode-area.result.0 c.target_in.result c.decode-area.result.1
+      area
+      (c.target_in.ensures.target setup stands.cards.0 image)
+      (c.decode-area.ensures.denial setup (byte_of setup history) stands);
 }

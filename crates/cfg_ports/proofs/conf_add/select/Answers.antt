@@ -11,4 +11,5 @@ overflow_add-result c =
 pub returns-clause-within : goal.returns-clause-within
 returns-clause-within c = λ width aligned.
     within_space c.args.address c.args.port (bit_and c.args.address 255) (bit_and c.args.port 3) width
-    (kept_address-low_bits c.args.address c.requires.kept) (grind (arith, common_steps)) (grind (arith, common_steps)) aligned
+    (kept_address-low_bits c.args.address c.requires.kept) (grind (arith, common_steps)) (grind (arith, common_steps))
+    aligned

@@ -9,6 +9,9 @@ returns-in_default c =
     let fixed : IsFixedOffset c.args.off =
     elim c.in_default.branch [
       | in_default-via-then-off-lt89 w ↦ fixed_below c.args.off (omega arith)
-      | in_default-via-else-off-lt89+else-off-lt96+else-off-lt104 w ↦ fixed_above c.args.off (omega arith) (omega arith) (omega arith)
+      | in_default-via-else-off-lt89+else-off-lt96+else-off-lt104 w ↦
+          fixed_above c.args.off (omega arith) (omega arith) (omega arith)
     ] in
-    record { byte = λ setup history is. c.fixed_byte.ensures.byte setup ∙ sym (bridge_always setup history c.args.off fixed) }
+    record {
+      byte = λ setup history is. c.fixed_byte.ensures.byte setup ∙ sym (bridge_always setup history c.args.off fixed);
+    }

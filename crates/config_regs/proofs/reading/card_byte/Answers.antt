@@ -2,12 +2,15 @@ use Rattle.std.proofs.Common.{◌≡◌, ℕ, ◌∙◌, sym, ap}
 use Rattle.board_spec.specs.Setup.{IsCard}
 use Rattle.board_spec.specs.RegisterNames.{card_register}
 use Rattle.pci_bars.specs.Cards.{IsCardOf}
-use Rattle.config_regs.proofs.Functions.{found, no_card}
+use Rattle.pci_bars.proofs.CardListLemmas.{found}
+use Rattle.config_regs.proofs.Functions.{no_card}
 use Rattle.config_regs.proofs.reading.card_byte.Goals as goal
 
 pub read-requires : goal.read-requires
 read-requires c = record {
-  card = (found (λ card. IsCard card.card) c.args.cards.now c.args.dev c.in-Some.card.now c.requires.cards (sym c.in-Some.ensures.found)).0;
+  card =
+      (found (λ card. IsCard card.card) c.args.cards.now c.args.dev c.in-Some.card.now c.requires.cards
+      (sym c.in-Some.ensures.found)).0;
 }
 
 pub returns-in-Some : goal.returns-in-Some
@@ -20,5 +23,7 @@ returns-in-Some c = record {
 
 pub returns-in-None : goal.returns-in-None
 returns-in-None c = record {
-  byte = λ setup bytes are fitted. absurd (no_card setup c.args.cards.now c.args.dev are.0 (sym c.in-None.ensures.found) fitted);
+  byte =
+      λ setup bytes are fitted.
+      absurd (no_card setup c.args.cards.now c.args.dev are.0 c.in-None.ensures.found fitted);
 }

@@ -12,4 +12,7 @@ returns-in_default c =
       | in_default-via-else-off-lt96+else-off-lt100 w ↦ inr (omega arith)
     ] in
     let fixed : IsIsaFixed c.args.off = record { select = omega arith; routing = routing } in
-    record { byte = λ setup history is. c.isa_fixed_byte.ensures.byte setup ∙ sym (isa_always setup history c.args.off fixed) }
+    record {
+      byte = λ setup history is.
+          c.isa_fixed_byte.ensures.byte setup ∙ sym (isa_always setup history c.args.off fixed);
+    }

@@ -20,10 +20,13 @@ loop-index-preserved c =
       four = length-set bytes c.from.result c.read_byte.result ∙ four;
       read = λ setup history is exists' k below. rw c.from.ensures elim (cases_eq k index) [
         | inl here ↦
-            subst (λ (j : ℕ). slice_index (set bytes index c.read_byte.result) j ≡ byte_of setup history (reg_after c.args.reg j)) (sym here)
-            (get_or-set_same bytes index c.read_byte.result 0 (omega arith) ∙ c.read_byte.ensures.byte setup history is exists')
+            subst (λ (j : ℕ). slice_index (set bytes index c.read_byte.result) j
+            ≡ byte_of setup history (reg_after c.args.reg j)) (sym here)
+            (get_or-set_same bytes index c.read_byte.result 0 (omega arith)
+            ∙ c.read_byte.ensures.byte setup history is exists')
         | inr apart ↦
-            get_or-set_other bytes index k c.read_byte.result 0 apart ∙ c.loop-index.invariant.read setup history is exists' k (omega arith)
+            get_or-set_other bytes index k c.read_byte.result 0 apart
+            ∙ c.loop-index.invariant.read setup history is exists' k (omega arith)
       ];
     }
 
@@ -31,6 +34,7 @@ pub returns : goal.returns
 returns c = record {
   value = λ setup history is exists'.
       c.read_at.ensures.value
-      ∙ wide_shifted (slice_index c.loop-index.bytes) (λ off. byte_of setup history (record c.args.reg { off = off })) c.args.reg.off c.args.width
+      ∙ wide_shifted (slice_index c.loop-index.bytes) (λ off. byte_of setup history (record c.args.reg { off = off }))
+      c.args.reg.off c.args.width
       (λ k below. c.loop-index.invariant.read setup history is exists' k (omega arith));
 }

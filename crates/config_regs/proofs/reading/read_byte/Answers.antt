@@ -11,7 +11,8 @@ returns-in-0 c = record {
   byte = λ setup history is exists'.
       let reg = c.args.reg in
       c.bridge_byte.ensures.byte setup history is.map
-      ∙ ap (λ (r : Reg). byte_of setup history r) (of_function reg 0 0 c.in-0.is (bridge_exists setup reg.dev reg.fun c.in-0.is exists'));
+      ∙ ap (λ (r : Reg). byte_of setup history r)
+      (of_function reg 0 0 c.in-0.is (bridge_exists setup reg.dev reg.fun c.in-0.is exists'));
 }
 
 pub returns-in-1 : goal.returns-in-1
@@ -28,6 +29,7 @@ returns-in_default c = record {
       let reg = c.args.reg in
       let it = card_exists setup reg.dev reg.fun (omega arith) (omega arith) exists' in
       c.card_byte.ensures.byte setup (byte_of setup history)
-      (subst (λ (cards : List CardBytes). AreCardsOf setup (byte_of setup history) cards) (sym c.deref.ensures.0) is.cards) it.1
+      (subst (λ (cards : List CardBytes). AreCardsOf setup (byte_of setup history) cards) (sym c.deref.ensures.0)
+      is.cards) it.1
       ∙ ap (λ (r : Reg). byte_of setup history r) (of_function reg reg.dev 0 refl it.0);
 }

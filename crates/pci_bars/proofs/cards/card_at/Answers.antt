@@ -7,12 +7,17 @@ use Rattle.pci_bars.proofs.cards.card_at.Goals as goal
 
 pub returns : goal.returns
 returns c =
-    let found : option_map (λ (card : Bor CardRegs). card.now) c.get.result ≡ find (λ (card : CardBytes). card.card.dev == c.args.dev) c.args.cards.now =
+    let found : option_map (λ (card : Bor CardRegs). card.now) c.get.result
+    ≡ find (λ (card : CardBytes). card.card.dev == c.args.dev) c.args.cards.now =
     at_index c.args.cards.now c.in_ok-card_index.field-0 c.get.result c.get.ensures.lookup.0 c.get.ensures.lookup.1
     ∙ at_position c.args.cards.now c.args.dev c.in_ok-card_index.field-0 c.in_ok-card_index.ensures.index in
     record {
       found = found;
-      fitted = λ setup same. map_twice c.get.result ∙ card_is setup c.args.cards.now c.args.dev (option_map (λ (card : Bor CardRegs). card.now) c.get.result) same found;
+      fitted =
+          λ setup same.
+          map_twice c.get.result
+          ∙ card_is setup c.args.cards.now c.args.dev
+          (option_map (λ (card : Bor CardRegs). card.now) c.get.result) same found;
     }
 
 pub returns-in_err-card_index : goal.returns-in_err-card_index

@@ -4,4 +4,8 @@ use Rattle.pci_bars.proofs.claims.claim_io.Goals as goal
 
 pub returns : goal.returns
 returns c =
-    record { claim = λ setup bytes are. rw (← c.from.ensures) (c.first.ensures.first ∙ io_claimed setup bytes c.args.cards.now c.from.result c.requires.cards are) }
+    record {
+      claim = λ setup bytes are.
+          rw (← c.from.ensures)
+          (c.first.ensures.first ∙ io_claimed setup bytes c.args.cards.now c.from.result c.requires.cards are);
+    }

@@ -4,4 +4,8 @@ use Rattle.pci_bars.proofs.claims.unselected_rom.Goals as goal
 
 pub returns : goal.returns
 returns c =
-    record { unselected = λ setup bytes are. c.first_device.ensures.device ∙ rom_is_unselected setup bytes c.args.cards.now c.args.addr c.requires.cards are }
+    record {
+      unselected = λ setup bytes are.
+          c.first_device.ensures.device
+          ∙ rom_is_unselected setup bytes c.args.cards.now c.args.addr c.requires.cards are;
+    }

@@ -8,4 +8,5 @@ overflow_sub-result c =
 
 pub returns : goal.returns
 returns c =
-    let size = rom_size c.args.bits c.requires.least c.requires.most in record { writable = omega (arith, size.0, size.1) }
+    let size =
+    rom_size c.args.bits c.requires.least c.requires.most in record { writable = omega (arith, size.0, size.1) }

@@ -6,12 +6,20 @@ use Rattle.pmc_regs.proofs.rows.row_of.Goals as goal
 
 pub returns-then-addr-top_of-clause-row : goal.returns-then-addr-top_of-clause-row
 returns-then-addr-top_of-clause-row c =
-    λ bytes is_rows. sym (row_above_top bytes c.args.addr (rw (← c.top_of.ensures.top bytes is_rows) c.if-addr-top_of.true))
+    λ bytes is_rows.
+    sym (row_above_top bytes c.args.addr (rw (← c.top_of.ensures.top bytes is_rows) c.if-addr-top_of.true))
 
 pub returns-clause-row : goal.returns-clause-row
 returns-clause-row c =
     let same : c.map.result ≡ c.first_above.result = search rules in
-    λ bytes is_rows. same ∙ c.first_above.ensures.first ∙ row_below_top bytes c.args.drb.now c.args.addr c.told-drb is_rows (rw (← c.top_of.ensures.top bytes is_rows) c.if-addr-top_of.false)
+    λ bytes is_rows.
+    same
+    ∙ c.first_above.ensures.first
+    ∙ row_below_top bytes c.args.drb.now c.args.addr c.told-drb is_rows
+    (rw (← c.top_of.ensures.top bytes is_rows) c.if-addr-top_of.false)
 
 pub returns-clause-none : goal.returns-clause-none
-returns-clause-none c = λ bytes is_rows. subst (λ row. IsNone row ↔ (top_by bytes ≤ c.args.addr)) (sym (returns-clause-row c bytes is_rows)) (none_above_top bytes c.args.addr)
+returns-clause-none c =
+    λ bytes is_rows.
+    subst (λ row. IsNone row ↔ (top_by bytes ≤ c.args.addr)) (sym (returns-clause-row c bytes is_rows))
+    (none_above_top bytes c.args.addr)

@@ -8,15 +8,23 @@ all_pushed : (c : goal.After-loop-spec) → cards_of c.loop-spec.cards.items ≡
 all_pushed c = c.loop-spec.invariant.pushed ∙ take_all c.loop-spec.spec-index c.args.specs.now (omega arith)
 
 pub after_reset-requires-clause-cards : goal.after_reset-requires-clause-cards
-after_reset-requires-clause-cards c = fitted_list c.loop-spec.cards.items c.args.specs.now (all_pushed c) c.requires.cards
+after_reset-requires-clause-cards c =
+    fitted_list c.loop-spec.cards.items c.args.specs.now (all_pushed c) c.requires.cards
 
 pub returns-clause-stands : goal.returns-clause-stands
-returns-clause-stands c = λ setup same. c.after_reset.ensures.stands setup (same ∙ sym (c.loop-spec.invariant.pushed ∙ take_all c.loop-spec.spec-index c.args.specs.now (omega arith)))
+returns-clause-stands c =
+    λ setup same.
+    c.after_reset.ensures.stands setup
+    (same ∙ sym (c.loop-spec.invariant.pushed ∙ take_all c.loop-spec.spec-index c.args.specs.now (omega arith)))
 
 pub returns-clause-fitted : goal.returns-clause-fitted
 returns-clause-fitted c =
     rw c.after_reset.ensures.cards
-    (fitted_list c.loop-spec.cards.items c.args.specs.now (c.loop-spec.invariant.pushed ∙ take_all c.loop-spec.spec-index c.args.specs.now (omega arith)) c.requires.cards)
+    (fitted_list c.loop-spec.cards.items c.args.specs.now
+    (c.loop-spec.invariant.pushed ∙ take_all c.loop-spec.spec-index c.args.specs.now (omega arith)) c.requires.cards)
 
 pub returns-clause-reset : goal.returns-clause-reset
-returns-clause-reset c = λ setup same. c.after_reset.ensures.reset setup (same ∙ sym (c.loop-spec.invariant.pushed ∙ take_all c.loop-spec.spec-index c.args.specs.now (omega arith)))
+returns-clause-reset c =
+    λ setup same.
+    c.after_reset.ensures.reset setup
+    (same ∙ sym (c.loop-spec.invariant.pushed ∙ take_all c.loop-spec.spec-index c.args.specs.now (omega arith)))

@@ -11,7 +11,8 @@ use Rattle.addr_decode.proofs.regs.MapRegs.store.Goals as goal
 
 pub loop-k-init : goal.loop-k-init
 loop-k-init c = record {
-  stands = λ setup bytes stands. none_stored setup bytes c.args.reg c.args.value (map_bytes c.args.self.now) c.requires.cards stands;
+  stands = λ setup bytes stands.
+      none_stored setup bytes c.args.reg c.args.value (map_bytes c.args.self.now) c.requires.cards stands;
   cards = λ setup bytes are. no_cards_stored setup bytes c.args.reg c.args.value c.args.self.now.cards.items are;
   same = refl;
 }
@@ -21,22 +22,30 @@ store_after-requires c = record {
   cards = fitted_same c.args.self.now.cards.items c.loop-k.self.cards.items c.loop-k.invariant.same c.requires.cards;
 }
 
-this_byte : (c : goal.After-store_after) → slice_index c.to_le_bytes-bytes.result c.from.result ≡ byte c.args.value c.loop-k.k
+this_byte :
+    (c : goal.After-store_after) → slice_index c.to_le_bytes-bytes.result c.from.result ≡ byte c.args.value c.loop-k.k
 this_byte c =
-    byte_in_list c.args.value c.loop-k.k c.from.result c.to_le_bytes-bytes.result c.from.ensures (omega (arith, few_bytes c.args.width)) c.to_le_bytes-bytes.ensures
+    byte_in_list c.args.value c.loop-k.k c.from.result c.to_le_bytes-bytes.result c.from.ensures
+    (omega (arith, few_bytes c.args.width)) c.to_le_bytes-bytes.ensures
 
 pub loop-k-preserved : goal.loop-k-preserved
 loop-k-preserved c = record {
   stands = λ setup bytes stands.
       one_more_stored setup bytes c.args.reg c.args.value c.loop-k.k (map_bytes c.store_after.new.self)
-      (subst (λ (stored_byte : ℕ). StandsFor setup (stored setup (stored_so_far setup bytes c.args.reg c.args.value c.loop-k.k) (reg_after c.args.reg c.loop-k.k) stored_byte) (map_bytes c.store_after.new.self))
+      (subst (λ (stored_byte : ℕ). StandsFor setup
+      (stored setup (stored_so_far setup bytes c.args.reg c.args.value c.loop-k.k) (reg_after c.args.reg c.loop-k.k)
+      stored_byte) (map_bytes c.store_after.new.self))
       (this_byte c)
-      (c.store_after.ensures.stands setup (stored_so_far setup bytes c.args.reg c.args.value c.loop-k.k) (c.loop-k.invariant.stands setup bytes stands)));
+      (c.store_after.ensures.stands setup (stored_so_far setup bytes c.args.reg c.args.value c.loop-k.k)
+      (c.loop-k.invariant.stands setup bytes stands)));
   cards = λ setup bytes are.
       more_cards_stored setup bytes c.args.reg c.args.value c.loop-k.k c.store_after.new.self.cards.items
-      (subst (λ (stored_byte : ℕ). AreCardsOf setup (stored setup (stored_so_far setup bytes c.args.reg c.args.value c.loop-k.k) (reg_after c.args.reg c.loop-k.k) stored_byte) c.store_after.new.self.cards.items)
+      (subst (λ (stored_byte : ℕ). AreCardsOf setup
+      (stored setup (stored_so_far setup bytes c.args.reg c.args.value c.loop-k.k) (reg_after c.args.reg c.loop-k.k)
+      stored_byte) c.store_after.new.self.cards.items)
       (this_byte c)
-      (c.store_after.ensures.cards setup (stored_so_far setup bytes c.args.reg c.args.value c.loop-k.k) (c.loop-k.invariant.cards setup bytes are)));
+      (c.store_after.ensures.cards setup (stored_so_far setup bytes c.args.reg c.args.value c.loop-k.k)
+      (c.loop-k.invariant.cards setup bytes are)));
   same = c.store_after.ensures.same_cards ∙ c.loop-k.invariant.same;
 }
 
@@ -44,12 +53,15 @@ pub returns-clause-stands : goal.returns-clause-stands
 returns-clause-stands c = λ setup bytes stands.
     all_stored setup bytes c.args.reg c.args.width c.args.value (map_bytes c.loop-k.self)
     (fitted_same c.args.self.now.cards.items c.loop-k.self.cards.items c.loop-k.invariant.same c.requires.cards)
-    (subst (λ (count : ℕ). StandsFor setup (stored_so_far setup bytes c.args.reg c.args.value count) (map_bytes c.loop-k.self)) (omega arith)
+    (subst
+    (λ (count : ℕ). StandsFor setup (stored_so_far setup bytes c.args.reg c.args.value count) (map_bytes c.loop-k.self))
+    (omega arith)
     (c.loop-k.invariant.stands setup bytes stands))
 
 pub returns-clause-cards : goal.returns-clause-cards
 returns-clause-cards c = λ setup bytes are.
     all_cards_stored setup bytes c.args.reg c.args.width c.args.value c.loop-k.self.cards.items
     (fitted_same c.args.self.now.cards.items c.loop-k.self.cards.items c.loop-k.invariant.same c.requires.cards).each
-    (subst (λ (count : ℕ). AreCardsOf setup (stored_so_far setup bytes c.args.reg c.args.value count) c.loop-k.self.cards.items) (omega arith)
+    (subst (λ (count : ℕ). AreCardsOf setup (stored_so_far setup bytes c.args.reg c.args.value count)
+    c.loop-k.self.cards.items) (omega arith)
     (c.loop-k.invariant.cards setup bytes are))

@@ -10,13 +10,15 @@ use Rattle.config_regs.proofs.south.South.store.Goals as goal
 pub returns-then-reg-eq-SOUTH_BRIDGE : goal.returns-then-reg-eq-SOUTH_BRIDGE
 returns-then-reg-eq-SOUTH_BRIDGE c = record {
   stored = λ setup bytes is.
-      subst (λ (at : Reg). IsSouthOf (λ r. changed_byte setup (Store at c.args.width c.args.value) r (bytes r)) c.store_bytes.new.self)
+      subst (λ (at : Reg). IsSouthOf (λ r. changed_byte setup (Store at c.args.width c.args.value) r (bytes r))
+      c.store_bytes.new.self)
       (of_device c.args.reg 1 (omega arith)) (c.store_bytes.ensures.stored setup bytes is);
   beside = λ apart. absurd (omega arith);
 }
 
 pub returns-else-reg-eq-SOUTH_BRIDGE : goal.returns-else-reg-eq-SOUTH_BRIDGE
 returns-else-reg-eq-SOUTH_BRIDGE c = record {
-  stored = λ setup bytes is. other_device setup bytes c.args.reg c.args.width c.args.value c.args.self.now (omega arith) is;
+  stored =
+      λ setup bytes is. other_device setup bytes c.args.reg c.args.width c.args.value c.args.self.now (omega arith) is;
   beside = λ apart. refl;
 }

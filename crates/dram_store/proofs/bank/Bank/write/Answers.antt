@@ -9,7 +9,10 @@ pub returns-clause-bytes : goal.returns-clause-bytes
 returns-clause-bytes c =
     let kept = c.self.inside.kept.items in
     let count = page_end c.args.at - length kept in
-    let grown : c.deref_mut.result.now ≡ kept ++ replicate count 0 = c.deref_mut.ensures.value ∙ c.keep_page.ensures.bytes in
+    let grown : c.deref_mut.result.now ≡ kept ++ replicate count 0 =
+    c.deref_mut.ensures.value ∙ c.keep_page.ensures.bytes in
     let whole : (with_items c.keep_page.new.kept c.write_at.new.bytes).items ≡ c.write_at.new.bytes =
     with_items_is c.keep_page.new.kept c.write_at.new.bytes (c.write_at.ensures.length ∙ c.deref_mut.ensures.len) in
-    rw (whole, ← c.self.view_is) (put_in_kept kept c.write_at.new.bytes count c.args.at c.args.width c.args.value (rw (← grown) c.write_at.ensures.bytes))
+    rw (whole, ← c.self.view_is)
+    (put_in_kept kept c.write_at.new.bytes count c.args.at c.args.width c.args.value
+    (rw (← grown) c.write_at.ensures.bytes))

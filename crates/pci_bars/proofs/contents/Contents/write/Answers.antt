@@ -12,26 +12,40 @@ returns-then-base-ne-ROM_BASE c =
     let slot : c.slot_of.result ≡ slot_number c.args.dev c.args.base = c.slot_of.ensures.slot in
     let view : lists c.self.inside.buffers.items ≡ c.args.self.now = c.self.view_is in
     let within : c.slot_of.result < length (lists c.self.inside.buffers.items) =
-    rw (slot, view) (slot_within c.args.self.now (slot_number c.args.dev c.args.base) c.args.off c.args.width (c.requires.place.fits kept)) in
+    rw (slot, view)
+    (slot_within c.args.self.now (slot_number c.args.dev c.args.base) c.args.off c.args.width
+    (c.requires.place.fits kept)) in
     let old : held c.args.self.now c.args.dev c.args.base ≡ c.deref_mut.result.now =
-    rw (← slot, ← view) (lists-at c.self.inside.buffers.items c.slot_of.result c.index_mut.result.now within c.index_mut.ensures.value ∙ sym c.deref_mut.ensures.value) in
-    let new : lists (set c.self.inside.buffers.items c.slot_of.result (with_items c.index_mut.result.now c.write_at.new.bytes)) ≡ set c.args.self.now (slot_number c.args.dev c.args.base) c.write_at.new.bytes =
+    rw (← slot, ← view)
+    (lists-at c.self.inside.buffers.items c.slot_of.result c.index_mut.result.now within c.index_mut.ensures.value
+    ∙ sym c.deref_mut.ensures.value) in
+    let new : lists
+    (set c.self.inside.buffers.items c.slot_of.result (with_items c.index_mut.result.now c.write_at.new.bytes))
+    ≡ set c.args.self.now (slot_number c.args.dev c.args.base) c.write_at.new.bytes =
     lists-set c.self.inside.buffers.items c.slot_of.result c.index_mut.result.now c.write_at.new.bytes (omega arith)
     ∙ ap (λ contents. set contents c.slot_of.result c.write_at.new.bytes) view
     ∙ ap (λ at. set c.args.self.now at c.write_at.new.bytes) slot in
-    let long : length c.write_at.new.bytes ≡ length (held c.args.self.now c.args.dev c.args.base) = rw old (omega arith) in
-    let bytes : (k : ℕ) → slice_index c.write_at.new.bytes k ≡ put_byte (held c.args.self.now c.args.dev c.args.base) c.args.off (bytes_of c.args.width) c.args.value k =
+    let long : length c.write_at.new.bytes ≡ length (held c.args.self.now c.args.dev c.args.base) =
+    rw old (omega arith) in
+    let bytes : (k : ℕ) → slice_index c.write_at.new.bytes k
+    ≡ put_byte (held c.args.self.now c.args.dev c.args.base) c.args.off (bytes_of c.args.width) c.args.value k =
     rw old c.write_at.ensures.bytes in
-    let w : IsWritten c.args.self.now c.args.dev c.args.base c.args.off c.args.width c.args.value (lists (set c.self.inside.buffers.items c.slot_of.result (with_items c.index_mut.result.now c.write_at.new.bytes))) =
-    rw new (written c.args.self.now c.args.dev c.args.base c.args.off c.args.width c.args.value c.write_at.new.bytes kept c.requires.place long bytes) in
+    let w : IsWritten c.args.self.now c.args.dev c.args.base c.args.off c.args.width c.args.value
+    (lists (set c.self.inside.buffers.items c.slot_of.result (with_items c.index_mut.result.now c.write_at.new.bytes)))
+    =
+    rw new
+    (written c.args.self.now c.args.dev c.args.base c.args.off c.args.width c.args.value c.write_at.new.bytes kept
+    c.requires.place long bytes) in
     record {
       sizes = w.sizes;
       bytes = w.bytes;
       stored = λ setup history entry place is wrote.
-          stored_written setup history entry place c.args.self.now _ c.args.dev c.args.base c.args.off c.args.width c.args.value w is wrote;
+          stored_written setup history entry place c.args.self.now _ c.args.dev c.args.base c.args.off c.args.width
+          c.args.value w is wrote;
     }
 
 pub returns-else-base-ne-ROM_BASE-clause-stored : goal.returns-else-base-ne-ROM_BASE-clause-stored
 returns-else-base-ne-ROM_BASE-clause-stored c = λ setup history entry place is wrote.
-    stored_written setup history entry place c.args.self.now c.args.self.now c.args.dev c.args.base c.args.off c.args.width c.args.value
+    stored_written setup history entry place c.args.self.now c.args.self.now c.args.dev c.args.base c.args.off
+    c.args.width c.args.value
     (rw c.if-base-ne-ROM_BASE.false (lost c.args.self.now c.args.dev c.args.off c.args.width c.args.value)) is wrote

@@ -3,21 +3,38 @@ use Rattle.pci_bars.proofs.CardLemmas.{read-header, read-rom, read-pin, read-res
 use Rattle.pci_bars.proofs.regs.CardRegs.read.Goals as goal
 
 pub returns-in-61 : goal.returns-in-61
-returns-in-61 c = record { byte = rw c.in-61.is (λ setup bytes is. read-pin setup bytes c.args.self.now c.requires.card is) }
+returns-in-61 c =
+    record { byte = rw c.in-61.is (λ setup bytes is. read-pin setup bytes c.args.self.now c.requires.card is) }
 
 pub returns-in-0-to-15 : goal.returns-in-0-to-15
 returns-in-0-to-15 c =
-    record { byte = rw (c.header.ensures.header, c.from.ensures) (λ setup bytes is. read-header setup bytes c.args.self.now c.args.off c.requires.card is (omega arith)) }
+    record {
+      byte =
+          rw (c.header.ensures.header, c.from.ensures)
+          (λ setup bytes is. read-header setup bytes c.args.self.now c.args.off c.requires.card is (omega arith));
+    }
 
 pub returns-in-48-to-51 : goal.returns-in-48-to-51
 returns-in-48-to-51 c =
     let fit = rw (← c.self.view_is) at c.requires.card in
-    record { byte = rw (c.byte_of.ensures.byte, ← c.self.view_is) (λ setup bytes is. read-rom setup bytes _ c.args.off fit is (omega arith) (omega arith)) }
+    record {
+      byte =
+          rw (c.byte_of.ensures.byte, ← c.self.view_is)
+          (λ setup bytes is. read-rom setup bytes _ c.args.off fit is (omega arith) (omega arith));
+    }
 
 pub returns-in_default : goal.returns-in_default
 returns-in_default c =
-    record { byte = λ setup bytes is. read-rest setup bytes c.args.self.now c.args.off c.requires.card is (omega arith) (inl (omega arith)) (λ e. omega arith) (λ e. omega arith) }
+    record {
+      byte = λ setup bytes is.
+          read-rest setup bytes c.args.self.now c.args.off c.requires.card is (omega arith) (inl (omega arith))
+          (λ e. omega arith) (λ e. omega arith);
+    }
 
 pub returns-in_default-2 : goal.returns-in_default-2
 returns-in_default-2 c =
-    record { byte = λ setup bytes is. read-rest setup bytes c.args.self.now c.args.off c.requires.card is (omega arith) (inr (omega arith)) (λ e. omega arith) (λ e. omega arith) }
+    record {
+      byte = λ setup bytes is.
+          read-rest setup bytes c.args.self.now c.args.off c.requires.card is (omega arith) (inr (omega arith))
+          (λ e. omega arith) (λ e. omega arith);
+    }

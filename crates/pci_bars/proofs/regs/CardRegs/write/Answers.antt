@@ -7,12 +7,14 @@ use Rattle.pci_bars.proofs.regs.CardRegs.write.Goals as goal
 pub returns-in-4-clause-decodes : goal.returns-in-4-clause-decodes
 returns-in-4-clause-decodes c =
     let fit = rw (← c.self.view_is) at c.requires.card in
-    rw (← c.self.view_is, c.in-4.is, c.merged-self-inside.ensures.merged) (λ setup bytes is. decodes-command setup bytes _ c.args.byte fit c.ranges.byte.fits is)
+    rw (← c.self.view_is, c.in-4.is, c.merged-self-inside.ensures.merged)
+    (λ setup bytes is. decodes-command setup bytes _ c.args.byte fit c.ranges.byte.fits is)
 
 pub returns-in-4-clause-written : goal.returns-in-4-clause-written
 returns-in-4-clause-written c =
     let fit = rw (← c.self.view_is) at c.requires.card in
-    rw (← c.self.view_is, c.in-4.is, c.merged-self-inside.ensures.merged) (λ setup bytes is. card-command setup bytes _ c.args.byte fit c.ranges.byte.fits is)
+    rw (← c.self.view_is, c.in-4.is, c.merged-self-inside.ensures.merged)
+    (λ setup bytes is. card-command setup bytes _ c.args.byte fit c.ranges.byte.fits is)
 
 pub returns-then-off-lt16-clause-written : goal.returns-then-off-lt16-clause-written
 returns-then-off-lt16-clause-written c =
@@ -22,22 +24,40 @@ returns-then-off-lt16-clause-written c =
 pub returns-in-16-to-39-clause-written : goal.returns-in-16-to-39-clause-written
 returns-in-16-to-39-clause-written c =
     let fit = rw (← c.self.view_is) at c.requires.card in
-    let write : IsByteWrite (of_base base_writable c.self.inside.spec.bases c.from-index.result) (slice_index c.self.inside.bases c.from-index.result) c.from.result c.args.byte c.with_byte.result =
-    record { fits = c.with_byte.type_inv; here = rw c.writable-writable.ensures.writable at c.with_byte.ensures.here; others = c.with_byte.ensures.others } in
+    let write : IsByteWrite (of_base base_writable c.self.inside.spec.bases c.from-index.result)
+    (slice_index c.self.inside.bases c.from-index.result) c.from.result c.args.byte c.with_byte.result =
+    record {
+      fits = c.with_byte.type_inv;
+      here = rw c.writable-writable.ensures.writable at c.with_byte.ensures.here;
+      others = c.with_byte.ensures.others;
+    } in
     let in_bases : c.from-index.result < 6 = omega arith in
     let in_long : c.from.result < 4 = omega arith in
     let place : c.args.off ≡ 0x10 + 4 * c.from-index.result + c.from.result = omega arith in
-    rw (← c.self.view_is) (λ setup bytes is. card-base_stored setup bytes _ c.args.off c.from-index.result c.from.result c.args.byte c.with_byte.result fit c.ranges.byte.fits c.self.told (record { in_bases = in_bases; in_long = in_long; place = place; write = write }) is)
+    rw (← c.self.view_is)
+    (λ setup bytes is.
+    card-base_stored setup bytes _ c.args.off c.from-index.result c.from.result c.args.byte c.with_byte.result fit
+    c.ranges.byte.fits c.self.told
+    (record { in_bases = in_bases; in_long = in_long; place = place; write = write }) is)
 
 pub returns-in-16-to-39-clause-decodes : goal.returns-in-16-to-39-clause-decodes
 returns-in-16-to-39-clause-decodes c =
     let fit = rw (← c.self.view_is) at c.requires.card in
-    let write : IsByteWrite (of_base base_writable c.self.inside.spec.bases c.from-index.result) (slice_index c.self.inside.bases c.from-index.result) c.from.result c.args.byte c.with_byte.result =
-    record { fits = c.with_byte.type_inv; here = rw c.writable-writable.ensures.writable at c.with_byte.ensures.here; others = c.with_byte.ensures.others } in
+    let write : IsByteWrite (of_base base_writable c.self.inside.spec.bases c.from-index.result)
+    (slice_index c.self.inside.bases c.from-index.result) c.from.result c.args.byte c.with_byte.result =
+    record {
+      fits = c.with_byte.type_inv;
+      here = rw c.writable-writable.ensures.writable at c.with_byte.ensures.here;
+      others = c.with_byte.ensures.others;
+    } in
     let in_bases : c.from-index.result < 6 = omega arith in
     let in_long : c.from.result < 4 = omega arith in
     let place : c.args.off ≡ 0x10 + 4 * c.from-index.result + c.from.result = omega arith in
-    rw (← c.self.view_is) (λ setup bytes is. decodes-base_stored setup bytes _ c.args.off c.from-index.result c.from.result c.args.byte c.with_byte.result fit c.ranges.byte.fits c.self.told (record { in_bases = in_bases; in_long = in_long; place = place; write = write }) is)
+    rw (← c.self.view_is)
+    (λ setup bytes is.
+    decodes-base_stored setup bytes _ c.args.off c.from-index.result c.from.result c.args.byte c.with_byte.result
+    fit c.ranges.byte.fits c.self.told
+    (record { in_bases = in_bases; in_long = in_long; place = place; write = write }) is)
 
 pub returns-else-off-lt52-clause-written : goal.returns-else-off-lt52-clause-written
 returns-else-off-lt52-clause-written c =
@@ -51,25 +71,45 @@ returns-then-off-lt48-clause-written c =
 
 pub returns-in-60-clause-decodes : goal.returns-in-60-clause-decodes
 returns-in-60-clause-decodes c =
-    rw (← c.self.view_is, c.in-60.is) (λ setup bytes is. decodes-apart setup bytes _ c.args.byte 0x3C c.args.byte (record { command = λ e. omega arith; bases = inr (omega arith); rom = inr (omega arith) }) is)
+    rw (← c.self.view_is, c.in-60.is)
+    (λ setup bytes is.
+    decodes-apart setup bytes _ c.args.byte 0x3C c.args.byte
+    (record { command = λ e. omega arith; bases = inr (omega arith); rom = inr (omega arith) }) is)
 
 pub returns-in-48-to-51-clause-written : goal.returns-in-48-to-51-clause-written
 returns-in-48-to-51-clause-written c =
     let fit = rw (← c.self.view_is) at c.requires.card in
-    let write : IsByteWrite (rom_writable c.self.inside.spec.rom) c.self.inside.rom c.from-in-48-to-51.result c.args.byte c.with_byte-self-inside.result =
-    record { fits = c.with_byte-self-inside.type_inv; here = rw c.rom_writable-writable.ensures.writable at c.with_byte-self-inside.ensures.here; others = c.with_byte-self-inside.ensures.others } in
-    rw (← c.self.view_is) (λ setup bytes is. card-rom_stored setup bytes _ c.args.off c.from-in-48-to-51.result c.args.byte c.with_byte-self-inside.result fit c.ranges.byte.fits
+    let write : IsByteWrite (rom_writable c.self.inside.spec.rom) c.self.inside.rom c.from-in-48-to-51.result
+    c.args.byte c.with_byte-self-inside.result =
+    record {
+      fits = c.with_byte-self-inside.type_inv;
+      here = rw c.rom_writable-writable.ensures.writable at c.with_byte-self-inside.ensures.here;
+      others = c.with_byte-self-inside.ensures.others;
+    } in
+    rw (← c.self.view_is)
+    (λ setup bytes is.
+    card-rom_stored setup bytes _ c.args.off c.from-in-48-to-51.result c.args.byte c.with_byte-self-inside.result
+    fit c.ranges.byte.fits
     (record { in_long = omega arith; place = omega arith; write = write }) is)
 
 pub returns-in-48-to-51-clause-decodes : goal.returns-in-48-to-51-clause-decodes
 returns-in-48-to-51-clause-decodes c =
     let fit = rw (← c.self.view_is) at c.requires.card in
-    let write : IsByteWrite (rom_writable c.self.inside.spec.rom) c.self.inside.rom c.from-in-48-to-51.result c.args.byte c.with_byte-self-inside.result =
-    record { fits = c.with_byte-self-inside.type_inv; here = rw c.rom_writable-writable.ensures.writable at c.with_byte-self-inside.ensures.here; others = c.with_byte-self-inside.ensures.others } in
-    rw (← c.self.view_is) (λ setup bytes is. decodes-rom_stored setup bytes _ c.args.off c.from-in-48-to-51.result c.args.byte c.with_byte-self-inside.result fit c.ranges.byte.fits
+    let write : IsByteWrite (rom_writable c.self.inside.spec.rom) c.self.inside.rom c.from-in-48-to-51.result
+    c.args.byte c.with_byte-self-inside.result =
+    record {
+      fits = c.with_byte-self-inside.type_inv;
+      here = rw c.rom_writable-writable.ensures.writable at c.with_byte-self-inside.ensures.here;
+      others = c.with_byte-self-inside.ensures.others;
+    } in
+    rw (← c.self.view_is)
+    (λ setup bytes is.
+    decodes-rom_stored setup bytes _ c.args.off c.from-in-48-to-51.result c.args.byte
+    c.with_byte-self-inside.result fit c.ranges.byte.fits
     (record { in_long = omega arith; place = omega arith; write = write }) is)
 
 pub returns-in-60-clause-written : goal.returns-in-60-clause-written
 returns-in-60-clause-written c =
     let fit = rw (← c.self.view_is) at c.requires.card in
-    rw (← c.self.view_is, c.in-60.is) (λ setup bytes is. card-line_stored setup bytes _ c.args.byte fit c.ranges.byte.fits is)
+    rw (← c.self.view_is, c.in-60.is)
+    (λ setup bytes is. card-line_stored setup bytes _ c.args.byte fit c.ranges.byte.fits is)

@@ -6,4 +6,8 @@ use Rattle.pci_bars.proofs.spec.CardSpec.kept_size.Goals as goal
 
 pub size-requires : goal.size-requires
 size-requires c =
-    record { base = is_base c.args.self.now.bases c.from.result (base_of c.in-Some.spec) c.requires.card.each (sym c.base.ensures.base ∙ ap (option_map base_of) c.in-Some.is) }
+    record {
+      base =
+          is_base c.args.self.now.bases c.from.result (base_of c.in-Some.spec) c.requires.card.each
+          (sym c.base.ensures.base ∙ ap (option_map base_of) c.in-Some.is);
+    }

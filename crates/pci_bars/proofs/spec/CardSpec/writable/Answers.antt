@@ -6,4 +6,8 @@ use Rattle.pci_bars.proofs.spec.CardSpec.writable.Goals as goal
 
 pub writable-requires : goal.writable-requires
 writable-requires c =
-    record { base = is_base c.args.self.now.bases c.args.index (base_of c.in-Some.base) c.requires.card.each (sym c.base.ensures.base ∙ ap (option_map base_of) c.in-Some.is) }
+    record {
+      base =
+          is_base c.args.self.now.bases c.args.index (base_of c.in-Some.base) c.requires.card.each
+          (sym c.base.ensures.base ∙ ap (option_map base_of) c.in-Some.is);
+    }

@@ -6,5 +6,12 @@ use Rattle.pmc_regs.proofs.pmc.Pmc.read.Goals.{in_default-via-then-off-lt96, in_
 pub returns-in_default : goal.returns-in_default
 returns-in_default c =
     let outside : (c.args.off < 0x60) ⊎ (0x68 < c.args.off) =
-    elim c.in_default.branch [ in_default-via-then-off-lt96 w ↦ inl (omega arith) | in_default-via-else-off-lt96+else-off-lt104 w ↦ inr (omega arith) ] in
-    record { byte = λ bytes is_pmc. fixed_read bytes c.args.self.now c.args.off c.fixed_byte.result is_pmc (c.requires.offset, outside) c.fixed_byte.ensures.byte }
+    elim c.in_default.branch [
+      | in_default-via-then-off-lt96 w ↦ inl (omega arith)
+      | in_default-via-else-off-lt96+else-off-lt104 w ↦ inr (omega arith)
+    ] in
+    record {
+      byte = λ bytes is_pmc.
+          fixed_read bytes c.args.self.now c.args.off c.fixed_byte.result is_pmc (c.requires.offset, outside)
+          c.fixed_byte.ensures.byte;
+    }

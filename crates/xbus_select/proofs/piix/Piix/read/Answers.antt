@@ -9,5 +9,7 @@ returns-in-0 c =
 pub returns-in_default : goal.returns-in_default
 returns-in_default c =
     record {
-      byte = rw (← c.self.view_is, ide_function_alone c.args.fun c.args.off c.requires.register (omega arith)) (λ bytes is_piix. c.read.ensures.byte bytes is_piix.ide);
+      byte =
+          rw (← c.self.view_is, ide_function_alone c.args.fun c.args.off c.requires.register (omega arith))
+          (λ bytes is_piix. c.read.ensures.byte bytes is_piix.ide);
     }
