@@ -75,7 +75,7 @@ impl Plain<MapChange, Mark, u64> for Changes {
 
 type Listed = Seen<Mark, u64, ListRule>;
 
-/// What asks for an entry. It takes no bytes.
+/// An entry that is asked for. It takes no bytes.
 type Asked = Offer<Mark, u64, ListRule, Nothing>;
 
 /// The word that keeps the length of the list. Whoever has it alone adds to the list.

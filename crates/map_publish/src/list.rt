@@ -1,4 +1,4 @@
-//! The list that a copy of the map stands for, for the proofs alone.
+//! The list of a copy's map, for the proofs alone.
 ghost use Rattle.std.specs.Prelude.{◌≡◌, ◌++◌, ◌∷◌, []};
 ghost use Rattle.map_publish.specs.declared.mark.Mark.TheVariants.{Opened, Changed};
 
@@ -27,36 +27,36 @@ impl Rule<Mark, u64> for AnyList {
     ghost moves = { λ ask before after answer. Unit {0} };
 }
 
-/// A list of its own, which nobody adds to. It takes no bytes.
-pub type List = Seen<Mark, u64, AnyList>;
+/// A list of marks. It takes no bytes.
+pub type Marks = Seen<Mark, u64, AnyList>;
 
-/// The list of a map that is opened.
-struct Opens;
+/// Begins with the mark of a map alone.
+struct OfMap;
 
-impl Opening<FlatMap, Mark> for Opens {
+impl Opening<FlatMap, Mark> for OfMap {
     ghost log = { λ count map. Opened map ∷ [] };
 }
 
-/// A list and a change after it.
-struct Grows;
+/// Begins with the marks of a list and that of a change.
+struct WithChange;
 
-impl Opening<(List, MapChange), Mark> for Grows {
+impl Opening<(Marks, MapChange), Mark> for WithChange {
     ghost log = { λ count both. both.0.log ++ Changed both.1 ∷ [] };
 }
 
 /// The list of a map that is opened.
-pub(crate) fn opened(map: &FlatMap) -> List
+pub(crate) fn opened(map: &FlatMap) -> Marks
     ensures list { result.log ≡ Opened map.now ∷ [] }
 {
-    let (list, _pens) = List::open_row::<FlatMap, Opens>(map, Start::alone(), 0);
+    let (list, _pens) = Marks::open_row::<FlatMap, OfMap>(map, Start::alone(), 0);
     list
 }
 
 /// A list with a change after it.
-pub(crate) fn grown(list: &List, change: &MapChange) -> List
+pub(crate) fn grown(list: &Marks, change: &MapChange) -> Marks
     ensures list { result.log ≡ list.now.log ++ Changed change.now ∷ [] }
 {
     let both = (list.again(), *change);
-    let (list, _pens) = List::open_row::<(List, MapChange), Grows>(&both, Start::alone(), 0);
+    let (list, _pens) = Marks::open_row::<(Marks, MapChange), WithChange>(&both, Start::alone(), 0);
     list
 }

@@ -125,15 +125,23 @@ impl Publisher {
         self.map().version()
     }
 
-    /// Ends the published copies. It may wait for viewers that look. They go on with copies of their own.
-    pub fn close<R: Wait>(self, rt: &R) {
+    /// Ends the published copies, and gives the map that was published last. It may wait for viewers that look. They go on
+    /// with copies of their own.
+    pub fn close<R: Wait>(self, rt: &R) -> FlatMap
+        ensures map { IsMapOfLog self.front.seen.log result }
+    {
         let Publisher {
             writer,
             head: _head,
             latest: _latest,
             front: _front,
         } = self;
-        writer.take(rt);
+        let Shown {
+            map,
+            list: _list,
+            front: _shown,
+        } = Box::into_inner(writer.take(rt));
+        map
     }
 
     /// A viewer of the published map. It has no place where none is given.

@@ -5,18 +5,18 @@ ghost use Rattle.map_publish.specs.Props.{IsMapAfter-prop};
 ghost use Rattle.map_publish.specs.declared.mark.Mark.TheVariants.{Opened, Changed};
 
 use crate::front::Front;
-use crate::list::{List, grown, opened};
+use crate::list::{Marks, grown, opened};
 use crate::mark::Mark;
 use board_spec::MapChange;
 use left_right::Absorb;
 use map_builder::FlatMap;
 use std::alloc::AllocError;
 
-/// A map, and the list that led to it, twice: as the map's own, and as what those learn who look at it.
+/// A map with its list, and the same list as viewers learn it.
 #[derive(Drop)]
 pub struct Shown {
     pub map: FlatMap,
-    pub list: List,
+    pub list: Marks,
     pub front: Front,
     pub ghost is_map: { IsMapOfLog list.log map } by { IsMapAfter-prop (opened_of list.log) (changes_of list.log) map },
 }
@@ -45,7 +45,7 @@ impl Absorb<Next> for Shown {
         match next {
             Next::Same => Ok(()),
             Next::Change(change, front) => {
-                self.make(change, front.again());
+                self.take_in(change, front.again());
                 Ok(())
             }
         }
@@ -66,7 +66,7 @@ impl Shown {
     }
 
     /// Takes in a change, and the list with the change at its end. A map that has had the most changes stays as it is.
-    fn make(&mut self, change: &MapChange, front: Front)
+    fn take_in(&mut self, change: &MapChange, front: Front)
         ensures list { self.new.list.log ≡ with_change self.old.list.log change.now }
         ensures front { self.new.front ≡ front }
     {
