@@ -46,8 +46,8 @@ pub fn ranges_of<L: Ledger>(regs: &MapRegs, steps: &mut Steps<L>) -> Ranges
 }
 
 /// Makes the ranges those of the registers, where they were a map that differs in some windows alone: those in the
-/// windows are built anew, the others stay, and equal neighbours at the borders become one. What `before` holds, then
-/// and afterwards, counts for nothing: it is room for the ranges as they were.
+/// windows are built anew, the others stay, and equal neighbours at the borders become one. `before` is room for the
+/// ranges as they were: what it holds does not matter, then or afterwards.
 pub fn rebuild<L: Ledger>(
     ranges: &mut Ranges,
     before: &mut [Range; CAPACITY],

@@ -71,7 +71,7 @@ fn push_of_store(windows: &mut Windows, regs: &MapRegs, reg: Reg, width: Width)
     }
 }
 
-/// Adds the windows of the register so many offsets after another.
+/// Adds the windows of the register `k` offsets after another.
 fn push_after(windows: &mut Windows, regs: &MapRegs, reg: Reg, k: u8)
     requires cards { AreFitted regs.now.cards.items }
     requires room { length windows.old.items ≤ 56 }
@@ -83,7 +83,7 @@ fn push_after(windows: &mut Windows, regs: &MapRegs, reg: Reg, k: u8)
     windows.try_extend_from_slice(&governed).unwrap();
 }
 
-/// The windows of the register so many offsets after another. None past offset FFh.
+/// The windows of the register `k` offsets after another. None past offset FFh.
 fn windows_after(regs: &MapRegs, reg: Reg, k: u8) -> Governed
     requires cards { AreFitted regs.now.cards.items }
     ensures windows { (setup : Setup) (bytes : Bytes) → StandsFor setup bytes (map_bytes regs.now)
@@ -111,7 +111,6 @@ fn windows_of(regs: &MapRegs, reg: Reg) -> Governed
     }
 }
 
-/// One window.
 fn one(window: Changed) -> Governed
     ensures windows { result.items ≡ window ∷ [] }
 {
@@ -120,7 +119,6 @@ fn one(window: Changed) -> Governed
     windows
 }
 
-/// Two windows.
 fn two(first: Changed, second: Changed) -> Governed
     ensures windows { result.items ≡ first ∷ second ∷ [] }
 {
@@ -129,7 +127,7 @@ fn two(first: Changed, second: Changed) -> Governed
     windows
 }
 
-/// The window of a range by its name.
+/// A range as a window.
 fn window(range: AddressRange) -> Changed
     ensures window { result ≡ from_to range.first range.last }
 {
@@ -145,7 +143,7 @@ fn bridge_windows(off: u8) -> Governed
 {
     match off {
         PAM0 => one(window(SYSTEM_BIOS)),
-        PAM1..=PAM6 => one(pam_windows(off)),
+        PAM1..=PAM6 => one(windows_of_pam(off)),
         DRB0..=DRB7 => one(ROWS),
         FDHC => two(window(HOLE_AT_512_KIB), window(HOLE_AT_15_MIB)),
         SMRAM => one(window(SMRAM_RANGE)),
@@ -154,7 +152,7 @@ fn bridge_windows(off: u8) -> Governed
 }
 
 /// The two shadow windows of a PAM register after PAM0.
-fn pam_windows(off: u8) -> Changed
+fn windows_of_pam(off: u8) -> Changed
     requires first { 0x5A ≤ off }
     requires last { off ≤ 0x5F }
     ensures windows { result ≡ from_to (0xC_0000 + 0x8000 * (off - 0x5A)) (0xC_7FFF + 0x8000 * (off - 0x5A)) }

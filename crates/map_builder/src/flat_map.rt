@@ -93,6 +93,16 @@ impl FlatMap {
         }
     }
 
+    /// Becomes equal to another map. Of the ranges it copies only those that there are.
+    pub fn copy_from(&mut self, other: &FlatMap)
+        ensures copied { self.new ≡ other.now }
+    {
+        self.regs = other.regs.copy();
+        self.ranges.clear();
+        self.ranges.try_extend_from_slice(&other.ranges).unwrap();
+        self.version = other.version;
+    }
+
     /// The ranges in rising order of address.
     pub fn ranges(&self) -> &[Range]
         ensures ranges { map range_of result.now ≡ self.now.ranges }

@@ -13,7 +13,7 @@ use board_spec::range::BOUNDARY_UNIT;
 
 /// Makes a list the windows in which the rows of the map are looked up anew: those that a change covers, in rising
 /// order. Of a store to boundaries of rows alone, only what lies between an old boundary and a new one. None where the
-/// registers are known to keep what they hold. What the list held counts for nothing.
+/// registers are known to keep what they hold. What the list held before does not matter.
 pub fn choose_windows(
     chosen: &mut Windows,
     kept: bool,

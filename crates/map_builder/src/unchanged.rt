@@ -1,13 +1,13 @@
 //! The byte of the register to which a change stores one byte, so that it can be compared before and after.
-ghost use Rattle.std.specs.Prelude.{ℕ, ◌≡◌, ◌<◌, ◌/◌, ◌%◌, IfSome, slice_index, true};
+ghost use Rattle.std.specs.Prelude.{ℕ, ◌≡◌, ◌<◌, ◌/◌, ◌%◌, ◌==◌, ◌&&◌, IfSome, is_some, slice_index, true};
 ghost use Rattle.board_spec.specs.declared.map_change.MapChange.TheVariants.{Store};
 ghost use Rattle.board_spec.specs.Setup.{Setup};
 ghost use Rattle.board_spec.specs.Bits.{byte};
 ghost use Rattle.board_spec.specs.Decode.{Bytes};
-ghost use Rattle.board_spec.specs.RegisterNames.{bridge, isa, card_register};
+ghost use Rattle.board_spec.specs.RegisterNames.{bridge, isa, card_register, xbcs};
 ghost use Rattle.pci_bars.specs.Cards.{AreDecoded, DecodesAs};
 ghost use Rattle.addr_decode.specs.MapRegs.{StandsFor, map_bytes};
-ghost use Rattle.map_builder.specs.Unchanged.{IsHeldAt, IsSameByte};
+ghost use Rattle.map_builder.specs.Unchanged.{IsHeldAt, IsSameByte, is_card, is_compared, is_compared_in_bridge, is_compared_in_card, is_compared_register};
 
 use addr_decode::{MapChange, MapRegs};
 use board_base::{Reg, Width};
@@ -16,9 +16,10 @@ use board_spec::offset::{
 };
 use pci_bars::{CardRegs, card_at};
 
-/// The byte of the register to which a change stores one byte alone. None of another change, and of a register that is
-/// not looked at.
+/// The byte of the register to which a change stores one byte alone. None for any other change, and for a register that
+/// is not compared.
 pub fn held_at(regs: &MapRegs, change: &MapChange) -> Option<u8>
+    ensures compared { is_some result ≡ is_compared regs.now.cards.items change.now }
     ensures held { (setup : Setup) (bytes : Bytes) → StandsFor setup bytes (map_bytes regs.now)
         → IfSome result (IsHeldAt change.now bytes) }
 {
@@ -31,15 +32,17 @@ pub fn held_at(regs: &MapRegs, change: &MapChange) -> Option<u8>
 /// Whether both are the same byte.
 pub fn is_same_byte(before: Option<u8>, later: Option<u8>) -> bool
     ensures same { result ≡ true → IsSameByte before later }
+    ensures other { IsSameByte before later → result ≡ true }
 {
-    match (before, later) {
-        (Some(before), Some(later)) => before == later,
-        _ => false,
+    match before {
+        Some(byte) => later == Some(byte),
+        None => false,
     }
 }
 
-/// The byte of a register to which a store of one byte goes. None of a wider store, and of a register that is not looked at.
+/// The byte of a register to which a store of one byte goes. None for a wider store.
 fn held_alone(regs: &MapRegs, reg: Reg, width: Width) -> Option<u8>
+    ensures compared { (value : ℕ) → is_some result ≡ is_compared regs.now.cards.items (Store reg width value) }
     ensures held { (setup : Setup) (bytes : Bytes) → StandsFor setup bytes (map_bytes regs.now)
         → (value : ℕ) → IfSome result (IsHeldAt (Store reg width value) bytes) }
 {
@@ -49,8 +52,9 @@ fn held_alone(regs: &MapRegs, reg: Reg, width: Width) -> Option<u8>
     }
 }
 
-/// The byte of a register. None of one that is not looked at.
+/// The byte of a register that is compared.
 fn held(regs: &MapRegs, reg: Reg) -> Option<u8>
+    ensures compared { is_some result ≡ is_compared_register regs.now.cards.items reg }
     ensures held { (setup : Setup) (bytes : Bytes) → StandsFor setup bytes (map_bytes regs.now)
         → IfSome result (λ held. held ≡ bytes reg) }
 {
@@ -66,6 +70,7 @@ fn held(regs: &MapRegs, reg: Reg) -> Option<u8>
 
 /// The byte of PAM, FDHC or SMRAM.
 fn held_by_bridge(regs: &MapRegs, off: u8) -> Option<u8>
+    ensures compared { is_some result ≡ is_compared_in_bridge off }
     ensures held { (setup : Setup) (bytes : Bytes) → StandsFor setup bytes (map_bytes regs.now)
         → IfSome result (λ held. held ≡ bytes (bridge off)) }
 {
@@ -79,6 +84,7 @@ fn held_by_bridge(regs: &MapRegs, off: u8) -> Option<u8>
 
 /// The byte of XBCS.
 fn held_by_isa(regs: &MapRegs, off: u8) -> Option<u8>
+    ensures compared { is_some result ≡ (off == xbcs.off) }
     ensures held { (setup : Setup) (bytes : Bytes) → StandsFor setup bytes (map_bytes regs.now)
         → IfSome result (λ held. held ≡ bytes (isa off)) }
 {
@@ -90,6 +96,7 @@ fn held_by_isa(regs: &MapRegs, off: u8) -> Option<u8>
 
 /// The byte of a command or a base of the card at a device number.
 fn held_by_cards(cards: &[CardRegs], dev: u8, off: u8) -> Option<u8>
+    ensures compared { is_some result ≡ (is_card cards.now dev && is_compared_in_card off) }
     ensures held { (setup : Setup) (bytes : Bytes) → AreDecoded setup bytes cards.now
         → IfSome result (λ held. held ≡ bytes (card_register dev off)) }
 {
@@ -101,6 +108,7 @@ fn held_by_cards(cards: &[CardRegs], dev: u8, off: u8) -> Option<u8>
 
 /// The byte of a command or a base of a card.
 fn held_by_card(card: &CardRegs, off: u8) -> Option<u8>
+    ensures compared { is_some result ≡ is_compared_in_card off }
     ensures held { (setup : Setup) (bytes : Bytes) → DecodesAs setup bytes card.now
         → IfSome result (λ held. held ≡ bytes (card_register card.now.card.dev off)) }
 {

@@ -42,8 +42,8 @@ fn both(here: Changed, there: Changed) -> Changed
     }
 }
 
-/// Makes a list the same addresses as some windows, in windows that rise and do not overlap. What it held counts for
-/// nothing.
+/// Makes a list the same addresses as some windows, in windows that rise and do not overlap. What it held before does
+/// not matter.
 #[tactic(auto, unfolding(crate::specs::Sorted::sorted))]
 pub fn sort_into(rising: &mut Windows, windows: &[Changed])
     requires count { length windows.now ≤ 64 }

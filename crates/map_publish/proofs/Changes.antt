@@ -1,6 +1,7 @@
 -- Maps after changes, and the changes of lists.
 use Rattle.std.proofs.Common.{◌≡◌, ◌+◌, ◌<◌, List, [], ◌∷◌, ◌++◌, length, refl, sym, ap, ◌∙◌, arith}
 use Rattle.std.specs.Prelude.{flat_map, reverse}
+use Rattle.std.proofs.lemmas.Bool.Decides.{nat_tests}
 use Rattle.std.proofs.lemmas.Grind.{flat_map-append}
 use Rattle.std.proofs.lemmas.List.{reverse-append}
 use mathlib.Core.List.{IsPrefix}
@@ -15,7 +16,7 @@ use Rattle.map_builder.specs.Changed.{after}
 use Rattle.map_publish.specs.Changes.{bytes_after, IsMapAfter}
 use Rattle.map_publish.specs.declared.mark.Mark.{Mark}
 use Rattle.map_publish.specs.declared.mark.Mark.TheVariants.{Changed}
-use Rattle.map_publish.specs.Lists.{changes_in, changes_of, opened_of}
+use Rattle.map_publish.specs.Lists.{changes_in, changes_of, opened_of, version_after, with_change, IsMapOfLog}
 
 -- ---- maps
 
@@ -58,5 +59,18 @@ pub opened_same : (front whole : List Mark) → 0 < length front → IsPrefix fr
 opened_same [] whole some prefix = absurd (omega (arith, some))
 opened_same (first ∷ later) whole some (rest, is) = ap opened_of (sym is)
 
-pub opened_added : (log : List Mark) (mark : Mark) → 0 < length log → opened_of (log ++ mark ∷ []) ≡ opened_of log
-opened_added log mark some = opened_same log (log ++ mark ∷ []) some (mark ∷ [], refl)
+-- a change at the end leaves the map that the list was opened with
+pub opened_changed : (log : List Mark) (change : MapChange) → opened_of (log ++ Changed change ∷ []) ≡ opened_of log
+opened_changed [] change = refl
+opened_changed (first ∷ later) change = refl
+
+pub with_change_below : (log : List Mark) (change : MapChange) → version_after log < 4_000_000 → with_change log change ≡ log ++ Changed change ∷ []
+with_change_below log change below = grind (arith, nat_tests)
+
+-- the map of a list with a change made in it is the map of the list with the change at its end
+pub changed_map :
+    (log : List Mark) (change : MapChange) (now next : Mapped) → IsMapOfLog log now →
+    ((setup : Setup) (bytes : Bytes) → StandsFor setup bytes now.regs → StandsFor setup (after setup change bytes) next.regs) →
+    cards_of next.regs.cards ≡ cards_of now.regs.cards → next.version ≡ now.version + 1 → IsMapOfLog (log ++ Changed change ∷ []) next
+changed_map log change now next before stands cards version =
+    rw (opened_changed log change, changes_added log change) (changed_again (opened_of log) now next (changes_of log) change before stands cards version)

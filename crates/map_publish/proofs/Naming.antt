@@ -1,12 +1,20 @@
 -- The steps on the published copies keep the rule.
-use Rattle.std.proofs.Common.{◌≡◌, ◌≢◌, ℕ, List, [], ◌∷◌, ◌++◌, fold, set, refl, sym, ◌∙◌, ap, subst, ⊎_elim}
+use Rattle.std.proofs.Common.{◌≡◌, ◌≢◌, ℕ, ◌<◌, List, [], ◌∷◌, ◌++◌, fold, set, refl, sym, ◌∙◌, ap, subst, ⊎_elim}
 use mathlib.Core.Option.{some}
 use lib.ListN.{get_elem?}
 use Rattle.left_right.specs.Register.{Admits, TurnsAt, Turns, Forks, Merges}
 use Rattle.atomic_table.proofs.Lists.{at_set, at_snoc}
 use Rattle.map_publish.specs.declared.shown.Shown.{Shown}
 use Rattle.map_publish.specs.declared.names.Name.{Name}
-use Rattle.map_publish.specs.Lists.{IsMapOfLog}
+use Rattle.map_publish.specs.declared.front.Front.{Front}
+use Rattle.map_publish.specs.declared.mark.Mark.{Mark}
+use Rattle.map_publish.specs.declared.mark.Mark.TheVariants.{Changed}
+use Rattle.map_publish.specs.declared.shown.Next.{Next}
+use Rattle.map_publish.specs.declared.shown.Next.TheVariants.{Same, Change}
+use Rattle.board_spec.specs.declared.map_change.MapChange.{MapChange}
+use Rattle.map_publish.specs.Lists.{version_after, with_change, IsMapOfLog}
+use Rattle.map_publish.specs.Published.{applied}
+use Rattle.map_publish.proofs.Changes.{with_change_below}
 use Rattle.map_publish.specs.Names.{nobody, name, Knows, Holds, Names, Stays}
 
 nobody_knows : (shown : Shown) → Knows shown nobody
@@ -60,20 +68,41 @@ names_it seat given shown next own map views holds at =
     let to = name shown.front.seen.book in
     (to, set_holds shown next views seat to (λ j other there. known other (holds j other there)) (λ named. record { own = own; map = map }), refl)
 
-replaced : (shown next given : Shown) (ops : List Shown) → ops ≡ given ∷ [] → next ≡ fold (λ _ later. later) shown ops → given ≡ next
-replaced shown next given ops is to = sym (to ∙ ap (fold (λ _ later. later) shown) is)
+-- what a copy shows once it has taken in what was published next
+step :
+    (shown next : Shown) (list : List Mark) (front : Front) → next.list.log ≡ list → next.front ≡ front →
+    front.seen.book ≡ shown.front.seen.book → list ≡ front.seen.log →
+    (next.front.seen.book ≡ shown.front.seen.book) × IsMapOfLog next.front.seen.log next.map
+step shown next list front log is own listed = (
+  ap (λ f. f.seen.book) is ∙ own,
+  subst (λ (l : List Mark). IsMapOfLog l next.map) (log ∙ (listed ∙ sym (ap (λ f. f.seen.log) is))) next.is_map,
+)
 
+taken_in :
+    (shown next : Shown) (ops : List Next) (op : Next) → ops ≡ op ∷ [] →
+    (next.list.log, next.front) ≡ fold applied (shown.list.log, shown.front) ops →
+    (next.list.log, next.front) ≡ applied (shown.list.log, shown.front) op
+taken_in shown next ops op is to = to ∙ ap (fold applied (shown.list.log, shown.front)) is
+
+-- a change is published after the others
 pub publishes :
-    (seat : ℕ) (given : Name) (shown next op : Shown) (ops : List Shown) →
-    op.front.seen.book ≡ shown.front.seen.book → IsMapOfLog op.front.seen.log op.map →
-    ops ≡ op ∷ [] → next ≡ fold (λ _ later. later) shown ops → TurnsAt Holds seat given shown next Stays
-publishes seat given shown next op ops own map is to =
-    subst (λ (x : Shown). TurnsAt Holds seat given shown x Stays) (replaced shown next op ops is to) (turns_to seat given shown op own map)
+    (seat : ℕ) (given : Name) (shown next : Shown) (change : MapChange) (front : Front) (ops : List Next) →
+    shown.list.log ≡ shown.front.seen.log → version_after shown.front.seen.log < 4_000_000 →
+    front.seen.book ≡ shown.front.seen.book → front.seen.log ≡ shown.front.seen.log ++ Changed change ∷ [] →
+    ops ≡ Change change front ∷ [] →
+    (next.list.log, next.front) ≡ fold applied (shown.list.log, shown.front) ops → TurnsAt Holds seat given shown next Stays
+publishes seat given shown next change front ops listed room own added is to =
+    let both = taken_in shown next ops (Change change front) is to in
+    let list : with_change shown.list.log change ≡ front.seen.log = rw (listed) (with_change_below shown.front.seen.log change room ∙ sym added) in
+    let done = step shown next (with_change shown.list.log change) front (ap (λ p. p.0) both) (ap (λ p. p.1) both) own list in
+    turns_to seat given shown next done.0 done.1
 
 -- the first publish names the seat
 pub begins :
-    (seat : ℕ) (given : Name) (shown next op : Shown) (ops : List Shown) →
-    op.front.seen.book ≡ shown.front.seen.book → IsMapOfLog op.front.seen.log op.map →
-    ops ≡ op ∷ [] → next ≡ fold (λ _ later. later) shown ops → TurnsAt Holds seat given shown next Names
-begins seat given shown next op ops own map is to =
-    subst (λ (x : Shown). TurnsAt Holds seat given shown x Names) (replaced shown next op ops is to) (names_it seat given shown op own map)
+    (seat : ℕ) (given : Name) (shown next : Shown) (ops : List Next) →
+    shown.list.log ≡ shown.front.seen.log → ops ≡ Same ∷ [] →
+    (next.list.log, next.front) ≡ fold applied (shown.list.log, shown.front) ops → TurnsAt Holds seat given shown next Names
+begins seat given shown next ops listed is to =
+    let both = taken_in shown next ops Same is to in
+    let done = step shown next shown.list.log shown.front (ap (λ p. p.0) both) (ap (λ p. p.1) both) refl listed in
+    names_it seat given shown next done.0 done.1

@@ -4,3 +4,4 @@ pub mod Props
 pub mod Fronts
 pub mod Names
 pub mod Laws
+pub mod Published

@@ -1,5 +1,5 @@
 -- The list of what was published: the map that was opened, and the changes since, the oldest first.
-use Rattle.std.specs.Prelude.{ℕ, ◌≡◌, ◌+◌, Bool, List, [], ◌∷◌, length, flat_map, reverse}
+use Rattle.std.specs.Prelude.{ℕ, ◌≡◌, ◌+◌, nat_lt, Bool, if◌then◌else◌, List, [], ◌∷◌, ◌++◌, length, flat_map, reverse}
 use Rattle.board_base.specs.declared.access.Kind.{Kind}
 use Rattle.board_spec.specs.declared.event.Look.{Look}
 use Rattle.board_spec.specs.declared.map_change.MapChange.{MapChange}
@@ -44,6 +44,10 @@ IsMapOfLog log now = IsMapAfter (opened_of log) (changes_of log) now
 -- the version of the opened map, and one for each change
 abbrev pub version_after : List Mark → ℕ
 version_after log = (opened_of log).version + length (changes_of log)
+
+-- the list with a change at its end, as long as the version of its map can rise
+abbrev pub with_change : List Mark → MapChange → List Mark
+with_change log change = if nat_lt (version_after log) 4_000_000 then log ++ Changed change ∷ [] else log
 
 -- a look shows the opened map after the changes: its version, and the span of the registers
 pub record IsLookIn (log : List Mark) (addr : ℕ) (kind : Kind) (smm : Bool) (look : Look) : Type 0 where

@@ -1,5 +1,5 @@
 //! What was seen of a publisher's list: the map that it opened with, and the changes since.
-ghost use Rattle.std.specs.Prelude.{◌≡◌, ◌≤◌, ◌<◌, ◌+◌, ◌++◌, ◌∷◌, [], length, IfSome, IsTrue, IsFalse};
+ghost use Rattle.std.specs.Prelude.{◌≡◌, ◌≤◌, ◌<◌, ◌+◌, ◌++◌, ◌∷◌, [], length, None, IfSome, IsTrue, IsFalse};
 ghost use mathlib.Core.List.{IsPrefix};
 ghost use Rattle.map_publish.specs.Fronts.{head_of};
 ghost use Rattle.map_publish.specs.Lists.{changes_of};
@@ -49,15 +49,34 @@ impl Play<Mark, u64> for Add {
     ghost then = { Adds };
 }
 
-impl Plain<Mark, Mark, u64> for Add {
+/// Asks for the entry of a map that is opened.
+struct Opens;
+
+impl Plain<FlatMap, Mark, u64> for Opens {
     ghost use Rattle.std.specs.Prelude.{None};
+    ghost use Rattle.map_publish.specs.declared.mark.Mark.TheVariants.{Opened};
 
-    ghost ask = { λ mark. mark };
+    ghost ask = { λ map. Opened map };
 
-    ghost state = { λ mark. None };
+    ghost state = { λ map. None };
+}
+
+/// Asks for the entry of a change.
+struct Changes;
+
+impl Plain<MapChange, Mark, u64> for Changes {
+    ghost use Rattle.std.specs.Prelude.{None};
+    ghost use Rattle.map_publish.specs.declared.mark.Mark.TheVariants.{Changed};
+
+    ghost ask = { λ change. Changed change };
+
+    ghost state = { λ change. None };
 }
 
 type Listed = Seen<Mark, u64, ListRule>;
+
+/// An entry that is asked for. It takes no bytes.
+type Asked = Offer<Mark, u64, ListRule, Nothing>;
 
 /// The word that keeps the length of the list. Whoever has it alone adds to the list.
 pub(crate) type Head = Word<Mark, u64, ListRule>;
@@ -71,21 +90,22 @@ pub struct Front {
     pub ghost begun: { length seen.log ≡ 1 + length (changes_of seen.log) },
 }
 
-/// What was seen, with an entry added to the list. None where more stands in the list.
-fn added(seen: &Listed, count: u32, head: &Head, mark: &Mark) -> Option<Listed>
+/// What was seen, with the entry added to the list that is asked for. None where more stands in the list.
+fn added(seen: &Listed, count: u32, head: &Head, asked: Asked) -> Option<Listed>
     requires head { head.now ≡ head_of seen.now.book }
     requires count { count ≡ length seen.now.log }
-    ensures added { IfSome result (λ all. (all.book ≡ seen.now.book) × (all.log ≡ seen.now.log ++ mark.now ∷ [])) }
+    requires asked { (asked.names ≡ seen.now.names) × (asked.state ≡ None) }
+    ensures added { IfSome result (λ all. (all.book ≡ seen.now.book) × (all.log ≡ seen.now.log ++ asked.ask ∷ [])) }
 {
     let mut seen = seen.again();
-    let mut offer: Offer<Mark, u64, ListRule, Nothing> = seen.plain::<Nothing, Mark, Add>(mark);
+    let mut asked = asked;
     let mut pen = seen.no_pen();
     let old = u64::from(count);
     let found = head.compare_exchange::<Add, Nothing>(
         old,
         old + 1,
         &mut seen,
-        &mut offer,
+        &mut asked,
         &mut pen,
     );
     if found == old { Some(seen) } else { None }
@@ -99,7 +119,8 @@ impl Front {
     {
         let (empty, mut first, _second) = Seen::open(Start::alone(), 0, 0);
         let head = Word::tracked(0, &mut first);
-        let seen = added(&empty, 0, &head, &Mark::Opened(map.copy()))?;
+        let asked = empty.plain::<Nothing, FlatMap, Opens>(map);
+        let seen = added(&empty, 0, &head, asked)?;
         Some((head, Front { count: 1, seen }))
     }
 
@@ -131,7 +152,8 @@ impl Front {
         ensures own { IfSome result (λ front. front.seen.book ≡ self.now.seen.book) }
         ensures added { IfSome result (λ front. front.seen.log ≡ self.now.seen.log ++ Changed change.now ∷ []) }
     {
-        let seen = added(&self.seen, self.count, head, &Mark::Changed(*change))?;
+        let asked = self.seen.plain::<Nothing, MapChange, Changes>(change);
+        let seen = added(&self.seen, self.count, head, asked)?;
         Some(Front {
             count: self.count + 1,
             seen,

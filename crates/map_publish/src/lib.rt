@@ -4,6 +4,7 @@
 
 mod front;
 pub mod laws;
+mod list;
 mod mark;
 mod names;
 mod publisher;

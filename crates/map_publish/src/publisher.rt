@@ -1,15 +1,14 @@
 //! The one who publishes.
 ghost use Rattle.std.specs.Prelude.{◌≡◌, ◌≤◌, ◌<◌, ◌++◌, ◌∷◌, [], All, drop, length, IfSome, IfOk, OnOk, MatchResult};
 ghost use Rattle.left_right.specs.Sides.{view};
-ghost use Rattle.map_publish.specs.Lists.{opened_of, changes_of, version_after, IsMapOfLog};
+ghost use Rattle.map_publish.specs.Lists.{opened_of, version_after, IsMapOfLog};
 ghost use Rattle.map_publish.specs.Fronts.{head_of};
 ghost use Rattle.map_publish.specs.declared.mark.Mark.TheVariants.{Opened, Changed};
 ghost use Rattle.map_publish.specs.Names.{name};
-ghost use Rattle.map_publish.specs.Props.{IsMapAfter-prop};
 
 use crate::front::{Front, Head};
 use crate::names::{Name, Names, Published, Stays, Tells};
-use crate::shown::Shown;
+use crate::shown::{Next, Shown};
 use crate::viewer::{Latest, Note, Viewer};
 use board_base::NoMemory;
 use board_spec::MapChange;
@@ -20,7 +19,7 @@ use std::alloc::{AllocError, Global};
 use std::sync::atomic::{AtomicU32, Ordering};
 use std::sync::{Arc, Wait};
 
-pub(crate) type Copies = Writer<Shown, Shown, Name, Published>;
+pub(crate) type Copies = Writer<Shown, Next, Name, Published>;
 
 /// A map, of which two copies are kept so that viewers can look at one while the other is changed. It is not `Drop`: end
 /// it by `close`.
@@ -33,21 +32,21 @@ pub struct Publisher {
     ghost head_is: { head ≡ head_of front.seen.book },
     ghost quiet: { drop writer.behind writer.log.items ≡ [] },
     ghost shows: { writer.desk.shown.value.front ≡ front },
-    ghost is_map: { IsMapOfLog front.seen.log writer.desk.shown.value.map } by { IsMapAfter-prop (opened_of front.seen.log) (changes_of front.seen.log) writer.desk.shown.value.map },
+    ghost listed: { writer.desk.shown.value.list.log ≡ front.seen.log },
     ghost named: { view writer.desk.place ≡ name front.seen.book },
 }
 
 /// Publishes what is published already, which names the copies.
-fn named<R: Wait>(rt: &R, writer: Copies, same: Shown) -> (Copies, Result<(), NoMemory>)
-    requires map { IsMapOfLog same.front.seen.log same.map }
+fn named<R: Wait>(rt: &R, writer: Copies) -> (Copies, Result<(), NoMemory>)
     requires quiet { drop writer.behind writer.log.items ≡ [] }
-    requires same { same ≡ writer.desk.shown.value }
-    ensures shows { OnOk result.1 (result.0.desk.shown.value ≡ same) }
+    requires listed { writer.desk.shown.value.list.log ≡ writer.desk.shown.value.front.seen.log }
+    ensures list { result.0.desk.shown.value.list.log ≡ writer.desk.shown.value.list.log }
+    ensures front { result.0.desk.shown.value.front ≡ writer.desk.shown.value.front }
     ensures quiet { drop result.0.behind result.0.log.items ≡ [] }
-    ensures named { OnOk result.1 (view result.0.desk.place ≡ name same.front.seen.book) }
+    ensures named { OnOk result.1 (view result.0.desk.place ≡ name writer.desk.shown.value.front.seen.book) }
 {
     let mut writer = writer;
-    match writer.append(same) {
+    match writer.append(Next::Same) {
         Err(_) => (writer, Err(NoMemory)),
         Ok(()) => {
             let (writer, result) = writer.publish_as::<Names, R>(rt);
@@ -57,18 +56,24 @@ fn named<R: Wait>(rt: &R, writer: Copies, same: Shown) -> (Copies, Result<(), No
     }
 }
 
-/// Publishes a map and its list in the place of what was published.
-fn published<R: Wait>(writer: Copies, what: (&R, Shown)) -> (Copies, Result<(), NoMemory>)
+/// Publishes the map with a change made in it, and the list with the change at its end.
+fn published<R: Wait>(
+    writer: Copies,
+    what: (&R, MapChange, Front),
+) -> (Copies, Result<(), NoMemory>)
     requires quiet { drop writer.behind writer.log.items ≡ [] }
-    requires own { what.1.front.seen.book ≡ writer.desk.shown.value.front.seen.book }
-    requires map { IsMapOfLog what.1.front.seen.log what.1.map }
-    ensures shows { MatchResult result.1 (λ _. result.0.desk.shown.value ≡ what.entry.1) (λ _. result.0.desk.shown.value ≡ writer.desk.shown.value) }
+    requires listed { writer.desk.shown.value.list.log ≡ writer.desk.shown.value.front.seen.log }
+    requires room { version_after writer.desk.shown.value.front.seen.log < 4_000_000 }
+    requires own { what.2.seen.book ≡ writer.desk.shown.value.front.seen.book }
+    requires added { what.2.seen.log ≡ writer.desk.shown.value.front.seen.log ++ Changed what.1 ∷ [] }
+    ensures list { MatchResult result.1 (λ _. result.0.desk.shown.value.list.log ≡ what.entry.2.seen.log) (λ _. result.0.desk.shown.value.list.log ≡ writer.desk.shown.value.list.log) }
+    ensures front { MatchResult result.1 (λ _. result.0.desk.shown.value.front ≡ what.entry.2) (λ _. result.0.desk.shown.value.front ≡ writer.desk.shown.value.front) }
     ensures quiet { drop result.0.behind result.0.log.items ≡ [] }
     ensures named { view result.0.desk.place ≡ view writer.desk.place }
 {
-    let (rt, next) = what;
+    let (rt, change, front) = what;
     let mut writer = writer;
-    match writer.append(next) {
+    match writer.append(Next::Change(change, front)) {
         Err(_) => (writer, Err(NoMemory)),
         Ok(()) => {
             let (writer, result) = writer.publish_as::<Stays, R>(rt);
@@ -88,25 +93,12 @@ impl Publisher {
         ensures opened { opened_of self.new.front.seen.log ≡ opened_of self.old.front.seen.log }
         ensures list { MatchResult result (λ _. self.new.front.seen.log ≡ self.old.front.seen.log ++ Changed change.now ∷ []) (λ _. self.new.front.seen.log ≡ self.old.front.seen.log) }
     {
-        let next = self.after(change).ok_or(NoMemory)?;
-        let front = next.front.again();
-        replace_with(&mut self.writer, (rt, next), published)?;
+        let front = self.front.add(&self.head, change).ok_or(NoMemory)?;
+        let next = (rt, *change, front.again());
+        replace_with(&mut self.writer, next, published)?;
         self.front = front;
         self.latest.store(self.front.count, Ordering::SeqCst);
         Ok(())
-    }
-
-    /// The published map with a change made in it, and its list. None where more stands in the list.
-    fn after(&self, change: &MapChange) -> Option<Shown>
-        requires room { version_after self.now.front.seen.log < 4_000_000 }
-        ensures own { IfSome result (λ next. next.front.seen.book ≡ self.now.front.seen.book) }
-        ensures list { IfSome result (λ next. next.front.seen.log ≡ self.now.front.seen.log ++ Changed change.now ∷ []) }
-        ensures map { IfSome result (λ next. IsMapOfLog next.front.seen.log next.map) }
-    {
-        let front = self.front.add(&self.head, change)?;
-        let mut map = self.map().copy();
-        map.apply(change);
-        Some(Shown { map, front })
     }
 
     /// A note of the list that is published.
@@ -133,15 +125,23 @@ impl Publisher {
         self.map().version()
     }
 
-    /// Ends the published copies. It may wait for viewers that look. They go on with copies of their own.
-    pub fn close<R: Wait>(self, rt: &R) {
+    /// Ends the published copies, and gives the map that was published last. It may wait for viewers that look. They go on
+    /// with copies of their own.
+    pub fn close<R: Wait>(self, rt: &R) -> FlatMap
+        ensures map { IsMapOfLog self.front.seen.log result }
+    {
         let Publisher {
             writer,
             head: _head,
             latest: _latest,
             front: _front,
         } = self;
-        writer.take(rt);
+        let Shown {
+            map,
+            list: _list,
+            front: _shown,
+        } = Box::into_inner(writer.take(rt));
+        map
     }
 
     /// A viewer of the published map. It has no place where none is given.
@@ -194,16 +194,16 @@ fn publisher_of<R: Wait>(
     let Ok(latest) = Arc::new(alloc, AtomicU32::new(front.count)) else {
         return Err(NoMemory);
     };
-    let (first, second, same) = (shown(map, &front), shown(map, &front), shown(map, &front));
+    let (first, second) = (Shown::new(map, &front), Shown::new(map, &front));
     let writer = Copies::new(alloc, first, second, readers as usize)?;
-    let (writer, result) = named(rt, writer, same);
+    let (writer, result) = named(rt, writer);
     if let Err(refused) = result {
         writer.take(rt);
         return Err(refused);
     }
     // Once more: two wait at most to be made in both copies, and for these there is room from here on. A change that was
     // refused for want of memory would have lengthened the list, and every later one would be refused.
-    let (writer, result) = named(rt, writer, shown(map, &front));
+    let (writer, result) = named(rt, writer);
     if let Err(refused) = result {
         writer.take(rt);
         return Err(refused);
@@ -214,19 +214,6 @@ fn publisher_of<R: Wait>(
         latest,
         front,
     })
-}
-
-/// A copy of a map, as it is opened, and its list.
-fn shown(map: &FlatMap, front: &Front) -> Shown
-    requires opened { front.now.seen.log ≡ Opened map.now ∷ [] }
-    ensures is_map { IsMapOfLog result.front.seen.log result.map }
-    ensures map { result.map ≡ map.now }
-    ensures front { result.front ≡ front.now }
-{
-    Shown {
-        map: map.copy(),
-        front: front.again(),
-    }
 }
 
 /// As many viewers as are asked for.

@@ -1,35 +1,88 @@
 //! What is published, and how a copy takes in what is published next.
-ghost use Rattle.std.specs.Prelude.{◌≡◌};
+ghost use Rattle.std.specs.Prelude.{◌≡◌, ◌<◌, ◌++◌, ◌∷◌, []};
+ghost use Rattle.map_publish.specs.Lists.{opened_of, changes_of, version_after, with_change, IsMapOfLog};
+ghost use Rattle.map_publish.specs.Props.{IsMapAfter-prop};
+ghost use Rattle.map_publish.specs.declared.mark.Mark.TheVariants.{Opened, Changed};
 
 use crate::front::Front;
+use crate::list::{Marks, grown, opened};
+use crate::mark::Mark;
+use board_spec::MapChange;
 use left_right::Absorb;
 use map_builder::FlatMap;
 use std::alloc::AllocError;
 
-/// A map, and the list that led to it.
+/// A map with its list, and the same list as viewers learn it.
 #[derive(Drop)]
 pub struct Shown {
     pub map: FlatMap,
+    pub list: Marks,
     pub front: Front,
+    pub ghost is_map: { IsMapOfLog list.log map } by { IsMapAfter-prop (opened_of list.log) (changes_of list.log) map },
 }
 
-impl Absorb<Shown> for Shown {
-    type State = Shown;
+/// What is published next.
+#[derive(Drop)]
+pub enum Next {
+    /// What is published already.
+    Same,
+    /// The map with a change made in it, and the list with the change at its end.
+    Change(MapChange, Front),
+}
 
-    ghost state = { λ shown. shown };
+impl Absorb<Next> for Shown {
+    ghost use Rattle.map_publish.specs.Published.{applied};
 
-    ghost applied = { λ shown next. next };
+    type State = ([Mark; 0], Front);
+
+    ghost state = { λ shown. (shown.list.log, shown.front) };
+
+    ghost applied = { applied };
 
     ghost never_fails = { Unit {0} };
 
-    fn absorb_first(&mut self, next: &Shown, _other: &Shown) -> Result<(), AllocError> {
-        self.map = next.map.copy();
-        self.front = next.front.again();
-        Ok(())
+    fn absorb_first(&mut self, next: &Next, _other: &Shown) -> Result<(), AllocError> {
+        match next {
+            Next::Same => Ok(()),
+            Next::Change(change, front) => {
+                self.take_in(change, front.again());
+                Ok(())
+            }
+        }
+    }
+}
+
+impl Shown {
+    /// A copy of a map, as it is opened, and its list.
+    pub(crate) fn new(map: &FlatMap, front: &Front) -> Shown
+        ensures list { result.list.log ≡ Opened map.now ∷ [] }
+        ensures front { result.front ≡ front.now }
+    {
+        Shown {
+            map: map.copy(),
+            list: opened(map),
+            front: front.again(),
+        }
     }
 
-    fn absorb_second(&mut self, next: Shown, _other: &Shown) -> Result<(), Shown> {
-        *self = next;
-        Ok(())
+    /// Takes in a change, and the list with the change at its end. A map that has had the most changes stays as it is.
+    fn take_in(&mut self, change: &MapChange, front: Front)
+        ensures list { self.new.list.log ≡ with_change self.old.list.log change.now }
+        ensures front { self.new.front ≡ front }
+    {
+        if self.map.version() < 4_000_000 {
+            self.grow(change);
+        }
+        self.front = front;
+    }
+
+    /// Makes a change in the map.
+    fn grow(&mut self, change: &MapChange)
+        requires room { version_after self.old.list.log < 4_000_000 }
+        ensures list { self.new.list.log ≡ self.old.list.log ++ Changed change.now ∷ [] }
+        ensures front { self.new.front ≡ self.old.front }
+    {
+        self.map.apply(change);
+        self.list = grown(&self.list, change);
     }
 }

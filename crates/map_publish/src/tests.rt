@@ -1,5 +1,4 @@
 ghost use Rattle.std.specs.Prelude.{◌≡◌, All, IfOk};
-ghost use Rattle.map_publish.specs.Lists.{IsMapOfLog};
 
 use super::*;
 use addr_decode::MapRegs;
@@ -137,13 +136,6 @@ fn a_viewer_without_a_place_sees_what_it_learns(rt: HostRuntime) -> Result<(), F
     seen
 }
 
-/// Closes the copies. It gives the map that was published last.
-fn closed<R: Wait>(rt: &R, publisher: Publisher) -> FlatMap {
-    let map = publisher.map().copy();
-    publisher.close(rt);
-    map
-}
-
 /// How many viewers there are, and the sum of the versions at which they look.
 fn versions_of(viewers: Vec<Viewer>) -> (usize, u32) {
     let count = viewers.len();
@@ -158,11 +150,11 @@ fn versions_of(viewers: Vec<Viewer>) -> (usize, u32) {
 fn copies_open_again_with_the_map_that_was_closed(rt: HostRuntime) -> Result<(), Fail> {
     let (mut publisher, viewers) = open(&rt, rt.alloc(), reset_map(), 2).map_err(|_| "open")?;
     let done = publish(&rt, &mut publisher, &pam0(0x10));
-    let map = closed(&rt, publisher);
+    let map = publisher.close(&rt);
     let (mut again, later) = open(&rt, rt.alloc(), map, 8).map_err(|_| "open")?;
     let versions = versions_of(later);
     let done_again = publish(&rt, &mut again, &pam0(0x00));
-    let map = closed(&rt, again);
+    let map = again.close(&rt);
     assert!(rt; done && done_again);
     assert_eq!(rt; versions, (8, 8));
     assert_eq!(rt; map.version(), 2);

@@ -96,7 +96,7 @@ impl Viewer {
         ensures learnt { self.new.front ≡ front }
         ensures opened { opened_of self.new.front.seen.log ≡ opened_of self.old.front.seen.log }
     {
-        self.map = map.copy();
+        self.map.copy_from(map);
         self.front = front;
     }
 

@@ -6,11 +6,9 @@ use Rattle.pci_bars.specs.Cards.{DecodesAs}
 use Rattle.map_builder.proofs.UnchangedLemmas.{found_decoded}
 use Rattle.map_builder.proofs.unchanged.held_by_cards.Goals as goal
 
-pub returns-in-Some : goal.returns-in-Some
-returns-in-Some c = record {
-  held = λ setup bytes are.
-      let is = found_decoded setup bytes c.args.cards.now c.args.dev c.in-Some.card.now
-      (recursion_from_All (DecodesAs setup bytes) c.args.cards.now are.1) (sym c.in-Some.ensures.found) in
-      subst (λ (dev : ℕ). IfSome c.held_by_card.result (λ held. held ≡ bytes (card_register dev c.args.off))) is.at
-      (c.held_by_card.ensures.held setup bytes is.decodes);
-}
+pub returns-in-Some-clause-held : goal.returns-in-Some-clause-held
+returns-in-Some-clause-held c = λ setup bytes are.
+    let is = found_decoded setup bytes c.args.cards.now c.args.dev c.in-Some.card.now
+    (recursion_from_All (DecodesAs setup bytes) c.args.cards.now are.1) (sym c.in-Some.ensures.found) in
+    subst (λ (dev : ℕ). IfSome c.held_by_card.result (λ held. held ≡ bytes (card_register dev c.args.off))) is.at
+    (c.held_by_card.ensures.held setup bytes is.decodes)

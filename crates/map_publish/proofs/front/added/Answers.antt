@@ -6,11 +6,11 @@ pub compare_exchange-found-requires : goal.compare_exchange-found-requires
 compare_exchange-found-requires c =
     let head = c.requires.head in
     let again = c.again-seen.ensures in
-    let offer = c.plain-offer.ensures in
+    let asked = c.requires.asked in
     let pen = c.no_pen-pen.ensures in (
       ap (λ w. w.tracked) head,
       ap (λ s. s.book) again ∙ sym (ap (λ w. w.book) head),
       pen.0 ∙ (ap (λ s. s.book) again ∙ sym (ap (λ w. w.book) head)),
-      offer.0,
-      rw (ap (λ w. w.key) head, pen.1, offer.1, offer.3, again, c.from-old.ensures) (adds_moves c.args.seen.now.log c.args.mark.now c.args.count (sym c.requires.count)),
+      asked.0 ∙ sym (ap (λ s. s.names) again),
+      rw (ap (λ w. w.key) head, pen.1, asked.1, again, c.from-old.ensures) (adds_moves c.args.seen.now.log c.args.asked.ask c.args.count (sym c.requires.count)),
     )
