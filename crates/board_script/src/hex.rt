@@ -7,26 +7,25 @@ ghost use Rattle.board_script.specs.Adds.{Adds, KeepsFront};
 
 use board_base::NoMemory;
 
+/// The digits, each at the place of its value.
+const DIGITS: [u8; 16] = *b"0123456789ABCDEF";
+
 /// The digit of the low four bits of a byte.
+#[inline]
 pub(crate) fn digit_of(byte: u8) -> char
     ensures digit { result ≡ hex_digit byte }
 {
-    let low = byte % 16;
-    if low < 10 {
-        (b'0' + low) as char
-    } else {
-        (b'A' - 10 + low) as char
-    }
+    DIGITS[usize::from(byte % 16)] as char
 }
 
 /// A byte of a value; byte 0 is the lowest, and those past the seventh are 0.
-#[tactic(auto, using(crate::proofs::Digits::power_positive))]
 fn byte_of(value: u64, index: u32) -> u8
     ensures byte { result ≡ byte value index }
 {
-    match 256_u64.checked_pow(index) {
-        Some(unit) => (value / unit % 256) as u8,
-        None => 0,
+    if index < 8 {
+        ((value >> (8 * index)) % 256) as u8
+    } else {
+        0
     }
 }
 

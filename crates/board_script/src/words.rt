@@ -17,10 +17,15 @@ pub fn push_words(text: &mut String, words: &str) -> Result<(), NoMemory>
 }
 
 /// Appends a number in decimal.
+#[tactic(auto, using(std::proofs::lemmas::Fmt::decimal_digit))]
 pub fn push_decimal(text: &mut String, number: u64) -> Result<(), NoMemory>
     ensures appended { OnOk result (Adds text.old text.new (decimal number)) }
     ensures front { OnErr result (KeepsFront text.old text.new) }
 {
+    if number < 10 {
+        text.push((b'0' + number as u8) as char)?;
+        return Ok(());
+    }
     push_words(text, Buffer::new().format(number))
 }
 
