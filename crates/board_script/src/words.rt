@@ -8,6 +8,7 @@ use board_base::NoMemory;
 use itoa::Buffer;
 
 /// Appends words as they are.
+#[inline]
 pub fn push_words(text: &mut String, words: &str) -> Result<(), NoMemory>
     ensures appended { OnOk result (Adds text.old text.new words.now) }
     ensures front { OnErr result (KeepsFront text.old text.new) }
@@ -17,15 +18,25 @@ pub fn push_words(text: &mut String, words: &str) -> Result<(), NoMemory>
 }
 
 /// Appends a number in decimal.
+#[inline]
 #[tactic(auto, using(std::proofs::lemmas::Fmt::decimal_digit))]
 pub fn push_decimal(text: &mut String, number: u64) -> Result<(), NoMemory>
     ensures appended { OnOk result (Adds text.old text.new (decimal number)) }
     ensures front { OnErr result (KeepsFront text.old text.new) }
 {
-    if number < 10 {
-        text.push((b'0' + number as u8) as char)?;
-        return Ok(());
+    if number >= 10 {
+        return push_digits(text, number);
     }
+    text.push((b'0' + number as u8) as char)?;
+    Ok(())
+}
+
+/// Appends a number in decimal, as `push_decimal` does without its short way for a single digit.
+#[inline(never)]
+fn push_digits(text: &mut String, number: u64) -> Result<(), NoMemory>
+    ensures appended { OnOk result (Adds text.old text.new (decimal number)) }
+    ensures front { OnErr result (KeepsFront text.old text.new) }
+{
     push_words(text, Buffer::new().format(number))
 }
 
