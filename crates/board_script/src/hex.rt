@@ -5,6 +5,7 @@ ghost use Rattle.board_spec.specs.Bits.{byte};
 ghost use Rattle.board_spec.specs.Text.{hex_digit, hex_byte, hex_number, hex_offset};
 ghost use Rattle.board_script.specs.Adds.{Adds, KeepsFront};
 
+use crate::words::push_ascii;
 use board_base::NoMemory;
 
 /// The digits, each at the place of its value.
@@ -12,10 +13,10 @@ const DIGITS: [u8; 16] = *b"0123456789ABCDEF";
 
 /// The digit of the low four bits of a byte.
 #[inline]
-pub(crate) fn digit_of(byte: u8) -> char
+pub(crate) fn digit_of(byte: u8) -> u8
     ensures digit { result ≡ hex_digit byte }
 {
-    DIGITS[usize::from(byte % 16)] as char
+    DIGITS[usize::from(byte % 16)]
 }
 
 /// A byte of a value; byte 0 is the lowest, and those past the seventh are 0.
@@ -34,12 +35,10 @@ pub(crate) fn push_hex_byte(text: &mut String, byte: u8) -> Result<(), NoMemory>
     ensures appended { OnOk result (Adds text.old text.new (hex_byte byte)) }
     ensures front { OnErr result (KeepsFront text.old text.new) }
 {
-    text.push(digit_of(byte / 16))?;
-    text.push(digit_of(byte))?;
-    Ok(())
+    push_ascii(text, &[digit_of(byte / 16), digit_of(byte)])
 }
 
-/// Appends as many low bytes of a value, the highest first. Bits past them do not count.
+/// Appends the low bytes of a value, `bytes` of them, the highest first.
 pub(crate) fn push_hex(text: &mut String, bytes: u32, value: u64) -> Result<(), NoMemory>
     ensures appended { OnOk result (Adds text.old text.new (hex_number bytes value)) }
     ensures front { OnErr result (KeepsFront text.old text.new) }
@@ -57,7 +56,18 @@ pub fn push_hex_long(text: &mut String, long: u32) -> Result<(), NoMemory>
     ensures appended { OnOk result (Adds text.old text.new (hex_number 4 long)) }
     ensures front { OnErr result (KeepsFront text.old text.new) }
 {
-    push_hex(text, 4, u64::from(long))
+    let [a, b, c, d] = long.to_be_bytes();
+    let digits = [
+        digit_of(a / 16),
+        digit_of(a),
+        digit_of(b / 16),
+        digit_of(b),
+        digit_of(c / 16),
+        digit_of(c),
+        digit_of(d / 16),
+        digit_of(d),
+    ];
+    push_ascii(text, &digits)
 }
 
 /// Appends an offset in a ROM, which is below 512 KiB, in five digits.
@@ -65,6 +75,6 @@ pub(crate) fn push_hex_offset(text: &mut String, offset: u32) -> Result<(), NoMe
     ensures appended { OnOk result (Adds text.old text.new (hex_offset offset)) }
     ensures front { OnErr result (KeepsFront text.old text.new) }
 {
-    text.push(digit_of(byte_of(u64::from(offset), 2)))?;
+    text.push(digit_of(byte_of(u64::from(offset), 2)) as char)?;
     push_hex(text, 2, u64::from(offset))
 }

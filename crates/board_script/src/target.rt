@@ -15,7 +15,7 @@ pub(crate) fn push_register(text: &mut String, reg: Reg) -> Result<(), NoMemory>
 {
     push_hex_byte(text, reg.dev)?;
     text.push('.')?;
-    text.push(digit_of(reg.fun))?;
+    text.push(digit_of(reg.fun) as char)?;
     text.push('.')?;
     push_hex_byte(text, reg.off)
 }

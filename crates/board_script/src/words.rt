@@ -1,11 +1,12 @@
 //! Fixed words, and numbers in decimal.
 
-ghost use Rattle.std.specs.Prelude.{◌++◌, OnOk, OnErr, decimal};
+ghost use Rattle.std.specs.Prelude.{◌++◌, OnOk, OnErr, decimal, IsAscii};
 ghost use Rattle.board_spec.specs.LogText.{two_digits};
 ghost use Rattle.board_script.specs.Adds.{Adds, KeepsFront};
 
 use board_base::NoMemory;
 use itoa::Buffer;
+use std::str;
 
 /// Appends words as they are.
 #[inline]
@@ -15,6 +16,16 @@ pub fn push_words(text: &mut String, words: &str) -> Result<(), NoMemory>
 {
     text.push_str(words)?;
     Ok(())
+}
+
+/// Appends characters of ASCII.
+#[inline]
+pub(crate) fn push_ascii(text: &mut String, characters: &[u8]) -> Result<(), NoMemory>
+    requires ascii { IsAscii characters.now }
+    ensures appended { OnOk result (Adds text.old text.new characters.now) }
+    ensures front { OnErr result (KeepsFront text.old text.new) }
+{
+    push_words(text, unsafe { str::from_utf8_unchecked(characters) })
 }
 
 /// Appends a number in decimal.
