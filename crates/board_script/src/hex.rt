@@ -38,17 +38,14 @@ pub(crate) fn push_hex_byte(text: &mut String, byte: u8) -> Result<(), NoMemory>
     push_ascii(text, &[digit_of(byte / 16), digit_of(byte)])
 }
 
-/// Appends the low bytes of a value, `bytes` of them, the highest first.
-pub(crate) fn push_hex(text: &mut String, bytes: u32, value: u64) -> Result<(), NoMemory>
-    ensures appended { OnOk result (Adds text.old text.new (hex_number bytes value)) }
+/// Appends a word in four digits.
+pub(crate) fn push_hex_word(text: &mut String, word: u16) -> Result<(), NoMemory>
+    ensures appended { OnOk result (Adds text.old text.new (hex_number 2 word)) }
     ensures front { OnErr result (KeepsFront text.old text.new) }
 {
-    let mut left = bytes;
-    while left > 0 {
-        left -= 1;
-        push_hex_byte(text, byte_of(value, left))?;
-    }
-    Ok(())
+    let [a, b] = word.to_be_bytes();
+    let digits = [digit_of(a / 16), digit_of(a), digit_of(b / 16), digit_of(b)];
+    push_ascii(text, &digits)
 }
 
 /// Appends an address or an offset, in eight digits.
@@ -68,6 +65,32 @@ pub fn push_hex_long(text: &mut String, long: u32) -> Result<(), NoMemory>
         digit_of(d),
     ];
     push_ascii(text, &digits)
+}
+
+/// Appends the low bytes of a value, `bytes` of them, the highest first.
+pub(crate) fn push_hex(text: &mut String, bytes: u32, value: u64) -> Result<(), NoMemory>
+    ensures appended { OnOk result (Adds text.old text.new (hex_number bytes value)) }
+    ensures front { OnErr result (KeepsFront text.old text.new) }
+{
+    match bytes {
+        1 => push_hex_byte(text, byte_of(value, 0)),
+        2 => push_hex_word(text, (value % (1 << 16)) as u16),
+        4 => push_hex_long(text, (value % (1 << 32)) as u32),
+        _ => push_each_byte(text, bytes, value),
+    }
+}
+
+/// Appends bytes as `push_hex` does, one at a time.
+fn push_each_byte(text: &mut String, bytes: u32, value: u64) -> Result<(), NoMemory>
+    ensures appended { OnOk result (Adds text.old text.new (hex_number bytes value)) }
+    ensures front { OnErr result (KeepsFront text.old text.new) }
+{
+    let mut left = bytes;
+    while left > 0 {
+        left -= 1;
+        push_hex_byte(text, byte_of(value, left))?;
+    }
+    Ok(())
 }
 
 /// Appends an offset in a ROM, which is below 512 KiB, in five digits.

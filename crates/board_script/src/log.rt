@@ -20,7 +20,7 @@ const LONGEST_PLACE: usize = 36;
 /// Writes the digits of a number and a mark so that they end at `end`, and returns where they start.
 fn write_number(place: &mut [u8; LONGEST_PLACE], end: usize, number: u64, mark: u8) -> usize
     requires room { length (decimal number) < end }
-    requires inside { end ≤ 36 }
+    requires inside { end ≤ length place.old }
     ensures start { result + length (decimal number) + 1 ≡ end }
     ensures written { drop result place.new ≡ decimal number ++ mark ∷ drop end place.old }
 {

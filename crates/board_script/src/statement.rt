@@ -5,7 +5,7 @@ ghost use Rattle.board_spec.specs.Text.{space, hex_long};
 ghost use Rattle.board_spec.specs.LogText.{size_text, kind_text, written_text, smm_text, memory_text, access_text, wide_text, port_text, level_text, two_digits, moment_text, event_text};
 ghost use Rattle.board_script.specs.Adds.{Adds, KeepsFront};
 
-use crate::hex::{push_hex, push_hex_long};
+use crate::hex::{push_hex, push_hex_long, push_hex_word};
 use crate::words::{push_decimal, push_numbered, push_two_digits, push_words};
 use board_base::{Access, Kind, Moment, NoMemory, PortAccess, WideAccess};
 use board_spec::Event;
@@ -116,7 +116,7 @@ fn push_port(text: &mut String, access: &PortAccess) -> Result<(), NoMemory>
     let bytes = access.width.bytes();
     push_words(text, verb)?;
     push_words(text, size_word(bytes))?;
-    push_hex(text, 2, u64::from(access.port))?;
+    push_hex_word(text, access.port)?;
     push_written(text, access.write, bytes, u64::from(access.value))
 }
 

@@ -18,7 +18,7 @@ pub fn push_words(text: &mut String, words: &str) -> Result<(), NoMemory>
     Ok(())
 }
 
-/// Appends characters of ASCII.
+/// Appends characters of ASCII. They are proved to be text, and no test is made.
 #[inline]
 pub(crate) fn push_ascii(text: &mut String, characters: &[u8]) -> Result<(), NoMemory>
     requires ascii { IsAscii characters.now }
