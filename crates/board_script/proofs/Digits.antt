@@ -1,6 +1,40 @@
--- What a byte of a number is divided by is not 0.
-use Rattle.std.proofs.Common.{ℕ, zero, suc, ◌<◌, ◌^◌, pow-suc, arith}
+-- Bytes of a number, by shifts.
+use Rattle.std.proofs.Common.{◌≡◌, ℕ, zero, suc, ◌+◌, ◌*◌, ◌/◌, ◌%◌, ◌<◌, ◌≤◌, ◌^◌, ◌++◌, [], refl, ap, sym, ◌∙◌, pow-add, arith}
+use Rattle.std.proofs.Math.Nat.{pow-le-pow_right, div-eq_of_lt}
+use Rattle.board_spec.specs.Bits.{byte}
+use Rattle.board_spec.specs.Text.{hex_byte, hex_number}
 
-pub power_positive : (k : ℕ) → 0 < 256 ^ k
-power_positive zero = omega arith
-power_positive (suc k) = let below = power_positive k in omega (arith, pow-suc 256 k)
+byte_power : (n : ℕ) → 2 ^ (8 * n) ≡ 256 ^ n
+byte_power zero = refl
+byte_power (suc n) =
+    let longer : 8 * suc n ≡ 8 + 8 * n = omega arith in
+    let one_more : 1 + n ≡ suc n = omega arith in
+    ap (λ (k : ℕ). 2 ^ k) longer
+    ∙ pow-add 2 8 (8 * n)
+    ∙ ap (λ (m : ℕ). 256 * m) (byte_power n)
+    ∙ sym (pow-add 256 1 n)
+    ∙ ap (λ (k : ℕ). 256 ^ k) one_more
+
+pub byte_shifted : (value index : ℕ) → value / 2 ^ (8 * index) % 256 ≡ byte value index
+byte_shifted value index = ap (λ (unit : ℕ). value / unit % 256) (byte_power index)
+
+-- past the bytes of 64 bits
+pub byte_past : (value index : ℕ) → value < 2 ^ 64 → 8 ≤ index → 0 ≡ byte value index
+byte_past value index small past =
+    let far : 256 ^ 8 ≤ 256 ^ index = pow-le-pow_right (omega arith) past in
+    let below : value < 256 ^ index = omega (arith, small, far) in
+    ap (λ (n : ℕ). n % 256) (sym (div-eq_of_lt below))
+
+four :
+    (a b c d e f g h : ℕ) → a ≡ e → b ≡ f → c ≡ g → d ≡ h
+    → hex_byte a ++ hex_byte b ++ hex_byte c ++ hex_byte d ++ [] ≡ hex_byte e ++ hex_byte f ++ hex_byte g ++ hex_byte h ++ []
+four a b c d e f g h one two three last = rw (one, two, three, last) refl
+
+-- the low four bytes are those of the low 32 bits
+pub low_long : (value : ℕ) → hex_number 4 value ≡ hex_number 4 (value % 2 ^ 32)
+low_long value =
+    let at_3 : byte value 3 ≡ byte (value % 2 ^ 32) 3 = omega arith in
+    let at_2 : byte value 2 ≡ byte (value % 2 ^ 32) 2 = omega arith in
+    let at_1 : byte value 1 ≡ byte (value % 2 ^ 32) 1 = omega arith in
+    let at_0 : byte value 0 ≡ byte (value % 2 ^ 32) 0 = omega arith in
+    four _ _ _ _ _ _ _ _ at_3 at_2 at_1 at_0

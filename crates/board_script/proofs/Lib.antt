@@ -1,5 +1,6 @@
 pub mod Joined
 pub mod Digits
 pub mod Lines
+pub mod Places
 pub mod ReadLines
 pub mod ReadLogs

@@ -7,7 +7,7 @@ use thiserror::Error;
 /// Why a log could not be read.
 #[derive(Clone, Copy, PartialEq, Eq, Debug, Error)]
 pub enum LogFault {
-    /// The first line, from 1 on, that with those before it begins no log.
+    /// No log begins with the lines up to this one, which is the first such line. Lines count from 1.
     #[error("line {line} is none of a log")]
     Bad { line: u32 },
     /// There was no memory.

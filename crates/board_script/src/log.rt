@@ -1,6 +1,6 @@
 //! The log of a history: a heading, and a line for each entry.
 
-ghost use Rattle.std.specs.Prelude.{◌≡◌, ◌∷◌, ◌++◌, [], OnOk, OnErr, IfOk, reverse, decimal, codes};
+ghost use Rattle.std.specs.Prelude.{◌≡◌, ◌+◌, ◌<◌, ◌≤◌, ◌∷◌, ◌++◌, [], length, drop, OnOk, OnErr, IfOk, reverse, decimal, codes};
 ghost use Rattle.board_spec.specs.Text.{space, line_feed};
 ghost use Rattle.board_spec.specs.LogText.{line_text, log_text};
 ghost use Rattle.board_script.specs.Adds.{Adds, KeepsFront};
@@ -8,10 +8,25 @@ ghost use Rattle.board_script.specs.Adds.{Adds, KeepsFront};
 use crate::line::Line;
 use crate::reply::{push_reply, reply_bytes};
 use crate::statement::push_event;
-use crate::words::{push_decimal, push_numbered, push_words};
+use crate::words::{push_ascii, push_numbered, push_words};
 use board_base::NoMemory;
 use board_spec::Entry;
+use itoa::write_digits;
 use std::alloc::Global;
+
+/// The length of the longest place: 20 digits, 3 digits and 10 digits, and a mark after each.
+const LONGEST_PLACE: usize = 36;
+
+/// Writes the digits of a number and a mark so that they end at `end`, and returns where they start.
+fn write_number(place: &mut [u8; LONGEST_PLACE], end: usize, number: u64, mark: u8) -> usize
+    requires room { length (decimal number) < end }
+    requires inside { end ≤ length place.old }
+    ensures start { result + length (decimal number) + 1 ≡ end }
+    ensures written { drop result place.new ≡ decimal number ++ mark ∷ drop end place.old }
+{
+    place[end - 1] = mark;
+    write_digits(number, place, end - 1)
+}
 
 /// Appends the number of a line, the processor and the number of its entry, with a space after each.
 fn push_place(text: &mut String, n: u64, actor: u8, seq: u32) -> Result<(), NoMemory>
@@ -19,13 +34,11 @@ fn push_place(text: &mut String, n: u64, actor: u8, seq: u32) -> Result<(), NoMe
         (decimal n ++ space ∷ decimal actor ++ codes "." ++ decimal seq ++ space ∷ [])) }
     ensures front { OnErr result (KeepsFront text.old text.new) }
 {
-    push_decimal(text, n)?;
-    text.push(' ')?;
-    push_decimal(text, u64::from(actor))?;
-    text.push('.')?;
-    push_decimal(text, u64::from(seq))?;
-    text.push(' ')?;
-    Ok(())
+    let mut place = [0; LONGEST_PLACE];
+    let seq_at = write_number(&mut place, LONGEST_PLACE, u64::from(seq), b' ');
+    let actor_at = write_number(&mut place, seq_at, u64::from(actor), b'.');
+    let at = write_number(&mut place, actor_at, n, b' ');
+    push_ascii(text, &place[at..])
 }
 
 /// Appends line `n`, without its line feed.

@@ -36,7 +36,7 @@ fn version_of(line: &[u8]) -> Option<u8>
     None
 }
 
-/// The entry whose line `n` this is. None where it is that of no entry of this version. The text is for the line as
+/// The entry of which this is line `n`. None where no entry of this version has such a line. `text` takes the line as
 /// the log would have it.
 fn read_entry(
     text: &mut String,
@@ -103,8 +103,9 @@ fn read_entries(alloc: Global, version: u8, lines: &[u8]) -> Result<Vec<Entry>, 
     Ok(entries)
 }
 
-/// Reads a log. `Ok` exactly for the text of a log of well-formed entries, which it says. Otherwise, where there is
-/// memory, it names the first line that, with those before it, begins no such text, as one without its line feed.
+/// Reads a log. `Ok` for exactly the texts of logs of well-formed entries, with the version and the entries. Otherwise,
+/// where there is memory, it names the first line that, after those before it, begins no such text: one without its
+/// line feed, for instance.
 pub fn read_log(alloc: Global, bytes: &[u8]) -> Result<Log, LogFault>
     requires { length bytes.now < 2 ^ 32 - 1 }
     ensures log { IfOk result (λ log. IsLogText log.version (reverse log.entries.items) bytes.now) }

@@ -58,8 +58,12 @@ fn push_look(text: &mut String, look: Look) -> Result<(), NoMemory>
 }
 
 /// Appends what answered and what denied it, each after a space.
-fn push_answered(text: &mut String, target: Target, denial: Option<Denial>) -> Result<(), NoMemory>
-    ensures appended { OnOk result (Adds text.old text.new (answered_text target denial)) }
+fn push_answered(
+    text: &mut String,
+    target: &Target,
+    denial: &Option<Denial>,
+) -> Result<(), NoMemory>
+    ensures appended { OnOk result (Adds text.old text.new (answered_text target.now denial.now)) }
     ensures front { OnErr result (KeepsFront text.old text.new) }
 {
     text.push(' ')?;
@@ -75,21 +79,21 @@ fn push_each(text: &mut String, parts: &[Part]) -> Result<(), NoMemory>
     ensures front { OnErr result (KeepsFront text.old text.new) }
 {
     for part in parts {
-        push_answered(text, part.target, part.denial)?;
+        push_answered(text, &part.target, &part.denial)?;
     }
     Ok(())
 }
 
 /// Appends what answered the two to four parts of a wide access, in rising order.
-fn push_parts(text: &mut String, parts: Parts) -> Result<(), NoMemory>
+fn push_parts(text: &mut String, parts: &Parts) -> Result<(), NoMemory>
     ensures appended { OnOk result (Adds text.old text.new
-        (flat_map (λ part. answered_text part.target part.denial) (parts_list parts))) }
+        (flat_map (λ part. answered_text part.target part.denial) (parts_list parts.now))) }
     ensures front { OnErr result (KeepsFront text.old text.new) }
 {
     match parts {
-        Parts::Two(a, b) => push_each(text, &[a, b]),
-        Parts::Three(a, b, c) => push_each(text, &[a, b, c]),
-        Parts::Four(a, b, c, d) => push_each(text, &[a, b, c, d]),
+        Parts::Two(a, b) => push_each(text, &[*a, *b]),
+        Parts::Three(a, b, c) => push_each(text, &[*a, *b, *c]),
+        Parts::Four(a, b, c, d) => push_each(text, &[*a, *b, *c, *d]),
     }
 }
 
@@ -99,20 +103,20 @@ pub(crate) fn push_reply(text: &mut String, bytes: u32, reply: &Reply) -> Result
     ensures appended { OnOk result (Adds text.old text.new (reply_text bytes reply.now)) }
     ensures front { OnErr result (KeepsFront text.old text.new) }
 {
-    match *reply {
+    match reply {
         Reply::Bus {
             value,
             target,
             denial,
         } => {
-            push_value(text, bytes, widened(value))?;
+            push_value(text, bytes, widened(*value))?;
             push_answered(text, target, denial)
         }
         Reply::Parts { value, parts } => {
-            push_value(text, bytes, value)?;
+            push_value(text, bytes, *value)?;
             push_parts(text, parts)
         }
-        Reply::Saw(look) => push_look(text, look),
+        Reply::Saw(look) => push_look(text, *look),
     }
 }
 

@@ -1,35 +1,36 @@
 //! What a line asks of the board, as a script spells it.
 
-ghost use Rattle.std.specs.Prelude.{◌≡◌, [], ◌∷◌, ◌++◌, ◌/◌, ◌%◌, OnOk, OnErr, codes, decimal};
+ghost use Rattle.std.specs.Prelude.{◌≡◌, [], ◌∷◌, ◌++◌, ◌/◌, ◌%◌, ◌<◌, OnOk, OnErr, codes, decimal};
 ghost use Rattle.board_spec.specs.Text.{space, hex_long};
-ghost use Rattle.board_spec.specs.LogText.{size_text, kind_text, written_text, smm_text, access_text, wide_text, port_text, level_text, two_digits, moment_text, event_text};
+ghost use Rattle.board_spec.specs.LogText.{size_text, kind_text, written_text, smm_text, memory_text, access_text, wide_text, port_text, level_text, two_digits, moment_text, event_text};
 ghost use Rattle.board_script.specs.Adds.{Adds, KeepsFront};
 
-use crate::hex::{push_hex, push_hex_long};
+use crate::hex::{push_hex, push_hex_long, push_hex_word};
 use crate::words::{push_decimal, push_numbered, push_two_digits, push_words};
 use board_base::{Access, Kind, Moment, NoMemory, PortAccess, WideAccess};
 use board_spec::Event;
 
-/// The letter of a width in bytes.
-fn size_letter(bytes: u32) -> &'static str
-    ensures letter { result.now ≡ size_text bytes }
+/// The letter of a width in bytes, between spaces.
+fn size_word(bytes: u32) -> &'static str
+    ensures word { result.now ≡ space ∷ size_text bytes ++ space ∷ [] }
 {
     match bytes {
-        1 => "b",
-        2 => "w",
-        4 => "d",
-        _ => "q",
+        1 => " b ",
+        2 => " w ",
+        4 => " d ",
+        _ => " q ",
     }
 }
 
 /// The letter of a kind of access.
-fn kind_letter(kind: Kind) -> &'static str
-    ensures letter { result.now ≡ kind_text kind }
+fn kind_letter(kind: Kind) -> char
+    ensures letter { result ∷ [] ≡ kind_text kind }
+    ensures ascii { result < 128 }
 {
     match kind {
-        Kind::Fetch => "f",
-        Kind::Read => "r",
-        Kind::Write => "w",
+        Kind::Fetch => 'f',
+        Kind::Read => 'r',
+        Kind::Write => 'w',
     }
 }
 
@@ -57,53 +58,65 @@ fn push_smm(text: &mut String, smm: bool) -> Result<(), NoMemory>
     }
 }
 
-/// Appends a verb, the letter of a width and a space.
-fn push_verb(text: &mut String, verb: &str, bytes: u32) -> Result<(), NoMemory>
-    ensures appended { OnOk result (Adds text.old text.new
-        (verb.now ++ space ∷ size_text bytes ++ space ∷ [])) }
-    ensures front { OnErr result (KeepsFront text.old text.new) }
-{
-    push_words(text, verb)?;
-    text.push(' ')?;
-    push_words(text, size_letter(bytes))?;
-    text.push(' ')?;
-    Ok(())
-}
-
-/// An access in one bus cycle, written as one of so many bytes.
-fn widened(access: Access) -> WideAccess
-    ensures same { wide_text result ≡ access_text access }
-{
-    WideAccess {
-        kind: access.kind,
-        addr: access.addr,
-        bytes: access.width.bytes() as u8,
-        smm: access.smm,
-        value: u64::from(access.value),
-    }
-}
-
 /// Appends an access to memory of so many bytes, like `w b 000CC000 02`.
-fn push_access(text: &mut String, access: WideAccess) -> Result<(), NoMemory>
-    ensures appended { OnOk result (Adds text.old text.new (wide_text access)) }
+fn push_memory(
+    text: &mut String,
+    kind: Kind,
+    bytes: u32,
+    addr: u32,
+    value: u64,
+    smm: bool,
+) -> Result<(), NoMemory>
+    ensures appended { OnOk result (Adds text.old text.new (memory_text kind bytes addr value smm)) }
     ensures front { OnErr result (KeepsFront text.old text.new) }
 {
-    let bytes = u32::from(access.bytes);
-    push_verb(text, kind_letter(access.kind), bytes)?;
-    push_hex_long(text, access.addr)?;
-    push_written(text, access.kind.is_write(), bytes, access.value)?;
-    push_smm(text, access.smm)
+    text.push(kind_letter(kind))?;
+    push_words(text, size_word(bytes))?;
+    push_hex_long(text, addr)?;
+    push_written(text, kind.is_write(), bytes, value)?;
+    push_smm(text, smm)
+}
+
+/// Appends an access to memory that one bus cycle moves.
+fn push_access(text: &mut String, access: &Access) -> Result<(), NoMemory>
+    ensures appended { OnOk result (Adds text.old text.new (access_text access.now)) }
+    ensures front { OnErr result (KeepsFront text.old text.new) }
+{
+    push_memory(
+        text,
+        access.kind,
+        access.width.bytes(),
+        access.addr,
+        u64::from(access.value),
+        access.smm,
+    )
+}
+
+/// Appends an access to memory that takes several bus cycles.
+fn push_wide(text: &mut String, access: &WideAccess) -> Result<(), NoMemory>
+    ensures appended { OnOk result (Adds text.old text.new (wide_text access.now)) }
+    ensures front { OnErr result (KeepsFront text.old text.new) }
+{
+    push_memory(
+        text,
+        access.kind,
+        u32::from(access.bytes),
+        access.addr,
+        access.value,
+        access.smm,
+    )
 }
 
 /// Appends an access to a port, like `out d 0CF8 80000058`.
-fn push_port(text: &mut String, access: PortAccess) -> Result<(), NoMemory>
-    ensures appended { OnOk result (Adds text.old text.new (port_text access)) }
+fn push_port(text: &mut String, access: &PortAccess) -> Result<(), NoMemory>
+    ensures appended { OnOk result (Adds text.old text.new (port_text access.now)) }
     ensures front { OnErr result (KeepsFront text.old text.new) }
 {
     let verb = if access.write { "out" } else { "in" };
     let bytes = access.width.bytes();
-    push_verb(text, verb, bytes)?;
-    push_hex(text, 2, u64::from(access.port))?;
+    push_words(text, verb)?;
+    push_words(text, size_word(bytes))?;
+    push_hex_word(text, access.port)?;
     push_written(text, access.write, bytes, u64::from(access.value))
 }
 
@@ -114,7 +127,7 @@ fn push_look_at(text: &mut String, kind: Kind, addr: u32, smm: bool) -> Result<(
     ensures front { OnErr result (KeepsFront text.old text.new) }
 {
     push_words(text, "look ")?;
-    push_words(text, kind_letter(kind))?;
+    text.push(kind_letter(kind))?;
     text.push(' ')?;
     push_hex_long(text, addr)?;
     push_smm(text, smm)
@@ -198,16 +211,16 @@ pub(crate) fn push_event(text: &mut String, event: &Event) -> Result<(), NoMemor
     ensures appended { OnOk result (Adds text.old text.new (event_text event.now)) }
     ensures front { OnErr result (KeepsFront text.old text.new) }
 {
-    match *event {
-        Event::Memory(access) => push_access(text, widened(access)),
-        Event::Wide(access) => push_access(text, access),
+    match event {
+        Event::Memory(access) => push_access(text, access),
+        Event::Wide(access) => push_wide(text, access),
         Event::Port(access) => push_port(text, access),
-        Event::Look { kind, addr, smm } => push_look_at(text, kind, addr, smm),
+        Event::Look { kind, addr, smm } => push_look_at(text, *kind, *addr, *smm),
         Event::Ack => push_words(text, "ack"),
-        Event::Pulses(count) => push_count(text, "pulse ", count),
-        Event::Time(moment) => push_time(text, moment),
-        Event::Wire { dev, on } => push_level(text, "wire ", dev, on),
-        Event::Line { irq, on } => push_level(text, "irq ", irq, on),
-        Event::BadSector(sector) => push_count(text, "bad ", sector),
+        Event::Pulses(count) => push_count(text, "pulse ", *count),
+        Event::Time(moment) => push_time(text, *moment),
+        Event::Wire { dev, on } => push_level(text, "wire ", *dev, *on),
+        Event::Line { irq, on } => push_level(text, "irq ", *irq, *on),
+        Event::BadSector(sector) => push_count(text, "bad ", *sector),
     }
 }

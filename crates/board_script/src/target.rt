@@ -15,7 +15,7 @@ pub(crate) fn push_register(text: &mut String, reg: Reg) -> Result<(), NoMemory>
 {
     push_hex_byte(text, reg.dev)?;
     text.push('.')?;
-    text.push(digit_of(reg.fun))?;
+    text.push(digit_of(reg.fun) as char)?;
     text.push('.')?;
     push_hex_byte(text, reg.off)
 }
@@ -96,30 +96,30 @@ fn push_config(text: &mut String, reg: Reg) -> Result<(), NoMemory>
 }
 
 /// Appends what answered an access.
-pub(crate) fn push_target(text: &mut String, target: Target) -> Result<(), NoMemory>
-    ensures appended { OnOk result (Adds text.old text.new (target_text target)) }
+pub(crate) fn push_target(text: &mut String, target: &Target) -> Result<(), NoMemory>
+    ensures appended { OnOk result (Adds text.old text.new (target_text target.now)) }
     ensures front { OnErr result (KeepsFront text.old text.new) }
 {
     match target {
-        Target::Dram(row) => push_numbered(text, "dram:", row),
-        Target::Shadow(row) => push_numbered(text, "shadow:", row),
+        Target::Dram(row) => push_numbered(text, "dram:", *row),
+        Target::Shadow(row) => push_numbered(text, "shadow:", *row),
         Target::Smram => push_words(text, "smram"),
-        Target::Rom(offset) => push_rom(text, offset),
-        Target::Card(dev, base, offset) => push_card(text, dev, base, offset),
-        Target::Device(dev) => push_device(text, dev),
-        Target::Config(reg) => push_config(text, reg),
+        Target::Rom(offset) => push_rom(text, *offset),
+        Target::Card(dev, base, offset) => push_card(text, *dev, *base, *offset),
+        Target::Device(dev) => push_device(text, *dev),
+        Target::Config(reg) => push_config(text, *reg),
         Target::Abort => push_words(text, "abort"),
     }
 }
 
 /// Appends what denied an access, `-` where nothing did, and `none` where no register could help.
-pub(crate) fn push_denial(text: &mut String, denial: Option<Denial>) -> Result<(), NoMemory>
-    ensures appended { OnOk result (Adds text.old text.new (denial_text denial)) }
+pub(crate) fn push_denial(text: &mut String, denial: &Option<Denial>) -> Result<(), NoMemory>
+    ensures appended { OnOk result (Adds text.old text.new (denial_text denial.now)) }
     ensures front { OnErr result (KeepsFront text.old text.new) }
 {
     match denial {
         None => push_words(text, "-"),
-        Some(Denial::Register(reg)) => push_register(text, reg),
+        Some(Denial::Register(reg)) => push_register(text, *reg),
         Some(Denial::Confadd) => push_words(text, "confadd"),
         Some(Denial::NoRegister) => push_words(text, "none"),
     }

@@ -1,13 +1,15 @@
 //! Fixed words, and numbers in decimal.
 
-ghost use Rattle.std.specs.Prelude.{◌++◌, OnOk, OnErr, decimal};
+ghost use Rattle.std.specs.Prelude.{◌++◌, OnOk, OnErr, decimal, IsAscii};
 ghost use Rattle.board_spec.specs.LogText.{two_digits};
 ghost use Rattle.board_script.specs.Adds.{Adds, KeepsFront};
 
 use board_base::NoMemory;
 use itoa::Buffer;
+use std::str;
 
 /// Appends words as they are.
+#[inline]
 pub fn push_words(text: &mut String, words: &str) -> Result<(), NoMemory>
     ensures appended { OnOk result (Adds text.old text.new words.now) }
     ensures front { OnErr result (KeepsFront text.old text.new) }
@@ -16,8 +18,33 @@ pub fn push_words(text: &mut String, words: &str) -> Result<(), NoMemory>
     Ok(())
 }
 
+/// Appends characters of ASCII. They are proved to be text, and no test is made.
+#[inline]
+pub(crate) fn push_ascii(text: &mut String, characters: &[u8]) -> Result<(), NoMemory>
+    requires ascii { IsAscii characters.now }
+    ensures appended { OnOk result (Adds text.old text.new characters.now) }
+    ensures front { OnErr result (KeepsFront text.old text.new) }
+{
+    push_words(text, unsafe { str::from_utf8_unchecked(characters) })
+}
+
 /// Appends a number in decimal.
+#[inline]
+#[tactic(auto, using(std::proofs::lemmas::Fmt::decimal_digit))]
 pub fn push_decimal(text: &mut String, number: u64) -> Result<(), NoMemory>
+    ensures appended { OnOk result (Adds text.old text.new (decimal number)) }
+    ensures front { OnErr result (KeepsFront text.old text.new) }
+{
+    if number >= 10 {
+        return push_digits(text, number);
+    }
+    text.push((b'0' + number as u8) as char)?;
+    Ok(())
+}
+
+/// Appends a number in decimal, as `push_decimal` does without its short way for a single digit.
+#[inline(never)]
+fn push_digits(text: &mut String, number: u64) -> Result<(), NoMemory>
     ensures appended { OnOk result (Adds text.old text.new (decimal number)) }
     ensures front { OnErr result (KeepsFront text.old text.new) }
 {

@@ -2,7 +2,7 @@ use Rattle.std.proofs.Common.{◌≡◌, ◌++◌}
 use Rattle.std.specs.String.{string_bytes}
 use Rattle.board_spec.specs.Text.{hex_number}
 use Rattle.board_script.specs.Adds.{KeepsFront}
-use Rattle.board_script.proofs.hex.push_hex.Given as goal
+use Rattle.board_script.proofs.hex.push_each_byte.Given as goal
 
 -- what is written and what is still to come
 abbrev pub invariant-loop-left : goal.invariant-loop-left

@@ -1,0 +1,25 @@
+-- The place of a line: three numbers with a mark after each.
+use Rattle.std.proofs.Common.{ℕ, zero, suc, ◌<◌, ◌≤◌, ◌^◌, List, [], ◌∷◌, ◌++◌, length, decimal, arith}
+use Rattle.std.specs.Str.{IsAscii}
+use Rattle.std.proofs.lemmas.Fmt.{length-decimal-le, IsAscii-decimal}
+use Rattle.std.proofs.lemmas.Str.{IsAscii-append}
+
+pub long_line : (n : ℕ) → n < 2 ^ 64 → length (decimal n) ≤ 20
+long_line n fits = length-decimal-le 20 n (omega arith) (omega (arith, fits)) fits
+
+pub long_seq : (n : ℕ) → n < 2 ^ 32 → length (decimal n) ≤ 10
+long_seq n fits = length-decimal-le 10 n (omega arith) (omega (arith, fits)) (omega (arith, fits))
+
+pub long_actor : (n : ℕ) → n < 2 ^ 8 → length (decimal n) ≤ 3
+long_actor n fits = length-decimal-le 3 n (omega arith) (omega (arith, fits)) (omega (arith, fits))
+
+ascii_one : (x : ℕ) → x < 128 → IsAscii (x ∷ [])
+ascii_one x small zero = small
+ascii_one x small (suc i) = omega arith
+
+-- a number, a mark and what follows
+pub ascii_marked :
+    (n mark : ℕ) (rest : List ℕ) → n < 2 ^ 64 → mark < 128 → IsAscii rest → IsAscii (decimal n ++ mark ∷ rest)
+ascii_marked n mark rest fits small after =
+    IsAscii-append (decimal n) (mark ∷ rest) (IsAscii-decimal n fits)
+    (IsAscii-append (mark ∷ []) rest (ascii_one mark small) after)
