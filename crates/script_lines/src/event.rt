@@ -87,7 +87,15 @@ fn is_wide(version: u8, bytes: u8, addr: u32) -> bool
     requires size { IsSize version bytes }
     ensures wide { result ≡ is_wide version bytes addr }
 {
-    version == 2 && (bytes == 8 || addr % u32::from(bytes) != 0)
+    if version != 2 {
+        return false;
+    }
+    match bytes {
+        1 => false,
+        2 => addr % 2 != 0,
+        4 => addr % 4 != 0,
+        _ => true,
+    }
 }
 
 /// An access to memory of so many bytes.

@@ -1,7 +1,7 @@
 //! Numbers as a script writes them.
 
 ghost use Rattle.std.specs.Prelude.{◌≡◌, ◌<◌, ◌≤◌, ◌^◌, length, IfSome, option_map, Some, None, if◌then◌else◌};
-ghost use Rattle.script_lines.specs.Numbers.{digit_value, digit_of, number_of, hex_of, decimal_of, has_leading_zero, two_digits_of, behind};
+ghost use Rattle.script_lines.specs.Numbers.{digit_value, digit_of, number_of, hex_of, decimal_of, has_leading_zero, two_digits_of, after_mark};
 
 /// The base of hexadecimal numbers.
 const HEX: u64 = 16;
@@ -111,9 +111,9 @@ pub(crate) fn two_digits_of(text: &[u8]) -> Option<(u8, &[u8])>
 }
 
 /// What stands after a byte.
-#[tactic(auto, unfolding(crate::specs::Numbers::behind))]
-pub(crate) fn behind(mark: u8, text: &[u8]) -> Option<&[u8]>
-    ensures rest { option_map (λ rest. rest.now) result ≡ behind mark text.now }
+#[tactic(auto, unfolding(crate::specs::Numbers::after_mark))]
+pub(crate) fn after_mark(mark: u8, text: &[u8]) -> Option<&[u8]>
+    ensures rest { option_map (λ rest. rest.now) result ≡ after_mark mark text.now }
 {
     match text {
         [] => None,
