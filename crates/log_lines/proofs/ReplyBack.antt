@@ -1,5 +1,5 @@
 -- A reply is read back from its words, and what is read has the shape of its event.
-use Rattle.std.proofs.Common.{◌≡◌, ℕ, zero, suc, ◌+◌, ◌-◌, ◌^◌, ◌<◌, ◌≤◌, ◌↔◌, Bool, true, false, eqb, Option, Some, None, List, [], ◌∷◌, ◌++◌, length, All, flat_map, refl, sym, ap, subst, ◌∙◌, inl, inr, append-nil, arith, lit<}
+use Rattle.std.proofs.Common.{◌≡◌, ℕ, zero, suc, ◌+◌, ◌-◌, ◌^◌, ◌<◌, ◌≤◌, ◌↔◌, Bool, true, false, eqb, Option, Some, None, List, [], ◌∷◌, ◌++◌, length, All, flat_map, refl, sym, ap, ◌∙◌, inl, inr, append-nil, arith, lit<}
 use Rattle.std.specs.Prelude.{decimal, IfSome, IsTrue}
 use Rattle.std.specs.Option.{option_map}
 use Rattle.std.proofs.Math.Nat.{pow-le-pow_right}
@@ -84,13 +84,6 @@ reply_words bytes (Saw look) =
 reply_fields : (bytes : ℕ) (reply : Reply) → fields_of (space ∷ reply_text bytes reply) ≡ [] ∷ words_in bytes reply
 reply_fields bytes reply = ap fields_of (reply_spaced bytes reply) ∙ split_words (words_in bytes reply)
     (reply_words bytes reply)
-
-few_words : (bytes : ℕ) (reply : Reply) → length ([] ∷ words_in bytes reply) ≤ 10
-few_words bytes (Bus value target denial) = omega arith
-few_words bytes (InParts value (Two a b)) = omega arith
-few_words bytes (InParts value (Three a b c)) = omega arith
-few_words bytes (InParts value (Four a b c d)) = omega arith
-few_words bytes (Saw look) = omega arith
 
 -- ---- from its words
 
@@ -212,13 +205,6 @@ pub reply_read : (event : Event) (reply : Reply) → HasShape event reply
 unfolding reply_in
 reply_read event reply shape =
     ap (reply_in event) (reply_fields (value_bytes event) reply) ∙ reply_back event reply shape
-
--- there are never more than ten fields
-pub few_fields : (event : Event) (reply : Reply) (text : List ℕ) → text ≡ space ∷ reply_text (value_bytes event) reply
-    → length (fields_of text) ≤ 10
-few_fields event reply text is =
-    subst (λ (n : ℕ). n ≤ 10) (sym (ap length (ap fields_of is ∙ reply_fields (value_bytes event) reply)))
-    (few_words (value_bytes event) reply)
 
 -- ---- the shape of what was read
 

@@ -1,6 +1,6 @@
 //! The reply that a line says, by its event.
 
-ghost use Rattle.std.specs.Prelude.{◌≡◌, ◌≤◌, ◌<◌, ◌^◌, ◌∷◌, ℕ, false, length, map, IfSome};
+ghost use Rattle.std.specs.Prelude.{◌≡◌, ◌≤◌, ◌<◌, ◌^◌, ◌∷◌, ℕ, false, length, IfSome};
 ghost use Rattle.board_base.specs.Access.{bytes_of};
 ghost use Rattle.board_spec.specs.declared.event.Reply.{Reply};
 ghost use Rattle.board_spec.specs.Stored.{is_write};
@@ -17,7 +17,7 @@ use crate::target::{area_of, denial_of, target_of};
 use crate::wide::{count_of, part_count, parts_in};
 use board_base::{Dev, Target, WideAccess};
 use board_spec::{Event, Look, Parts, Reply};
-use script_lines::{decimal_of, fields_of, hex_of};
+use script_lines::{Fields, decimal_of, hex_of};
 
 /// The most parts of a wide access.
 const MOST_PARTS: u32 = 4;
@@ -73,14 +73,15 @@ fn narrowed(value: Option<u64>) -> Option<u32>
 
 /// `VALUE TARGET DENIAL`.
 #[tactic(auto, unfolding(crate::specs::Replies::bus_of))]
-fn bus_of(writes: bool, bytes: u32, words: &[&[u8]]) -> Option<Reply>
+fn bus_of(writes: bool, bytes: u32, words: Fields<'_>) -> Option<Reply>
     requires few { bytes ≤ 4 }
-    ensures reply { result ≡ bus_of writes bytes (map (λ word. word.now) words.now) }
+    ensures reply { result ≡ bus_of writes bytes words.entry }
     ensures shape { IfSome result (IsBusReply writes bytes) }
 {
-    let [value, target, denial] = words else {
-        return None;
-    };
+    let (value, words) = words.next()?;
+    let (target, words) = words.next()?;
+    let (denial, words) = words.next()?;
+    words.end()?;
     let value = value_of(writes, bytes, value)?;
     let target = target_of(target)?;
     let denial = denial_of(denial)?;
@@ -106,15 +107,13 @@ fn parts_with(access: &WideAccess, value: Option<u64>, parts: Parts) -> Option<R
 
 /// `VALUE`, and `TARGET DENIAL` for each part.
 #[tactic(auto, unfolding(crate::specs::Replies::wide_of))]
-fn wide_of(access: &WideAccess, words: &[&[u8]]) -> Option<Reply>
+fn wide_of(access: &WideAccess, words: Fields<'_>) -> Option<Reply>
     requires bytes { access.now.bytes ≤ 8 }
-    ensures reply { result ≡ wide_of access.now (map (λ word. word.now) words.now) }
+    ensures reply { result ≡ wide_of access.now words.entry }
     ensures shape { IfSome result
         (IsWideReply (is_write access.now.kind) access.now.bytes (length (parts_of access.now))) }
 {
-    let [value, words @ ..] = words else {
-        return None;
-    };
+    let (value, words) = words.next()?;
     let value = value_of(access.kind.is_write(), u32::from(access.bytes), value)?;
     let parts = parts_in(words)?;
     parts_with(access, value, parts)
@@ -130,13 +129,15 @@ fn version_in(field: &[u8]) -> Option<u32>
 
 /// `VERSION LO HI AREA`.
 #[tactic(auto, unfolding(crate::specs::Replies::look_of))]
-fn look_of(words: &[&[u8]]) -> Option<Reply>
-    ensures reply { result ≡ look_of (map (λ word. word.now) words.now) }
+fn look_of(words: Fields<'_>) -> Option<Reply>
+    ensures reply { result ≡ look_of words.entry }
     ensures shape { IfSome result IsLookReply }
 {
-    let [version, lo, hi, area] = words else {
-        return None;
-    };
+    let (version, words) = words.next()?;
+    let (lo, words) = words.next()?;
+    let (hi, words) = words.next()?;
+    let (area, words) = words.next()?;
+    words.end()?;
     let version = version_in(version)?;
     let lo = hex_of(8, lo)?;
     let hi = hex_of(8, hi)?;
@@ -162,9 +163,9 @@ fn outside(dev: Dev) -> Reply
 
 /// The reply to an event, by its words.
 #[tactic(auto, unfolding(crate::specs::Replies::reply_of))]
-fn reply_of(event: &Event, words: &[&[u8]]) -> Option<Reply>
+fn reply_of(event: &Event, words: Fields<'_>) -> Option<Reply>
     requires bytes { IsNarrow event.now }
-    ensures reply { result ≡ reply_of event.now (map (λ word. word.now) words.now) }
+    ensures reply { result ≡ reply_of event.now words.entry }
     ensures shape { IfSome result (HasShape event.now) }
 {
     match event {
@@ -182,14 +183,12 @@ fn reply_of(event: &Event, words: &[&[u8]]) -> Option<Reply>
 }
 
 #[tactic(auto, unfolding(crate::specs::Replies::reply_in))]
-fn reply_in(event: &Event, fields: &[&[u8]]) -> Option<Reply>
+fn reply_in(event: &Event, fields: Fields<'_>) -> Option<Reply>
     requires bytes { IsNarrow event.now }
-    ensures reply { result ≡ reply_in event.now (map (λ word. word.now) fields.now) }
+    ensures reply { result ≡ reply_in event.now fields.entry }
     ensures shape { IfSome result (HasShape event.now) }
 {
-    let [_, words @ ..] = fields else {
-        return None;
-    };
+    let (_, words) = fields.next()?;
     reply_of(event, words)
 }
 
@@ -200,6 +199,6 @@ pub(crate) fn read_reply(event: &Event, text: &[u8]) -> Option<Reply>
     ensures found { (version : ℕ) (reply : Reply) → IsEventForm version event.now → HasShape event.now reply
         → text.now ≡ space ∷ reply_text (value_bytes event.now) reply → result ≡ Some reply }
 {
-    let fields = fields_of(text)?;
-    reply_in(event, &fields)
+    let fields = Fields::of(text);
+    reply_in(event, fields)
 }

@@ -1,6 +1,6 @@
 //! The parts of a wide access.
 
-ghost use Rattle.std.specs.Prelude.{◌≡◌, ◌≤◌, ◌+◌, ◌^◌, length, map, IfSome, All, option_map};
+ghost use Rattle.std.specs.Prelude.{◌≡◌, ◌≤◌, ◌+◌, ◌^◌, length, IfSome, All, option_map};
 ghost use Rattle.board_spec.specs.WideParts.{longest_at, parts_list};
 ghost use Rattle.script_spec.specs.WellFormed.{FitsPart};
 ghost use Rattle.log_lines.specs.Replies.{part_of, last_parts, more_parts, parts_in, part_count};
@@ -8,6 +8,7 @@ ghost use Rattle.log_lines.specs.Replies.{part_of, last_parts, more_parts, parts
 use crate::target::{denial_of, target_of};
 use board_base::Width;
 use board_spec::{Part, Parts};
+use script_lines::Fields;
 
 /// What answered and denied one part.
 #[tactic(auto, unfolding(crate::specs::Replies::part_of))]
@@ -33,50 +34,50 @@ fn four_parts(a: Part, b: Part, c: Part, target: &[u8], denial: &[u8]) -> Option
 
 /// The parts by the words after those of three.
 #[tactic(auto, unfolding(crate::specs::Replies::last_parts))]
-fn last_parts(a: Part, b: Part, c: Part, words: &[&[u8]]) -> Option<Parts>
+fn last_parts(a: Part, b: Part, c: Part, words: Fields<'_>) -> Option<Parts>
     requires first { FitsPart a }
     requires second { FitsPart b }
     requires third { FitsPart c }
-    ensures parts { result ≡ last_parts a b c (map (λ word. word.now) words.now) }
+    ensures parts { result ≡ last_parts a b c words.entry }
     ensures fits { IfSome result (λ parts. All FitsPart (parts_list parts)) }
 {
-    match words {
-        [] => Some(Parts::Three(a, b, c)),
-        [target, denial] => four_parts(a, b, c, target, denial),
-        _ => None,
-    }
+    let Some((target, words)) = words.next() else {
+        return Some(Parts::Three(a, b, c));
+    };
+    let (denial, words) = words.next()?;
+    words.end()?;
+    four_parts(a, b, c, target, denial)
 }
 
 /// The parts by the words after those of two.
 #[tactic(auto, unfolding(crate::specs::Replies::more_parts))]
-fn more_parts(a: Part, b: Part, words: &[&[u8]]) -> Option<Parts>
+fn more_parts(a: Part, b: Part, words: Fields<'_>) -> Option<Parts>
     requires first { FitsPart a }
     requires second { FitsPart b }
-    ensures parts { result ≡ more_parts a b (map (λ word. word.now) words.now) }
+    ensures parts { result ≡ more_parts a b words.entry }
     ensures fits { IfSome result (λ parts. All FitsPart (parts_list parts)) }
 {
-    if words.is_empty() {
+    let Some((target, words)) = words.next() else {
         return Some(Parts::Two(a, b));
-    }
-    let [target, denial, later @ ..] = words else {
-        return None;
     };
+    let (denial, words) = words.next()?;
     let third = part_of(target, denial)?;
-    last_parts(a, b, third, later)
+    last_parts(a, b, third, words)
 }
 
 /// What answered two to four parts, in two words each.
 #[tactic(auto, unfolding(crate::specs::Replies::parts_in))]
-pub(crate) fn parts_in(words: &[&[u8]]) -> Option<Parts>
-    ensures parts { result ≡ parts_in (map (λ word. word.now) words.now) }
+pub(crate) fn parts_in(words: Fields<'_>) -> Option<Parts>
+    ensures parts { result ≡ parts_in words.entry }
     ensures fits { IfSome result (λ parts. All FitsPart (parts_list parts)) }
 {
-    let [target, denial, other, next, later @ ..] = words else {
-        return None;
-    };
+    let (target, words) = words.next()?;
+    let (denial, words) = words.next()?;
+    let (other, words) = words.next()?;
+    let (next, words) = words.next()?;
     let first = part_of(target, denial)?;
     let second = part_of(other, next)?;
-    more_parts(first, second, later)
+    more_parts(first, second, words)
 }
 
 /// How many parts there are.

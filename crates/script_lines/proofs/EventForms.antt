@@ -1,5 +1,5 @@
 -- Each event of a form is read again from the fields that spell it.
-use Rattle.std.proofs.Common.{◌≡◌, ℕ, ◌%◌, ◌^◌, ◌<◌, ◌≤◌, ◌⊎◌, inl, inr, Bool, true, false, not, eqb, ◌&&◌, Some, List, [], ◌∷◌, length, refl, sym, ap, subst, ◌∙◌, arith}
+use Rattle.std.proofs.Common.{◌≡◌, ℕ, ◌%◌, ◌^◌, ◌<◌, ◌⊎◌, inl, inr, Bool, true, false, not, eqb, ◌&&◌, Some, List, [], ◌∷◌, refl, sym, ap, subst, ◌∙◌, arith}
 use Rattle.std.specs.Prelude.{codes, decimal}
 use Rattle.std.specs.List.{join_with_byte}
 use Rattle.std.specs.Option.{option_map}
@@ -35,7 +35,6 @@ pub record IsReadBack (version actor : ℕ) (event : Event) : Type 0 where
   pub words : List (List ℕ)
   pub joined : join_with_byte space (verb ∷ words) ≡ event_text event
   pub lack : Lack (verb ∷ words)
-  pub few : length words ≤ 8
   pub read : (fields : List (List ℕ)) → Reads fields (verb ∷ words) → asked_of version actor fields ≡ Some (ask actor event)
 
 -- the verb stands for itself alone
@@ -109,10 +108,6 @@ lacks_smm : (smm : Bool) → Lack (smm_words smm)
 lacks_smm false = tt
 lacks_smm true = (refl, tt)
 
-few_smm : (smm : Bool) → length (smm_words smm) ≤ 1
-few_smm false = omega arith
-few_smm true = omega arith
-
 -- an access of so many bytes, which is a wide one or not
 abbrev IsAccess : (version : ℕ) → Kind → (bytes addr value : ℕ) → Bool → Event → Type 0
 IsAccess version kind bytes addr value smm event =
@@ -133,7 +128,6 @@ read_back version actor kind bytes addr value smm event reads size small none is
   words = size_text bytes ∷ hex_number 4 addr ∷ smm_words smm;
   joined = access_joined (kind_text kind) (size_text bytes) (hex_number 4 addr) smm ∙ (rw reads at is).1;
   lack = (lacks_kind kind, (lacks_size version bytes size, (lacks_hex 4 addr, lacks_smm smm)));
-  few = omega (arith, few_smm smm);
   read = with_verb version actor (kind_text kind) _ (ask actor event) (plain_kind kind) (λ rest spelled.
       asked_read version actor kind rest reads
       ∙ ap (option_map (ask actor)) (read_spelled version bytes addr kind smm rest size small spelled
@@ -148,7 +142,6 @@ write_back version actor bytes addr value smm event size small fits is = record 
   words = size_text bytes ∷ hex_number 4 addr ∷ hex_number bytes value ∷ smm_words smm;
   joined = write_joined (codes "w") (size_text bytes) (hex_number 4 addr) (hex_number bytes value) smm ∙ is.1;
   lack = (refl, (lacks_size version bytes size, (lacks_hex 4 addr, (lacks_hex bytes value, lacks_smm smm))));
-  few = omega (arith, few_smm smm);
   read = with_verb version actor (codes "w") _ (ask actor event) refl (λ rest reads.
       ap (option_map (ask actor)) (write_spelled version bytes addr value smm rest size small fits reads ∙ ap (λ (e : Event). Some e) is.0));
 }
@@ -173,7 +166,6 @@ port_back version actor false width port value small none = record {
   words = width_text width ∷ hex_number 2 port ∷ [];
   joined = port_joined (codes "in") (width_text width) (hex_number 2 port);
   lack = (refl, (lacks_width width, (lacks_hex 2 port, tt)));
-  few = omega arith;
   read = with_verb version actor (codes "in") _ _ refl (λ rest reads.
       ap (option_map (ask actor)) (in_spelled width port rest small reads
       ∙ ap (λ (v : ℕ). Some (Port (record { write = false; port = port; width = width; value = v }))) (sym none)));
@@ -183,7 +175,6 @@ port_back version actor true width port value small fits = record {
   words = width_text width ∷ hex_number 2 port ∷ hex_number (bytes_of width) value ∷ [];
   joined = out_joined (codes "out") (width_text width) (hex_number 2 port) (hex_number (bytes_of width) value);
   lack = (refl, (lacks_width width, (lacks_hex 2 port, (lacks_hex (bytes_of width) value, tt))));
-  few = omega arith;
   read = with_verb version actor (codes "out") _ _ refl (λ rest reads.
       ap (option_map (ask actor)) (out_spelled width port value rest small fits reads));
 }
@@ -195,7 +186,6 @@ look_back version actor kind addr smm small = record {
   words = kind_text kind ∷ hex_number 4 addr ∷ smm_words smm;
   joined = look_joined (kind_text kind) (hex_number 4 addr) smm;
   lack = (refl, (lacks_kind kind, (lacks_hex 4 addr, lacks_smm smm)));
-  few = omega (arith, few_smm smm);
   read = with_verb version actor (codes "look") _ _ refl (λ rest reads.
       ap (option_map (ask actor)) (look_spelled kind addr smm rest small reads));
 }
@@ -263,7 +253,6 @@ wire_back version actor dev on small = record {
   words = decimal dev ∷ level_text on ∷ [];
   joined = refl;
   lack = (refl, (lacks_decimal dev, (lacks_level on, tt)));
-  few = omega arith;
   read = with_verb version actor (codes "wire") _ _ refl (λ rest reads.
       ap (option_map (λ p. wire_item actor p.0 p.1)) (level_spelled dev on rest small reads)
       ∙ ap (λ (i : Item). Some i) (wire_level actor dev on));
@@ -276,7 +265,6 @@ line_back version actor irq on small = record {
   words = decimal irq ∷ level_text on ∷ [];
   joined = refl;
   lack = (refl, (lacks_decimal irq, (lacks_level on, tt)));
-  few = omega arith;
   read = with_verb version actor (codes "irq") _ _ refl (λ rest reads.
       ap (option_map (λ p. line_item actor p.0 p.1)) (level_spelled irq on rest small reads)
       ∙ ap (λ (i : Item). Some i) (line_level actor irq on));
@@ -296,7 +284,6 @@ ack_back version actor = record {
   words = [];
   joined = refl;
   lack = (refl, tt);
-  few = omega arith;
   read = with_verb version actor (codes "ack") _ _ refl (λ rest reads. ap (option_map (ask actor)) (ack_spelled rest reads));
 }
 
@@ -307,7 +294,6 @@ pulses_back version actor count small = record {
   words = decimal count ∷ [];
   joined = refl;
   lack = (refl, (lacks_decimal count, tt));
-  few = omega arith;
   read = with_verb version actor (codes "pulse") _ _ refl (λ rest reads. rw (number_spelled count rest small reads) refl);
 }
 
@@ -318,7 +304,6 @@ sector_back version actor sector small = record {
   words = decimal sector ∷ [];
   joined = refl;
   lack = (refl, (lacks_decimal sector, tt));
-  few = omega arith;
   read = with_verb version actor (codes "bad") _ _ refl (λ rest reads. rw (number_spelled sector rest small reads) refl);
 }
 
@@ -337,7 +322,6 @@ time_back version actor moment form = record {
   words = moment_text moment ∷ [];
   joined = refl;
   lack = (refl, (lacks_moment moment, tt));
-  few = omega arith;
   read = with_verb version actor (codes "moment") _ _ refl (λ rest reads.
       ap (option_map (λ m. ask actor (Time m))) (moment_spelled moment rest form reads));
 }

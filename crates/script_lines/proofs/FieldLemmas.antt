@@ -1,11 +1,11 @@
 -- A line up to its first space, and after it.
-use Rattle.std.proofs.Common.{◌≡◌, ℕ, ◌+◌, ◌≤◌, ◌-◌, Bool, true, false, cond, eqb, ltb, Option, Some, None, List, [], ◌∷◌, ◌++◌, length, take, drop, refl, subst, ◌∙◌, arith, append_assoc}
+use Rattle.std.proofs.Common.{◌≡◌, ℕ, ◌+◌, ◌≤◌, ◌-◌, Bool, true, false, cond, eqb, ltb, Option, Some, None, List, [], ◌∷◌, length, take, drop, refl, subst, arith}
 use Rattle.std.specs.List.{position_or_len}
 use Rattle.std.proofs.lemmas.Bool.{ltb-false}
 use borrow.Author.Tests.{ltb-true}
 use Rattle.std.proofs.lemmas.Option.{cond_some}
 use Rattle.std.proofs.lemmas.List.{take_rest}
-use Rattle.std.proofs.lemmas.List.Splits.{slice_split_first, slice_split_none, length-slice_split}
+use Rattle.std.proofs.lemmas.List.Splits.{slice_split_first, slice_split_none}
 use Rattle.std.proofs.lemmas.List.Sums.{fails_before_first}
 use Rattle.script_lines.specs.Fields.{fields_of}
 
@@ -32,12 +32,3 @@ uncut text none =
     let le : length text ≤ position_or_len is_space text =
     ltb-false _ _ (nowhere (ltb (position_or_len is_space text) (length text)) (position_or_len is_space text) none) in
     slice_split_none is_space text (λ k d lt. fails_before_first is_space text k d (omega arith))
-
--- with one field more
-pub one_more : (so_far : List (List ℕ)) (field : List ℕ) (rest behind all : List (List ℕ)) → so_far ++ rest ≡ all
-    → rest ≡ field ∷ behind → (so_far ++ field ∷ []) ++ behind ≡ all
-one_more so_far field rest behind all joined cut = append_assoc so_far (field ∷ []) behind ∙ rw (← cut) joined
-
--- there is one field at least
-pub some_field : (text : List ℕ) → 1 ≤ length (fields_of text)
-some_field text = omega (arith, length-slice_split is_space text)

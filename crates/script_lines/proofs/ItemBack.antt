@@ -3,7 +3,6 @@ use Rattle.std.proofs.Common.{◌≡◌, ℕ, ◌≤◌, ◌⊎◌, inl, inr, tr
 use Rattle.std.specs.Prelude.{codes, decimal}
 use Rattle.std.specs.Option.{option_map}
 use Rattle.std.proofs.lemmas.Bool.{ne_eqb}
-use Rattle.std.proofs.lemmas.List.Elements.{length_all_zip}
 use Rattle.board_spec.specs.declared.event.Event.{Event}
 use Rattle.board_spec.specs.Text.{space}
 use Rattle.board_spec.specs.LogText.{event_text}
@@ -50,10 +49,7 @@ statement_back version n event line small back spells =
     let reads : Reads (fields_of line) (decimal n ∷ texts) =
     split line (decimal n) texts (lacks_decimal n, back.lack)
     (subst (λ (t : List ℕ). Spells line (decimal n ++ space ∷ t)) (sym back.joined) spells) in
-    record {
-      few = omega (arith, length_all_zip Spells (fields_of line) (decimal n ∷ texts) reads, back.few);
-      read = statement_fields version n event (fields_of line) small back reads;
-    }
+    statement_fields version n event (fields_of line) small back reads
 
 -- a level that is neither 0 nor 1
 wire_high : (n dev level : ℕ) → 2 ≤ level → wire_item n dev level ≡ AskLevel n (codes "wire") dev level
@@ -85,7 +81,6 @@ level_back version n verb number level line form is =
     exact_back version line (decimal n) (verb ∷ decimal number ∷ decimal level ∷ []) (AskLevel n verb number level)
     (is ∙ sym (level_joined (decimal n) verb (decimal number) (decimal level)))
     (lacks_decimal n, (lacks_verb verb form.what, (lacks_decimal number, (lacks_decimal level, tt))))
-    (omega arith)
     (number_first version n (verb ∷ decimal number ∷ decimal level ∷ []) _ form.who (level_words version n verb number level form))
 
 -- ---- all lines

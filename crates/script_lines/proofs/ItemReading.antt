@@ -1,5 +1,5 @@
 -- What the reader returns for a line.
-use Rattle.std.proofs.Common.{◌≡◌, ℕ, ◌<◌, Option, Some, None, List, length, sym, ◌∙◌, arith}
+use Rattle.std.proofs.Common.{◌≡◌, ℕ, Option, Some, None, List, sym, ◌∙◌}
 use Rattle.std.specs.Prelude.{IfSome}
 use Rattle.std.specs.Option.{option_map, IfNone}
 use Rattle.script_spec.specs.Grammar.{Item, HasForm}
@@ -21,9 +21,5 @@ none_is item e = cc
 -- and nothing only of a line without a form
 pub unsaid : (version : ℕ) (line : List ℕ) (read : Option Read) → option_map line_said read ≡ item_of version (fields_of line)
     → IfNone read (HasNoForm version line)
-unsaid version line None e = λ item has. none_is item (e ∙ (line_back version line item has).read)
+unsaid version line None e = λ item has. none_is item (e ∙ line_back version line item has)
 unsaid version line (Some item) e = tt
-
--- no form has more than ten fields
-pub too_many : (version : ℕ) (line : List ℕ) → 10 < length (fields_of line) → HasNoForm version line
-too_many version line many item has = let few = (line_back version line item has).few in omega (arith, many, few)

@@ -1,5 +1,5 @@
 -- The item that was read is the one that the line says.
-use Rattle.std.proofs.Common.{◌≡◌, ℕ, zero, suc, ◌≤◌, ◌⊎◌, inl, inr, Bool, true, false, eqb, leb, ◌&&◌, Some, List, [], ◌∷◌, ◌++◌, length, take, refl, sym, ap, subst, ◌∙◌, append_assoc, arith, lit<}
+use Rattle.std.proofs.Common.{◌≡◌, ℕ, zero, suc, ◌≤◌, ◌⊎◌, ◌==◌, inl, inr, Bool, true, false, eqb, leb, ◌&&◌, Some, List, [], ◌∷◌, ◌++◌, length, take, refl, sym, ap, subst, ◌∙◌, append_assoc, arith, lit<}
 use Rattle.std.specs.Prelude.{codes, decimal, bytes_eq, if◌then◌else◌}
 use Rattle.std.specs.List.{join_with_byte, list_all}
 use Rattle.std.specs.Option.{option_map}
@@ -10,15 +10,15 @@ use Rattle.board_base.specs.declared.moment.Moment.{Moment}
 use Rattle.board_spec.specs.declared.event.Event.{Event}
 use Rattle.board_spec.specs.declared.event.Event.TheVariants.{Time, Wire, Line}
 use Rattle.board_spec.specs.Text.{space}
-use Rattle.board_spec.specs.LogText.{event_text, moment_text}
-use Rattle.script_spec.specs.Grammar.{Item, SetCpus, SetMemory, SetRom, SetDisk, FitCard, BeginPhase, AskLevel, IsDecimal, IsName, HasForm, item_text, is_name_start, is_name_byte}
+use Rattle.board_spec.specs.LogText.{event_text, moment_text, level_text}
+use Rattle.script_spec.specs.Grammar.{Item, IsEventForm, SetCpus, SetMemory, SetRom, SetDisk, FitCard, BeginPhase, AskLevel, IsDecimal, IsName, HasForm, item_text, is_name_start, is_name_byte}
 use Rattle.script_spec.proofs.Digits.{own}
 use Rattle.script_lines.specs.Fields.{fields_of}
 use Rattle.script_lines.specs.Numbers.{decimal_of}
 use Rattle.script_lines.specs.Events.{event_of, number_in}
 use Rattle.script_lines.specs.Cards.{card_of}
 use Rattle.script_lines.specs.Moments.{moment_in}
-use Rattle.script_lines.specs.Items.{ask, wire_item, line_item, two_numbers_in, only_moment, moment_asked, wire_asked, line_asked, event_asked, asked_with, asked_of, is_name, name_in, phase_of, statement_of, item_with, item_of}
+use Rattle.script_lines.specs.Items.{ask, two_numbers_in, only_moment, moment_asked, wire_asked, line_asked, event_asked, asked_with, asked_of, is_name, name_in, phase_of, statement_of, item_with, item_of}
 use Rattle.script_lines.proofs.Chains.{some_is, guarded, then_said, mapped, both}
 use Rattle.script_lines.proofs.NumberTexts.{decimal_read}
 use Rattle.script_lines.proofs.Joins.{Spells, same, same_as, joined, zipped, word_is}
@@ -112,90 +112,74 @@ zero_text = decimal-digits_value own (48 ∷ []) (lit< tt, tt) (lit< tt) (λ _. 
 pub one_text : decimal 1 ≡ codes "1"
 one_text = decimal-digits_value own (49 ∷ []) (lit< tt, tt) (lit< tt) (λ _. refl) (lit< tt)
 
-wire_read : (version dev : ℕ) (on : Bool) → IsDecimal dev
-    → IsRead version (codes "wire" ∷ decimal dev ∷ codes (if on then "1" else "0") ∷ []) (Wire dev on)
-unfolding event_text
-wire_read version dev true small = record {
-  texts = codes "wire" ∷ decimal dev ∷ codes "1" ∷ [];
-  reads = (same (codes "wire"), (same (decimal dev), (same (codes "1"), tt)));
-  joined = refl;
-  form = small;
-}
-wire_read version dev false small = record {
-  texts = codes "wire" ∷ decimal dev ∷ codes "0" ∷ [];
-  reads = (same (codes "wire"), (same (decimal dev), (same (codes "0"), tt)));
-  joined = refl;
-  form = small;
+-- an event with a level, spelled by its verb, a number and the level
+level_read : (version number : ℕ) (verb : List ℕ) (on : Bool) (event : Event) → IsEventForm version event
+    → event_text event ≡ line (verb ∷ decimal number ∷ level_text on ∷ []) → IsRead version (verb ∷ decimal number ∷ level_text on ∷ []) event
+level_read version number verb on event form is = record {
+  texts = verb ∷ decimal number ∷ level_text on ∷ [];
+  reads = (same verb, (same (decimal number), (same (level_text on), tt)));
+  joined = sym is;
+  form = form;
 }
 
-irq_read : (version irq : ℕ) (on : Bool) → IsDecimal irq
-    → IsRead version (codes "irq" ∷ decimal irq ∷ codes (if on then "1" else "0") ∷ []) (Line irq on)
+wire_read : (version dev : ℕ) (on : Bool) → IsDecimal dev → IsRead version (codes "wire" ∷ decimal dev ∷ level_text on ∷ []) (Wire dev on)
 unfolding event_text
-irq_read version irq true small = record {
-  texts = codes "irq" ∷ decimal irq ∷ codes "1" ∷ [];
-  reads = (same (codes "irq"), (same (decimal irq), (same (codes "1"), tt)));
-  joined = refl;
-  form = small;
-}
-irq_read version irq false small = record {
-  texts = codes "irq" ∷ decimal irq ∷ codes "0" ∷ [];
-  reads = (same (codes "irq"), (same (decimal irq), (same (codes "0"), tt)));
-  joined = refl;
-  form = small;
-}
+wire_read version dev on small = level_read version dev (codes "wire") on (Wire dev on) small refl
+
+irq_read : (version irq : ℕ) (on : Bool) → IsDecimal irq → IsRead version (codes "irq" ∷ decimal irq ∷ level_text on ∷ []) (Line irq on)
+unfolding event_text
+irq_read version irq on small = level_read version irq (codes "irq") on (Line irq on) small refl
 
 at_least_two : (level : ℕ) → eqb level 0 ≡ false → eqb level 1 ≡ false → 2 ≤ level
 at_least_two zero a b = absurd cc
 at_least_two (suc zero) a b = absurd cc
 at_least_two (suc (suc n)) a b = omega arith
 
-wire_level : (version n dev level : ℕ) (actor : List ℕ) → decimal_of actor ≡ Some n → IsDecimal dev → IsDecimal level
-    → HasForm version (line (actor ∷ codes "wire" ∷ decimal dev ∷ decimal level ∷ [])) (wire_item n dev level)
-wire_level version n dev level actor d small few = elim (cases_Bool (eqb level 0)) [
+-- what is asked by a verb with a number and a level
+abbrev level_item : (verb : List ℕ) → (ℕ → Bool → Event) → (actor number level : ℕ) → Item
+level_item verb event actor number level =
+    if level == 0 then ask actor (event number false) else
+    if level == 1 then ask actor (event number true) else AskLevel actor verb number level
+
+level_asked : (version n number level : ℕ) (actor verb : List ℕ) (event : ℕ → Bool → Event) → decimal_of actor ≡ Some n
+    → (verb ≡ codes "wire") ⊎ (verb ≡ codes "irq")
+    → ((on : Bool) → IsRead version (verb ∷ decimal number ∷ level_text on ∷ []) (event number on)) → IsDecimal number → IsDecimal level
+    → HasForm version (line (actor ∷ verb ∷ decimal number ∷ decimal level ∷ [])) (level_item verb event n number level)
+level_asked version n number level actor verb event d known read small few = elim (cases_Bool (eqb level 0)) [
   | inl off ↦
       let is = eqb-true level 0 off in
-      rw (is, zero_text) (ask_read version n actor (codes "wire") _ (Wire dev false) d (wire_read version dev false small))
+      rw (is, zero_text) (ask_read version n actor verb _ (event number false) d (read false))
   | inr off ↦ elim (cases_Bool (eqb level 1)) [
     | inl on ↦
         let is = eqb-true level 1 on in
-        rw (is, one_text) (ask_read version n actor (codes "wire") _ (Wire dev true) d (wire_read version dev true small))
-    | inr on ↦ rw (off, on) (high_read version n dev level actor (codes "wire") d (inl refl) small few (at_least_two level off on))
+        rw (is, one_text) (ask_read version n actor verb _ (event number true) d (read true))
+    | inr on ↦ rw (off, on) (high_read version n number level actor verb d known small few (at_least_two level off on))
   ]
 ]
 
-line_level : (version n irq level : ℕ) (actor : List ℕ) → decimal_of actor ≡ Some n → IsDecimal irq → IsDecimal level
-    → HasForm version (line (actor ∷ codes "irq" ∷ decimal irq ∷ decimal level ∷ [])) (line_item n irq level)
-line_level version n irq level actor d small few = elim (cases_Bool (eqb level 0)) [
-  | inl off ↦
-      let is = eqb-true level 0 off in
-      rw (is, zero_text) (ask_read version n actor (codes "irq") _ (Line irq false) d (irq_read version irq false small))
-  | inr off ↦ elim (cases_Bool (eqb level 1)) [
-    | inl on ↦
-        let is = eqb-true level 1 on in
-        rw (is, one_text) (ask_read version n actor (codes "irq") _ (Line irq true) d (irq_read version irq true small))
-    | inr on ↦ rw (off, on) (high_read version n irq level actor (codes "irq") d (inr refl) small few (at_least_two level off on))
-  ]
-]
+level_asks : (version n : ℕ) (actor verb : List ℕ) (event : ℕ → Bool → Event) (words : List (List ℕ)) (item : Item) → decimal_of actor ≡ Some n
+    → (verb ≡ codes "wire") ⊎ (verb ≡ codes "irq")
+    → ((number : ℕ) (on : Bool) → IsDecimal number → IsRead version (verb ∷ decimal number ∷ level_text on ∷ []) (event number on))
+    → option_map (λ p. level_item verb event n p.0 p.1) (two_numbers_in words) ≡ Some item
+    → HasForm version (line (actor ∷ verb ∷ words)) item
+level_asks version n actor verb event words item d known read e =
+    let p = mapped (two_numbers_in words) _ item e in
+    let two = two_read words p.0 p.1 in
+    subst (HasForm version (line (actor ∷ verb ∷ words))) (sym p.2)
+    (subst (λ (w : List (List ℕ)). HasForm version (line (actor ∷ verb ∷ w)) (level_item verb event n p.0.0 p.0.1)) (sym two.0)
+    (level_asked version n p.0.0 p.0.1 actor verb event d known (λ on. read p.0.0 on two.1.0) two.1.0 two.1.1))
 
 wire_asks : (version n : ℕ) (actor : List ℕ) (words : List (List ℕ)) (item : Item) → decimal_of actor ≡ Some n
     → wire_asked n words ≡ Some item → HasForm version (line (actor ∷ codes "wire" ∷ words)) item
 unfolding wire_asked
-wire_asks version n actor words item d e =
-    let p = mapped (two_numbers_in words) _ item e in
-    let two = two_read words p.0 p.1 in
-    subst (HasForm version (line (actor ∷ codes "wire" ∷ words))) (sym p.2)
-    (subst (λ (w : List (List ℕ)). HasForm version (line (actor ∷ codes "wire" ∷ w)) (wire_item n p.0.0 p.0.1)) (sym two.0)
-    (wire_level version n p.0.0 p.0.1 actor d two.1.0 two.1.1))
+wire_asks version n actor words item d =
+    level_asks version n actor (codes "wire") Wire words item d (inl refl) (wire_read version)
 
 line_asks : (version n : ℕ) (actor : List ℕ) (words : List (List ℕ)) (item : Item) → decimal_of actor ≡ Some n
     → line_asked n words ≡ Some item → HasForm version (line (actor ∷ codes "irq" ∷ words)) item
 unfolding line_asked
-line_asks version n actor words item d e =
-    let p = mapped (two_numbers_in words) _ item e in
-    let two = two_read words p.0 p.1 in
-    subst (HasForm version (line (actor ∷ codes "irq" ∷ words))) (sym p.2)
-    (subst (λ (w : List (List ℕ)). HasForm version (line (actor ∷ codes "irq" ∷ w)) (line_item n p.0.0 p.0.1)) (sym two.0)
-    (line_level version n p.0.0 p.0.1 actor d two.1.0 two.1.1))
+line_asks version n actor words item d =
+    level_asks version n actor (codes "irq") Line words item d (inr refl) (irq_read version)
 
 event_asks : (version n : ℕ) (actor verb : List ℕ) (words : List (List ℕ)) (item : Item) → decimal_of actor ≡ Some n
     → event_asked version n verb words ≡ Some item → HasForm version (line (actor ∷ verb ∷ words)) item

@@ -1,6 +1,6 @@
+pub mod DigitTable
 pub mod NumberLemmas
 pub mod FieldLemmas
-pub mod CardRuns
 pub mod Chains
 pub mod NumberTexts
 pub mod Joins

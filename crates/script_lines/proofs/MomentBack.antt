@@ -5,7 +5,7 @@ use Rattle.board_base.specs.declared.moment.Moment.{Moment}
 use Rattle.board_base.specs.Calendar.{moment_of}
 use Rattle.board_spec.specs.LogText.{two_digits, moment_text}
 use Rattle.script_spec.specs.Grammar.{IsMomentForm}
-use Rattle.script_lines.specs.Numbers.{two_digits_of, behind}
+use Rattle.script_lines.specs.Numbers.{two_digits_of, after_mark}
 use Rattle.script_lines.specs.Moments.{part_of, year_of, date_of, time_of, moment_with, moment_in}
 use Rattle.script_lines.proofs.NumberBack.{digit_so}
 
@@ -19,7 +19,7 @@ two_back n rest small =
     ) (ap (λ (x : ℕ). Some (x, rest)) whole)
 
 part_back : (mark n : ℕ) (rest : List ℕ) → n < 100 → part_of mark (mark ∷ (two_digits n ++ rest)) ≡ Some (n, rest)
-unfolding part_of behind
+unfolding part_of after_mark
 part_back mark n rest small = rw (eq-eqb mark mark refl) (two_back n rest small)
 
 year_back : (year : ℕ) (rest : List ℕ) → year < 10_000

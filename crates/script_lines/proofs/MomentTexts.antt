@@ -5,7 +5,7 @@ use Rattle.board_base.specs.declared.moment.Moment.{Moment}
 use Rattle.board_base.specs.Calendar.{moment_of}
 use Rattle.board_spec.specs.LogText.{two_digits, moment_text}
 use Rattle.script_spec.specs.Grammar.{IsMomentForm}
-use Rattle.script_lines.specs.Numbers.{digit_of, two_digits_of, behind}
+use Rattle.script_lines.specs.Numbers.{digit_of, two_digits_of, after_mark}
 use Rattle.script_lines.specs.Moments.{part_of, year_of, Three, date_of, time_of, moment_with, moment_in}
 use Rattle.script_lines.proofs.Chains.{some_is, guarded, then_said}
 use Rattle.script_lines.proofs.NumberTexts.{ten_is}
@@ -27,10 +27,10 @@ two_read (high ∷ low ∷ rest) p e =
     subst (λ (p : ℕ × List ℕ). (high ∷ low ∷ rest ≡ two_digits p.0 ++ p.1) × (p.0 < 100)) is
     ((λ i. (high_is.0 ∙ sym again.0) i ∷ (low_is.0 ∙ sym again.1) i ∷ rest), omega (arith, high_is.1, low_is.1))
 
-behind_read : (mark : ℕ) (text rest : List ℕ) → behind mark text ≡ Some rest → text ≡ mark ∷ rest
-unfolding behind
-behind_read mark [] rest e = absurd cc
-behind_read mark (c ∷ cs) rest e =
+after_mark_read : (mark : ℕ) (text rest : List ℕ) → after_mark mark text ≡ Some rest → text ≡ mark ∷ rest
+unfolding after_mark
+after_mark_read mark [] rest e = absurd cc
+after_mark_read mark (c ∷ cs) rest e =
     let g = guarded (eqb c mark) (Some cs) rest e in
     let first = eqb-true c mark g.0 in
     let later = some_is cs rest g.1 in
@@ -39,9 +39,9 @@ behind_read mark (c ∷ cs) rest e =
 part_read : (mark : ℕ) (text : List ℕ) (p : ℕ × List ℕ) → part_of mark text ≡ Some p → (text ≡ mark ∷ (two_digits p.0 ++ p.1)) × (p.0 < 100)
 unfolding part_of
 part_read mark text p e =
-    let b = then_said (behind mark text) _ p e in
+    let b = then_said (after_mark mark text) _ p e in
     let t = two_read b.0 p b.2 in
-    (behind_read mark text b.0 b.1 ∙ ap (λ (rest : List ℕ). mark ∷ rest) t.0, t.1)
+    (after_mark_read mark text b.0 b.1 ∙ ap (λ (rest : List ℕ). mark ∷ rest) t.0, t.1)
 
 halves : (c y n : ℕ) → c < 100 → y < 100 → n ≡ c * 100 + y → (n / 100 ≡ c) × (n % 100 ≡ y)
 halves c y n a b is = (omega (arith, is), omega (arith, is))

@@ -1,10 +1,9 @@
 -- Each line of a form that asks nothing is read again from its fields.
-use Rattle.std.proofs.Common.{◌≡◌, ℕ, ◌≤◌, Bool, true, false, Option, Some, None, List, [], ◌∷◌, ◌++◌, length, flat_map, map, leb, ◌&&◌, refl, sym, ap, ◌∙◌, append_assoc, append-nil, arith}
+use Rattle.std.proofs.Common.{◌≡◌, ℕ, Bool, true, false, Option, Some, None, List, [], ◌∷◌, ◌++◌, length, flat_map, map, leb, ◌&&◌, refl, sym, ap, ◌∙◌, append_assoc, append-nil, arith}
 use Rattle.std.specs.Prelude.{codes, decimal}
 use Rattle.std.specs.List.{join_with_byte, list_all}
 use Rattle.std.specs.Option.{option_map}
 use Rattle.std.proofs.lemmas.Bool.{and_parts, and_from, le-leb}
-use Rattle.std.proofs.lemmas.List.{length-append, length-map}
 use Rattle.board_spec.specs.Setup.{Base, MemoryBase, IoBase, FittedCard}
 use Rattle.board_spec.specs.Text.{space}
 use Rattle.script_spec.specs.Grammar.{Item, SetCpus, SetMemory, SetRom, SetDisk, FitCard, BeginPhase, IsDecimal, IsName, IsCardForm, base_text, rom_text, item_text, is_name_start, is_name_byte}
@@ -19,20 +18,15 @@ use Rattle.script_lines.proofs.CardTexts.{spaced, line_spaced, kind_word, card_p
 use Rattle.script_lines.proofs.CardBack.{base_word, rom_words, tail_back}
 use Rattle.script_lines.proofs.FieldTexts.{lacks_decimal, lacks_name}
 
--- a line is read as this item, and has no more fields than the reader takes
-pub record IsLineBack (version : ℕ) (line : List ℕ) (item : Item) : Type 0 where
-  pub few : length (fields_of line) ≤ 10
-  pub read : item_of version (fields_of line) ≡ Some item
+-- a line is read as this item
+abbrev pub IsLineBack : (version : ℕ) → (line : List ℕ) → Item → Type 0
+IsLineBack version line item = item_of version (fields_of line) ≡ Some item
 
 -- a line that is these fields joined
 pub exact_back : (version : ℕ) (line key : List ℕ) (words : List (List ℕ)) (item : Item) → line ≡ join_with_byte space (key ∷ words)
-    → Lack (key ∷ words) → length words ≤ 9 → item_of version (key ∷ words) ≡ Some item → IsLineBack version line item
-exact_back version line key words item is lack few read =
-    let fields : fields_of line ≡ key ∷ words = ap fields_of is ∙ split_exact key words lack in
-    record {
-      few = omega (arith, ap length fields, few);
-      read = ap (item_of version) fields ∙ read;
-    }
+    → Lack (key ∷ words) → item_of version (key ∷ words) ≡ Some item → IsLineBack version line item
+exact_back version line key words item is lack read =
+    ap (item_of version) (ap fields_of is ∙ split_exact key words lack) ∙ read
 
 -- ---- numbers
 
@@ -44,19 +38,19 @@ pub cpus_back : (version count : ℕ) (line : List ℕ) → IsDecimal count → 
     → IsLineBack version line (SetCpus count)
 unfolding item_text item_of item_with
 cpus_back version count line small is =
-    exact_back version line (codes "cpus") (decimal count ∷ []) (SetCpus count) is (refl, (lacks_decimal count, tt)) (omega arith)
+    exact_back version line (codes "cpus") (decimal count ∷ []) (SetCpus count) is (refl, (lacks_decimal count, tt))
     (ap (option_map SetCpus) (number_back count small))
 
 pub memory_back : (version mib : ℕ) (line : List ℕ) → IsDecimal mib → line ≡ item_text (SetMemory mib)
     → IsLineBack version line (SetMemory mib)
 unfolding item_text item_of item_with
 memory_back version mib line small is =
-    exact_back version line (codes "memory") (decimal mib ∷ []) (SetMemory mib) is (refl, (lacks_decimal mib, tt)) (omega arith)
+    exact_back version line (codes "memory") (decimal mib ∷ []) (SetMemory mib) is (refl, (lacks_decimal mib, tt))
     (ap (option_map SetMemory) (number_back mib small))
 
 pub phase_back : (version : ℕ) (line : List ℕ) → line ≡ item_text BeginPhase → IsLineBack version line BeginPhase
 unfolding item_text item_of item_with phase_of
-phase_back version line is = exact_back version line (codes "phase") [] BeginPhase is (refl, tt) (omega arith) refl
+phase_back version line is = exact_back version line (codes "phase") [] BeginPhase is (refl, tt) refl
 
 -- ---- names
 
@@ -75,13 +69,13 @@ name_back name form = rw (is_so name form) refl
 pub rom_back : (version : ℕ) (name line : List ℕ) → IsName name → line ≡ item_text (SetRom name) → IsLineBack version line (SetRom name)
 unfolding item_text item_of item_with
 rom_back version name line form is =
-    exact_back version line (codes "rom") (name ∷ []) (SetRom name) is (refl, (lacks_name name form.each, tt)) (omega arith)
+    exact_back version line (codes "rom") (name ∷ []) (SetRom name) is (refl, (lacks_name name form.each, tt))
     (ap (option_map SetRom) (name_back name form))
 
 pub disk_back : (version : ℕ) (name line : List ℕ) → IsName name → line ≡ item_text (SetDisk name) → IsLineBack version line (SetDisk name)
 unfolding item_text item_of item_with
 disk_back version name line form is =
-    exact_back version line (codes "disk") (name ∷ []) (SetDisk name) is (refl, (lacks_name name form.each, tt)) (omega arith)
+    exact_back version line (codes "disk") (name ∷ []) (SetDisk name) is (refl, (lacks_name name form.each, tt))
     (ap (option_map SetDisk) (name_back name form))
 
 -- ---- cards
@@ -115,11 +109,6 @@ lacks_tail [] None = tt
 lacks_tail [] (Some bits) = (lacks_decimal bits, tt)
 lacks_tail (base ∷ bases) rom = (lacks_base base, lacks_tail bases rom)
 
-few_words : (bases : List Base) (rom : Option ℕ) → length bases ≤ 6 → length (tail_words bases rom) ≤ 7
-few_words bases None few = omega (arith, length-append (map base_word bases) (rom_words None), length-map bases base_word, few)
-few_words bases (Some bits) few =
-    omega (arith, length-append (map base_word bases) (rom_words (Some bits)), length-map bases base_word, few)
-
 fitted_back : (version dev : ℕ) (vga : Bool) (bases : List Base) (rom : Option ℕ)
     → IsCardForm version (record { dev = dev; vga = vga; bases = bases; rom = rom })
     → card_of version (decimal dev ∷ kind_word vga ∷ tail_words bases rom)
@@ -142,5 +131,4 @@ card_back version card line form is =
     exact_back version line (codes "card") (decimal card.dev ∷ kind_word card.vga ∷ words) (FitCard card)
     (is ∙ sym (ap (λ (rest : List ℕ). codes "card " ++ rest) (joined ∙ card_parts card.dev card.vga card.bases card.rom)))
     (refl, (lacks_decimal card.dev, (lacks_kind card.vga, lacks_tail card.bases card.rom)))
-    (omega (arith, few_words card.bases card.rom form.count))
     (ap (option_map FitCard) (fitted_back version card.dev card.vga card.bases card.rom form))

@@ -55,13 +55,13 @@ Lack (text ∷ later) = (lacks space text ≡ true) × Lack later
 split_at : (line front rest text next : List ℕ) (texts : List (List ℕ)) → lacks space text ≡ true
     → ((later : List ℕ) → Spells later (join_with_byte space (next ∷ texts)) → Reads (fields_of later) (next ∷ texts)) → line ≡ front ++ rest
     → Spells front text → Spells rest (space ∷ join_with_byte space (next ∷ texts)) → Reads (fields_of line) (text ∷ next ∷ texts)
-split_at line front [] text next texts lack behind is spells later = absurd later
-split_at line front (c ∷ rest) text next texts lack behind is spells later =
+split_at line front [] text next texts lack reads_later is spells later = absurd later
+split_at line front (c ∷ rest) text next texts lack reads_later is spells later =
     let first : c ≡ 32 = space_is c later.0 in
     let whole : line ≡ front ++ 32 ∷ rest = is ∙ ap (λ (b : ℕ). front ++ b ∷ rest) first in
     subst (λ (fields : List (List ℕ)). Reads fields (text ∷ next ∷ texts))
     (sym (ap fields_of whole ∙ slice_split_at is_space front 32 rest (spelled_lacks front text spells lack) refl))
-    (spells, behind rest later.1)
+    (spells, reads_later rest later.1)
 
 pub split : (line text : List ℕ) (texts : List (List ℕ)) → Lack (text ∷ texts) → Spells line (join_with_byte space (text ∷ texts))
     → Reads (fields_of line) (text ∷ texts)

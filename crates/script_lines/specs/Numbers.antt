@@ -52,6 +52,6 @@ two_digits_of (high ∷ low ∷ rest) = do
   Some (high * 10 + low, rest)
 
 -- what stands after a byte
-unfoldable pub behind : ℕ → List ℕ → Option (List ℕ)
-behind mark [] = None
-behind mark (byte ∷ rest) = if byte == mark then Some rest else None
+unfoldable pub after_mark : ℕ → List ℕ → Option (List ℕ)
+after_mark mark [] = None
+after_mark mark (byte ∷ rest) = if byte == mark then Some rest else None

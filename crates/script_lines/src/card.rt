@@ -1,9 +1,10 @@
 //! A card, read from the fields of its line.
 
-ghost use Rattle.std.specs.Prelude.{◌≡◌, None, map, option_map};
+ghost use Rattle.std.specs.Prelude.{◌≡◌, None, option_map};
 ghost use Rattle.script_lines.specs.Items.{base_said, card_said, tail_said};
 ghost use Rattle.script_lines.specs.Cards.{base_of, rom_of, with_base, with_rom, with_field, with_fields, no_tail, vga_of, card_of};
 
+use crate::fields::Fields;
 use crate::numbers::decimal_of;
 use arrayvec::ArrayVec;
 
@@ -107,30 +108,32 @@ fn with_field(version: u8, tail: Tail, field: &[u8]) -> Option<Tail>
 }
 
 /// The bases and the expansion ROM of all fields.
-fn tail_of(version: u8, fields: &[&[u8]]) -> Option<Tail>
-    ensures tail { option_map tail_said result ≡ with_fields version no_tail (map (λ field. field.now) fields.now) }
+#[tactic(auto, unfolding(crate::specs::Cards::with_fields))]
+fn tail_of(version: u8, fields: Fields<'_>) -> Option<Tail>
+    ensures tail { option_map tail_said result ≡ with_fields version no_tail fields.entry }
 {
     let mut tail = Tail {
         bases: ArrayVec::new(),
         rom: None,
     };
-    for field in fields {
+    let mut rest = fields;
+    while let Some((field, later)) = rest.next() {
         tail = with_field(version, tail, field)?;
+        rest = later;
     }
     Some(tail)
 }
 
 /// The card of a line, by its fields after `card`.
 #[tactic(auto, unfolding(crate::specs::Cards::card_of))]
-pub(crate) fn card_of(version: u8, words: &[&[u8]]) -> Option<CardFields>
-    ensures card { option_map card_said result ≡ card_of version (map (λ field. field.now) words.now) }
+pub(crate) fn card_of(version: u8, words: Fields<'_>) -> Option<CardFields>
+    ensures card { option_map card_said result ≡ card_of version words.entry }
 {
-    let [dev, kind, fields @ ..] = words else {
-        return None;
-    };
+    let (dev, words) = words.next()?;
+    let (kind, words) = words.next()?;
     let dev = decimal_of(dev)?;
     let vga = vga_of(kind)?;
-    let tail = tail_of(version, fields)?;
+    let tail = tail_of(version, words)?;
     Some(CardFields {
         dev,
         vga,

@@ -1,10 +1,12 @@
 //! What a statement asks, read from the fields of its line after the processor's number.
 
-ghost use Rattle.std.specs.Prelude.{◌≡◌, ◌*◌, ◌<◌, ◌^◌, map, IfSome};
+ghost use Rattle.std.specs.Prelude.{◌≡◌, ◌*◌, ◌<◌, ◌^◌, IfSome};
 ghost use Rattle.board_base.specs.Access.{bytes_of};
 ghost use Rattle.script_lines.specs.Numbers.{hex_of};
 ghost use Rattle.script_lines.specs.Events.{IsSize, width_of, quad_of, size_of, width_with, is_wide, memory_event, kind_of, smm_of, read_of, write_of, in_of, out_of, look_of, ack_of, number_in, pulses_of, sector_of, event_of};
 
+use crate::fields::Fields;
+use crate::item::is_word;
 use crate::numbers::{decimal_of, hex_of};
 use board_base::{Access, Kind, PortAccess, WideAccess, Width};
 use board_spec::Event;
@@ -55,13 +57,17 @@ fn kind_of(field: &[u8]) -> Option<Kind>
 
 /// Whether the access is made in system management mode, by the fields after the others.
 #[tactic(auto, unfolding(crate::specs::Events::smm_of))]
-fn smm_of(flags: &[&[u8]]) -> Option<bool>
-    ensures smm { result ≡ smm_of (map (λ field. field.now) flags.now) }
+fn smm_of(flags: Fields<'_>) -> Option<bool>
+    ensures smm { result ≡ smm_of flags.entry }
 {
-    match flags {
-        [] => Some(false),
-        [b"smm"] => Some(true),
-        _ => None,
+    let Some((flag, later)) = flags.next() else {
+        return Some(false);
+    };
+    later.end()?;
+    if is_word(flag, "smm") {
+        Some(true)
+    } else {
+        None
     }
 }
 
@@ -81,7 +87,15 @@ fn is_wide(version: u8, bytes: u8, addr: u32) -> bool
     requires size { IsSize version bytes }
     ensures wide { result ≡ is_wide version bytes addr }
 {
-    version == 2 && (bytes == 8 || addr % u32::from(bytes) != 0)
+    if version != 2 {
+        return false;
+    }
+    match bytes {
+        1 => false,
+        2 => addr % 2 != 0,
+        4 => addr % 4 != 0,
+        _ => true,
+    }
 }
 
 /// An access to memory of so many bytes.
@@ -127,41 +141,40 @@ fn port_of(field: &[u8]) -> Option<u16>
 
 /// `W ADDR` and the flag, after the word for a read or a fetch.
 #[tactic(auto, unfolding(crate::specs::Events::read_of))]
-fn read_of(version: u8, kind: Kind, words: &[&[u8]]) -> Option<Event>
-    ensures event { result ≡ read_of version kind (map (λ field. field.now) words.now) }
+fn read_of(version: u8, kind: Kind, words: Fields<'_>) -> Option<Event>
+    ensures event { result ≡ read_of version kind words.entry }
 {
-    let [size, addr, flags @ ..] = words else {
-        return None;
-    };
+    let (size, words) = words.next()?;
+    let (addr, words) = words.next()?;
     let bytes = size_of(version, size)?;
     let addr = address_of(addr)?;
-    let smm = smm_of(flags)?;
+    let smm = smm_of(words)?;
     Some(memory_event(version, kind, bytes, addr, 0, smm))
 }
 
 /// `W ADDR VALUE` and the flag, after the word for a write.
 #[tactic(auto, unfolding(crate::specs::Events::write_of))]
-fn write_of(version: u8, words: &[&[u8]]) -> Option<Event>
-    ensures event { result ≡ write_of version (map (λ field. field.now) words.now) }
+fn write_of(version: u8, words: Fields<'_>) -> Option<Event>
+    ensures event { result ≡ write_of version words.entry }
 {
-    let [size, addr, value, flags @ ..] = words else {
-        return None;
-    };
+    let (size, words) = words.next()?;
+    let (addr, words) = words.next()?;
+    let (value, words) = words.next()?;
     let bytes = size_of(version, size)?;
     let addr = address_of(addr)?;
     let value = hex_of(2 * bytes as usize, value)?;
-    let smm = smm_of(flags)?;
+    let smm = smm_of(words)?;
     Some(memory_event(version, Kind::Write, bytes, addr, value, smm))
 }
 
 /// `W PORT`, after `in`.
 #[tactic(auto, unfolding(crate::specs::Events::in_of))]
-fn in_of(words: &[&[u8]]) -> Option<Event>
-    ensures event { result ≡ in_of (map (λ field. field.now) words.now) }
+fn in_of(words: Fields<'_>) -> Option<Event>
+    ensures event { result ≡ in_of words.entry }
 {
-    let [width, port] = words else {
-        return None;
-    };
+    let (width, words) = words.next()?;
+    let (port, words) = words.next()?;
+    words.end()?;
     let width = width_of(width)?;
     let port = port_of(port)?;
     Some(Event::Port(PortAccess {
@@ -182,12 +195,13 @@ fn value_of(width: Width, field: &[u8]) -> Option<u32>
 
 /// `W PORT VALUE`, after `out`.
 #[tactic(auto, unfolding(crate::specs::Events::out_of))]
-fn out_of(words: &[&[u8]]) -> Option<Event>
-    ensures event { result ≡ out_of (map (λ field. field.now) words.now) }
+fn out_of(words: Fields<'_>) -> Option<Event>
+    ensures event { result ≡ out_of words.entry }
 {
-    let [width, port, value] = words else {
-        return None;
-    };
+    let (width, words) = words.next()?;
+    let (port, words) = words.next()?;
+    let (value, words) = words.next()?;
+    words.end()?;
     let width = width_of(width)?;
     let port = port_of(port)?;
     let value = value_of(width, value)?;
@@ -201,49 +215,44 @@ fn out_of(words: &[&[u8]]) -> Option<Event>
 
 /// `K ADDR` and the flag, after `look`.
 #[tactic(auto, unfolding(crate::specs::Events::look_of))]
-fn look_of(words: &[&[u8]]) -> Option<Event>
-    ensures event { result ≡ look_of (map (λ field. field.now) words.now) }
+fn look_of(words: Fields<'_>) -> Option<Event>
+    ensures event { result ≡ look_of words.entry }
 {
-    let [kind, addr, flags @ ..] = words else {
-        return None;
-    };
+    let (kind, words) = words.next()?;
+    let (addr, words) = words.next()?;
     let kind = kind_of(kind)?;
     let addr = address_of(addr)?;
-    let smm = smm_of(flags)?;
+    let smm = smm_of(words)?;
     Some(Event::Look { kind, addr, smm })
 }
 
 /// `ack` has no more fields.
 #[tactic(auto, unfolding(crate::specs::Events::ack_of))]
-fn ack_of(words: &[&[u8]]) -> Option<Event>
-    ensures event { result ≡ ack_of (map (λ field. field.now) words.now) }
+fn ack_of(words: Fields<'_>) -> Option<Event>
+    ensures event { result ≡ ack_of words.entry }
 {
-    match words {
-        [] => Some(Event::Ack),
-        _ => None,
-    }
+    words.end()?;
+    Some(Event::Ack)
 }
 
 /// The decimal that is the only field.
 #[tactic(auto, unfolding(crate::specs::Events::number_in))]
-pub(crate) fn number_in(words: &[&[u8]]) -> Option<u32>
-    ensures number { result ≡ number_in (map (λ field. field.now) words.now) }
+pub(crate) fn number_in(words: Fields<'_>) -> Option<u32>
+    ensures number { result ≡ number_in words.entry }
 {
-    match words {
-        [field] => decimal_of(field),
-        _ => None,
-    }
+    let field = words.only()?;
+    decimal_of(field)
 }
 
-fn pulses_of(words: &[&[u8]]) -> Option<Event>
-    ensures event { result ≡ pulses_of (map (λ field. field.now) words.now) }
+fn pulses_of(words: Fields<'_>) -> Option<Event>
+    ensures event { result ≡ pulses_of words.entry }
 {
     let count = number_in(words)?;
     Some(Event::Pulses(count))
 }
 
-fn sector_of(words: &[&[u8]]) -> Option<Event>
-    ensures event { result ≡ sector_of (map (λ field. field.now) words.now) }
+fn sector_of(words: Fields<'_>) -> Option<Event>
+    ensures event { result ≡ sector_of words.entry }
 {
     let sector = number_in(words)?;
     Some(Event::BadSector(sector))
@@ -251,8 +260,8 @@ fn sector_of(words: &[&[u8]]) -> Option<Event>
 
 /// What a statement asks that is no moment and sets no line, by its verb and the fields after it.
 #[tactic(auto, unfolding(crate::specs::Events::event_of))]
-pub(crate) fn event_of(version: u8, verb: &[u8], words: &[&[u8]]) -> Option<Event>
-    ensures event { result ≡ event_of version verb.now (map (λ field. field.now) words.now) }
+pub(crate) fn event_of(version: u8, verb: &[u8], words: Fields<'_>) -> Option<Event>
+    ensures event { result ≡ event_of version verb.now words.entry }
 {
     match verb {
         b"r" => read_of(version, Kind::Read, words),

@@ -1,41 +1,60 @@
 //! Fields of a line.
 
-ghost use Rattle.std.specs.Prelude.{◌≡◌, ◌<◌, ◌==◌, [], ◌∷◌, length, map, MatchOption, IfSome};
-ghost use Rattle.script_lines.specs.Fields.{fields_of};
+ghost use Rattle.std.specs.Prelude.{◌≡◌, ℕ, [], ◌∷◌, List, option_map, MatchOption};
+ghost use Rattle.script_lines.specs.Fields.{fields_of, only_of};
 
-use arrayvec::ArrayVec;
+use std::marker::Model;
 
-/// No form has more fields: a card with six bases and an expansion ROM has ten.
-pub const MOST_FIELDS: usize = 10;
-
-/// The first field, and what stands after the space that ends it. None where the text is one field.
-fn split_field(text: &[u8]) -> Option<(&[u8], &[u8])>
-    ensures cases { MatchOption result (fields_of text.now ≡ text.now ∷ []) (λ p. fields_of text.now ≡ p.0.now ∷ fields_of p.1.now) }
-    ensures shorter { IfSome result (λ p. length p.1.now < length text.now) }
-{
-    match text.iter().position(|byte| *byte == b' ') {
-        Some(end) => Some((&text[..end], &text[end + 1..])),
-        None => None,
-    }
+/// The fields of a line that are still to be read. Between two of them one space stands.
+#[derive(Drop)]
+pub struct Fields<'a> {
+    rest: Option<&'a [u8]>,
 }
 
-/// The fields of a line, between which one space stands. None where they are more than ten.
-pub fn fields_of(line: &[u8]) -> Option<ArrayVec<&[u8], MOST_FIELDS>>
-    ensures fields { MatchOption result (10 < length (fields_of line.now))
-        (λ fields. map (λ field. field.now) fields.items ≡ fields_of line.now) }
-{
-    let mut fields = ArrayVec::new();
-    let mut rest = line;
-    while let Some((field, behind)) = split_field(rest) {
-        if fields.is_full() {
-            return None;
+impl<'a> Model for Fields<'a> {
+    ghost use Rattle.std.specs.Prelude.{ℕ, List, option_map};
+    ghost use Rattle.script_lines.specs.Fields.{fields_in};
+
+    ghost Value = { List (List ℕ) };
+
+    ghost view = { λ fields. fields_in (option_map (λ rest. rest.now) fields.rest) };
+}
+
+impl<'a> Fields<'a> {
+    /// All fields of a line.
+    pub fn of(line: &'a [u8]) -> Fields<'a>
+        ensures all { result ≡ fields_of line.now }
+    {
+        Fields { rest: Some(line) }
+    }
+
+    /// The next field and those after it. None where no field is left.
+    pub fn next(self) -> Option<(&'a [u8], Fields<'a>)>
+        ensures next { MatchOption result (self.entry ≡ []) (λ p. self.entry ≡ p.0.now ∷ p.1) }
+    {
+        let rest = self.rest?;
+        match rest.iter().position(|byte| *byte == b' ') {
+            Some(end) => Some((&rest[..end], Fields::of(&rest[end + 1..]))),
+            None => Some((rest, Fields { rest: None })),
         }
-        fields.push(field);
-        rest = behind;
     }
-    if fields.is_full() {
-        return None;
+
+    /// None where a field is left.
+    pub fn end(self) -> Option<()>
+        ensures end { MatchOption result ((field : List ℕ) × (later : List (List ℕ)) × (self.entry ≡ field ∷ later)) (λ done. self.entry ≡ []) }
+    {
+        match self.next() {
+            None => Some(()),
+            Some(_) => None,
+        }
     }
-    fields.push(rest);
-    Some(fields)
+
+    /// The field that is left, where it is one.
+    pub fn only(self) -> Option<&'a [u8]>
+        ensures only { option_map (λ field. field.now) result ≡ only_of self.entry }
+    {
+        let (field, later) = self.next()?;
+        later.end()?;
+        Some(field)
+    }
 }

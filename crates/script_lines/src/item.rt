@@ -1,16 +1,16 @@
 //! What a line of a script says.
 
-ghost use Rattle.std.specs.Prelude.{◌≡◌, map, option_map, bytes_eq, IfSome};
+ghost use Rattle.std.specs.Prelude.{◌≡◌, ℕ, option_map, bytes_eq, IfSome};
 ghost use Rattle.std.specs.Option.{IfNone};
 ghost use Rattle.std.specs.List.{list_all};
 ghost use Rattle.script_spec.specs.Grammar.{SetCpus, SetMemory, SetRom, SetDisk, FitCard, HasForm, is_name_start, is_name_byte};
 ghost use Rattle.script_lines.specs.Events.{number_in};
 ghost use Rattle.script_lines.specs.Cards.{card_of};
-ghost use Rattle.script_lines.specs.Items.{moment_said, line_said, HasNoForm, two_numbers_in, only_moment, moment_asked, wire_asked, line_asked, event_asked, asked_with, asked_of, is_name, name_in, phase_of, statement_of, item_with, item_of};
+ghost use Rattle.script_lines.specs.Items.{moment_said, asked_said, line_said, HasNoForm, two_numbers_in, only_moment, moment_asked, wire_asked, line_asked, event_asked, asked_with, asked_of, is_name, name_in, phase_of, statement_of, item_with, item_of};
 
 use crate::card::{CardFields, card_of};
 use crate::event::{event_of, number_in};
-use crate::fields::fields_of;
+use crate::fields::Fields;
 use crate::moment::{MomentFields, moment_in};
 use crate::numbers::decimal_of;
 use board_spec::Event;
@@ -51,90 +51,80 @@ pub fn is_word(field: &[u8], word: &str) -> bool
 // ---- statements
 
 #[tactic(auto, unfolding(crate::specs::Items::two_numbers_in))]
-fn two_numbers_in(words: &[&[u8]]) -> Option<(u32, u32)>
-    ensures numbers { result ≡ two_numbers_in (map (λ field. field.now) words.now) }
+fn two_numbers_in(words: Fields<'_>) -> Option<(u32, u32)>
+    ensures numbers { result ≡ two_numbers_in words.entry }
 {
-    let [first, second] = words else {
-        return None;
-    };
+    let (first, words) = words.next()?;
+    let (second, words) = words.next()?;
+    words.end()?;
     let first = decimal_of(first)?;
     let second = decimal_of(second)?;
     Some((first, second))
 }
 
 #[tactic(auto, unfolding(crate::specs::Items::only_moment))]
-fn only_moment(words: &[&[u8]]) -> Option<MomentFields>
-    ensures moment { option_map moment_said result ≡ only_moment (map (λ field. field.now) words.now) }
+fn only_moment(words: Fields<'_>) -> Option<MomentFields>
+    ensures moment { option_map moment_said result ≡ only_moment words.entry }
 {
-    match words {
-        [field] => moment_in(field),
-        _ => None,
-    }
+    let field = words.only()?;
+    moment_in(field)
 }
 
 #[tactic(auto, unfolding(crate::specs::Items::moment_asked))]
-fn moment_of<'a>(actor: u32, words: &[&'a [u8]]) -> Option<Item<'a>>
-    ensures item { option_map line_said result ≡ moment_asked actor (map (λ field. field.now) words.now) }
+fn moment_of(words: Fields<'_>) -> Option<Asked>
+    ensures asked { (actor : ℕ) → option_map (asked_said actor) result ≡ moment_asked actor words.entry }
 {
     let moment = only_moment(words)?;
-    let asked = Asked::Moment(moment);
-    Some(Item::Statement { actor, asked })
+    Some(Asked::Moment(moment))
 }
 
 #[tactic(auto, unfolding(crate::specs::Items::wire_asked))]
-fn wire_of<'a>(actor: u32, words: &[&'a [u8]]) -> Option<Item<'a>>
-    ensures item { option_map line_said result ≡ wire_asked actor (map (λ field. field.now) words.now) }
+fn wire_of(words: Fields<'_>) -> Option<Asked>
+    ensures asked { (actor : ℕ) → option_map (asked_said actor) result ≡ wire_asked actor words.entry }
 {
     let (dev, level) = two_numbers_in(words)?;
-    let asked = Asked::Wire { dev, level };
-    Some(Item::Statement { actor, asked })
+    Some(Asked::Wire { dev, level })
 }
 
 #[tactic(auto, unfolding(crate::specs::Items::line_asked))]
-fn line_of<'a>(actor: u32, words: &[&'a [u8]]) -> Option<Item<'a>>
-    ensures item { option_map line_said result ≡ line_asked actor (map (λ field. field.now) words.now) }
+fn line_of(words: Fields<'_>) -> Option<Asked>
+    ensures asked { (actor : ℕ) → option_map (asked_said actor) result ≡ line_asked actor words.entry }
 {
     let (irq, level) = two_numbers_in(words)?;
-    let asked = Asked::Line { irq, level };
-    Some(Item::Statement { actor, asked })
+    Some(Asked::Line { irq, level })
 }
 
 #[tactic(auto, unfolding(crate::specs::Items::event_asked))]
-fn other_event<'a>(version: u8, actor: u32, verb: &[u8], words: &[&'a [u8]]) -> Option<Item<'a>>
-    ensures item { option_map line_said result
-        ≡ event_asked version actor verb.now (map (λ field. field.now) words.now) }
+fn other_event(version: u8, verb: &[u8], words: Fields<'_>) -> Option<Asked>
+    ensures asked { (actor : ℕ) → option_map (asked_said actor) result ≡ event_asked version actor verb.now words.entry }
 {
     let event = event_of(version, verb, words)?;
-    let asked = Asked::Event(event);
-    Some(Item::Statement { actor, asked })
+    Some(Asked::Event(event))
 }
 
 #[tactic(auto, unfolding(crate::specs::Items::asked_with))]
-fn asked_with<'a>(version: u8, actor: u32, verb: &[u8], words: &[&'a [u8]]) -> Option<Item<'a>>
-    ensures item { option_map line_said result
-        ≡ asked_with version actor verb.now (map (λ field. field.now) words.now) }
+fn asked_with(version: u8, verb: &[u8], words: Fields<'_>) -> Option<Asked>
+    ensures asked { (actor : ℕ) → option_map (asked_said actor) result ≡ asked_with version actor verb.now words.entry }
 {
     if is_word(verb, "moment") {
-        return moment_of(actor, words);
+        return moment_of(words);
     }
     if is_word(verb, "wire") {
-        return wire_of(actor, words);
+        return wire_of(words);
     }
     if is_word(verb, "irq") {
-        return line_of(actor, words);
+        return line_of(words);
     }
-    other_event(version, actor, verb, words)
+    other_event(version, verb, words)
 }
 
 /// What a statement asks, by the fields of its line after the processor's number.
 #[tactic(auto, unfolding(crate::specs::Items::asked_of))]
-fn asked_of<'a>(version: u8, actor: u32, words: &[&'a [u8]]) -> Option<Item<'a>>
-    ensures item { option_map line_said result ≡ asked_of version actor (map (λ field. field.now) words.now) }
+fn asked_of(version: u8, words: Fields<'_>) -> Option<Asked>
+    ensures asked { (actor : ℕ) → option_map (asked_said actor) result ≡ asked_of version actor words.entry }
 {
-    let [verb, words @ ..] = words else {
-        return None;
-    };
-    asked_with(version, actor, verb, words)
+    let (verb, words) = words.next()?;
+    asked_with(version, verb, words)
 }
 
 // ---- names
@@ -174,73 +164,70 @@ fn is_name(bytes: &[u8]) -> bool
 
 /// The name that is the only field.
 #[tactic(auto, unfolding(crate::specs::Items::name_in))]
-fn name_in<'a>(words: &[&'a [u8]]) -> Option<&'a [u8]>
-    ensures name { option_map (λ name. name.now) result ≡ name_in (map (λ field. field.now) words.now) }
+fn name_in<'a>(words: Fields<'a>) -> Option<&'a [u8]>
+    ensures name { option_map (λ name. name.now) result ≡ name_in words.entry }
 {
-    let [name] = words else {
-        return None;
-    };
-    if is_name(name) { Some(*name) } else { None }
+    let name = words.only()?;
+    if is_name(name) { Some(name) } else { None }
 }
 
 // ---- all lines
 
 #[tactic(auto, unfolding(crate::specs::Items::phase_of))]
-fn phase_of<'a>(words: &[&'a [u8]]) -> Option<Item<'a>>
-    ensures item { option_map line_said result ≡ phase_of (map (λ field. field.now) words.now) }
+fn phase_of<'a>(words: Fields<'a>) -> Option<Item<'a>>
+    ensures item { option_map line_said result ≡ phase_of words.entry }
 {
-    match words {
-        [] => Some(Item::Phase),
-        _ => None,
-    }
+    words.end()?;
+    Some(Item::Phase)
 }
 
-fn cpus_of<'a>(words: &[&'a [u8]]) -> Option<Item<'a>>
-    ensures item { option_map line_said result ≡ option_map SetCpus (number_in (map (λ field. field.now) words.now)) }
+fn cpus_of<'a>(words: Fields<'a>) -> Option<Item<'a>>
+    ensures item { option_map line_said result ≡ option_map SetCpus (number_in words.entry) }
 {
     let count = number_in(words)?;
     Some(Item::Cpus(count))
 }
 
-fn memory_of<'a>(words: &[&'a [u8]]) -> Option<Item<'a>>
-    ensures item { option_map line_said result ≡ option_map SetMemory (number_in (map (λ field. field.now) words.now)) }
+fn memory_of<'a>(words: Fields<'a>) -> Option<Item<'a>>
+    ensures item { option_map line_said result ≡ option_map SetMemory (number_in words.entry) }
 {
     let mib = number_in(words)?;
     Some(Item::Memory(mib))
 }
 
-fn rom_of<'a>(words: &[&'a [u8]]) -> Option<Item<'a>>
-    ensures item { option_map line_said result ≡ option_map SetRom (name_in (map (λ field. field.now) words.now)) }
+fn rom_of<'a>(words: Fields<'a>) -> Option<Item<'a>>
+    ensures item { option_map line_said result ≡ option_map SetRom (name_in words.entry) }
 {
     let name = name_in(words)?;
     Some(Item::Rom(name))
 }
 
-fn disk_of<'a>(words: &[&'a [u8]]) -> Option<Item<'a>>
-    ensures item { option_map line_said result ≡ option_map SetDisk (name_in (map (λ field. field.now) words.now)) }
+fn disk_of<'a>(words: Fields<'a>) -> Option<Item<'a>>
+    ensures item { option_map line_said result ≡ option_map SetDisk (name_in words.entry) }
 {
     let name = name_in(words)?;
     Some(Item::Disk(name))
 }
 
-fn fitted_of<'a>(version: u8, words: &[&'a [u8]]) -> Option<Item<'a>>
-    ensures item { option_map line_said result ≡ option_map FitCard (card_of version (map (λ field. field.now) words.now)) }
+fn fitted_of<'a>(version: u8, words: Fields<'a>) -> Option<Item<'a>>
+    ensures item { option_map line_said result ≡ option_map FitCard (card_of version words.entry) }
 {
     let card = card_of(version, words)?;
     Some(Item::Card(card))
 }
 
 #[tactic(auto, unfolding(crate::specs::Items::statement_of))]
-fn statement_of<'a>(version: u8, actor: &[u8], words: &[&'a [u8]]) -> Option<Item<'a>>
-    ensures item { option_map line_said result ≡ statement_of version actor.now (map (λ field. field.now) words.now) }
+fn statement_of<'a>(version: u8, actor: &[u8], words: Fields<'a>) -> Option<Item<'a>>
+    ensures item { option_map line_said result ≡ statement_of version actor.now words.entry }
 {
     let actor = decimal_of(actor)?;
-    asked_of(version, actor, words)
+    let asked = asked_of(version, words)?;
+    Some(Item::Statement { actor, asked })
 }
 
 #[tactic(auto, unfolding(crate::specs::Items::item_with))]
-fn item_with<'a>(version: u8, key: &[u8], words: &[&'a [u8]]) -> Option<Item<'a>>
-    ensures item { option_map line_said result ≡ item_with version key.now (map (λ field. field.now) words.now) }
+fn item_with<'a>(version: u8, key: &[u8], words: Fields<'a>) -> Option<Item<'a>>
+    ensures item { option_map line_said result ≡ item_with version key.now words.entry }
 {
     if is_word(key, "phase") {
         return phase_of(words);
@@ -265,12 +252,10 @@ fn item_with<'a>(version: u8, key: &[u8], words: &[&'a [u8]]) -> Option<Item<'a>
 
 /// What a line says, by its fields.
 #[tactic(auto, unfolding(crate::specs::Items::item_of))]
-fn item_in<'a>(version: u8, fields: &[&'a [u8]]) -> Option<Item<'a>>
-    ensures item { option_map line_said result ≡ item_of version (map (λ field. field.now) fields.now) }
+fn item_in<'a>(version: u8, fields: Fields<'a>) -> Option<Item<'a>>
+    ensures item { option_map line_said result ≡ item_of version fields.entry }
 {
-    let [key, words @ ..] = fields else {
-        return None;
-    };
+    let (key, words) = fields.next()?;
     item_with(version, key, words)
 }
 
@@ -280,6 +265,6 @@ pub fn item_of(version: u8, line: &[u8]) -> Option<Item<'_>>
     ensures says { IfSome result (λ item. HasForm version line.now (line_said item)) }
     ensures none { IfNone result (HasNoForm version line.now) }
 {
-    let fields = fields_of(line)?;
-    item_in(version, &fields)
+    let fields = Fields::of(line);
+    item_in(version, fields)
 }

@@ -9,7 +9,7 @@ mod moment;
 mod numbers;
 
 pub use card::{BaseField, CardFields};
-pub use fields::{MOST_FIELDS, fields_of};
+pub use fields::Fields;
 pub use item::{Asked, Item, is_word, item_of};
 pub use moment::MomentFields;
 pub use numbers::{decimal_of, digit_of, hex_of};

@@ -4,7 +4,7 @@ ghost use Rattle.std.specs.Prelude.{◌≡◌, ◌<◌, IfSome, option_map};
 ghost use Rattle.script_lines.specs.Items.{moment_said};
 ghost use Rattle.script_lines.specs.Moments.{Three, part_of, year_of, date_of, time_of, moment_in};
 
-use crate::numbers::{behind, two_digits_of};
+use crate::numbers::{after_mark, two_digits_of};
 
 /// The numbers of a moment, which the calendar may not have.
 #[derive(Clone, Copy, PartialEq, Eq, Debug)]
@@ -22,7 +22,7 @@ pub struct MomentFields {
 fn part_of(mark: u8, text: &[u8]) -> Option<(u8, &[u8])>
     ensures part { option_map (λ p. (p.0, p.1.now)) result ≡ part_of mark text.now }
 {
-    let digits = behind(mark, text)?;
+    let digits = after_mark(mark, text)?;
     two_digits_of(digits)
 }
 

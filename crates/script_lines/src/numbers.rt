@@ -1,7 +1,7 @@
 //! Numbers as a script writes them.
 
 ghost use Rattle.std.specs.Prelude.{◌≡◌, ◌<◌, ◌≤◌, ◌^◌, length, IfSome, option_map, Some, None, if◌then◌else◌};
-ghost use Rattle.script_lines.specs.Numbers.{digit_value, digit_of, number_of, hex_of, decimal_of, has_leading_zero, two_digits_of, behind};
+ghost use Rattle.script_lines.specs.Numbers.{digit_value, digit_of, number_of, hex_of, decimal_of, has_leading_zero, two_digits_of, after_mark};
 
 /// The base of hexadecimal numbers.
 const HEX: u64 = 16;
@@ -12,15 +12,33 @@ const TEN: u64 = 10;
 /// The most digits of a decimal.
 const MOST_DIGITS: usize = 9;
 
+/// What each byte stands for as a digit, with letters in either case, or 255.
+const DIGITS: [u8; 256] = [
+    255, 255, 255, 255, 255, 255, 255, 255, 255, 255, 255, 255, 255, 255, 255, 255, 255, 255, 255,
+    255, 255, 255, 255, 255, 255, 255, 255, 255, 255, 255, 255, 255, 255, 255, 255, 255, 255, 255,
+    255, 255, 255, 255, 255, 255, 255, 255, 255, 255, 0, 1, 2, 3, 4, 5, 6, 7, 8, 9, 255, 255, 255,
+    255, 255, 255, 255, 10, 11, 12, 13, 14, 15, 255, 255, 255, 255, 255, 255, 255, 255, 255, 255,
+    255, 255, 255, 255, 255, 255, 255, 255, 255, 255, 255, 255, 255, 255, 255, 255, 10, 11, 12, 13,
+    14, 15, 255, 255, 255, 255, 255, 255, 255, 255, 255, 255, 255, 255, 255, 255, 255, 255, 255,
+    255, 255, 255, 255, 255, 255, 255, 255, 255, 255, 255, 255, 255, 255, 255, 255, 255, 255, 255,
+    255, 255, 255, 255, 255, 255, 255, 255, 255, 255, 255, 255, 255, 255, 255, 255, 255, 255, 255,
+    255, 255, 255, 255, 255, 255, 255, 255, 255, 255, 255, 255, 255, 255, 255, 255, 255, 255, 255,
+    255, 255, 255, 255, 255, 255, 255, 255, 255, 255, 255, 255, 255, 255, 255, 255, 255, 255, 255,
+    255, 255, 255, 255, 255, 255, 255, 255, 255, 255, 255, 255, 255, 255, 255, 255, 255, 255, 255,
+    255, 255, 255, 255, 255, 255, 255, 255, 255, 255, 255, 255, 255, 255, 255, 255, 255, 255, 255,
+    255, 255, 255, 255, 255, 255, 255, 255, 255, 255, 255, 255, 255, 255, 255, 255, 255, 255, 255,
+    255, 255, 255,
+];
+
 /// What a digit stands for, with letters in either case.
 fn digit_value(byte: u8) -> Option<u64>
     ensures digit { result ≡ digit_value byte }
 {
-    match byte {
-        b'0'..=b'9' => Some(u64::from(byte - b'0')),
-        b'A'..=b'F' => Some(u64::from(byte - b'A' + 10)),
-        b'a'..=b'f' => Some(u64::from(byte - b'a' + 10)),
-        _ => None,
+    let digit = DIGITS[byte as usize];
+    if digit < 16 {
+        Some(u64::from(digit))
+    } else {
+        None
     }
 }
 
@@ -93,9 +111,9 @@ pub(crate) fn two_digits_of(text: &[u8]) -> Option<(u8, &[u8])>
 }
 
 /// What stands after a byte.
-#[tactic(auto, unfolding(crate::specs::Numbers::behind))]
-pub(crate) fn behind(mark: u8, text: &[u8]) -> Option<&[u8]>
-    ensures rest { option_map (λ rest. rest.now) result ≡ behind mark text.now }
+#[tactic(auto, unfolding(crate::specs::Numbers::after_mark))]
+pub(crate) fn after_mark(mark: u8, text: &[u8]) -> Option<&[u8]>
+    ensures rest { option_map (λ rest. rest.now) result ≡ after_mark mark text.now }
 {
     match text {
         [] => None,

@@ -1,13 +1,12 @@
 -- A text up to its first line feed, and after it.
-use Rattle.std.proofs.Common.{◌≡◌, ℕ, ◌+◌, ◌<◌, ◌≤◌, ◌-◌, Bool, true, false, cond, eqb, ltb, Option, Some, None, List, [], ◌∷◌, ◌++◌, length, get_or, take, drop, refl, sym, ap, subst, ◌∙◌, All, arith}
+use Rattle.std.proofs.Common.{◌≡◌, ℕ, ◌+◌, ◌<◌, ◌-◌, Bool, true, false, cond, eqb, Some, None, List, [], ◌∷◌, ◌++◌, length, get_or, take, drop, refl, sym, ap, subst, ◌∙◌, All, arith}
 use Rattle.std.specs.List.{position_or_len, before_first, after_first, onto_first}
-use Rattle.std.proofs.lemmas.Bool.{eqb-true, ltb-false}
-use borrow.Author.Tests.{ltb-true}
-use Rattle.std.proofs.lemmas.Option.{cond_some}
+use Rattle.std.proofs.lemmas.Bool.{eqb-true}
 use Rattle.std.proofs.lemmas.List.{take_rest}
-use Rattle.std.proofs.lemmas.Grind.{common_steps}
+use Rattle.std.proofs.lemmas.Grind.{common_steps, get_or_default_zero}
 use Rattle.std.proofs.lemmas.List.Elements.{All-head, All-tail}
-use Rattle.std.proofs.lemmas.List.Sums.{split_at_first, fails_before_first, passes_at_first}
+use Rattle.std.proofs.lemmas.List.Sums.{split_at_first, fails_before_first, passes_at_first, position_or_len_is}
+use Rattle.memchr.specs.Find.{IsFirstByte}
 use Rattle.script_spec.specs.Lines.{lines_of}
 
 abbrev pub is_feed : ℕ → Bool
@@ -47,27 +46,26 @@ lines_cut bytes lt =
     subst (λ (byte : ℕ). bytes ≡ before_first is_feed bytes ++ byte ∷ after_first is_feed bytes) feed (split_at_first is_feed bytes 0 lt) in
     ap lines_of cut ∙ ended (before_first is_feed bytes) (after_first is_feed bytes) (before bytes)
 
--- the place of the first line feed, if there is one
-abbrev feed_place : List ℕ → Option ℕ
-feed_place bytes = cond (ltb (position_or_len is_feed bytes) (length bytes)) (Some (position_or_len is_feed bytes)) None
+not_so : (b : Bool) → ¬ (b ≡ true) → b ≡ false
+not_so true never = absurd (never refl)
+not_so false never = refl
 
-pub cut_at : (bytes : List ℕ) (end : ℕ) → feed_place bytes ≡ Some end
+pub cut_at : (bytes : List ℕ) (end : ℕ) → IsFirstByte is_feed bytes (Some end)
     → lines_of bytes ≡ take end bytes ∷ lines_of (take (length bytes - (end + 1)) (drop (end + 1) bytes))
-cut_at bytes end found =
-    let at_end = cond_some (ltb (position_or_len is_feed bytes) (length bytes)) (position_or_len is_feed bytes) end found in
-    rw take_rest (subst (λ (n : ℕ). lines_of bytes ≡ take n bytes ∷ lines_of (drop (n + 1) bytes)) at_end.1 (lines_cut bytes (ltb-true _ _ at_end.0)))
+cut_at bytes end first =
+    let place : position_or_len is_feed bytes ≡ end =
+    position_or_len_is is_feed bytes end 0 (omega (arith, first.0.high))
+    (λ k lt. not_so (is_feed (get_or bytes k 0)) (first.0.before k (omega arith) lt)) (λ lt. first.1) in
+    rw take_rest (subst (λ (n : ℕ). lines_of bytes ≡ take n bytes ∷ lines_of (drop (n + 1) bytes)) place
+    (lines_cut bytes (subst (λ (n : ℕ). n < length bytes) (sym place) first.0.high)))
 
 -- with none it is the whole text
-nowhere : (b : Bool) (n : ℕ) → cond b (Some n) None ≡ None → b ≡ false
-nowhere true n e = absurd cc
-nowhere false n e = refl
-
-pub uncut : (bytes : List ℕ) → false ≡ eqb (length bytes) 0 → feed_place bytes ≡ None → lines_of bytes ≡ bytes ∷ lines_of []
+pub uncut : (bytes : List ℕ) → false ≡ eqb (length bytes) 0 → IsFirstByte is_feed bytes None → lines_of bytes ≡ bytes ∷ lines_of []
 unfolding lines_of
 uncut [] some none = absurd cc
 uncut (x ∷ xs) some none =
-    let le : length (x ∷ xs) ≤ position_or_len is_feed (x ∷ xs) = ltb-false _ _ (nowhere (ltb (position_or_len is_feed (x ∷ xs)) (length (x ∷ xs))) (position_or_len is_feed (x ∷ xs)) none) in
-    alone x xs (λ k d lt. fails_before_first is_feed (x ∷ xs) k d (omega arith))
+    alone x xs (λ k d lt. rw (get_or_default_zero (x ∷ xs) k d lt)
+    (not_so (is_feed (get_or (x ∷ xs) k 0)) (none k (omega arith) lt)))
 
 -- no bytes, no lines
 pub none_left : (bytes : List ℕ) → true ≡ eqb (length bytes) 0 → lines_of bytes ≡ []

@@ -4,6 +4,8 @@ ghost use Rattle.std.specs.Prelude.{◌≡◌, ◌<◌, [], ◌∷◌, length, b
 ghost use Rattle.script_spec.specs.Lines.{lines_of};
 ghost use Rattle.script_spec.specs.ScriptText.{IsVersion, first_line, BeginsBadly, is_skipped};
 
+use memchr::memchr;
+
 /// What ends a line.
 const LINE_FEED: u8 = b'\n';
 
@@ -16,7 +18,7 @@ pub(crate) fn split_line(bytes: &[u8]) -> Option<(&[u8], &[u8])>
     if bytes.is_empty() {
         return None;
     }
-    match bytes.iter().position(|byte| *byte == LINE_FEED) {
+    match memchr(LINE_FEED, bytes) {
         Some(end) => Some((&bytes[..end], &bytes[end + 1..])),
         None => Some((bytes, &[])),
     }

@@ -3,6 +3,6 @@ use Rattle.log_lines.proofs.reply.bus_of.Goals as goal
 
 pub narrowed-requires : goal.narrowed-requires
 narrowed-requires c = record {
-  small = narrow_value c.args.writes c.args.bytes c.in_ok-value.value c.requires.few
-      c.in_ok-value.ensures.fits;
+  small = narrow_value c.args.writes c.args.bytes c.in_ok-value-2.value c.requires.few
+      c.in_ok-value-2.ensures.fits;
 }

@@ -1,10 +1,11 @@
-use Rattle.std.proofs.Common.{◌≡◌, drop, map}
+use Rattle.std.proofs.Common.{◌≡◌, length}
 use Rattle.script_lines.specs.Cards.{with_fields, no_tail}
 use Rattle.script_lines.specs.Items.{tail_said}
 use Rattle.script_lines.proofs.card.tail_of.Given as goal
 
 -- the fields that are left make the whole
 abbrev pub invariant-loop-field : goal.invariant-loop-field
-invariant-loop-field l =
-    with_fields l.version (tail_said l.tail) (drop l.field-index (map (λ field. field.now) l.fields))
-    ≡ with_fields l.version no_tail (map (λ field. field.now) l.fields)
+invariant-loop-field l = with_fields l.version (tail_said l.tail) l.rest ≡ with_fields l.version no_tail l.fn.fields
+
+abbrev pub decreases-loop-field : goal.decreases-loop-field
+decreases-loop-field l = length l.rest
