@@ -21,8 +21,8 @@ const SERVING: usize = 1;
 
 const COUNT: usize = 2;
 
-// A caller that waits spins between two looks at the words, each time twice as often: from some 300 nanoseconds to some 10
-// microseconds, during which whoever takes turns has the words to itself.
+// A caller that waits spins between two looks at the words, each time twice as often: from some 300 nanoseconds to
+// some 10 microseconds, during which whoever takes turns has the words to itself.
 const FIRST_SPINS: u32 = 64;
 
 const LAST_SPINS: u32 = 2_048;
@@ -30,7 +30,8 @@ const LAST_SPINS: u32 = 2_048;
 // So often it spins to see whether the turn stays free: longer than a caller needs from one turn to its next.
 const FREE_SPINS: u32 = 32;
 
-// A caller that finds the turn taken looks again this often before it draws a ticket all the same: for some 10 milliseconds.
+// A caller that finds the turn taken looks again this often before it draws a ticket all the same: for some 10
+// milliseconds.
 const MOST_LOOKS: u32 = 1_000;
 
 /// A value that callers share by turns. The slot has the value, or nothing while a caller holds the turn.
@@ -115,8 +116,8 @@ impl<T: Kept> Turn<T> {
     }
 
     // Waits, but not without end, until nobody holds the turn or has a ticket for it. Whoever draws a ticket then is
-    // running, so that no others wait for a thread that the system has put aside. A caller that takes turn after turn is
-    // left to it, since the value then stays in its processor's cache.
+    // running, so that no others wait for a thread that the system has put aside. A caller that takes turn after turn
+    // is left to it, since the value then stays in its processor's cache.
     fn wait_for_free_turn(&self) {
         if self.free_ticket().is_some() {
             return;

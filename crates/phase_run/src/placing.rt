@@ -20,7 +20,8 @@ pub(crate) struct Placing {
 }
 
 impl Placing {
-    /// Adds what a phase did. The board's own history was `before`, and gained `later`, each with the oldest entry first.
+    /// Adds what a phase did. The board's own history was `before`, and gained `later`, each with the oldest entry
+    /// first.
     pub(crate) fn add(
         &mut self,
         alloc: Global,

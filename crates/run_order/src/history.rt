@@ -194,8 +194,8 @@ impl RunHistory {
         }
     }
 
-    /// Adds the looks that are due after an entry of this processor. The version was `before`, and then no look was due;
-    /// so while the version stays, none but this processor's is.
+    /// Adds the looks that are due after an entry of this processor. The version was `before`, and then no look was
+    /// due; so while the version stays, none but this processor's is.
     fn next_looks(&mut self, before: u32, version: u32, actor: u8, rests: &mut [&[Done]])
         requires few { length rests.old ≤ 8 }
         requires actor { actor < length rests.old }
