@@ -11,8 +11,7 @@ use board_base::{Gate, NoMemory};
 use board_core::Board;
 use board_script::push_log;
 use board_spec::laws::law_lock;
-use phase_run::run_phases;
-use run_order::RunHistory;
+use phase_run::{EndedRun, run_phases};
 use script_text::Script;
 use std::alloc::Global;
 use std::sync::Wait;
@@ -27,7 +26,7 @@ pub fn run_script<R: Threads + Wait + Sync, G: Gate>(
     board: Board,
     script: &Script,
     gate: &G,
-) -> Result<RunHistory, NoMemory>
+) -> Result<EndedRun, NoMemory>
     requires in_range { IsInRangeScript (said_of script.now) }
     requires cards { board.setup.cards ≡ (said_of script.now).cards }
     requires fresh { board.entries ≡ [] }

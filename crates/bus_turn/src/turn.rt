@@ -21,11 +21,18 @@ const SERVING: usize = 1;
 
 const COUNT: usize = 2;
 
-// A caller spins this often before it gives the processor away between loads.
-const SPINS: u32 = 4;
+// A caller that waits spins between two looks at the words, each time twice as often: from some 300 nanoseconds to
+// some 10 microseconds, during which whoever takes turns has the words to itself.
+const FIRST_SPINS: u32 = 64;
 
-// A caller that finds the turn taken looks again this often before it draws a ticket all the same.
-const MOST_TRIES: u32 = 100_000;
+const LAST_SPINS: u32 = 2_048;
+
+// So often it spins to see whether the turn stays free: longer than a caller needs from one turn to its next.
+const FREE_SPINS: u32 = 32;
+
+// A caller that finds the turn taken looks again this often before it draws a ticket all the same: for some 10
+// milliseconds.
+const MOST_LOOKS: u32 = 1_000;
 
 /// A value that callers share by turns. The slot has the value, or nothing while a caller holds the turn.
 #[derive(Drop)]
@@ -88,16 +95,39 @@ impl<T: Kept> Turn<T> {
         self.table.shared.split_seat::<Branch>(pass)
     }
 
+    // The next ticket, where nobody holds the turn or has a ticket for it.
+    fn free_ticket(&self) -> Option<u64> {
+        let serving = self.table.shared.peek(SERVING);
+        if self.table.shared.peek(TICKET) == serving {
+            Some(serving)
+        } else {
+            None
+        }
+    }
+
+    // Whether the turn is free, and nobody takes it for a while. Then no caller takes turn after turn.
+    fn stays_free(&self) -> bool {
+        let ticket = self.free_ticket();
+        if ticket.is_none() {
+            return false;
+        }
+        spin(FREE_SPINS);
+        self.free_ticket() == ticket
+    }
+
     // Waits, but not without end, until nobody holds the turn or has a ticket for it. Whoever draws a ticket then is
-    // running, so that no others wait for a thread that the system has put aside.
+    // running, so that no others wait for a thread that the system has put aside. A caller that takes turn after turn
+    // is left to it, since the value then stays in its processor's cache.
     fn wait_for_free_turn(&self) {
-        let mut spins = SPINS;
-        for _ in 0..MOST_TRIES {
-            let serving = self.table.shared.peek(SERVING);
-            if self.table.shared.peek(TICKET) == serving {
+        if self.free_ticket().is_some() {
+            return;
+        }
+        let mut spins = FIRST_SPINS;
+        for _ in 0..MOST_LOOKS {
+            spins = wait_a_little(spins);
+            if self.stays_free() {
                 return;
             }
-            spins = wait_a_little(spins);
         }
     }
 
@@ -116,7 +146,7 @@ impl<T: Kept> Turn<T> {
     {
         self.wait_for_free_turn();
         let ticket = self.table.shared.fetch_add::<Draw>(pass, TICKET, 1);
-        let mut spins = SPINS;
+        let mut spins = FIRST_SPINS;
         for _ in rt.forever() {
             let serving = self.table.shared.load::<Call>(pass, SERVING);
             if serving == ticket {
@@ -216,13 +246,19 @@ impl<T: Kept> Turn<T> {
     }
 }
 
-// Spins while there are turns left for it, and then gives the processor away.
-fn wait_a_little(spins: u32) -> u32 {
-    if spins > 0 {
+fn spin(spins: u32) {
+    for _ in 0..spins {
         hint::spin_loop();
-        spins - 1
-    } else {
-        thread::yield_now();
-        0
     }
+}
+
+// Waits between two looks, and tells how often to spin before the next. A caller that has spun longest also gives the
+// processor away, since whoever holds the turn may have none.
+fn wait_a_little(spins: u32) -> u32 {
+    spin(spins);
+    if spins < LAST_SPINS {
+        return spins * 2;
+    }
+    thread::yield_now();
+    spins
 }

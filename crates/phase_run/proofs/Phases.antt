@@ -1,21 +1,24 @@
 -- A phase, as the history of the run takes it in.
-use Rattle.std.proofs.Common.{◌≡◌, ℕ, ◌+◌, ◌-◌, ◌<◌, ◌≤◌, List, [], ◌∷◌, ◌++◌, map, length, take, drop, flat_map, All, Vec, Global, sym, ◌∙◌, ap, subst, arith}
+use Rattle.std.proofs.Common.{◌≡◌, ℕ, ◌+◌, ◌-◌, ◌<◌, ◌≤◌, List, [], ◌∷◌, ◌++◌, map, length, take, drop, flat_map, All, Option, Vec, Global, sym, ◌∙◌, ap, subst, arith}
 use Rattle.std.specs.Prelude.{reverse, slice_index_or}
 use Rattle.std.proofs.lemmas.List.{reverse-append, reverse-reverse, length-append, length-map, map-append, append-nil, take_all, take_more, take-append-drop}
 use Rattle.std.proofs.lemmas.Grind.{flat_map-append}
-use Rattle.std.proofs.Math.Seq.{drop-append_seam}
+use Rattle.std.proofs.Math.Seq.{drop-append_seam, take-append_seam}
 use Rattle.std.proofs.lemmas.List.Elements.{All-take, All-drop}
 use Rattle.board_spec.specs.declared.event.Entry.{Entry}
 use Rattle.board_spec.specs.declared.event.Statement.{Statement}
 use Rattle.board_spec.specs.Setup.{Setup, IsCardList}
+use Rattle.board_spec.specs.MapWrites.{version_of}
 use Rattle.board_spec.specs.Legal.{IsLegal}
 use Rattle.board_core.specs.Kept.{Standing}
 use Rattle.run_order.specs.declared.done.Done.{Done}
-use Rattle.run_order.specs.Placing.{done_by}
-use Rattle.run_order.specs.PhaseRun.{IsWork, IsPhaseRun}
+use Rattle.run_order.specs.Placing.{done_by, placed}
+use Rattle.run_order.specs.Room.{Entries}
+use Rattle.run_order.specs.PhaseRun.{bare, IsWork, IsPhaseRun, IsPlaced, PhaseRuns}
 use Rattle.run_order.specs.Trace.{Begins}
 use Rattle.phase_run.specs.declared.worker.Work.{Work}
-use Rattle.phase_run.specs.Jobs.{IsStatement, HasRun, done_in}
+use Rattle.phase_run.specs.Jobs.{IsStatement, HasRun, TakesIn, done_in}
+use Rattle.phase_run.specs.Placed.{entries_of}
 use Rattle.phase_run.proofs.Numbers.{all_reverse}
 
 -- what a history gained, the oldest first
@@ -58,6 +61,52 @@ phase_is_run before now opened entries phase works lists run old is are cards le
           let few : actor < length works = subst (λ (n : ℕ). actor < n) count less in
           subst (λ (ls : List (List Done)). IsWork before.setup before.entries (reverse (gained opened entries) ++ before.entries) phase actor (done_by 0 actor ls)) (sym are)
           (subst (λ (h : List Entry). IsWork before.setup before.entries h phase actor (done_by 0 actor (done_in works))) (sym whole) (run.each actor few));
+    }
+
+-- ---- the history of the run
+
+pub front_is : (before now opened entries : List Entry) → Begins before now → opened ≡ reverse before → entries ≡ reverse now
+    → reverse (take (length opened) entries) ≡ before
+front_is before now opened entries b old is =
+    let cut : entries ≡ reverse before ++ reverse b.0 = is ∙ (ap reverse b.1 ∙ reverse-append b.0 before) in
+    let size : length opened ≡ length (reverse before) = ap length old in
+    let front : take (length opened) entries ≡ reverse before =
+    ap (take (length opened)) cut ∙ (ap (λ (n : ℕ). take n (reverse before ++ reverse b.0)) size ∙ take-append_seam (reverse before) (reverse b.0)) in
+    ap reverse front ∙ reverse-reverse before
+
+-- the board's own history, in two parts
+pub parts_are : (before now opened entries : List Entry) → Begins before now → opened ≡ reverse before → entries ≡ reverse now
+    → reverse (gained opened entries) ++ reverse (take (length opened) entries) ≡ now
+parts_are before now opened entries b old is =
+    ap (λ (h : List Entry). reverse (gained opened entries) ++ h) (front_is before now opened entries b old is) ∙ whole_is before now opened entries b old is
+
+pub front_all : (n : ℕ) (before now opened entries : List Entry) → Begins before now → opened ≡ reverse before → entries ≡ reverse now
+    → n ≤ 8 → All (λ entry. entry.actor < n) before → All (λ entry. entry.actor < 8) (take (length opened) entries)
+front_all n before now opened entries b old is few all =
+    let back : take (length opened) entries ≡ reverse before = sym (reverse-reverse (take (length opened) entries)) ∙ ap reverse (front_is before now opened entries b old is) in
+    subst (All (λ (entry : Entry). entry.actor < 8)) (sym back)
+    (all_reverse (λ (entry : Entry). entry.actor < 8) before (λ k d less. let one = all k d less in omega (arith, one, few)))
+
+pub takes_in : (before now : Standing) (opened entries : List Entry) (phase : List Statement) (lists : List (List Done)) (old new : Option Entries) (version : ℕ)
+    → PhaseRuns → IsPhaseRun before.setup before.entries (gained opened entries) phase lists → Begins before.entries now.entries
+    → opened ≡ reverse before.entries → entries ≡ reverse now.entries → version ≡ version_of before.setup before.entries
+    → IsLegal before.setup (entries_of old before.entries) → bare (entries_of old before.entries) ≡ bare before.entries
+    → entries_of new (reverse (gained opened entries) ++ reverse (take (length opened) entries))
+    ≡ placed version (gained opened entries) lists (entries_of old (reverse (take (length opened) entries)))
+    → TakesIn phase before now (entries_of old before.entries) (entries_of new now.entries)
+takes_in before now opened entries phase lists old new version law run b is_old is version_is legal same placed_is =
+    let later : List Entry = gained opened entries in
+    let history : List Entry = entries_of old before.entries in
+    let front = front_is before.entries now.entries opened entries b is_old is in
+    let all : entries_of new now.entries ≡ placed (version_of before.setup before.entries) later lists history =
+    ap (entries_of new) (sym (parts_are before.entries now.entries opened entries b is_old is))
+    ∙ (placed_is ∙ (λ t. placed (version_is t) later lists (entries_of old (front t)))) in
+    let there = subst (IsPlaced before.setup before.entries later phase history) (sym all)
+    (law before.setup before.entries later phase lists history run legal same) in
+    record {
+      legal = there.legal;
+      same = there.bus ∙ ap bare (whole_is before.entries now.entries opened entries b is_old is);
+      phases = there.phases;
     }
 
 -- ---- phase after phase

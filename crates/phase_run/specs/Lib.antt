@@ -1,2 +1,4 @@
+pub mod Ended
 pub mod Jobs
+pub mod Placed
 pub mod Works

@@ -14,6 +14,9 @@ use std::alloc::Global;
 use std::sync::Wait;
 use std::thread::{Threads, for_each_mut};
 
+/// How many numbers processors can have.
+const ACTORS: usize = 256;
+
 /// A worker, with the caller that it has in a phase.
 pub(crate) struct Job {
     pub cpu: Cpu,
@@ -59,12 +62,14 @@ pub(crate) fn run_jobs<R: Threads + Wait + Sync, G: Gate>(
     );
 }
 
-/// How many statements of a phase are a processor's.
-fn own_in(phase: &[Statement], actor: usize) -> usize {
-    phase
-        .iter()
-        .filter(|statement| usize::from(statement.actor) == actor)
-        .count()
+/// How many statements of a phase are each processor's.
+fn own_in(phase: &[Statement]) -> [usize; ACTORS] {
+    let mut counts = [0_usize; ACTORS];
+    for statement in phase {
+        let actor = usize::from(statement.actor);
+        counts[actor] = counts[actor].saturating_add(1);
+    }
+    counts
 }
 
 /// The works of so many processors before the first phase.
@@ -86,12 +91,14 @@ pub(crate) fn next_works(
     phase: &[Statement],
     works: &[Work],
 ) -> Result<Vec<Work>, NoMemory>
+    requires few { length works.now ≤ 8 }
     ensures asked { IfOk result (λ next. map (λ work. work.asked) next.items ≡ map (λ work. work.asked) works.now) }
     ensures empty { IfOk result (λ next. All (λ work. work.done.items ≡ []) next.items) }
 {
+    let own = own_in(phase);
     let mut next = Vec::with_capacity(alloc, works.len())?;
     for actor in 0..works.len() {
-        let done = Vec::with_capacity(alloc, own_in(phase, actor))?;
+        let done = Vec::with_capacity(alloc, own[actor])?;
         let asked = works[actor].asked;
         next.push(Work { done, asked })?;
     }

@@ -4,9 +4,12 @@
 
 mod caller;
 mod cpu;
+mod ended;
 mod jobs;
+mod placing;
 mod run;
 mod worker;
 
 pub use caller::Caller;
+pub use ended::EndedRun;
 pub use run::run_phases;

@@ -5,19 +5,25 @@ ghost use Rattle.board_spec.specs.Setup.{IsCardList};
 ghost use Rattle.board_spec.specs.Legal.{IsLegal};
 ghost use Rattle.board_spec.specs.Orders.{IsCompleteFor};
 ghost use Rattle.run_order.specs.PhaseRun.{bare};
+ghost use Rattle.phase_run.specs.Placed.{entries_of};
 ghost use Rattle.phase_run.specs.Works.{most_statements};
 ghost use Rattle.phase_run.specs.Jobs.{IsStatement, CanDo, GoesOn, HasRun, TakesIn};
 
+use crate::ended::EndedRun;
 use crate::jobs::{begin, end, first_works, is_refused, next_works, run_jobs, works_of};
+use crate::placing::Placing;
 use crate::worker::Work;
 use board_base::{Gate, NoMemory};
 use board_core::Board;
 use board_live::Live;
 use board_spec::Statement;
-use run_order::RunHistory;
+use run_order::laws::law_phase_runs;
 use std::alloc::Global;
 use std::sync::Wait;
 use std::thread::Threads;
+
+/// The most statements of a run.
+const MOST_STATEMENTS: usize = 250_000;
 
 /// A board between two phases, and what its processors did in the last.
 #[derive(Drop)]
@@ -63,26 +69,39 @@ fn run_phase<R: Threads + Wait + Sync, G: Gate>(
     run: Run,
     phase: &[Statement],
     gate: &G,
-    history: &mut RunHistory,
+    placing: &mut Placing,
 ) -> Result<Run, NoMemory>
     requires cards { IsCardList run.board.setup.cards }
     requires can { CanDo run phase.now }
-    requires legal { IsLegal run.board.setup history.old.entries }
-    requires same { bare history.old.entries ≡ bare run.board.entries }
+    requires legal { IsLegal run.board.setup (entries_of placing.old.history run.board.entries) }
+    requires same { bare (entries_of placing.old.history run.board.entries) ≡ bare run.board.entries }
     ensures setup { IfOk result (λ next. next.board.setup ≡ run.board.setup) }
     ensures goes_on { IfOk result (GoesOn phase.now run) }
-    ensures takes_in { IfOk result (λ next. TakesIn phase.now run.board next.board history.old.entries history.new.entries) }
+    ensures takes_in { IfOk result (λ next. TakesIn phase.now run.board next.board
+        (entries_of placing.old.history run.board.entries) (entries_of placing.new.history next.board.entries)) }
 {
     let version = run.board.map().version();
     let opened = run.board.history().entries().len();
     let run = run_workers(rt, alloc, run, phase, gate)?;
     let entries = run.board.history().entries();
-    history.place(version, &entries[opened..], works_of(&run.works))?;
+    let before = &entries[..opened];
+    let later = &entries[opened..];
+    placing.add(alloc, version, before, later, works_of(&run.works))?;
+    law_phase_runs();
     Ok(run)
 }
 
+/// How many statements there are in all.
+fn statements_in(phases: &[Vec<Statement>]) -> usize {
+    let mut count = 0_usize;
+    for statements in phases {
+        count = count.saturating_add(statements.len());
+    }
+    count
+}
+
 /// Runs the phases of a script on a fresh board, with 1 to 8 processors. In each phase every processor does its own
-/// statements on a thread of its own; the gate is told before and after each. What is answered is the history of the
+/// statements on a thread of its own; the gate is told before and after each. What is answered has the history of the
 /// run: it is legal, and has each phase's statements. Refused for want of memory.
 pub fn run_phases<R: Threads + Wait + Sync, G: Gate>(
     rt: &R,
@@ -91,7 +110,7 @@ pub fn run_phases<R: Threads + Wait + Sync, G: Gate>(
     cpus: u8,
     phases: &[Vec<Statement>],
     gate: &G,
-) -> Result<RunHistory, NoMemory>
+) -> Result<EndedRun, NoMemory>
     requires fresh { board.entries ≡ [] }
     requires cards { IsCardList board.setup.cards }
     requires some { 1 ≤ cpus }
@@ -101,11 +120,21 @@ pub fn run_phases<R: Threads + Wait + Sync, G: Gate>(
     ensures legal { IfOk result (λ history. IsLegal board.setup history.entries) }
     ensures complete { IfOk result (λ history. IsCompleteFor (map (λ phase. phase.items) phases.now) history.entries) }
 {
-    let mut history = RunHistory::new(alloc);
+    let mut board = board;
+    let most = statements_in(phases).min(MOST_STATEMENTS);
+    board.reserve(most as u32)?;
     let works = first_works(alloc, cpus)?;
     let mut run = Run { board, works };
+    let mut placing = Placing {
+        most,
+        history: None,
+    };
     for phase in phases {
-        run = run_phase(rt, alloc, run, phase, gate, &mut history)?;
+        run = run_phase(rt, alloc, run, phase, gate, &mut placing)?;
     }
-    Ok(history)
+    let Run {
+        board,
+        works: _works,
+    } = run;
+    Ok(EndedRun::new(board, placing.history))
 }

@@ -8,6 +8,8 @@ pub mod Legality
 pub mod Looked
 pub mod Phases
 pub mod Runs
+pub mod Settled
 pub mod Steps
 pub mod Traces
+pub mod Unlooked
 pub mod Wholes

@@ -2,4 +2,5 @@ pub mod PhaseRun
 pub mod Places
 pub mod Placing
 pub mod Room
+pub mod Settled
 pub mod Trace

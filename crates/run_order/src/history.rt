@@ -1,6 +1,6 @@
 //! The history of a run, with the looks of all processors.
 
-ghost use Rattle.std.specs.Prelude.{◌≡◌, ◌-◌, ◌+◌, ◌<◌, ◌≤◌, ℕ, List, [], ◌∷◌, length, map, reverse, All, max, IsOk, OnOk, OnErr};
+ghost use Rattle.std.specs.Prelude.{◌≡◌, ◌-◌, ◌+◌, ◌<◌, ◌≤◌, ℕ, List, [], ◌∷◌, length, map, reverse, All, max, IsFalse, IsOk, IfOk, OnOk, OnErr};
 ghost use Rattle.board_spec.specs.declared.event.Entry.{Entry};
 ghost use Rattle.board_spec.specs.declared.event.Statement.{Statement};
 ghost use Rattle.board_spec.specs.Setup.{Setup};
@@ -9,6 +9,7 @@ ghost use Rattle.board_spec.specs.Legal.{IsLegal, next_entry};
 ghost use Rattle.run_order.specs.PhaseRun.{bare, IsPhaseRun, IsPlaced};
 ghost use Rattle.run_order.specs.Placing.{with_looks, left_after, with_all_looks, all_left, placed};
 ghost use Rattle.run_order.specs.Room.{Entries, most, looks_in, all_looks_in};
+ghost use Rattle.run_order.specs.Settled.{IsSettledBut};
 
 use crate::done::Done;
 use crate::laws::law_phase_runs;
@@ -49,6 +50,13 @@ impl Model for RunHistory {
         IsCounted (reverse history.entries.items) history.spare (vec_capacity history.entries) history.counts };
 }
 
+/// Whether a processor looked in a phase.
+pub fn has_looks(works: &Works) -> bool
+    ensures none { IsFalse result → all_looks_in (map (λ done. done.now) works.now.items) ≡ 0 }
+{
+    entries_in(&[], works) > 0
+}
+
 /// How many entries a phase adds: those of the bus, and the looks.
 fn entries_in(later: &[Entry], works: &Works) -> usize
     ensures count { result < most → result ≡ length later.now + all_looks_in (map (λ done. done.now) works.now.items) }
@@ -71,6 +79,21 @@ impl RunHistory {
             spare: 0,
             counts: [0; MOST_PROCESSORS],
         }
+    }
+
+    /// A history that begins as that of a bus, whose entries are given, the oldest first. It has room for as many
+    /// entries in all as is asked. Refused for want of memory, or where there would be 2^32 entries.
+    pub fn begin(alloc: Global, most: usize, entries: &[Entry]) -> Result<RunHistory, NoMemory>
+        requires callers { All (λ entry. entry.actor < 8) entries.now }
+        requires legal { (setup : Setup) × IsLegal setup (reverse entries.now) }
+        ensures same { IfOk result (λ history. history.entries ≡ reverse entries.now) }
+    {
+        let mut history = RunHistory::new(alloc);
+        history.reserve(most.max(entries.len()))?;
+        for entry in entries {
+            history.push(entry.actor, entry.event, entry.reply);
+        }
+        Ok(history)
     }
 
     /// All entries, the oldest first.
@@ -171,6 +194,27 @@ impl RunHistory {
         }
     }
 
+    /// Adds the looks that are due after an entry of this processor. The version was `before`, and then no look was
+    /// due; so while the version stays, none but this processor's is.
+    fn next_looks(&mut self, before: u32, version: u32, actor: u8, rests: &mut [&[Done]])
+        requires few { length rests.old ≤ 8 }
+        requires actor { actor < length rests.old }
+        requires room { all_looks_in (map (λ done. done.now) rests.old) ≤ self.old.spare }
+        requires settled { version ≡ before → IsSettledBut version actor (map (λ done. done.now) rests.old) }
+        ensures placed { self.new.entries
+            ≡ with_all_looks version 0 (map (λ done. done.now) rests.old) self.old.entries }
+        ensures left { map (λ done. done.now) rests.new ≡ all_left version (map (λ done. done.now) rests.old) }
+        ensures room { self.new.spare + all_looks_in (map (λ done. done.now) rests.old)
+            ≡ self.old.spare + all_looks_in (map (λ done. done.now) rests.new) }
+    {
+        if version != before {
+            self.all_looks(version, rests);
+            return;
+        }
+        let place = usize::from(actor);
+        rests[place] = self.looks(version, actor, rests[place]);
+    }
+
     /// Adds what a phase has, in the room that was reserved.
     fn place_all(&mut self, version: u32, later: &[Entry], rests: &mut [&[Done]])
         requires few { length rests.old ≤ 8 }
@@ -180,13 +224,14 @@ impl RunHistory {
             ≡ placed version later.now (map (λ done. done.now) rests.old) self.old.entries }
     {
         let mut version = version;
+        self.all_looks(version, rests);
         for entry in later {
-            self.all_looks(version, rests);
             let actor = usize::from(entry.actor);
-            version = noted(version, rests[actor]);
+            let before = version;
+            version = noted(before, rests[actor]);
             rests[actor] = without_first(rests[actor]);
             self.push(entry.actor, entry.event, entry.reply);
+            self.next_looks(before, version, entry.actor, rests);
         }
-        self.all_looks(version, rests);
     }
 }

@@ -10,7 +10,7 @@ pub mod laws;
 mod next;
 
 pub use done::Done;
-pub use history::{MOST_PROCESSORS, RunHistory, Works};
+pub use history::{MOST_PROCESSORS, RunHistory, Works, has_looks};
 
 #[cfg(test)]
 mod tests;

@@ -3,16 +3,16 @@ use Rattle.std.specs.Prelude.{reverse}
 use Rattle.access_history.specs.Past.{Past}
 use Rattle.board_spec.specs.declared.event.Entry.{Entry}
 use Rattle.board_spec.specs.MapWrites.{version_of}
+use Rattle.board_spec.specs.Legal.{IsLegal}
 use Rattle.run_order.specs.declared.done.Done.{Done}
-use Rattle.run_order.specs.PhaseRun.{bare}
 use Rattle.phase_run.specs.declared.worker.Work.{Work}
 use Rattle.phase_run.specs.Jobs.{IsStatement, done_in}
-use Rattle.phase_run.proofs.Phases.{gained, gained_all, whole_is, phase_is_run}
+use Rattle.phase_run.proofs.Phases.{gained, gained_all, front_all, parts_are, phase_is_run, takes_in}
 use Rattle.phase_run.proofs.run.run_phase.Goals as goal
 use Rattle.std.proofs.lemmas.List.{length-map}
 
-pub place-requires : goal.place-requires
-place-requires g c =
+pub add-requires : goal.add-requires
+add-requires g c =
     let before = c.args.run.board in
     let now = c.in_ok-run.run'.board in
     let works : List Work = c.in_ok-run.run'.works.items in
@@ -24,7 +24,10 @@ place-requires g c =
     let asked = c.in_ok-run.ensures.goes_on.asked c.requires.can.most c.requires.can.asked c.requires.can.room in
     let count : length c.works_of.result.items ≡ length works =
     sym (length-map c.works_of.result.items (λ (done : Bor (List Done)). done.now)) ∙ (ap length are ∙ length-map works (λ (work : Work). work.done.items)) in
+    let begins = c.in_ok-run.ensures.run.begins in
     record {
+      legal = (now.setup, subst (IsLegal now.setup) (sym (parts_are before.entries now.entries opened entries begins old is)) c.history-2.ensures.legal);
+      earlier = front_all (length c.args.run.works.items) before.entries now.entries opened entries begins old is c.requires.can.few c.requires.can.asked.actors;
       callers = subst (λ (n : ℕ). All (λ (entry : Entry). entry.actor < n) (gained opened entries)) (sym count)
           (gained_all (λ (entry : Entry). entry.actor < length works) now.entries opened entries is asked.actors);
     }
@@ -36,18 +39,14 @@ returns-clause-takes_in g c =
     let works : List Work = c.in_ok-run.run'.works.items in
     let opened : List Entry = c.entries-opened.result.now in
     let entries : List Entry = c.entries-entries.result.now in
+    let lists : List (List Done) = map (λ (done : Bor (List Done)). done.now) c.works_of.result.items in
     let old : opened ≡ reverse before.entries = c.entries-opened.ensures.entries ∙ ap (λ (past : Past). reverse past.entries) c.history.ensures.history in
     let is : entries ≡ reverse now.entries = c.entries-entries.ensures.entries ∙ ap (λ (past : Past). reverse past.entries) c.history-2.ensures.history in
-    let are : map (λ (done : Bor (List Done)). done.now) c.works_of.result.items ≡ done_in works = c.works_of.ensures.done ∙ ap done_in c.deref.ensures.value in
+    let are : lists ≡ done_in works = c.works_of.ensures.done ∙ ap done_in c.deref.ensures.value in
     let asked = c.in_ok-run.ensures.goes_on.asked c.requires.can.most c.requires.can.asked c.requires.can.room in
     let count : length c.args.run.works.items ≡ length works = sym c.in_ok-run.ensures.goes_on.count in
     let speakers = subst (λ (n : ℕ). All (IsStatement before.setup n) c.args.phase.now) count c.requires.can.in_range in
-    let run = phase_is_run before now opened entries c.args.phase.now works (map (λ (done : Bor (List Done)). done.now) c.works_of.result.items)
-    c.in_ok-run.ensures.run old is are c.requires.cards c.history-2.ensures.legal asked.actors speakers in
+    let run = phase_is_run before now opened entries c.args.phase.now works lists c.in_ok-run.ensures.run old is are c.requires.cards c.history-2.ensures.legal asked.actors speakers in
     let version : c.version-version.result ≡ version_of before.setup before.entries = c.version-version.ensures.version ∙ c.map.ensures.version in
-    let placed = c.in_ok-place.ensures.runs before.setup before.entries c.args.phase.now run version c.requires.legal c.requires.same in
-    record {
-      legal = placed.legal;
-      same = placed.bus ∙ ap bare (whole_is before.entries now.entries opened entries c.in_ok-run.ensures.run.begins old is);
-      phases = placed.phases;
-    }
+    takes_in before now opened entries c.args.phase.now lists c.args.placing.now.history c.add.new.self.history c.version-version.result
+    c.law_phase_runs.ensures.runs run c.in_ok-run.ensures.run.begins old is version c.requires.legal c.requires.same c.in_ok-add.ensures.placed

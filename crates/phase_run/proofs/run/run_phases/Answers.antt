@@ -6,6 +6,7 @@ use Rattle.board_spec.specs.Legal.{IsLegal}
 use Rattle.board_spec.specs.Orders.{statements_of, HasPhases}
 use Rattle.phase_run.specs.Works.{most_statements}
 use Rattle.phase_run.specs.Jobs.{AreAsked}
+use Rattle.phase_run.specs.Placed.{entries_of}
 use Rattle.phase_run.proofs.Phases.{phases_more, statements_more, statements_within}
 use Rattle.phase_run.proofs.run.run_phases.Goals as goal
 
@@ -45,8 +46,8 @@ loop-phase-preserved g c =
     record {
       setup = c.in_ok-run.ensures.setup ∙ l.invariant.setup;
       count = c.in_ok-run.ensures.goes_on.count ∙ l.invariant.count;
-      legal = subst (λ (setup : Setup). IsLegal setup c.run_phase.new.history.entries) l.invariant.setup c.in_ok-run.ensures.takes_in.legal;
+      legal = subst (λ (setup : Setup). IsLegal setup (entries_of c.run_phase.new.placing.history next.board.entries)) l.invariant.setup c.in_ok-run.ensures.takes_in.legal;
       same = c.in_ok-run.ensures.takes_in.same;
-      phases = subst (λ (ps : List (List Statement)). HasPhases ps (statements_of c.run_phase.new.history.entries)) phases_are (c.in_ok-run.ensures.takes_in.phases _ l.invariant.phases);
+      phases = subst (λ (ps : List (List Statement)). HasPhases ps (statements_of (entries_of c.run_phase.new.placing.history next.board.entries))) phases_are (c.in_ok-run.ensures.takes_in.phases _ l.invariant.phases);
       asked = subst (λ (most : ℕ). AreAsked most next.board.entries next.works.items) (ap (λ (n : ℕ). done + n) size ∙ sym more) asked;
     }

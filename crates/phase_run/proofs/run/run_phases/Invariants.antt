@@ -3,14 +3,15 @@ use Rattle.board_spec.specs.Legal.{IsLegal}
 use Rattle.board_spec.specs.Orders.{statements_of, HasPhases}
 use Rattle.run_order.specs.PhaseRun.{bare}
 use Rattle.phase_run.specs.Jobs.{AreAsked}
+use Rattle.phase_run.specs.Placed.{entries_of}
 use Rattle.phase_run.proofs.run.run_phases.Given as goal
 
 abbrev pub invariant-loop-phase : goal.invariant-loop-phase
 invariant-loop-phase g l = record {
   setup : l.run.board.setup ≡ l.fn.board.setup;
   count : length l.run.works.items ≡ l.fn.cpus;
-  legal : IsLegal l.fn.board.setup l.history.entries;
-  same : bare l.history.entries ≡ bare l.run.board.entries;
-  phases : HasPhases (map (λ phase. phase.items) (take l.phase-index l.phases)) (statements_of l.history.entries);
+  legal : IsLegal l.fn.board.setup (entries_of l.placing.history l.run.board.entries);
+  same : bare (entries_of l.placing.history l.run.board.entries) ≡ bare l.run.board.entries;
+  phases : HasPhases (map (λ phase. phase.items) (take l.phase-index l.phases)) (statements_of (entries_of l.placing.history l.run.board.entries));
   asked : AreAsked (length (flat_map (λ phase. phase.items) (take l.phase-index l.phases))) l.run.board.entries l.run.works.items;
 }

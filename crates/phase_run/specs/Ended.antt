@@ -1,0 +1,13 @@
+-- A run that has ended.
+use Rattle.std.specs.Prelude.{List}
+use Rattle.board_spec.specs.declared.event.Entry.{Entry}
+use Rattle.phase_run.specs.declared.ended.Kept.{Kept}
+use Rattle.phase_run.specs.declared.ended.Kept.TheVariants.{Own, Placed}
+
+-- the entries of its history, the newest first
+pub record Ended : Type 0 where
+  pub entries : List Entry
+
+abbrev pub entries_in : Kept → List Entry
+entries_in (Own board) = board.entries
+entries_in (Placed history) = history.entries
