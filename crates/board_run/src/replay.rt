@@ -67,16 +67,18 @@ pub fn check_log(
     log_check::check_log(alloc, board, script.version, &script.phases, bytes)
 }
 
-/// The log of a script's replay on its board.
-pub fn log_of_replay(alloc: Global, board: &mut Board, script: &Script) -> Result<String, NoMemory>
-    requires in_range { IsInRangeScript (said_of script.now) }
-    requires cards { board.old.setup.cards ≡ (said_of script.now).cards }
+/// The log of a script's replay on its board. The memory of the script is given back before the log takes its own.
+pub fn log_of_replay(alloc: Global, board: &mut Board, script: Script) -> Result<String, NoMemory>
+    requires in_range { IsInRangeScript (said_of script) }
+    requires cards { board.old.setup.cards ≡ (said_of script).cards }
     requires fresh { board.old.entries ≡ [] }
-    ensures text { IfOk result (λ text. IsReplayText board.old.setup (said_of script.now) (string_bytes text)) }
+    ensures text { IfOk result (λ text. IsReplayText board.old.setup (said_of script) (string_bytes text)) }
 {
-    replay_script(board, script)?;
+    replay_script(board, &script)?;
+    let version = script.version;
+    drop(script);
     let mut text = String::new(alloc);
-    push_log(&mut text, script.version, board.history().entries())?;
+    push_log(&mut text, version, board.history().entries())?;
     law_lock();
     Ok(text)
 }

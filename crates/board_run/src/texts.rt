@@ -30,8 +30,8 @@ fn replay<S: Shelf>(alloc: Global, shelf: &mut S, name: &str) -> Result<String, 
     ensures same_files { S.files shelf.new ≡ S.files shelf.old }
     ensures fetches { OfCalls (S.fetches shelf.old) (S.fetches shelf.new) (FetchesOf (Replay name.now) (S.files shelf.old)) }
 {
-    let mut prepared = prepare(alloc, shelf, name)?;
-    let text = log_of_replay(alloc, &mut prepared.board, &prepared.script)?;
+    let Prepared { script, mut board } = prepare(alloc, shelf, name)?;
+    let text = log_of_replay(alloc, &mut board, script)?;
     Ok(text)
 }
 
