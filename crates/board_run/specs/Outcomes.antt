@@ -28,6 +28,26 @@ pub record SinkCall : Type 0 where
   pub taken_before : Option (List ℕ)
   pub taken_now : Option (List ℕ)
 
+-- a call of a shelf: what it told of itself before the call, and what it tells now
+abbrev pub shelf_call :
+    {S : Type 0} → (told : S → Option Files) → (count : S → ℕ) → (kept : S → List ℕ) → (before now : S) → ShelfCall
+shelf_call told count kept before now = record {
+  files = told before;
+  faults_before = count before;
+  faults_now = count now;
+  failed_name = kept now;
+}
+
+-- and a call of a sink
+abbrev pub sink_call :
+    {K : Type 0} → (count : K → ℕ) → (took : K → Option (List ℕ)) → (before now : K) → SinkCall
+sink_call count took before now = record {
+  faults_before = count before;
+  faults_now = count now;
+  taken_before = took before;
+  taken_now = took now;
+}
+
 -- where the shelf tells its files, this holds of them
 abbrev pub OfFiles : Option Files → (Files → Type 0) → Type 0
 OfFiles None P = Unit {0}

@@ -53,7 +53,8 @@ IsRefusal _ = Unit {0}
 abbrev pub IsNotTaken : Which → (name : List ℕ) → ShelfCall → Status → Type 0
 IsNotTaken which name shelf (ReadFault other) =
     (other ≡ which) × Rose shelf.faults_before shelf.faults_now × (shelf.failed_name ≡ take 255 name)
-IsNotTaken which name shelf (TooLong other) = (other ≡ which) × OfFile shelf.files name (λ file. limit_of which < length file)
+IsNotTaken which name shelf (TooLong other) =
+    (other ≡ which) × OfFile shelf.files name (λ file. limit_of which < length file)
 IsNotTaken which name shelf (BadImage other) =
     (other ≡ which) × OfFile shelf.files name (λ file. (length file ≤ limit_of which) × ¬ IsLength which (length file))
 IsNotTaken which name shelf NoMemory = Unit {0}

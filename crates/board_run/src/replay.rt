@@ -41,9 +41,9 @@ pub fn replay_script(board: &mut Board, script: &Script) -> Result<(), NoMemory>
     Ok(())
 }
 
-/// Checks whether bytes are the log of a legal and complete history of a script, on a fresh board with its setup: line by
-/// line, so that the first line is named which no such log has after the same lines. The board goes through the statements
-/// of the lines before the named one, and perhaps through that of the named line.
+/// Checks whether bytes are the log of a legal and complete history of a script, on a fresh board with its setup. It
+/// goes line by line, and names the first line that no such log has after the same lines. The board goes through the
+/// statements of the lines before the named one, and perhaps through that of the named line.
 pub fn check_log(
     alloc: Global,
     board: &mut Board,
@@ -53,8 +53,8 @@ pub fn check_log(
     requires in_range { IsInRangeScript (said_of script.now) }
     requires cards { board.old.setup.cards ≡ (said_of script.now).cards }
     requires fresh { board.old.entries ≡ [] }
-    ensures log { IfOk result (λ count. IsCheckedLog board.old.setup (said_of script.now).version (said_of script.now).phases
-        bytes.now board.new.entries count) }
+    ensures log { IfOk result (λ count. IsCheckedLog board.old.setup (said_of script.now).version
+        (said_of script.now).phases bytes.now board.new.entries count) }
     ensures differs { (line : ℕ) → result ≡ Err (CheckFault.Differs line)
         → DiffersAt board.old.setup (said_of script.now).version (said_of script.now).phases bytes.now line }
     ensures exactly { (log : IsLogOf board.old.setup (said_of script.now).version (said_of script.now).phases bytes.now)
@@ -85,7 +85,8 @@ pub fn log_of_replay(alloc: Global, board: &mut Board, script: Script) -> Result
 
 /// Appends the lines of the ranges of a map.
 fn push_map(text: &mut String, ranges: &[Range]) -> Result<(), NoMemory>
-    ensures appended { OnOk result (string_bytes text.new ≡ string_bytes text.old ++ map_text (map range_of ranges.now)) }
+    ensures appended { OnOk result
+        (string_bytes text.new ≡ string_bytes text.old ++ map_text (map range_of ranges.now)) }
 {
     for range in ranges {
         push_range(text, range.lo, range.hi, &range.row.areas)?;
