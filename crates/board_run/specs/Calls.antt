@@ -7,7 +7,7 @@ use Rattle.board_run.specs.declared.status.Status.{Status}
 use Rattle.board_run.specs.declared.status.Status.TheVariants.{Done, WriteFault, NoMemory}
 use Rattle.board_run.specs.Words.{Command}
 use Rattle.board_run.specs.Asked.{Files, limit_of, ComesTo}
-use Rattle.board_run.specs.Outcomes.{OfFiles, name_in_words}
+use Rattle.board_run.specs.Outcomes.{OfFiles, CanRead, name_in_words}
 
 -- ---- where the calls are told
 
@@ -62,6 +62,7 @@ IsReading name limit (latest ∷ before) = ReadsOn name limit before latest × I
 -- a command reads the file of this name, if it comes so far: the words have the name, or a file that was read before,
 -- which is known where the shelf tells its files
 pub record Reaches (command : Command) (told : Option Files) (which : Which) (name : List ℕ) : Type 0 where
+  pub can_read : CanRead command which
   pub comes : OfFiles told (λ files. ComesTo command files which name)
   pub in_words : (other : List ℕ) → name_in_words command which ≡ Some other → other ≡ name
 
