@@ -2,6 +2,12 @@
 //! the command of this program's own words, as `board` does it.
 #![tactic(auto)]
 
+ghost use Rattle.std.specs.Prelude.{◌≡◌, false, map, string_bytes, None, IfOk};
+ghost use Rattle.board_run.specs.declared.status.Status.{Status};
+ghost use Rattle.board_run.specs.Words.{command_of};
+ghost use Rattle.board_main.specs.Words.{is_own};
+ghost use Rattle.app_failures.specs.Words.{words_in};
+
 use board_base::NoMemory;
 use board_main::{answer, run_program};
 use board_run::{Status, exit_code, fault_text};
@@ -34,8 +40,10 @@ const COMMANDS: [&str; 14] = [
 /// Words of commands whose output is a full disk.
 const FULL: [&str; 4] = ["replay good", "map good", "make 1", "--version"];
 
-/// The words of a line.
-fn words_of(alloc: Global, line: &str) -> Result<Vec<String>, NoMemory> {
+/// The words of a line, cut at each space.
+fn words_of(alloc: Global, line: &str) -> Result<Vec<String>, NoMemory>
+    ensures words { IfOk result (λ words. map string_bytes words.items ≡ words_in line.now) }
+{
     let mut words = Vec::new(alloc);
     for word in line.split(' ') {
         words.push(word.to_string(alloc)?)?;
@@ -48,7 +56,10 @@ fn status_of<R: Files + AllocGlobal + Threads + Wait + Sync>(
     rt: &R,
     line: &str,
     output: &str,
-) -> Status {
+) -> Status
+    ensures usage { result ≡ Status.Usage
+        → (is_own (words_in line.now) ≡ false) × (command_of (words_in line.now) ≡ None) }
+{
     let Ok(words) = words_of(rt.alloc(), line) else {
         return Status::NoMemory;
     };

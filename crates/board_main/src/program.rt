@@ -1,5 +1,14 @@
 //! The program: its words, and how it ends.
 
+ghost use Rattle.std.specs.Prelude.{◌≡◌, ◌↔◌, ◌⊎◌, true, false, None, map, string_bytes};
+ghost use Rattle.std.specs.Process.{exit_status};
+ghost use Rattle.board_run.specs.declared.status.Status.{Status};
+ghost use Rattle.board_run.specs.Status.{code_of};
+ghost use Rattle.board_run.specs.Words.{asked};
+ghost use Rattle.board_run.specs.Outcomes.{WordsCanEnd};
+ghost use Rattle.board_main.specs.Words.{is_own};
+ghost use Rattle.board_main.specs.Ends.{HasStatus};
+
 use crate::answers::own_answer;
 use crate::file_shelf::FileShelf;
 use crate::out_sink::OutSink;
@@ -15,26 +24,30 @@ use std::sync::Wait;
 use std::thread::Threads;
 
 /// Does what the words of the command line ask for, with real files and this output. What is said where it is not
-/// done goes to `errors`. It tells the exit code.
+/// done goes to `errors`. It tells the exit code, which is that of a status.
 pub fn run_program<R, W, E>(rt: &R, output: W, errors: E) -> ExitCode
 where
     R: Env + Files + AllocGlobal + Threads + Wait + Sync,
     W: Write + Drop,
     E: Write + Drop,
+    ensures code { HasStatus (exit_status result) }
 {
     let status = match words_of(rt) {
         Ok(words) => answer(rt, &words, output),
         Err(status) => status,
     };
-    tell(rt.alloc(), errors, &status);
-    ExitCode::from(exit_code(&status))
+    end(rt.alloc(), errors, &status)
 }
 
-/// Does what the words ask for, with real files and this output.
+/// Does what the words ask for, with real files and this output: answers the program's own words, and leaves all others
+/// to the board.
 pub fn answer<R, W>(rt: &R, words: &[String], output: W) -> Status
 where
     R: Files + AllocGlobal + Threads + Wait + Sync,
     W: Write + Drop,
+    ensures usage { (result ≡ Status.Usage) ↔ ((is_own (map string_bytes words.now) ≡ false) × (asked words.now ≡ None)) }
+    ensures own { is_own (map string_bytes words.now) ≡ true → (result ≡ Status.Done) ⊎ (result ≡ Status.WriteFault) }
+    ensures possible { is_own (map string_bytes words.now) ≡ false → WordsCanEnd (asked words.now) result }
 {
     match own_answer(words) {
         Some(text) => write_own(output, text),
@@ -46,11 +59,21 @@ where
     }
 }
 
-fn write_own<W: Write + Drop>(mut output: W, text: &str) -> Status {
+fn write_own<W: Write + Drop>(mut output: W, text: &str) -> Status
+    ensures ends { (result ≡ Status.Done) ⊎ (result ≡ Status.WriteFault) }
+{
     match output.write_all(text.as_bytes()) {
         Ok(()) => Status::Done,
         Err(_) => Status::WriteFault,
     }
+}
+
+// Says why the command was not done, and tells the exit code of its status.
+fn end<E: Write + Drop>(alloc: Global, errors: E, status: &Status) -> ExitCode
+    ensures code { exit_status result ≡ code_of status.now }
+{
+    tell(alloc, errors, status);
+    ExitCode::from(exit_code(status))
 }
 
 // Says why the command was not done. Where there is no memory for that text, or `errors` does not take it, the exit

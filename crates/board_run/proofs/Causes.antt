@@ -1,5 +1,5 @@
 -- What each way out of a command says of its cause.
-use Rattle.std.proofs.Common.{◌≡◌, ◌≢◌, ℕ, inl, inr, List, Option, Some, None, refl}
+use Rattle.std.proofs.Common.{◌≡◌, ◌≢◌, ℕ, inl, inr, List, Option, Some, None, refl, sym, subst}
 use Rattle.std.specs.Io.KnownBytes.{Appends, Keeps}
 use Rattle.board_base.specs.declared.fault.PutFault.{PutFault}
 use Rattle.board_base.specs.declared.fault.PutFault.TheVariants.{Failed, NoMemory as NoMemoryForPut}
@@ -10,7 +10,7 @@ use Rattle.board_run.specs.declared.status.Status.TheVariants.{Done, Usage, Read
 use Rattle.board_run.specs.Words.{Command}
 use Rattle.board_run.specs.Texts.{IsCommandText}
 use Rattle.board_run.specs.Output.{AppendsFront}
-use Rattle.board_run.specs.Outcomes.{ShelfCall, SinkCall, OfFiles, OfCommand, PutsText, PutsTextFront, Stopped, HasCause, IsCaused}
+use Rattle.board_run.specs.Outcomes.{ShelfCall, SinkCall, OfFiles, OfCommand, PutsText, PutsTextFront, Stopped, CanEnd, WordsCanEnd, HasCause, IsCaused}
 use Rattle.board_run.specs.Statuses.{status_of_put_fault, IsRefused, IsRefusal}
 use Rattle.board_run.proofs.Refusals.{of_files, at_files}
 
@@ -26,11 +26,22 @@ module _ (command : Command) (shelf : ShelfCall) (sink : SinkCall) where
   refusal_cause Usage refused = absurd refused
   refusal_cause (ReadFault which) refused = refused
   refusal_cause WriteFault refused = absurd refused
-  refusal_cause (TooLong which) refused = refused
-  refusal_cause (BadScript line why) refused = refused
-  refusal_cause (BadImage which) refused = refused
-  refusal_cause (Differs line) refused = refused
+  refusal_cause (TooLong which) refused = refused.1
+  refusal_cause (BadScript line why) refused = refused.1
+  refusal_cause (BadImage which) refused = refused.1
+  refusal_cause (Differs line) refused = refused.1
   refusal_cause NoMemory refused = tt
+
+  refusal_ends : (status : Status) → IsRefused command shelf status → CanEnd command status
+  refusal_ends Done refused = tt
+  refusal_ends Usage refused = absurd refused
+  refusal_ends (ReadFault which) refused = refused.can_read
+  refusal_ends WriteFault refused = tt
+  refusal_ends (TooLong which) refused = refused.0
+  refusal_ends (BadScript line why) refused = refused.0
+  refusal_ends (BadImage which) refused = refused.0
+  refusal_ends (Differs line) refused = refused.0
+  refusal_ends NoMemory refused = tt
 
   refusal_stopped :
       (status : Status) → IsRefused command shelf status → Keeps sink.taken_before sink.taken_now →
@@ -51,6 +62,7 @@ module _ (command : Command) (shelf : ShelfCall) (sink : SinkCall) where
       Keeps sink.taken_before sink.taken_now → IsCaused status (Some command) shelf sink
   caused_refusal status refused quiet calm keeps = record {
     cause = refusal_cause status refused;
+    possible = refusal_ends status refused;
     no_fault_hidden = quiet;
     no_put_fault_hidden = λ _. calm;
     stopped = refusal_stopped status refused keeps;
@@ -74,12 +86,14 @@ module _ (command : Command) (shelf : ShelfCall) (sink : SinkCall) where
         IsCaused (status_of_put_fault fault) (Some command) shelf sink
     caused_put_fault Failed taken rose calm = record {
       cause = rose refl;
+      possible = tt;
       no_fault_hidden = λ _. quiet;
       no_put_fault_hidden = λ other. absurd (other refl);
       stopped = front_put taken;
     }
     caused_put_fault NoMemoryForPut taken rose calm = record {
       cause = tt;
+      possible = tt;
       no_fault_hidden = λ _. quiet;
       no_put_fault_hidden = λ _. calm refl;
       stopped = inr (front_put taken);
@@ -97,6 +111,7 @@ module _ (command : Command) (shelf : ShelfCall) (sink : SinkCall) where
             says = at_files shelf.files files (λ files'. IsCommandText command files' text) is says;
             taken = taken;
           });
+      possible = tt;
       no_fault_hidden = λ _. quiet;
       no_put_fault_hidden = λ _. calm;
       stopped = tt;
@@ -108,6 +123,7 @@ pub caused_usage :
     sink.faults_now ≡ sink.faults_before → Keeps sink.taken_before sink.taken_now → IsCaused Usage command shelf sink
 caused_usage command shelf sink none quiet calm keeps = record {
   cause = none;
+  possible = subst (λ (command' : Option Command). WordsCanEnd command' Usage) (sym none) refl;
   no_fault_hidden = λ _. quiet;
   no_put_fault_hidden = λ _. calm;
   stopped = keeps;

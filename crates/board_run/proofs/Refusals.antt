@@ -1,6 +1,6 @@
 -- Why a command ended before it had its text.
 use Rattle.std.proofs.Common.{◌≡◌, ◌≢◌, ℕ, ◌<◌, ◌≤◌, List, length, take, Option, Some, None, refl, sym, ap, ◌∙◌, subst}
-use Rattle.std.specs.Prelude.{option_map, IfErr, Result, Ok, Err, String, string_bytes}
+use Rattle.std.specs.Prelude.{option_map, IsSome, IfErr, Result, Ok, Err, String, string_bytes}
 use Rattle.std.specs.Global.{Global}
 use Rattle.board_base.specs.Outside.{Rose, OfFile}
 use Rattle.board_spec.specs.Setup.{Setup, IsRomSize, IsDiskSize, IsDisk}
@@ -61,6 +61,7 @@ module _ (told : Option Files) (before now : ℕ) (kept : List ℕ) where
 
     fails : Reaches command told which name → Rose before now → kept ≡ take 255 name → FailsAt which Call command
     fails at rose names = record {
+      can_read = at.can_read;
       rose = rose;
       in_words = λ other is. names ∙ ap (take 255) (sym (at.in_words other is));
       comes = reads (λ name' _. kept ≡ take 255 name') at (λ files is. names);
@@ -73,16 +74,20 @@ module _ (told : Option Files) (before now : ℕ) (kept : List ℕ) where
     taken (ReadFault other) at is =
         subst (λ (which' : Which). FailsAt which' Call command) (sym is.0) (fails at is.1 is.2)
     taken (TooLong other) at is =
-        subst (λ (which' : Which). OfFiles told (λ files. AsksFor command files (TooLong which'))) (sym is.0)
-        (reads (λ name' bytes. limit_of which < length bytes) at
-        (λ files same. at_file told files name (λ file. limit_of which < length file) same is.1))
+        subst (λ (which' : Which). IsRefused command Call (TooLong which')) (sym is.0) (
+          at.can_read,
+          reads (λ name' bytes. limit_of which < length bytes) at
+              (λ files same. at_file told files name (λ file. limit_of which < length file) same is.1),
+        )
     taken (BadImage other) at is =
-        subst (λ (which' : Which). OfFiles told (λ files. AsksFor command files (BadImage which'))) (sym is.0)
-        (reads (Fits which (λ bytes. ¬ IsLength which (length bytes))) at
-        (λ files same.
-        let holds =
-        at_file told files name (λ file. (length file ≤ limit_of which) × ¬ IsLength which (length file)) same is.1 in
-        record { fits = holds.0; holds = holds.1 }))
+        subst (λ (which' : Which). IsRefused command Call (BadImage which')) (sym is.0) (
+          (at.can_read, is.1),
+          reads (Fits which (λ bytes. ¬ IsLength which (length bytes))) at
+              (λ files same.
+              let holds =
+              at_file told files name (λ file. (length file ≤ limit_of which) × ¬ IsLength which (length file)) same is.2 in
+              record { fits = holds.0; holds = holds.1 }),
+        )
     taken (BadScript line why) at is = absurd is
     taken (Differs line) at is = absurd is
     taken NoMemory at is = tt
@@ -100,6 +105,10 @@ not_taken told before between now kept command which name status same at is =
 
 some_same : {A : Type 0} (x y : A) → Some x ≡ Some y → x ≡ y
 some_same x y is = cc
+
+-- a name that is there
+named_some : (option : Option (List ℕ)) (name : List ℕ) → option ≡ Some name → IsSome option
+named_some option name is = subst (λ (other : Option (List ℕ)). IsSome other) (sym is) refl
 
 pub says_script :
     (told : Option Files) (name bytes given : List ℕ) (script : Said) → OfFile told name (λ file. bytes ≡ file) →
@@ -123,6 +132,7 @@ rom_size told name rom whole size =
 module _ (told : Option Files) (command : Command) (name : List ℕ) where
   pub comes_to_script : script_name command ≡ Some name → Reaches command told Script name
   comes_to_script named = record {
+    can_read = named_some (script_name command) name named;
     comes = of_files told (λ files. ComesTo command files Script name) (λ files is. named);
     in_words = λ other is. some_same other name (sym is ∙ named);
   }
@@ -130,6 +140,7 @@ module _ (told : Option Files) (command : Command) (name : List ℕ) where
   module _ (script : Said) (named : script_name command ≡ Some name) (says : OfFiles told (λ files. SaysScript files name script)) where
     pub comes_to_rom : Reaches command told Rom script.rom
     comes_to_rom = record {
+      can_read = named_some (script_name command) name named;
       comes =
           of_files told (λ files. ComesTo command files Rom script.rom)
           (λ files is. record {
@@ -145,6 +156,7 @@ module _ (told : Option Files) (command : Command) (name : List ℕ) where
         (disk : List ℕ) → OfFiles told (λ files. IsRomSize (length (files script.rom))) → script.disk ≡ Some disk →
         Reaches command told Disk disk
     comes_to_disk disk size is = record {
+      can_read = named_some (script_name command) name named;
       comes =
           of_files told (λ files. ComesTo command files Disk disk)
           (λ files same. record {
@@ -165,15 +177,17 @@ module _ (told : Option Files) (before now : ℕ) (kept : List ℕ) (command : C
       (fault : ScriptFault) (bytes given : List ℕ) → script_name command ≡ Some name → OfFile told name (λ file. bytes ≡ file) →
       length bytes ≤ limit_of Script → given ≡ bytes → OnBad fault (IsScriptBad given) →
       IsRefused command (Call told before now kept) (status_of_script_fault fault)
-  script_refused (BadLine line why) bytes given named whole fits same bad =
-      reads told before now kept command Script name (λ name' bytes'. Fits Script (λ file. IsScriptBad file line why) name' bytes')
-      (comes_to_script told command name named)
-      (λ files is.
-      let read : bytes ≡ files name = at_file told files name (λ file. bytes ≡ file) is whole in
-      record {
-        fits = subst (λ (file : List ℕ). length file ≤ limit_of Script) read fits;
-        holds = subst (λ (file : List ℕ). IsScriptBad file line why) (same ∙ read) bad;
-      })
+  script_refused (BadLine line why) bytes given named whole fits same bad = (
+    named_some (script_name command) name named,
+    reads told before now kept command Script name (λ name' bytes'. Fits Script (λ file. IsScriptBad file line why) name' bytes')
+        (comes_to_script told command name named)
+        (λ files is.
+        let read : bytes ≡ files name = at_file told files name (λ file. bytes ≡ file) is whole in
+        record {
+          fits = subst (λ (file : List ℕ). length file ≤ limit_of Script) read fits;
+          holds = subst (λ (file : List ℕ). IsScriptBad file line why) (same ∙ read) bad;
+        }),
+  )
   script_refused NoMemoryForScript bytes given named whole fits same bad = tt
 
   module _ (script : Said) (named : script_name command ≡ Some name) (says : OfFiles told (λ files. SaysScript files name script)) where
@@ -208,11 +222,13 @@ module _ (told : Option Files) (before now : ℕ) (kept : List ℕ) (command : C
         OfFiles told (λ files. disk ≡ option_map files script.disk) → FitsDisk disk → IsNotOpened disk fault →
         IsRefused command (Call told before now kept) (status_of_board_fault fault)
     board_refused BadRom disk size read fits bad = absurd bad
-    board_refused BadDisk disk size read fits bad =
-        of_files told (λ files. AsksFor command files (BadImage Disk))
-        (λ files is.
-        bad_disk disk script.disk files is size refl (at_files told files (λ files'. disk ≡ option_map files' script.disk) is read)
-        fits bad)
+    board_refused BadDisk disk size read fits bad = (
+      (named_some (script_name command) name named, tt),
+      of_files told (λ files. AsksFor command files (BadImage Disk))
+          (λ files is.
+          bad_disk disk script.disk files is size refl (at_files told files (λ files'. disk ≡ option_map files' script.disk) is read)
+          fits bad),
+    )
     board_refused NoMemoryForBoard disk size read fits bad = tt
 
 -- ---- a whole text
@@ -231,6 +247,7 @@ module _ (told : Option Files) (name log : List ℕ) (script : Said) (setup : Se
 
   pub comes_to_log : Reaches Checks told Log log
   comes_to_log = record {
+    can_read = refl;
     comes = of_files told (λ files. ComesTo Checks files Log log) (λ files is. (refl, good files is));
     in_words = λ other is. some_same other log (sym is);
   }
@@ -261,8 +278,11 @@ module _ (told : Option Files) (name log : List ℕ) (script : Said) (setup : Se
         (call : ShelfCall) (fault : CheckFault) → call.files ≡ told →
         ((line : ℕ) → fault ≡ DiffersAtLine line → DiffersAt setup script.version script.phases given line) →
         IsRefused Checks call (status_of_check_fault fault)
-    check_refused call (DiffersAtLine line) told_is differs =
-        subst (λ (told' : Option Files). OfFiles told' (λ files. AsksFor Checks files (Differs line))) (sym told_is) (log_differs line (differs line refl))
+    check_refused call (DiffersAtLine line) told_is differs = (
+      refl,
+      subst (λ (told' : Option Files). OfFiles told' (λ files. AsksFor Checks files (Differs line))) (sym told_is)
+          (log_differs line (differs line refl)),
+    )
     check_refused call NoMemoryForCheck told_is differs = tt
 
     pub legal_text :

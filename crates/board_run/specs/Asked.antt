@@ -68,7 +68,8 @@ ComesTo command files Disk file = HasScript command (NamesDisk files file)
 ComesTo command files Log file = (log_name command ≡ Some file) × HasScript command (IsGood files)
 
 -- a command comes to such a file, of which this holds
-pub record ReadsFile (command : Command) (files : Files) (which : Which) (P : (name bytes : List ℕ) → Type 0) : Type 0 where
+pub record ReadsFile (command : Command) (files : Files) (which : Which)
+    (P : (name bytes : List ℕ) → Type 0) : Type 0 where
   pub name : List ℕ
   pub comes : ComesTo command files which name
   pub holds : P name (files name)
@@ -113,7 +114,9 @@ OfLog _ P = ⊥
 abbrev pub AsksFor : Command → Files → Status → Type 0
 AsksFor command files Done = CanBeDone command files
 AsksFor command files (TooLong which) = ReadsFile command files which (λ name bytes. limit_of which < length bytes)
-AsksFor command files (BadScript line why) = ReadsFile command files Script (Fits Script (λ bytes. IsScriptBad bytes line why))
-AsksFor command files (BadImage which) = ReadsFile command files which (Fits which (λ bytes. ¬ IsLength which (length bytes)))
+AsksFor command files (BadScript line why) =
+    ReadsFile command files Script (Fits Script (λ bytes. IsScriptBad bytes line why))
+AsksFor command files (BadImage which) =
+    ReadsFile command files which (Fits which (λ bytes. ¬ IsLength which (length bytes)))
 AsksFor command files (Differs line) = OfLog command (λ log. HasScript command (LogDiffers files log line))
 AsksFor command files _ = ⊥

@@ -7,7 +7,7 @@ use Rattle.board_run.specs.declared.status.Status.{Status}
 use Rattle.board_run.specs.declared.status.Status.TheVariants.{Done, WriteFault, NoMemory}
 use Rattle.board_run.specs.Words.{Command}
 use Rattle.board_run.specs.Asked.{Files, limit_of, ComesTo}
-use Rattle.board_run.specs.Outcomes.{OfFiles, name_in_words}
+use Rattle.board_run.specs.Outcomes.{OfFiles, CanRead, name_in_words}
 
 -- ---- where the calls are told
 
@@ -44,8 +44,8 @@ abbrev pub FoundEnd : List Fetch → Type 0
 FoundEnd [] = ⊥
 FoundEnd (latest ∷ before) = latest.came ≡ Some 0
 
--- a fetch reads a file on: it asks at the place that those before it reached, which is within the limit, and none of them
--- failed or found the end
+-- the next fetch of a file that is read from its start on: it asks for the bytes after those that came. They are within
+-- the limit, and the fetch before it neither failed nor found the end
 pub record ReadsOn (name : List ℕ) (limit : ℕ) (before : List Fetch) (fetch : Fetch) : Type 0 where
   pub named : fetch.name ≡ name
   pub place : fetch.at ≡ place_after before
@@ -59,12 +59,14 @@ IsReading name limit (latest ∷ before) = ReadsOn name limit before latest × I
 
 -- ---- the fetches of a command
 
--- a command comes to the file of this name: as the words say it, and where the shelf tells its files as they say it
+-- a command reads the file of this name, if it comes so far: the words have the name, or a file that was read before,
+-- which is known where the shelf tells its files
 pub record Reaches (command : Command) (told : Option Files) (which : Which) (name : List ℕ) : Type 0 where
+  pub can_read : CanRead command which
   pub comes : OfFiles told (λ files. ComesTo command files which name)
   pub in_words : (other : List ℕ) → name_in_words command which ≡ Some other → other ≡ name
 
--- the fetches read the file of this kind to which the command comes; where later ones follow, it was read to its end
+-- these fetches read the command's file of this kind, and to its end where another file was read later
 pub record Reads (command : Command) (told : Option Files) (which : Which) (later made : List Fetch) : Type 0 where
   pub name : List ℕ
   pub reaches : Reaches command told which name
@@ -110,8 +112,9 @@ ArePutsOf _ made = made ≡ []
 
 -- ---- the calls of the parts of a command
 
--- one fetch was made, of this file at this place; where it did not fail it brought what is answered
-pub record FetchesOnce {E : Type 0} (before now : Option (List Fetch)) (name : List ℕ) (place : ℕ) (result : Result ℕ E) : Type 0 where
+-- one fetch was made, of this file at this place. Where it did not fail, as many bytes came as are answered
+pub record FetchesOnce {E : Type 0} (before now : Option (List Fetch)) (name : List ℕ) (place : ℕ)
+    (result : Result ℕ E) : Type 0 where
   pub came : Option ℕ
   pub made : Made before now (record { name = name; at = place; came = came })
   pub count : IfOk result (λ count. came ≡ Some count)
@@ -126,11 +129,14 @@ ReadsDiskBy result None made = made ≡ []
 ReadsDiskBy result (Some name) made = ReadsBy result name (limit_of Disk) made
 
 -- the fetches read the script of a command and its images: each to its end where a board was opened
-pub record FetchesForBoard {T E : Type 0} (result : Result T E) (command : Command) (told : Option Files) (made : List Fetch) : Type 0 where
+pub record FetchesForBoard {T E : Type 0} (result : Result T E) (command : Command) (told : Option Files)
+    (made : List Fetch) : Type 0 where
   pub fetches : FetchesOf command told made
   pub no_log : fetches.log ≡ []
-  pub whole : OnOk result (FoundEnd fetches.script × FoundEnd fetches.rom × ((fetches.disk ≡ []) ⊎ FoundEnd fetches.disk))
+  pub whole :
+      OnOk result (FoundEnd fetches.script × FoundEnd fetches.rom × ((fetches.disk ≡ []) ⊎ FoundEnd fetches.disk))
 
--- the sink took bytes with each put; with each but the latest where it did not take the whole text
+-- the puts of a text. Of one that was put whole the sink took bytes with each; else it refused the latest put, and took
+-- bytes with each before it
 abbrev pub PutsBy : {T E : Type 0} → Result T E → List Put → Type 0
 PutsBy result made = MatchResult result (λ _. AllTook made) (λ _. LatestRefused made)

@@ -19,7 +19,7 @@ use Rattle.script_spec.specs.ScriptText.{Script as Said}
 use Rattle.board_run.specs.Words.{Command}
 use Rattle.board_run.specs.Asked.{Files, limit_of, IsLength, IsGood, setup_of, AsksFor}
 use Rattle.board_run.specs.Texts.{IsCommandText}
-use Rattle.board_run.specs.Outcomes.{ShelfCall, OfFiles, FailsAt}
+use Rattle.board_run.specs.Outcomes.{ShelfCall, OfFiles, IsImage, CanEnd, FailsAt}
 
 abbrev pub status_of_script_fault : ScriptFault → Status
 status_of_script_fault (BadLine line why) = BadScript line why
@@ -53,9 +53,12 @@ IsRefusal _ = Unit {0}
 abbrev pub IsNotTaken : Which → (name : List ℕ) → ShelfCall → Status → Type 0
 IsNotTaken which name shelf (ReadFault other) =
     (other ≡ which) × Rose shelf.faults_before shelf.faults_now × (shelf.failed_name ≡ take 255 name)
-IsNotTaken which name shelf (TooLong other) = (other ≡ which) × OfFile shelf.files name (λ file. limit_of which < length file)
+IsNotTaken which name shelf (TooLong other) =
+    (other ≡ which) × OfFile shelf.files name (λ file. limit_of which < length file)
 IsNotTaken which name shelf (BadImage other) =
-    (other ≡ which) × OfFile shelf.files name (λ file. (length file ≤ limit_of which) × ¬ IsLength which (length file))
+    (other ≡ which)
+    × IsImage which
+    × OfFile shelf.files name (λ file. (length file ≤ limit_of which) × ¬ IsLength which (length file))
 IsNotTaken which name shelf NoMemory = Unit {0}
 IsNotTaken which name shelf _ = ⊥
 
@@ -66,7 +69,7 @@ IsRefused command shelf Usage = ⊥
 IsRefused command shelf WriteFault = ⊥
 IsRefused command shelf (ReadFault which) = FailsAt which shelf command
 IsRefused command shelf NoMemory = Unit {0}
-IsRefused command shelf status = OfFiles shelf.files (λ files. AsksFor command files status)
+IsRefused command shelf status = CanEnd command status × OfFiles shelf.files (λ files. AsksFor command files status)
 
 -- what a command answers before anything is put: its text, or why it has none. No fault of the shelf is passed over
 pub record IsAnswered (command : Command) (shelf : ShelfCall) (result : Result (String Global) Status) : Type 0 where

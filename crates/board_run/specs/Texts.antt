@@ -20,16 +20,16 @@ use Rattle.make_script.specs.Images.{rom_image, disk_image}
 use Rattle.make_script.specs.Summary.{summary_of}
 use Rattle.board_run.specs.Asked.{Files, limit_of, IsGood, fitted, setup_of}
 
--- the log of the replay of a script: of the one legal history whose statements are the script's in the order of the file,
--- in which nothing outside SMM reaches SMRAM once it is locked
+-- the log of the replay of a script: of the one legal history whose statements are the script's in the order of the
+-- file, in which nothing outside SMM reaches SMRAM once it is locked
 pub record IsReplayText (setup : Setup) (script : Said) (text : List ℕ) : Type 0 where
   pub history : List Entry
   pub replay : IsReplayOf setup (statements_in script) history
   pub locked : LockLaw setup history
   pub log : text ≡ log_text script.version history
 
--- the log of a run of a script: of a legal history that has, phase by phase, each processor's statements once each in its
--- own order, and in which nothing outside SMM reaches SMRAM once it is locked
+-- the log of a run of a script: of a legal history that has, phase by phase, each processor's statements once each in
+-- its own order, and in which nothing outside SMM reaches SMRAM once it is locked
 pub record IsRunText (setup : Setup) (script : Said) (text : List ℕ) : Type 0 where
   pub history : List Entry
   pub legal : IsLegal setup history
@@ -37,8 +37,8 @@ pub record IsRunText (setup : Setup) (script : Said) (text : List ℕ) : Type 0 
   pub locked : LockLaw setup history
   pub log : text ≡ log_text script.version history
 
--- the address map after that replay: the least list of ranges that says of each address what every kind of access reaches
--- there, by the registers as the history leaves them
+-- the address map after that replay: the least list of ranges that says of each address what every kind of access
+-- reaches there, by the registers as the history leaves them
 pub record IsMapText (setup : Setup) (script : Said) (text : List ℕ) : Type 0 where
   pub history : List Entry
   pub ranges : List MapRange
@@ -71,7 +71,8 @@ pub record IsMakeText (rounds : ℕ) (text : List ℕ) : Type 0 where
   pub summary : HasSummary (made_setup_of script) history text
 
 -- a command has this text, where its files are these
-pub record TextOfScript (files : Files) (name : List ℕ) (P : Setup → Said → List ℕ → Type 0) (text : List ℕ) : Type 0 where
+pub record TextOfScript (files : Files) (name : List ℕ)
+    (P : Setup → Said → List ℕ → Type 0) (text : List ℕ) : Type 0 where
   pub script : Said
   pub good : IsGood files name script
   pub says : P (setup_of files script) script text
@@ -81,5 +82,6 @@ abbrev pub IsCommandText : Command → Files → List ℕ → Type 0
 IsCommandText (Replay name) files text = TextOfScript files name IsReplayText text
 IsCommandText (Run name) files text = TextOfScript files name IsRunText text
 IsCommandText (Map name) files text = TextOfScript files name IsMapText text
-IsCommandText (Check name log) files text = TextOfScript files name (λ setup script. IsLegalText setup script (files log)) text
+IsCommandText (Check name log) files text =
+    TextOfScript files name (λ setup script. IsLegalText setup script (files log)) text
 IsCommandText (Make rounds) files text = IsMakeText rounds text

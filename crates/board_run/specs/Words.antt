@@ -79,4 +79,5 @@ WordsDecide =
 -- two commands with the same words are one
 abbrev pub OneCommand : Type 0
 OneCommand =
-    (command other : Command) → IsCommand command → IsCommand other → words_of command ≡ words_of other → command ≡ other
+    (command other : Command) → IsCommand command → IsCommand other →
+    words_of command ≡ words_of other → command ≡ other

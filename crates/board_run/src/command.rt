@@ -6,7 +6,7 @@ ghost use Rattle.board_run.specs.declared.status.Status.{Status};
 ghost use Rattle.board_run.specs.Words.{asked};
 ghost use Rattle.board_run.specs.Commands.{said_by, IsCalled};
 ghost use Rattle.board_run.specs.Statuses.{status_of, IsRefusal};
-ghost use Rattle.board_run.specs.Outcomes.{IsCaused, IsExact};
+ghost use Rattle.board_run.specs.Outcomes.{IsCaused, IsExact, shelf_call, sink_call};
 ghost use Rattle.board_run.specs.Calls.{OfCalls, FetchesOf, AreFetchesOf, ArePutsOf};
 
 use crate::output::put_all;
@@ -29,11 +29,12 @@ fn run_command<R: Threads + Wait + Sync, S: Shelf, K: Sink, G: Gate>(
 ) -> Result<(), Status>
     requires called { IsCalled command }
     ensures caused { IsCaused (status_of result) (Some (said_by command.entry))
-        (record { files = S.files shelf.old; faults_before = S.faults shelf.old; faults_now = S.faults shelf.new; failed_name = S.failed_name shelf.new })
-        (record { faults_before = K.faults out.old; faults_now = K.faults out.new; taken_before = K.taken out.old; taken_now = K.taken out.new }) }
+        (shelf_call S.files S.faults S.failed_name shelf.old shelf.new)
+        (sink_call K.faults K.taken out.old out.new) }
     ensures only { IfErr result IsRefusal }
     ensures same_files { S.files shelf.new ≡ S.files shelf.old }
-    ensures fetches { OfCalls (S.fetches shelf.old) (S.fetches shelf.new) (FetchesOf (said_by command.entry) (S.files shelf.old)) }
+    ensures fetches { OfCalls (S.fetches shelf.old) (S.fetches shelf.new)
+        (FetchesOf (said_by command.entry) (S.files shelf.old)) }
     ensures puts { OfCalls (K.puts out.old) (K.puts out.new) (ArePutsOf (status_of result)) }
 {
     let text = command_text(rt, alloc, command, shelf, gate)?;
@@ -52,10 +53,11 @@ fn run_words<R: Threads + Wait + Sync, S: Shelf, K: Sink, G: Gate>(
 ) -> Status
     ensures usage { (result ≡ Status.Usage) ↔ (asked words.now ≡ None) }
     ensures caused { IsCaused result (asked words.now)
-        (record { files = S.files shelf.old; faults_before = S.faults shelf.old; faults_now = S.faults shelf.new; failed_name = S.failed_name shelf.new })
-        (record { faults_before = K.faults out.old; faults_now = K.faults out.new; taken_before = K.taken out.old; taken_now = K.taken out.new }) }
+        (shelf_call S.files S.faults S.failed_name shelf.old shelf.new)
+        (sink_call K.faults K.taken out.old out.new) }
     ensures same_files { S.files shelf.new ≡ S.files shelf.old }
-    ensures fetches { OfCalls (S.fetches shelf.old) (S.fetches shelf.new) (AreFetchesOf (asked words.now) (S.files shelf.old)) }
+    ensures fetches { OfCalls (S.fetches shelf.old) (S.fetches shelf.new)
+        (AreFetchesOf (asked words.now) (S.files shelf.old)) }
     ensures puts { OfCalls (K.puts out.old) (K.puts out.new) (ArePutsOf result) }
 {
     let Some(command) = command_of(words) else {
@@ -67,11 +69,11 @@ fn run_words<R: Threads + Wait + Sync, S: Shelf, K: Sink, G: Gate>(
     }
 }
 
-/// Runs one command over a shelf of files and a sink: `replay FILE` puts the log of the replay of a script, `run FILE`
-/// that of a run with a thread for each processor, `map FILE` the
-/// address map after it, `check FILE LOG` whether a log is one of the script, and `make N` the summary of a script of N
-/// rounds. Where several causes hold, the words come first, then the script, its ROM, its disk, the log, and what is put.
-/// Nothing is put before all else is done. Only `run` may wait.
+/// Runs one command over a shelf of files and a sink. `replay FILE` puts the log of the replay of a script, `run FILE`
+/// that of a run with a thread for each processor, `map FILE` the address map after a replay, `check FILE LOG` whether
+/// a log is one of the script, and `make N` the summary of a script of N rounds. Where several causes hold, the words
+/// come first, then the script, its ROM, its disk, the log, and what is put. Nothing is put before all else is done.
+/// Only `run` may wait.
 pub fn board<R: Threads + Wait + Sync, S: Shelf, K: Sink, G: Gate>(
     rt: &R,
     alloc: Global,
@@ -82,12 +84,13 @@ pub fn board<R: Threads + Wait + Sync, S: Shelf, K: Sink, G: Gate>(
 ) -> Status
     ensures usage { (result ≡ Status.Usage) ↔ (asked words.now ≡ None) }
     ensures caused { IsCaused result (asked words.now)
-        (record { files = S.files shelf.old; faults_before = S.faults shelf.old; faults_now = S.faults shelf.new; failed_name = S.failed_name shelf.new })
-        (record { faults_before = K.faults out.old; faults_now = K.faults out.new; taken_before = K.taken out.old; taken_now = K.taken out.new }) }
+        (shelf_call S.files S.faults S.failed_name shelf.old shelf.new)
+        (sink_call K.faults K.taken out.old out.new) }
     ensures exact { IsExact result (asked words.now) (S.files shelf.old)
         (¬ Rose (S.faults shelf.old) (S.faults shelf.new)) (¬ Rose (K.faults out.old) (K.faults out.new)) }
     ensures same_files { S.files shelf.new ≡ S.files shelf.old }
-    ensures fetches { OfCalls (S.fetches shelf.old) (S.fetches shelf.new) (AreFetchesOf (asked words.now) (S.files shelf.old)) }
+    ensures fetches { OfCalls (S.fetches shelf.old) (S.fetches shelf.new)
+        (AreFetchesOf (asked words.now) (S.files shelf.old)) }
     ensures puts { OfCalls (K.puts out.old) (K.puts out.new) (ArePutsOf result) }
 {
     run_words(rt, alloc, words, shelf, out, gate)

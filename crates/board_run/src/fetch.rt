@@ -6,6 +6,7 @@ ghost use Rattle.board_spec.specs.Setup.{IsRomSize};
 ghost use Rattle.board_run.specs.declared.status.Which.{Which};
 ghost use Rattle.board_run.specs.declared.status.Status.{Status};
 ghost use Rattle.board_run.specs.Asked.{limit_of};
+ghost use Rattle.board_run.specs.Outcomes.{shelf_call};
 ghost use Rattle.board_run.specs.Statuses.{IsNotTaken};
 ghost use Rattle.board_run.specs.Calls.{OfCalls, ReadsBy};
 
@@ -46,10 +47,11 @@ pub fn fetch<S: Shelf>(
     ensures whole { IfOk result (λ v. OfFile (S.files shelf.old) name.now (λ file. v.items ≡ file)) }
     ensures fits { IfOk result (λ v. vec_len v ≤ limit_of which) }
     ensures refused { IfErr result (IsNotTaken which name.now
-        (record { files = S.files shelf.old; faults_before = S.faults shelf.old; faults_now = S.faults shelf.new; failed_name = S.failed_name shelf.new })) }
+        (shelf_call S.files S.faults S.failed_name shelf.old shelf.new)) }
     ensures later { S.faults shelf.old ≤ S.faults shelf.new }
     ensures quiet { OnOk result (S.faults shelf.new ≡ S.faults shelf.old) }
-    ensures no_fault { IfErr result (λ status. ((of : Which) → status ≢ Status.ReadFault of) → S.faults shelf.new ≡ S.faults shelf.old) }
+    ensures no_fault { IfErr result (λ status. ((of : Which) → status ≢ Status.ReadFault of)
+        → S.faults shelf.new ≡ S.faults shelf.old) }
     ensures same_files { S.files shelf.new ≡ S.files shelf.old }
     ensures fetches { OfCalls (S.fetches shelf.old) (S.fetches shelf.new) (ReadsBy result name.now (limit_of which)) }
 {
@@ -66,11 +68,13 @@ pub fn fetch_rom<S: Shelf>(alloc: Global, shelf: &mut S, name: &str) -> Result<V
     ensures whole { IfOk result (λ v. OfFile (S.files shelf.old) name.now (λ file. v.items ≡ file)) }
     ensures size { IfOk result (λ v. IsRomSize (length v.items)) }
     ensures refused { IfErr result (IsNotTaken Which.Rom name.now
-        (record { files = S.files shelf.old; faults_before = S.faults shelf.old; faults_now = S.faults shelf.new; failed_name = S.failed_name shelf.new })) }
+        (shelf_call S.files S.faults S.failed_name shelf.old shelf.new)) }
     ensures quiet { OnOk result (S.faults shelf.new ≡ S.faults shelf.old) }
-    ensures no_fault { IfErr result (λ status. ((of : Which) → status ≢ Status.ReadFault of) → S.faults shelf.new ≡ S.faults shelf.old) }
+    ensures no_fault { IfErr result (λ status. ((of : Which) → status ≢ Status.ReadFault of)
+        → S.faults shelf.new ≡ S.faults shelf.old) }
     ensures same_files { S.files shelf.new ≡ S.files shelf.old }
-    ensures fetches { OfCalls (S.fetches shelf.old) (S.fetches shelf.new) (ReadsBy result name.now (limit_of Which.Rom)) }
+    ensures fetches { OfCalls (S.fetches shelf.old) (S.fetches shelf.new)
+        (ReadsBy result name.now (limit_of Which.Rom)) }
 {
     let rom = fetch(alloc, shelf, Which::Rom, name)?;
     if is_rom_size(rom.len()) {

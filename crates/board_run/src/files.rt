@@ -49,7 +49,7 @@ fn zeros(alloc: Global, count: usize) -> Result<Vec<u8>, AllocError>
     vec![in alloc; 0; count]
 }
 
-/// Appends bytes.
+/// Appends a piece to what was read of a file.
 fn append(bytes: &mut Vec<u8>, more: &[u8]) -> Result<(), AllocError>
     ensures ok { OnOk result (bytes.new.items ≡ bytes.old.items ++ more.now) }
     ensures len { OnOk result (vec_len bytes.new ≡ vec_len bytes.old + length more.now) }
@@ -66,9 +66,11 @@ fn read_on<S: Shelf>(
     piece: &mut [u8],
 ) -> Result<usize, FileFault>
     requires { 0 < length piece.old }
-    ensures front { IfOk result (λ k. OfFile (S.files shelf.old) name.now (IsLongerFront bytes.old.items bytes.new.items)) }
+    ensures front { IfOk result (λ k. OfFile (S.files shelf.old) name.now
+        (IsLongerFront bytes.old.items bytes.new.items)) }
     ensures grows { IfOk result (λ k. vec_len bytes.new ≡ vec_len bytes.old + k) }
-    ensures end { IfOk result (λ k. k ≡ 0 → OfFile (S.files shelf.old) name.now (λ file. length file ≤ vec_len bytes.old)) }
+    ensures end { IfOk result (λ k. k ≡ 0 → OfFile (S.files shelf.old) name.now
+        (λ file. length file ≤ vec_len bytes.old)) }
     ensures failed { IfErr result (λ fault. fault ≡ FileFault.Failed → Rose (S.faults shelf.old) (S.faults shelf.new)) }
     ensures names { IfErr result (λ fault. fault ≡ FileFault.Failed → S.failed_name shelf.new ≡ take 255 name.now) }
     ensures only { IfErr result (λ fault. fault ≢ FileFault.TooLong) }

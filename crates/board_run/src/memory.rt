@@ -24,8 +24,18 @@ pub fn board_in_memory<R: Threads + Wait + Sync, G: Gate>(
 ) -> Status
     ensures usage { (result ≡ Status.Usage) ↔ (asked words.now ≡ None) }
     ensures caused { IsCaused result (asked words.now)
-        (record { files = Some (file_named shelf.old.files.items); faults_before = 0; faults_now = 0; failed_name = [] })
-        (record { faults_before = 0; faults_now = 0; taken_before = Some out.old.bytes.items; taken_now = Some out.new.bytes.items }) }
+        (record {
+          files = Some (file_named shelf.old.files.items);
+          faults_before = 0;
+          faults_now = 0;
+          failed_name = [];
+        })
+        (record {
+          faults_before = 0;
+          faults_now = 0;
+          taken_before = Some out.old.bytes.items;
+          taken_now = Some out.new.bytes.items;
+        }) }
     ensures no_read_fault { (which : Which) → result ≢ Status.ReadFault which }
     ensures no_write_fault { result ≢ Status.WriteFault }
     ensures exact { IsExact result (asked words.now) (Some (file_named shelf.old.files.items)) (Unit {0}) (Unit {0}) }

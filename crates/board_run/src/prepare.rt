@@ -8,7 +8,7 @@ ghost use Rattle.board_run.specs.declared.status.Which.{Which};
 ghost use Rattle.board_run.specs.declared.status.Status.{Status};
 ghost use Rattle.board_run.specs.Words.{Command, script_name};
 ghost use Rattle.board_run.specs.Asked.{fitted};
-ghost use Rattle.board_run.specs.Outcomes.{OfFiles};
+ghost use Rattle.board_run.specs.Outcomes.{OfFiles, shelf_call};
 ghost use Rattle.board_run.specs.Calls.{OfCalls, ReadsDiskBy, FetchesForBoard};
 ghost use Rattle.board_run.specs.Statuses.{IsRefused, FitsDisk, IsDiskNotTaken, IsNotOpened, IsReady};
 
@@ -38,9 +38,10 @@ fn fetch_disk<S: Shelf>(
     ensures fits { IfOk result (λ disk. FitsDisk (option_map (λ bytes. bytes.items) disk)) }
     ensures named { IfOk result (λ disk. is_some disk ≡ is_some name.now) }
     ensures refused { IfErr result (IsDiskNotTaken name.now
-        (record { files = S.files shelf.old; faults_before = S.faults shelf.old; faults_now = S.faults shelf.new; failed_name = S.failed_name shelf.new })) }
+        (shelf_call S.files S.faults S.failed_name shelf.old shelf.new)) }
     ensures quiet { OnOk result (S.faults shelf.new ≡ S.faults shelf.old) }
-    ensures no_fault { IfErr result (λ status. ((of : Which) → status ≢ Status.ReadFault of) → S.faults shelf.new ≡ S.faults shelf.old) }
+    ensures no_fault { IfErr result (λ status. ((of : Which) → status ≢ Status.ReadFault of)
+        → S.faults shelf.new ≡ S.faults shelf.old) }
     ensures same_files { S.files shelf.new ≡ S.files shelf.old }
     ensures fetches { OfCalls (S.fetches shelf.old) (S.fetches shelf.new) (ReadsDiskBy result name.now) }
 {
@@ -51,7 +52,7 @@ fn fetch_disk<S: Shelf>(
     Ok(Some(disk))
 }
 
-/// Equal cards.
+/// Cards like these, for a board to keep.
 fn copies(alloc: Global, cards: &[CardSpec]) -> Result<Vec<CardSpec>, NoMemory>
     requires listed { IsCardList cards.now }
     ensures equal { IfOk result (λ copies. copies.items ≡ cards.now) }
@@ -97,10 +98,11 @@ pub fn prepare<S: Shelf>(alloc: Global, shelf: &mut S, name: &str) -> Result<Pre
     ensures in_range { IfOk result (λ prepared. IsInRangeScript (said_of prepared.script)) }
     ensures cards { IfOk result (λ prepared. prepared.board.setup.cards ≡ (said_of prepared.script).cards) }
     ensures fresh { IfOk result (λ prepared. prepared.board.entries ≡ []) }
-    ensures refused { IfErr result (λ status. (command : Command) → script_name command ≡ Some name.now → IsRefused command
-        (record { files = S.files shelf.old; faults_before = S.faults shelf.old; faults_now = S.faults shelf.new; failed_name = S.failed_name shelf.new }) status) }
+    ensures refused { IfErr result (λ status. (command : Command) → script_name command ≡ Some name.now
+        → IsRefused command (shelf_call S.files S.faults S.failed_name shelf.old shelf.new) status) }
     ensures quiet { OnOk result (S.faults shelf.new ≡ S.faults shelf.old) }
-    ensures no_fault { IfErr result (λ status. ((of : Which) → status ≢ Status.ReadFault of) → S.faults shelf.new ≡ S.faults shelf.old) }
+    ensures no_fault { IfErr result (λ status. ((of : Which) → status ≢ Status.ReadFault of)
+        → S.faults shelf.new ≡ S.faults shelf.old) }
     ensures same_files { S.files shelf.new ≡ S.files shelf.old }
     ensures fetches { (command : Command) → script_name command ≡ Some name.now
         → OfCalls (S.fetches shelf.old) (S.fetches shelf.new) (FetchesForBoard result command (S.files shelf.old)) }

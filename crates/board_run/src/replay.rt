@@ -41,9 +41,9 @@ pub fn replay_script(board: &mut Board, script: &Script) -> Result<(), NoMemory>
     Ok(())
 }
 
-/// Checks whether bytes are the log of a legal and complete history of a script, on a fresh board with its setup: line by
-/// line, so that the first line is named which no such log has after the same lines. The board goes through the statements
-/// of the lines before the named one, and perhaps through that of the named line.
+/// Checks whether bytes are the log of a legal and complete history of a script, on a fresh board with its setup. It
+/// goes line by line, and names the first line that no such log has after the same lines. The board goes through the
+/// statements of the lines before the named one, and perhaps through that of the named line.
 pub fn check_log(
     alloc: Global,
     board: &mut Board,
@@ -53,8 +53,8 @@ pub fn check_log(
     requires in_range { IsInRangeScript (said_of script.now) }
     requires cards { board.old.setup.cards ≡ (said_of script.now).cards }
     requires fresh { board.old.entries ≡ [] }
-    ensures log { IfOk result (λ count. IsCheckedLog board.old.setup (said_of script.now).version (said_of script.now).phases
-        bytes.now board.new.entries count) }
+    ensures log { IfOk result (λ count. IsCheckedLog board.old.setup (said_of script.now).version
+        (said_of script.now).phases bytes.now board.new.entries count) }
     ensures differs { (line : ℕ) → result ≡ Err (CheckFault.Differs line)
         → DiffersAt board.old.setup (said_of script.now).version (said_of script.now).phases bytes.now line }
     ensures exactly { (log : IsLogOf board.old.setup (said_of script.now).version (said_of script.now).phases bytes.now)
@@ -67,23 +67,26 @@ pub fn check_log(
     log_check::check_log(alloc, board, script.version, &script.phases, bytes)
 }
 
-/// The log of a script's replay on its board.
-pub fn log_of_replay(alloc: Global, board: &mut Board, script: &Script) -> Result<String, NoMemory>
-    requires in_range { IsInRangeScript (said_of script.now) }
-    requires cards { board.old.setup.cards ≡ (said_of script.now).cards }
+/// The log of a script's replay on its board. The memory of the script is given back before the log takes its own.
+pub fn log_of_replay(alloc: Global, board: &mut Board, script: Script) -> Result<String, NoMemory>
+    requires in_range { IsInRangeScript (said_of script) }
+    requires cards { board.old.setup.cards ≡ (said_of script).cards }
     requires fresh { board.old.entries ≡ [] }
-    ensures text { IfOk result (λ text. IsReplayText board.old.setup (said_of script.now) (string_bytes text)) }
+    ensures text { IfOk result (λ text. IsReplayText board.old.setup (said_of script) (string_bytes text)) }
 {
-    replay_script(board, script)?;
+    replay_script(board, &script)?;
+    let version = script.version;
+    drop(script);
     let mut text = String::new(alloc);
-    push_log(&mut text, script.version, board.history().entries())?;
+    push_log(&mut text, version, board.history().entries())?;
     law_lock();
     Ok(text)
 }
 
 /// Appends the lines of the ranges of a map.
 fn push_map(text: &mut String, ranges: &[Range]) -> Result<(), NoMemory>
-    ensures appended { OnOk result (string_bytes text.new ≡ string_bytes text.old ++ map_text (map range_of ranges.now)) }
+    ensures appended { OnOk result
+        (string_bytes text.new ≡ string_bytes text.old ++ map_text (map range_of ranges.now)) }
 {
     for range in ranges {
         push_range(text, range.lo, range.hi, &range.row.areas)?;

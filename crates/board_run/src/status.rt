@@ -1,4 +1,4 @@
-//! How a command ends: the status, its exit code and its text.
+//! How a command ends: the status and its exit code.
 
 ghost use Rattle.std.specs.Prelude.{◌≡◌};
 ghost use Rattle.board_run.specs.Status.{code_of};

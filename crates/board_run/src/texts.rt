@@ -6,7 +6,7 @@ ghost use Rattle.script_text.specs.Script.{said_of};
 ghost use Rattle.board_run.specs.declared.status.Which.{Which};
 ghost use Rattle.board_run.specs.Words.{Replay, Run, Map, Check};
 ghost use Rattle.board_run.specs.Commands.{said_by, IsCalled, WaitsForNobody};
-ghost use Rattle.board_run.specs.Outcomes.{OfFiles};
+ghost use Rattle.board_run.specs.Outcomes.{OfFiles, shelf_call};
 ghost use Rattle.board_run.specs.Asked.{limit_of};
 ghost use Rattle.board_run.specs.Calls.{OfCalls, IsReading, FetchesOf};
 ghost use Rattle.board_run.specs.Statuses.{IsAnswered, IsReady};
@@ -26,28 +26,31 @@ use std::thread::Threads;
 /// The log of the replay of a script.
 fn replay<S: Shelf>(alloc: Global, shelf: &mut S, name: &str) -> Result<String, Status>
     ensures answer { IsAnswered (Replay name.now)
-        (record { files = S.files shelf.old; faults_before = S.faults shelf.old; faults_now = S.faults shelf.new; failed_name = S.failed_name shelf.new }) result }
+        (shelf_call S.files S.faults S.failed_name shelf.old shelf.new) result }
     ensures same_files { S.files shelf.new ≡ S.files shelf.old }
-    ensures fetches { OfCalls (S.fetches shelf.old) (S.fetches shelf.new) (FetchesOf (Replay name.now) (S.files shelf.old)) }
+    ensures fetches { OfCalls (S.fetches shelf.old) (S.fetches shelf.new)
+        (FetchesOf (Replay name.now) (S.files shelf.old)) }
 {
-    let mut prepared = prepare(alloc, shelf, name)?;
-    let text = log_of_replay(alloc, &mut prepared.board, &prepared.script)?;
+    let Prepared { script, mut board } = prepare(alloc, shelf, name)?;
+    let text = log_of_replay(alloc, &mut board, script)?;
     Ok(text)
 }
 
 /// The address map after the replay of a script.
 fn map<S: Shelf>(alloc: Global, shelf: &mut S, name: &str) -> Result<String, Status>
     ensures answer { IsAnswered (Map name.now)
-        (record { files = S.files shelf.old; faults_before = S.faults shelf.old; faults_now = S.faults shelf.new; failed_name = S.failed_name shelf.new }) result }
+        (shelf_call S.files S.faults S.failed_name shelf.old shelf.new) result }
     ensures same_files { S.files shelf.new ≡ S.files shelf.old }
-    ensures fetches { OfCalls (S.fetches shelf.old) (S.fetches shelf.new) (FetchesOf (Map name.now) (S.files shelf.old)) }
+    ensures fetches { OfCalls (S.fetches shelf.old) (S.fetches shelf.new)
+        (FetchesOf (Map name.now) (S.files shelf.old)) }
 {
     let mut prepared = prepare(alloc, shelf, name)?;
     let text = map_after_replay(alloc, &mut prepared.board, &prepared.script)?;
     Ok(text)
 }
 
-/// How many entries a log has, which is that of a legal and complete history of a script that was read.
+/// What `check` says of a log, after its script was read: how many entries it has, where it is the log of a legal and
+/// complete history of the script.
 fn verdict<S: Shelf>(
     alloc: Global,
     shelf: &mut S,
@@ -58,9 +61,10 @@ fn verdict<S: Shelf>(
     requires cards { prepared.old.board.setup.cards ≡ (said_of prepared.old.script).cards }
     requires fresh { prepared.old.board.entries ≡ [] }
     ensures answer { (name : List ℕ)
-        → OfFiles (S.files shelf.old) (λ files. IsReady files name (said_of prepared.old.script) prepared.old.board.setup)
+        → OfFiles (S.files shelf.old)
+        (λ files. IsReady files name (said_of prepared.old.script) prepared.old.board.setup)
         → IsAnswered (Check name log.now)
-        (record { files = S.files shelf.old; faults_before = S.faults shelf.old; faults_now = S.faults shelf.new; failed_name = S.failed_name shelf.new }) result }
+        (shelf_call S.files S.faults S.failed_name shelf.old shelf.new) result }
     ensures same_files { S.files shelf.new ≡ S.files shelf.old }
     ensures fetches { OfCalls (S.fetches shelf.old) (S.fetches shelf.new) (IsReading log.now (limit_of Which.Log)) }
 {
@@ -69,12 +73,13 @@ fn verdict<S: Shelf>(
     Ok(text)
 }
 
-/// How many entries a log has, which is that of a legal and complete history of a script.
+/// What `check` says of a log: how many entries it has, where it is the log of a legal and complete history of a script.
 fn check<S: Shelf>(alloc: Global, shelf: &mut S, name: &str, log: &str) -> Result<String, Status>
     ensures answer { IsAnswered (Check name.now log.now)
-        (record { files = S.files shelf.old; faults_before = S.faults shelf.old; faults_now = S.faults shelf.new; failed_name = S.failed_name shelf.new }) result }
+        (shelf_call S.files S.faults S.failed_name shelf.old shelf.new) result }
     ensures same_files { S.files shelf.new ≡ S.files shelf.old }
-    ensures fetches { OfCalls (S.fetches shelf.old) (S.fetches shelf.new) (FetchesOf (Check name.now log.now) (S.files shelf.old)) }
+    ensures fetches { OfCalls (S.fetches shelf.old) (S.fetches shelf.new)
+        (FetchesOf (Check name.now log.now) (S.files shelf.old)) }
 {
     let mut prepared = prepare(alloc, shelf, name)?;
     verdict(alloc, shelf, &mut prepared, log)
@@ -89,9 +94,10 @@ fn text_without_waiting<S: Shelf>(
     requires called { IsCalled command }
     requires alone { WaitsForNobody command }
     ensures answer { IsAnswered (said_by command.entry)
-        (record { files = S.files shelf.old; faults_before = S.faults shelf.old; faults_now = S.faults shelf.new; failed_name = S.failed_name shelf.new }) result }
+        (shelf_call S.files S.faults S.failed_name shelf.old shelf.new) result }
     ensures same_files { S.files shelf.new ≡ S.files shelf.old }
-    ensures fetches { OfCalls (S.fetches shelf.old) (S.fetches shelf.new) (FetchesOf (said_by command.entry) (S.files shelf.old)) }
+    ensures fetches { OfCalls (S.fetches shelf.old) (S.fetches shelf.new)
+        (FetchesOf (said_by command.entry) (S.files shelf.old)) }
 {
     match command {
         Command::Replay(name) => replay(alloc, shelf, name),
@@ -111,9 +117,10 @@ fn run<R: Threads + Wait + Sync, S: Shelf, G: Gate>(
     gate: &G,
 ) -> Result<String, Status>
     ensures answer { IsAnswered (Run name.now)
-        (record { files = S.files shelf.old; faults_before = S.faults shelf.old; faults_now = S.faults shelf.new; failed_name = S.failed_name shelf.new }) result }
+        (shelf_call S.files S.faults S.failed_name shelf.old shelf.new) result }
     ensures same_files { S.files shelf.new ≡ S.files shelf.old }
-    ensures fetches { OfCalls (S.fetches shelf.old) (S.fetches shelf.new) (FetchesOf (Run name.now) (S.files shelf.old)) }
+    ensures fetches { OfCalls (S.fetches shelf.old) (S.fetches shelf.new)
+        (FetchesOf (Run name.now) (S.files shelf.old)) }
 {
     let Prepared { script, board } = prepare(alloc, shelf, name)?;
     let text = log_of_run(rt, alloc, board, &script, gate)?;
@@ -130,9 +137,10 @@ pub fn command_text<R: Threads + Wait + Sync, S: Shelf, G: Gate>(
 ) -> Result<String, Status>
     requires called { IsCalled command }
     ensures answer { IsAnswered (said_by command.entry)
-        (record { files = S.files shelf.old; faults_before = S.faults shelf.old; faults_now = S.faults shelf.new; failed_name = S.failed_name shelf.new }) result }
+        (shelf_call S.files S.faults S.failed_name shelf.old shelf.new) result }
     ensures same_files { S.files shelf.new ≡ S.files shelf.old }
-    ensures fetches { OfCalls (S.fetches shelf.old) (S.fetches shelf.new) (FetchesOf (said_by command.entry) (S.files shelf.old)) }
+    ensures fetches { OfCalls (S.fetches shelf.old) (S.fetches shelf.new)
+        (FetchesOf (said_by command.entry) (S.files shelf.old)) }
 {
     match command {
         Command::Run(name) => run(rt, alloc, shelf, name, gate),

@@ -32,7 +32,11 @@ impl<'a, R: Abort> Shelf for ToldShelf<'a, R> {
 
     ghost failed_name = { λ shelf. shelf.inner.inner.last.items };
 
-    ghost fetches = { λ shelf. Some (map (λ made. record { name = string_bytes made.name; at = made.at; came = made.came }) shelf.made.items) };
+    ghost fetches = { λ shelf. Some (map (λ made. record {
+      name = string_bytes made.name;
+      at = made.at;
+      came = made.came;
+    }) shelf.made.items) };
 
     fn fetch(&mut self, name: &str, at: u64, into: &mut [u8]) -> Result<usize, Failed> {
         let result = self.inner.fetch(name, at, into);
@@ -48,8 +52,8 @@ impl<'a, R: Abort> Shelf for ToldShelf<'a, R> {
     }
 }
 
-/// A slow sink that keeps how many bytes each put took, none where it answered a fault. Where there is no memory to keep
-/// one, the test ends.
+/// A slow sink that keeps how many bytes each put took, none where it answered a fault. Where there is no memory to
+/// keep one, the test ends.
 #[derive(Drop)]
 pub struct ToldSink<'a, R: Abort> {
     pub inner: SlowSink,

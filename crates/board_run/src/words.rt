@@ -71,7 +71,8 @@ fn command_with_two<'a>(verb: &str, script: &'a str, log: &'a str) -> Option<Com
     }
 }
 
-/// Reads the words of `replay FILE`, `run FILE`, `map FILE`, `check FILE LOG` and `make N`. None where the words are no command.
+/// Reads the words of `replay FILE`, `run FILE`, `map FILE`, `check FILE LOG` and `make N`. None where the words are no
+/// command.
 pub fn command_of(words: &[String]) -> Option<Command<'_>>
     ensures said { option_map said_by result ≡ asked words.now }
     ensures called { IfSome result IsCalled }

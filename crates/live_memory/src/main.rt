@@ -93,12 +93,13 @@ fn ask<R: Wait>(cpu: &mut Cpu, live: &Live, rt: &R, event: &Event)
     }
 }
 
-/// Selects and writes PAM0, twice.
+/// Selects PAM0, and writes it twice.
 fn write_window<R: Wait>(cpu: &mut Cpu, live: &Live, rt: &R)
     requires own { IsCallerOf live.now cpu.old }
     requires new { mine_of cpu.old ≡ [] }
     ensures own { IsCallerOf live.now cpu.new }
     ensures same { IsSameCaller cpu.old cpu.new }
+    ensures few { length (mine_of cpu.new) ≤ 3 }
 {
     ask(cpu, live, rt, &select());
     ask(cpu, live, rt, &open_window());

@@ -6,26 +6,26 @@ use Rattle.board_run.proofs.Refusals.{refused_answer, text_answer, ready_text}
 use Rattle.board_run.proofs.CallLemmas.{fetches_for_board}
 use Rattle.board_run.proofs.texts.replay.Goals as goal
 
-pub returns-in_err-prepared-clause-answer : goal.returns-in_err-prepared-clause-answer
-returns-in_err-prepared-clause-answer g c =
-    refused_answer _ _ _ c.in_err-prepared.field-0.0 (search rules) (c.in_err-prepared.ensures.refused _ refl)
-    c.in_err-prepared.ensures.no_fault
+pub returns-in_err-script-clause-answer : goal.returns-in_err-script-clause-answer
+returns-in_err-script-clause-answer g c =
+    refused_answer _ _ _ c.in_err-script.field-0.0 (search rules) (c.in_err-script.ensures.refused _ refl)
+    c.in_err-script.ensures.no_fault
 
 pub returns-in_err-text-clause-answer : goal.returns-in_err-text-clause-answer
 returns-in_err-text-clause-answer g c =
-    refused_answer _ _ _ NoMemory (search rules) tt (λ _. c.in_ok-prepared.ensures.quiet)
+    refused_answer _ _ _ NoMemory (search rules) tt (λ _. c.in_ok-script.ensures.quiet)
 
 pub returns-clause-answer : goal.returns-clause-answer
 returns-clause-answer g c =
     text_answer _ _ c.in_ok-text.text
-    (ready_text _ _ (said_of c.in_ok-prepared.prepared.script) _ IsReplayText _ c.in_ok-prepared.ensures.ready
-    c.in_ok-text.ensures.text) c.in_ok-prepared.ensures.quiet
+    (ready_text _ _ (said_of c.in_ok-script.field-0.script) _ IsReplayText _ c.in_ok-script.ensures.ready
+    c.in_ok-text.ensures.text) c.in_ok-script.ensures.quiet
 
-pub returns-in_err-prepared-clause-fetches : goal.returns-in_err-prepared-clause-fetches
-returns-in_err-prepared-clause-fetches g c = fetches_for_board _ _ _ _ _ (c.in_err-prepared.ensures.fetches _ refl)
+pub returns-in_err-script-clause-fetches : goal.returns-in_err-script-clause-fetches
+returns-in_err-script-clause-fetches g c = fetches_for_board _ _ _ _ _ (c.in_err-script.ensures.fetches _ refl)
 
 pub returns-in_err-text-clause-fetches : goal.returns-in_err-text-clause-fetches
-returns-in_err-text-clause-fetches g c = fetches_for_board _ _ _ _ _ (c.in_ok-prepared.ensures.fetches _ refl)
+returns-in_err-text-clause-fetches g c = fetches_for_board _ _ _ _ _ (c.in_ok-script.ensures.fetches _ refl)
 
 pub returns-clause-fetches : goal.returns-clause-fetches
-returns-clause-fetches g c = fetches_for_board _ _ _ _ _ (c.in_ok-prepared.ensures.fetches _ refl)
+returns-clause-fetches g c = fetches_for_board _ _ _ _ _ (c.in_ok-script.ensures.fetches _ refl)
