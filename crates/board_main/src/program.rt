@@ -45,7 +45,8 @@ pub fn answer<R, W>(rt: &R, words: &[String], output: W) -> Status
 where
     R: Files + AllocGlobal + Threads + Wait + Sync,
     W: Write + Drop,
-    ensures usage { (result ≡ Status.Usage) ↔ ((is_own (map string_bytes words.now) ≡ false) × (asked words.now ≡ None)) }
+    ensures usage { (result ≡ Status.Usage)
+        ↔ ((is_own (map string_bytes words.now) ≡ false) × (asked words.now ≡ None)) }
     ensures own { is_own (map string_bytes words.now) ≡ true → (result ≡ Status.Done) ⊎ (result ≡ Status.WriteFault) }
     ensures possible { is_own (map string_bytes words.now) ≡ false → WordsCanEnd (asked words.now) result }
 {

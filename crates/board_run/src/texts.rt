@@ -73,7 +73,8 @@ fn verdict<S: Shelf>(
     Ok(text)
 }
 
-/// What `check` says of a log: how many entries it has, where it is the log of a legal and complete history of a script.
+/// What `check` says of a log: how many entries it has, where it is the log of a legal and complete history of a
+/// script.
 fn check<S: Shelf>(alloc: Global, shelf: &mut S, name: &str, log: &str) -> Result<String, Status>
     ensures answer { IsAnswered (Check name.now log.now)
         (shelf_call S.files S.faults S.failed_name shelf.old shelf.new) result }
