@@ -36,22 +36,24 @@ pub fn run_script<R: Threads + Wait + Sync, G: Gate>(
     run_phases(rt, alloc, board, script.cpus, &script.phases, gate)
 }
 
-/// The log of a run of a script.
+/// The log of a run of a script. The memory of the script is given back before the log takes its own.
 pub fn log_of_run<R: Threads + Wait + Sync, G: Gate>(
     rt: &R,
     alloc: Global,
     board: Board,
-    script: &Script,
+    script: Script,
     gate: &G,
 ) -> Result<String, NoMemory>
-    requires in_range { IsInRangeScript (said_of script.now) }
-    requires cards { board.setup.cards ≡ (said_of script.now).cards }
+    requires in_range { IsInRangeScript (said_of script) }
+    requires cards { board.setup.cards ≡ (said_of script).cards }
     requires fresh { board.entries ≡ [] }
-    ensures text { IfOk result (λ text. IsRunText board.setup (said_of script.now) (string_bytes text)) }
+    ensures text { IfOk result (λ text. IsRunText board.setup (said_of script) (string_bytes text)) }
 {
-    let history = run_script(rt, alloc, board, script, gate)?;
+    let history = run_script(rt, alloc, board, &script, gate)?;
+    let version = script.version;
+    drop(script);
     let mut text = String::new(alloc);
-    push_log(&mut text, script.version, history.entries())?;
+    push_log(&mut text, version, history.entries())?;
     law_lock();
     Ok(text)
 }

@@ -124,7 +124,7 @@ fn run<R: Threads + Wait + Sync, S: Shelf, G: Gate>(
         (FetchesOf (Run name.now) (S.files shelf.old)) }
 {
     let Prepared { script, board } = prepare(alloc, shelf, name)?;
-    let text = log_of_run(rt, alloc, board, &script, gate)?;
+    let text = log_of_run(rt, alloc, board, script, gate)?;
     Ok(text)
 }
 

@@ -7,7 +7,7 @@ use Rattle.board_run.proofs.run.log_of_run.Goals as goal
 
 pub returns : goal.returns
 returns g c =
-    let version : ℕ = c.args.script.now.version in
+    let version : ℕ = c.args.script.version in
     let history : List Entry = c.in_ok-history.history.entries in
     record {
       text = record {
