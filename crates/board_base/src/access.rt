@@ -98,8 +98,8 @@ pub struct PortAccess {
 #[derive(Clone, Copy, PartialEq, Eq, Debug)]
 pub struct WideAccess {
     pub kind: Kind,
-    pub addr: u32,
     pub bytes: u8,
     pub smm: bool,
+    pub addr: u32,
     pub value: u64,
 }

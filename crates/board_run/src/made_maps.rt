@@ -9,12 +9,10 @@ use crate::made::{made_board, made_script};
 use board_base::NoMemory;
 use board_core::Board;
 use board_spec::Statement;
+use board_spec::limits::MOST_STATEMENTS;
 use map_builder::FlatMap;
 use script_text::Script;
 use std::process::Abort;
-
-/// The most entries that the board may have for one more.
-const MOST: u32 = 250_000;
 
 /// Does statements on a board, and each of their map writes on a copy of its map too.
 fn follow(
@@ -27,10 +25,10 @@ fn follow(
     ensures setup { OnOk result (board.new.setup ≡ board.old.setup) }
 {
     for statement in statements {
-        assert!(rt; board.history().len() < MOST);
+        assert!(rt; board.history().len() < MOST_STATEMENTS as u32);
         board.reserve(1)?;
         if let Some(change) = board.map_change(&statement.event) {
-            assert!(rt; map.version() < MOST);
+            assert!(rt; map.version() < MOST_STATEMENTS as u32);
             map.apply(&change);
             let anew = FlatMap::from_scratch(map.regs().copy());
             assert_eq!(rt; map.ranges(), anew.ranges());

@@ -23,7 +23,7 @@ pub data Told : Type 0 where
   InPieces : (value : Option ℕ) → (parts : List Part) → Told
 
 abbrev told : Reply → Told
-told (InParts value parts) = InPieces value (parts_list parts)
+told (InParts parts value) = InPieces value (parts_list parts)
 told (Bus value target denial) = Whole (Bus value target denial)
 told (Saw look) = Whole (Saw look)
 
@@ -64,18 +64,18 @@ IsPartless (InPieces value (part ∷ later)) = ⊥
 whole : (reply expected : Reply) → told reply ≡ Whole expected → reply ≡ expected
 whole (Bus value target denial) expected is = ap (reply_in expected) is
 whole (Saw look) expected is = ap (reply_in expected) is
-whole (InParts value parts) expected is = absurd (subst IsWhole (sym is) tt)
+whole (InParts parts value) expected is = absurd (subst IsWhole (sym is) tt)
 
 answer : (setup : Setup) (before : List Entry) (event : Event) (reply : Reply) →
     told reply ≡ computed setup before event → IsAnswer setup before event reply
 answer setup before (Memory access) reply is = whole reply _ is
-answer setup before (Wide access) (InParts value parts) is = record { value_is = ap value_in is; each = ap parts_in is }
+answer setup before (Wide access) (InParts parts value) is = record { value_is = ap value_in is; each = ap parts_in is }
 answer setup before (Wide access) (Bus value target denial) is = absurd (subst IsWhole is tt)
 answer setup before (Wide access) (Saw look) is = absurd (subst IsWhole is tt)
 answer setup before (Port access) reply is = whole reply _ is
-answer setup before (LookAt kind addr smm) (InParts value (TwoParts a b)) is = absurd (subst IsPartless (sym is) tt)
-answer setup before (LookAt kind addr smm) (InParts value (ThreeParts a b c)) is = absurd (subst IsPartless (sym is) tt)
-answer setup before (LookAt kind addr smm) (InParts value (FourParts a b c d)) is = absurd (subst IsPartless (sym is) tt)
+answer setup before (LookAt kind addr smm) (InParts (TwoParts a b) value) is = absurd (subst IsPartless (sym is) tt)
+answer setup before (LookAt kind addr smm) (InParts (ThreeParts a b c) value) is = absurd (subst IsPartless (sym is) tt)
+answer setup before (LookAt kind addr smm) (InParts (FourParts a b c d) value) is = absurd (subst IsPartless (sym is) tt)
 answer setup before (LookAt kind addr smm) (Bus value target denial) is = absurd (subst IsWhole is tt)
 answer setup before (LookAt kind addr smm) (Saw look) is = absurd (subst IsWhole is tt)
 answer setup before Ack reply is = whole reply _ is

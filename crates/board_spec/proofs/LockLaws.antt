@@ -228,7 +228,7 @@ reply_names :
     (value : Option ℕ) (target : Target) (denial : Option Denial) (reply : Reply) →
     reply ≡ Bus value target denial → NamesSmram reply → target ≡ Smram
 reply_names value target denial (Bus v t d) e names = cc
-reply_names value target denial (Parts v parts) e names = cc
+reply_names value target denial (Parts parts v) e names = cc
 reply_names value target denial (Saw look) e names = cc
 
 -- no part of a wide access outside SMM reaches SMRAM
@@ -273,12 +273,12 @@ no_smram_answer setup before (Memory access) reply shut answer outside names =
     let area : area_of setup (byte_of setup before) access.addr access.kind access.smm ≡ SmramArea =
     target_names setup _ access.addr named in
     no_smram setup (byte_of setup before) access.addr access.kind shut (rw outside at area)
-no_smram_answer setup before (Wide access) (Parts value parts) shut answer outside names =
+no_smram_answer setup before (Wide access) (Parts parts value) shut answer outside names =
     no_smram_parts setup before shut (parts_of access)
     (parts_smm access false outside 4 access.addr access.bytes) (parts_list parts) answer.each names
 no_smram_answer setup before (Wide access) (Bus value target denial) shut answer outside names = absurd answer
 no_smram_answer setup before (Wide access) (Saw look) shut answer outside names = absurd answer
-no_smram_answer setup before (LookAt kind addr smm) (Parts value parts) shut answer outside names = absurd answer
+no_smram_answer setup before (LookAt kind addr smm) (Parts parts value) shut answer outside names = absurd answer
 no_smram_answer setup before (LookAt kind addr smm) (Saw look) shut answer outside names =
     let area : area_of setup (byte_of setup before) addr kind smm ≡ SmramArea =
     answer.span.same addr answer.span.above answer.span.below ∙ names in

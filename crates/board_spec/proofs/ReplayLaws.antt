@@ -51,7 +51,7 @@ some_parts (a ∷ b ∷ c ∷ d ∷ e ∷ later) count = absurd (omega (arith, c
 
 one_parts :
     (value value' : Option ℕ) (parts parts' : Parts) → value ≡ value' → parts_list parts ≡ parts_list parts' →
-    InParts value parts ≡ InParts value' parts'
+    InParts parts value ≡ InParts parts' value'
 one_parts value value' (TwoParts a b) (TwoParts a' b') v l = cc
 one_parts value value' (TwoParts a b) (ThreeParts a' b' c') v l = cc
 one_parts value value' (TwoParts a b) (FourParts a' b' c' d') v l = cc
@@ -107,7 +107,7 @@ some_answer setup before (Memory access) addressed = record { reply = _; answer 
 some_answer setup before (Wide access) addressed =
     let some = some_parts (map (part_answer setup before) (parts_of access)) (parts_counted setup before access addressed) in
     record {
-      reply = InParts (wide_value setup before access) some.parts;
+      reply = InParts some.parts (wide_value setup before access);
       answer = record { value_is = refl; each = some.same };
     }
 some_answer setup before (Port access) addressed = record { reply = _; answer = refl }
@@ -142,14 +142,14 @@ one_look setup before kind addr smm left right l r =
 
 pub one_answer : OneAnswer
 one_answer setup before (Memory access) left right l r = l ∙ sym r
-one_answer setup before (Wide access) (InParts value parts) (InParts value' parts') l r =
+one_answer setup before (Wide access) (InParts parts value) (InParts parts' value') l r =
     one_parts value value' parts parts' (l.value_is ∙ sym r.value_is) (l.each ∙ sym r.each)
 one_answer setup before (Wide access) (Bus value target denial) right l r = absurd l
 one_answer setup before (Wide access) (Saw look) right l r = absurd l
-one_answer setup before (Wide access) (InParts value parts) (Bus value' target denial) l r = absurd r
-one_answer setup before (Wide access) (InParts value parts) (Saw look) l r = absurd r
-one_answer setup before (LookAt kind addr smm) (InParts value parts) right l r = absurd l
-one_answer setup before (LookAt kind addr smm) (Saw left) (InParts value parts) l r = absurd r
+one_answer setup before (Wide access) (InParts parts value) (Bus value' target denial) l r = absurd r
+one_answer setup before (Wide access) (InParts parts value) (Saw look) l r = absurd r
+one_answer setup before (LookAt kind addr smm) (InParts parts value) right l r = absurd l
+one_answer setup before (LookAt kind addr smm) (Saw left) (InParts parts value) l r = absurd r
 one_answer setup before (Port access) left right l r = l ∙ sym r
 one_answer setup before (LookAt kind addr smm) (Saw left) (Saw right) l r = one_look setup before kind addr smm left right l r
 one_answer setup before (LookAt kind addr smm) (Bus value target denial) right l r = absurd l

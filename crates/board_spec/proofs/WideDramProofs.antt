@@ -306,7 +306,7 @@ put-answered :
     entry_put (Wide access) reply cell ≡ put_by_parts setup before (parts_of access) cell
 put-answered setup before access (Bus value target denial) cell answer = absurd answer
 put-answered setup before access (Saw look) cell answer = absurd answer
-put-answered setup before access (Parts value parts) cell answer =
+put-answered setup before access (Parts parts value) cell answer =
     ap (λ (replies : List Part). parts_put (parts_of access) replies cell) answer.each
 
 pub wide_stored : WideStored

@@ -141,7 +141,7 @@ IsSeen P (Saw look) = P look
 IsSeen P _ = ⊥
 
 abbrev pub IsInParts : (Option ℕ → Parts → Type 0) → Reply → Type 0
-IsInParts P (InParts value parts) = P value parts
+IsInParts P (InParts parts value) = P value parts
 IsInParts P _ = ⊥
 
 -- the reply to an event after a history. There is exactly one (`law_one_answer`)

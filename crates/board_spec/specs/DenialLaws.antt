@@ -39,5 +39,5 @@ DeniedOnBus =
 abbrev pub DeniedInParts : Type 0
 DeniedInParts =
     (setup : Setup) (before : List Entry) (event : Event) (value : Option ℕ) (parts : Parts) →
-    IsAnswer setup before event (InParts value parts) →
+    IsAnswer setup before event (InParts parts value) →
     All (λ part. IsDeniedExactly (writes_memory event) part.target part.denial) (parts_list parts)

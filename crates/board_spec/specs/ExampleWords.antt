@@ -131,10 +131,10 @@ abbrev pub denied_part : Target → Denial → Part
 denied_part target denial = record { target = target; denial = Some denial }
 
 abbrev pub gives_parts : ℕ → Parts → Reply
-gives_parts value parts = InParts (Some value) parts
+gives_parts value parts = InParts parts (Some value)
 
 abbrev pub goes_in_parts : Parts → Reply
-goes_in_parts parts = InParts None parts
+goes_in_parts parts = InParts parts None
 
 -- ---- devices
 

@@ -43,7 +43,7 @@ HasSmram (part ∷ later) = (part.target ≡ Smram) ⊎ HasSmram later
 
 abbrev pub NamesSmram : Reply → Type 0
 NamesSmram (Bus value target denial) = target ≡ Smram
-NamesSmram (Parts value parts) = HasSmram (parts_list parts)
+NamesSmram (Parts parts value) = HasSmram (parts_list parts)
 NamesSmram (Saw look) = look.area ≡ SmramArea
 
 pub record LockLaw (setup : Setup) (history : List Entry) : Type 0 where

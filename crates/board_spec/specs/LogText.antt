@@ -111,7 +111,7 @@ look_text look =
 
 unfoldable pub reply_text : (bytes : ℕ) → Reply → List ℕ
 reply_text bytes (Bus value target denial) = value_text bytes value ++ answered_text target denial
-reply_text bytes (Parts value parts) =
+reply_text bytes (Parts parts value) =
     value_text bytes value ++ flat_map (λ part. answered_text part.target part.denial) (parts_list parts)
 reply_text bytes (Saw look) = look_text look
 

@@ -72,7 +72,7 @@ parts_put _ _ cell = None
 abbrev pub entry_put : Event → Reply → Cell → Option ℕ
 entry_put (Memory access) (Bus value target denial) cell = memory_put access target cell
 entry_put (Port access) (Bus value target denial) cell = port_put access target cell
-entry_put (Wide access) (Parts value parts) cell = parts_put (parts_of access) (parts_list parts) cell
+entry_put (Wide access) (Parts parts value) cell = parts_put (parts_of access) (parts_list parts) cell
 entry_put _ _ cell = None
 
 -- the byte that the last write to a cell put there, and 0 where there was none (`law_stored` says so)

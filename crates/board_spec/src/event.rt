@@ -63,10 +63,10 @@ pub enum Reply {
         target: Target,
         denial: Option<Denial>,
     },
-    /// The value of a wide access that reads, and what answered each of its parts.
+    /// What answered each part of a wide access, and its value where it reads.
     Parts {
-        value: Option<u64>,
         parts: Parts,
+        value: Option<u64>,
     },
     /// What a look saw.
     Saw(Look),

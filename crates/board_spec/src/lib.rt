@@ -6,6 +6,7 @@ pub mod bits;
 mod event;
 pub mod examples;
 pub mod laws;
+pub mod limits;
 mod map_change;
 pub mod offset;
 pub mod port;

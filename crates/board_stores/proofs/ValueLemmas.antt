@@ -62,14 +62,14 @@ parts_are_bytes (part ∷ parts) (reply ∷ replies) cell =
 
 entry_is_byte : (event : Event) (reply : Reply) (cell : Cell) → IsByte (entry_put event reply cell)
 entry_is_byte (Memory access) (Bus value target denial) cell = memory_is_byte access target cell
-entry_is_byte (Memory access) (Parts value parts) cell = tt
+entry_is_byte (Memory access) (Parts parts value) cell = tt
 entry_is_byte (Memory access) (Saw look) cell = tt
 entry_is_byte (Port access) (Bus value target denial) cell =
     only_if access.write _ (put_is_byte target access.port access.width access.value cell)
-entry_is_byte (Port access) (Parts value parts) cell = tt
+entry_is_byte (Port access) (Parts parts value) cell = tt
 entry_is_byte (Port access) (Saw look) cell = tt
 entry_is_byte (Wide access) (Bus value target denial) cell = tt
-entry_is_byte (Wide access) (Parts value parts) cell = parts_are_bytes (parts_of access) (parts_list parts) cell
+entry_is_byte (Wide access) (Parts parts value) cell = parts_are_bytes (parts_of access) (parts_list parts) cell
 entry_is_byte (Wide access) (Saw look) cell = tt
 entry_is_byte (Look kind addr smm) reply cell = tt
 entry_is_byte Ack reply cell = tt

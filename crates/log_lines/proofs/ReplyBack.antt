@@ -41,7 +41,7 @@ use Rattle.log_lines.proofs.TargetBack.{hex_read, denial_back, area_back, target
 
 abbrev words_in : (bytes : ℕ) → Reply → List (List ℕ)
 words_in bytes (Bus value target denial) = value_text bytes value ∷ target_text target ∷ denial_text denial ∷ []
-words_in bytes (InParts value parts) = value_text bytes value ∷ words_of (parts_list parts)
+words_in bytes (InParts parts value) = value_text bytes value ∷ words_of (parts_list parts)
 words_in bytes (Saw look) = decimal look.version ∷ hex_long look.lo ∷ hex_long look.hi ∷ area_text look.area ∷ []
 
 reply_spaced : (bytes : ℕ) (reply : Reply) → space ∷ reply_text bytes reply ≡ flat_map spaced (words_in bytes reply)
@@ -49,7 +49,7 @@ unfolding reply_text
 reply_spaced bytes (Bus value target denial) =
     ap (λ (rest : List ℕ). (space ∷ value_text bytes value) ++ ((space ∷ target_text target) ++ rest))
     (sym (append-nil (space ∷ denial_text denial)))
-reply_spaced bytes (InParts value parts) =
+reply_spaced bytes (InParts parts value) =
     ap (λ (rest : List ℕ). (space ∷ value_text bytes value) ++ rest) (parts_spaced (parts_list parts))
 reply_spaced bytes (Saw look) =
     ap (λ (text : List ℕ). space ∷ text)
@@ -67,7 +67,7 @@ reply_words bytes (Bus value target denial) =
     (lacks-word space (target_text target) refl (target_word target))
     (All-cons IsWord (denial_text denial) [] (lacks-word space (denial_text denial) refl (denial_word denial))
     (All-nil IsWord)))
-reply_words bytes (InParts value parts) =
+reply_words bytes (InParts parts value) =
     All-cons IsWord (value_text bytes value) (words_of (parts_list parts))
     (lacks-word space (value_text bytes value) refl (value_word bytes value))
     (words_lack (parts_list parts))
@@ -104,7 +104,7 @@ bus_back : (writes : Bool) (bytes : ℕ) (reply : Reply) → IsBusReply writes b
 bus_back writes bytes (Bus value target denial) fits =
     bus_said writes bytes (value_text bytes value) (target_text target) (denial_text denial) value target denial
     (value_back writes bytes value fits.0) (target_back target fits.1) (denial_back denial fits.2)
-bus_back writes bytes (InParts value parts) fits = absurd fits
+bus_back writes bytes (InParts parts value) fits = absurd fits
 bus_back writes bytes (Saw look) fits = absurd fits
 
 part_said : (t d : List ℕ) (target : Target) (denial : Option Denial) → target_of t ≡ Some target
@@ -157,7 +157,7 @@ counted access (suc most) addr left = elim (cases_Bool (eqb left 0)) [
 wide_said : (access : WideAccess) (v : List ℕ) (words : List (List ℕ)) (value : Option ℕ) (parts : Parts)
     → value_of (is_write access.kind) access.bytes v ≡ Some value → parts_in words ≡ Some parts
     → length (parts_list parts) ≡ part_count 4 access.addr access.bytes
-    → wide_of access (v ∷ words) ≡ Some (InParts value parts)
+    → wide_of access (v ∷ words) ≡ Some (InParts parts value)
 unfolding wide_of
 wide_said access v words value parts one two three =
     rw (one, two, eq-eqb (length (parts_list parts)) (part_count 4 access.addr access.bytes) three) refl
@@ -166,7 +166,7 @@ wide_back : (access : WideAccess) (reply : Reply) → IsWideReply (is_write acce
     (length (parts_of access)) reply
     → wide_of access (words_in access.bytes reply) ≡ Some reply
 wide_back access (Bus value target denial) fits = absurd fits
-wide_back access (InParts value parts) fits =
+wide_back access (InParts parts value) fits =
     wide_said access (value_text access.bytes value) (words_of (parts_list parts)) value parts
     (value_back (is_write access.kind) access.bytes value fits.0) (parts_back parts fits.1)
     (fits.2 ∙ counted access 4 access.addr access.bytes)
@@ -179,7 +179,7 @@ look_said v l h a look one two three four = rw (one, two, three, four) refl
 
 look_back : (bytes : ℕ) (reply : Reply) → IsLookReply reply → look_of (words_in bytes reply) ≡ Some reply
 look_back bytes (Bus value target denial) fits = absurd fits
-look_back bytes (InParts value parts) fits = absurd fits
+look_back bytes (InParts parts value) fits = absurd fits
 look_back bytes (Saw look) fits =
     look_said (decimal look.version) (hex_long look.lo) (hex_long look.hi) (area_text look.area) look
     (decimal_back look.version fits.0) (hex_read 4 look.lo (omega (arith, fits.1)))

@@ -79,7 +79,7 @@ part_count (suc most) addr left =
 
 abbrev pub parts_with : WideAccess → Option ℕ → Parts → Option Reply
 parts_with access value parts =
-    if length (parts_list parts) == part_count 4 access.addr access.bytes then Some (InParts value parts) else None
+    if length (parts_list parts) == part_count 4 access.addr access.bytes then Some (InParts parts value) else None
 
 -- `VALUE`, and each part
 unfoldable pub wide_of : WideAccess → List (List ℕ) → Option Reply

@@ -86,7 +86,7 @@ one-kind actor seq event (Bus value (Config reg) denial) cycle = refl
 one-kind actor seq event (Bus value (Device dev) denial) cycle = refl
 one-kind actor seq event (Bus value Abort denial) cycle = refl
 one-kind actor seq event (Saw look) cycle = refl
-one-kind actor seq event (InParts value parts) cycle = absurd cycle
+one-kind actor seq event (InParts parts value) cycle = absurd cycle
 
 pub kinds-add-up : KindsAddUp
 kinds-add-up [] all = refl

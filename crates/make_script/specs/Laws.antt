@@ -33,7 +33,7 @@ MadeSetupFits = IsSetup made_setup
 
 abbrev pub IsOneCycle : Reply → Type 0
 IsOneCycle (Bus value target denial) = Unit {0}
-IsOneCycle (InParts value parts) = ⊥
+IsOneCycle (InParts parts value) = ⊥
 IsOneCycle (Saw look) = Unit {0}
 
 -- without wide accesses each entry is a look, or counts under one kind of target

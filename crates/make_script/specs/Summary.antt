@@ -52,7 +52,7 @@ is_abort _ = false
 -- what answered and what denied: one of an access, one for each part of a wide access, and none of a look
 abbrev pub parts_in : Reply → List Part
 parts_in (Bus value target denial) = record { target = target; denial = denial } ∷ []
-parts_in (InParts value parts) = parts_list parts
+parts_in (InParts parts value) = parts_list parts
 parts_in (Saw look) = []
 
 -- a target of this kind answered. A wide access counts once under each kind that answered a part of it

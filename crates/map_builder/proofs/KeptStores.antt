@@ -1,7 +1,6 @@
 -- A change keeps each register whose windows lie elsewhere.
 use Rattle.std.proofs.Common.{◌≡◌, ℕ, zero, suc, ◌+◌, ◌-◌, ◌*◌, ◌%◌, ◌^◌, ◌<◌, ◌≤◌, inl, inr, true, List, [], ◌∷◌, length, get_or, take, refl, sym, ◌∙◌, ap, subst, arith}
-use Rattle.std.specs.Prelude.{flat_map, bit_and, bit_or}
-use Rattle.std.specs.Int.Bits.{and_mask, and_zero_r, or_zero_r}
+use Rattle.std.specs.Prelude.{flat_map}
 use Rattle.std.proofs.lemmas.Bool.{cases_Bool}
 use Rattle.std.proofs.lemmas.Bool.Decides.{nat_tests}
 use Rattle.std.proofs.lemmas.List.Elements.{recursion_from_All}
@@ -20,6 +19,7 @@ use Rattle.board_spec.specs.RegisterNames.{bridge}
 use Rattle.board_spec.specs.MapWrites.{reg_after}
 use Rattle.board_spec.specs.FlatMap.{address_count, six_areas}
 use Rattle.addr_decode.specs.MapRegs.{MapBytes, StandsFor}
+use Rattle.board_spec.proofs.MergedLemmas.{merged-all}
 use Rattle.map_builder.specs.declared.range.Changed.{Changed}
 use Rattle.map_builder.specs.Changed.{windows_of, windows_covered, after, changed_windows, IsOutside}
 use Rattle.map_builder.specs.Map.{HasBoard}
@@ -104,13 +104,6 @@ store_keeps setup bytes at width value addr out reg =
     ]
 
 -- ---- the top of DRAM
-
-merged-all : (old written : ℕ) → written < 256 → merged 0xFF old written ≡ written
-merged-all old written below =
-    ap (λ n. bit_or n (bit_and old 0)) (and_mask written 8)
-    ∙ ap (λ n. bit_or (written % 2 ^ 8) n) (and_zero_r old)
-    ∙ or_zero_r (written % 2 ^ 8)
-    ∙ omega arith
 
 last_row_writable : (setup : Setup) → writable_bits setup (bridge 0x67) ≡ 0xFF
 unfolding writable_bits host_bridge

@@ -8,6 +8,7 @@ use Rattle.board_base.specs.declared.access.Width.{Width}
 use Rattle.board_base.specs.declared.access.Width.TheVariants.{One, Two, Four}
 use Rattle.board_base.specs.declared.target.Reg.{Reg}
 use Rattle.board_base.specs.Access.{bytes_of}
+use Rattle.board_base.proofs.WidthLemmas.{some_bytes}
 use Rattle.board_spec.specs.declared.map_change.MapChange.{MapChange}
 use Rattle.board_spec.specs.declared.map_change.MapChange.TheVariants.{Store, Reset}
 use Rattle.board_spec.specs.Setup.{Setup, IsCardList}
@@ -98,11 +99,6 @@ begins setup bytes (Store at width value) rows =
     subst (λ (off : ℕ). bridge_windows off ≡ from_to 0 0x7F7F_FFFF ∷ []) place (row_window (at.off - 0x60) (omega (arith, some_bytes width))) in
     first_offset (λ k. windows_of setup bytes (reg_after at k)) width
     (windows_covered setup (after setup (Store at width value) bytes) (Store at width value)) (rw (dev, fun) window)
-  where
-    some_bytes : (width : Width) → 0 < bytes_of width
-    some_bytes One = omega arith
-    some_bytes Two = omega arith
-    some_bytes Four = omega arith
 
 count_some : (window : Changed) (later : List Changed) → 1 ≤ count_of (window ∷ later)
 unfolding count_of

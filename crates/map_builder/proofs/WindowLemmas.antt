@@ -37,11 +37,6 @@ offset_is (suc (suc zero)) below = refl
 offset_is (suc (suc (suc zero))) below = refl
 offset_is (suc (suc (suc (suc k)))) below = absurd (omega arith)
 
-pub bytes_few : (width : Width) → bytes_of width ≤ 4
-bytes_few One = omega arith
-bytes_few Two = omega arith
-bytes_few Four = omega arith
-
 -- one more register
 pub covered_on : (windows : ℕ → List Changed) (k : ℕ) (first found next : List Changed) → k < 4 →
     found ≡ first ++ flat_map windows (take k offsets) → next ≡ found ++ windows k → next ≡ first ++ flat_map windows (take (k + 1) offsets)

@@ -8,6 +8,7 @@ use Rattle.board_base.specs.declared.access.Width.{Width}
 use Rattle.board_base.specs.declared.access.Width.TheVariants.{One, Two, Four}
 use Rattle.board_base.specs.declared.target.Target.TheVariants.{Card}
 use Rattle.board_base.specs.Access.{bytes_of}
+use Rattle.board_base.proofs.WidthLemmas.{some_bytes}
 use Rattle.board_spec.specs.declared.event.Entry.{Entry}
 use Rattle.board_spec.specs.Setup.{FittedCard, Setup}
 use Rattle.board_spec.specs.Bits.{byte}
@@ -88,11 +89,6 @@ same_slot dev base d b place other same =
     let f1 = place.first in let f2 = other.first in let b1 = place.below in let b2 = other.below in
     let same_dev : d ≡ dev = omega arith in
     (same_dev, omega arith)
-
-pub some_bytes : (width : Width) → 1 ≤ bytes_of width
-some_bytes One = lit≤ tt
-some_bytes Two = lit≤ tt
-some_bytes Four = lit≤ tt
 
 -- a base that has bytes is there
 pub slot_within :

@@ -17,13 +17,11 @@ use board_base::{Gate, NoMemory};
 use board_core::Board;
 use board_live::Live;
 use board_spec::Statement;
+use board_spec::limits::MOST_STATEMENTS;
 use run_order::laws::law_phase_runs;
 use std::alloc::Global;
 use std::sync::Wait;
 use std::thread::Threads;
-
-/// The most statements of a run.
-const MOST_STATEMENTS: usize = 250_000;
 
 /// A board between two phases, and what its processors did in the last.
 #[derive(Drop)]

@@ -55,7 +55,7 @@ record Silent (event : Event) : Type 0 where
 
 look_put : (kind : Kind) (addr : ℕ) (smm : Bool) (reply : Reply) (cell : Cell) → entry_put (LookAt kind addr smm) reply cell ≡ None
 look_put kind addr smm (Bus value target denial) cell = refl
-look_put kind addr smm (Parts value parts) cell = refl
+look_put kind addr smm (Parts parts value) cell = refl
 look_put kind addr smm (Saw look) cell = refl
 
 looks_are_silent : (event : Event) → is_look event ≡ true → Silent event
@@ -391,13 +391,13 @@ module _ (leaves : MemoryLeavesDevices) (setup : Setup) (final before : List Ent
 
   blind_at : (event : Event) (reply : Reply) → IsAnswer setup before event reply → IsAnswer setup final event reply
   blind_at (Memory access) reply answer = answer ∙ sym (memory_same access)
-  blind_at (Wide access) (Parts value parts) answer = parts_same access value parts answer
+  blind_at (Wide access) (Parts parts value) answer = parts_same access value parts answer
   blind_at (Wide access) (Bus value target denial) answer = absurd answer
   blind_at (Wide access) (Saw look) answer = absurd answer
   blind_at (Port access) reply answer = answer ∙ sym (ports_same access)
   blind_at (LookAt kind addr smm) (Saw look) answer = look_same kind addr smm look answer
   blind_at (LookAt kind addr smm) (Bus value target denial) answer = absurd answer
-  blind_at (LookAt kind addr smm) (Parts value parts) answer = absurd answer
+  blind_at (LookAt kind addr smm) (Parts parts value) answer = absurd answer
   blind_at Ack reply answer = ack_same reply answer
   blind_at (Pulses count) reply answer = answer
   blind_at (Time moment) reply answer = answer

@@ -10,6 +10,7 @@ use Rattle.board_base.specs.declared.access.Width.{Width}
 use Rattle.board_base.specs.declared.access.Width.TheVariants.{One, Two, Four}
 use Rattle.board_base.specs.declared.target.Dev.TheVariants.{Pit, Clock, Wires, Ata}
 use Rattle.board_base.specs.Access.{bytes_of}
+use Rattle.board_base.proofs.WidthLemmas.{some_bytes}
 use Rattle.board_spec.specs.declared.event.Event.{Event}
 use Rattle.board_spec.specs.declared.event.Event.TheVariants.{Memory, Wide, Port, Look as LookAt, Ack, Pulses, Time, Wire, Line, BadSector}
 use Rattle.board_spec.specs.declared.event.Reply.{Reply}
@@ -46,11 +47,6 @@ reply_of (Time moment) text = outside_answer Clock
 reply_of (Wire dev on) text = outside_answer Wires
 reply_of (Line irq on) text = outside_answer Wires
 reply_of (BadSector sector) text = outside_answer Ata
-
-some_bytes : (width : Width) → 0 < bytes_of width
-some_bytes One = omega arith
-some_bytes Two = omega arith
-some_bytes Four = omega arith
 
 wide_bytes : (bytes : ℕ) → (bytes ≡ 2) ⊎ (bytes ≡ 4) ⊎ (bytes ≡ 8) → 0 < bytes
 wide_bytes bytes (inl two) = omega (arith, two)

@@ -150,7 +150,7 @@ reply_plain bytes (Bus value target denial) =
     plain-append (value_text bytes value) (answered_text target denial) (plain-word (value_text bytes value)
     (value_word bytes value))
     (answered_plain target denial)
-reply_plain bytes (InParts value parts) =
+reply_plain bytes (InParts parts value) =
     plain-append (value_text bytes value) (flat_map (λ part. answered_text part.target part.denial) (parts_list parts))
     (plain-word (value_text bytes value) (value_word bytes value)) (parts_plain (parts_list parts))
 reply_plain bytes (Saw look) =

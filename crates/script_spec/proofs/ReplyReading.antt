@@ -274,7 +274,7 @@ bus_read writes bytes (Bus value target denial) some fits =
       target_read target fits.1,
       denial_read denial fits.2,
     ) refl
-bus_read writes bytes (InParts value parts) some fits = absurd fits
+bus_read writes bytes (InParts parts value) some fits = absurd fits
 bus_read writes bytes (Saw look) some fits = absurd fits
 
 abbrev pub look_of : List ℕ → Reply
@@ -299,7 +299,7 @@ look_built version lo hi v l h area a one two three four = rw (one, two, three, 
 pub look_read : (bytes : ℕ) (reply : Reply) → IsLookReply reply → look_of (reply_text bytes reply) ≡ reply
 unfolding reply_text
 look_read bytes (Bus value target denial) fits = absurd fits
-look_read bytes (InParts value parts) fits = absurd fits
+look_read bytes (InParts parts value) fits = absurd fits
 look_read bytes (Saw look) fits =
     let version : List ℕ = decimal look.version in
     let hi_later : List ℕ = hex_long look.hi ++ space ∷ area_text look.area in
@@ -384,7 +384,7 @@ parts_kept (ThreeParts a b c) = refl
 parts_kept (FourParts a b c d) = refl
 
 abbrev wide_words : List (List ℕ) → Reply
-wide_words (value ∷ words) = InParts (value_of value) (parts_from (parts_of_words words))
+wide_words (value ∷ words) = InParts (parts_from (parts_of_words words)) (value_of value)
 wide_words [] = Bus None targets.Abort None
 
 abbrev pub wide_of : List ℕ → Reply
@@ -395,7 +395,7 @@ pub wide_read : (writes : Bool) (bytes parts : ℕ) (reply : Reply) → 0 < byte
 unfolding reply_text
 wide_read writes bytes parts (Bus value target denial) some fits = absurd fits
 wide_read writes bytes parts (Saw look) some fits = absurd fits
-wide_read writes bytes parts (InParts value replies) some fits =
+wide_read writes bytes parts (InParts replies value) some fits =
     let list : List Part = parts_list replies in
     let words : List (List ℕ) = words_of list in
     let first : lacks space (value_text bytes value) ≡ true = lacks-word space (value_text bytes value) refl
@@ -406,6 +406,6 @@ wide_read writes bytes parts (InParts value replies) some fits =
     in
     ap (λ (rest : List ℕ). wide_of (value_text bytes value ++ rest)) (parts_spaced list)
     ∙ ap wide_words split
-    ∙ ap (λ (v : Option ℕ). InParts v (parts_from (parts_of_words words))) (value_read writes bytes value some fits.0)
-    ∙ ap (λ (ps : List Part). InParts value (parts_from ps)) (parts_read list fits.1)
-    ∙ ap (λ (p : Parts). InParts value p) (parts_kept replies)
+    ∙ ap (λ (v : Option ℕ). InParts (parts_from (parts_of_words words)) v) (value_read writes bytes value some fits.0)
+    ∙ ap (λ (ps : List Part). InParts (parts_from ps) value) (parts_read list fits.1)
+    ∙ ap (λ (p : Parts). InParts p value) (parts_kept replies)

@@ -74,7 +74,7 @@ IsBusReply writes bytes _ = ⊥
 
 -- a wide access has a target and a denial for each of its parts
 abbrev pub IsWideReply : (writes : Bool) → (bytes parts : ℕ) → Reply → Type 0
-IsWideReply writes bytes parts (InParts value replies) =
+IsWideReply writes bytes parts (InParts replies value) =
     IsReplyValue writes bytes value × All FitsPart (parts_list replies) × (length (parts_list replies) ≡ parts)
 IsWideReply writes bytes parts _ = ⊥
 

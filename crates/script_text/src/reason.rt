@@ -13,6 +13,7 @@ ghost use Rattle.script_text.specs.Reading.{is_below, IsReadingOf, IsWithinLimit
 use crate::fault::Reason;
 use crate::reading::Reading;
 use crate::valid::{ValidItem, card_of, event_of, is_placed, is_within, pulses_of};
+use board_spec::limits::MOST_STATEMENTS;
 use board_spec::{Event, Statement};
 use pci_bars::{BaseSpec, CardSpec};
 use script_lines::{Asked, CardFields, Item};
@@ -22,9 +23,6 @@ const MOST_CPUS: u32 = 8;
 
 /// The most memory, in MiB.
 const MOST_MIB: u32 = 64;
-
-/// The most statements of a script.
-const MOST_STATEMENTS: u32 = 250_000;
 
 /// The most phases of a script.
 const MOST_PHASES: usize = 1_000;
@@ -193,7 +191,7 @@ impl Reading {
         ensures past { result ≡ (nat_lt 250_000 (self.now.statements + 1)
             || nat_lt 100_000_000 (pulses_of_event event.now + self.now.pulses)) }
     {
-        self.statements == MOST_STATEMENTS || self.pulses + pulses_of(event) > MOST_PULSES
+        self.statements == MOST_STATEMENTS as u32 || self.pulses + pulses_of(event) > MOST_PULSES
     }
 
     fn judge_statement(&self, actor: u32, asked: Asked) -> Result<Statement, Reason>

@@ -12,7 +12,7 @@ use Rattle.board_core.proofs.looks.look.Goals as goal
 puts_nothing : (kind : Kind) (addr : ℕ) (smm : Bool) (reply : Reply) (cell : Cell) →
     entry_put (LookAt kind addr smm) reply cell ≡ None
 puts_nothing kind addr smm (Bus value target denial) cell = refl
-puts_nothing kind addr smm (Parts value parts) cell = refl
+puts_nothing kind addr smm (Parts parts value) cell = refl
 puts_nothing kind addr smm (Saw look) cell = refl
 
 pub returns-clause-answer : goal.returns-clause-answer

@@ -3,7 +3,8 @@ use Rattle.std.specs.Prelude.{flat_map, take}
 use Rattle.board_base.specs.Access.{bytes_of}
 use Rattle.board_spec.specs.MapWrites.{reg_after}
 use Rattle.map_builder.specs.Changed.{windows_of, windows_covered}
-use Rattle.map_builder.proofs.WindowLemmas.{offsets, bytes_few, covered_on}
+use Rattle.board_base.proofs.WidthLemmas.{bytes_few}
+use Rattle.map_builder.proofs.WindowLemmas.{offsets, covered_on}
 use Rattle.map_builder.proofs.changed.push_of_store.Goals as goal
 
 pub loop-k-preserved : goal.loop-k-preserved
