@@ -6,13 +6,13 @@ use Rattle.std.proofs.Math.Nat.{mod-eq_of_lt, mul_comm, mul_assoc, add_assoc, mu
 use Rattle.std.proofs.lemmas.Nat.{pow-add}
 use Rattle.std.specs.Int.Bits.{or_shifted_r}
 use Rattle.board_base.specs.Access.{bytes_of}
+use Rattle.board_base.proofs.WidthLemmas.{some_bytes}
 use Rattle.board_spec.specs.declared.event.Entry.{Entry}
 use Rattle.board_spec.specs.declared.event.Part.{Part}
 use Rattle.board_spec.specs.Setup.{Setup}
 use Rattle.board_spec.specs.WideParts.{joined}
 use Rattle.board_spec.specs.PartLaws.{Covers}
 use Rattle.board_spec.specs.Answer.{value_at, memory_target, part_answer}
-use Rattle.pci_bars.proofs.ContentsLemmas.{some_bytes}
 use Rattle.board_stores.specs.declared.cut.Cycle.{Cycle}
 use Rattle.board_stores.specs.Cycles.{accesses, answers}
 use Rattle.board_stores.proofs.CutLemmas.{byte_power}
