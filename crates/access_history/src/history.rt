@@ -39,7 +39,8 @@ impl History {
         }
     }
 
-    /// Makes room for at least `n` more entries, where the history with them stays below 4,000,000.
+    /// Makes room for at least `n` more entries, where the history with them stays below 4,000,000. Refused for want of
+    /// memory; then it is as before.
     pub fn reserve(&mut self, n: u32) -> Result<(), NoMemory>
         requires { length self.old.entries + n < most }
         ensures ok { OnOk result (self.new ≡ record self.old { spare = max self.old.spare n }) }
@@ -52,7 +53,7 @@ impl History {
         Ok(())
     }
 
-    /// Adds an entry in the room that was reserved.
+    /// Adds an entry, the newest, in the room that was reserved. It takes no memory.
     pub fn push(&mut self, entry: Entry)
         requires { 1 ≤ self.old.spare }
         ensures pushed { self.new ≡ record { entries = entry ∷ self.old.entries; spare = self.old.spare - 1 } }

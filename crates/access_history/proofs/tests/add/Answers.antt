@@ -6,6 +6,16 @@ use Rattle.access_history.proofs.tests.add.Goals as goal
 
 pub commit-requires-clause-adds : goal.commit-requires-clause-adds
 commit-requires-clause-adds g c =
-    let entry : Entry = record { actor = c.args.actor; seq = c.args.seq; event = c.acknowledged.result.event; reply = c.acknowledged.result.reply } in
-    let seen : reverse c.take-held.result.value.entries ≡ seen_of c.take-held.new.pass = search rules in
-    (entry, ap (λ past. reverse past.entries) c.push.ensures.pushed ∙ (reverse-append (entry ∷ []) c.take-held.result.value.entries ∙ ap (λ (es : List Entry). es ++ entry ∷ []) seen), search rules)
+    let entry : Entry = record {
+      actor = c.args.actor;
+      seq = c.args.seq;
+      event = c.acknowledged.result.event;
+      reply = c.acknowledged.result.reply;
+    } in
+    let seen : reverse c.take-held.result.value.entries ≡ seen_of c.take-held.new.pass = search rules in (
+      entry,
+      ap (λ past. reverse past.entries) c.push.ensures.pushed
+          ∙ reverse-append (entry ∷ []) c.take-held.result.value.entries
+          ∙ ap (λ (entries : List Entry). entries ++ entry ∷ []) seen,
+      search rules,
+    )
