@@ -15,7 +15,7 @@ use Rattle.board_spec.specs.Registers.{reset_control, is_hard_value}
 use Rattle.board_spec.specs.MapWrites.{map_change_of}
 use Rattle.board_core.specs.Ports.{Writes}
 use Rattle.board_core.proofs.MapVersions.{map_write}
-use Rattle.board_core.proofs.RegisterSteps.{change_by, change_is}
+use Rattle.board_core.proofs.RegisterSteps.{change_by, change_is, writes_none}
 use Rattle.board_core.proofs.Effects.{Reached, writes_at}
 
 pub changes :
@@ -46,7 +46,4 @@ by_device setup history access dev change writes at control other =
 pub no_port : (setup : Setup) (history : List Entry) (event : Event) →
     ((access : PortAccess) → event ≡ Port access → ⊥) →
     None ≡ map_change_of setup history event
-no_port setup history (Port access) not = absurd (not access refl)
-no_port setup history event not =
-    let none : Writes setup history event None None None =
-    record { control_is = refl; address_is = refl; store_is = refl } in changes none
+no_port setup history event not = changes (writes_none setup history event not)

@@ -20,7 +20,8 @@ use Rattle.board_spec.specs.PortNames.{config_address_port, reset_control_port}
 use Rattle.board_spec.specs.RegisterTable.{function_exists}
 use Rattle.board_spec.specs.Registers.{kept_address, config_address, is_hard_reset, is_enabled, bus_of, device_of, function_of, register_of, is_config_port, config_register, byte_of}
 use Rattle.cfg_ports.proofs.AddressLemmas.{kept_address-again, kept_address-low_bits, within_space}
-use Rattle.board_core.specs.Ports.{reached, IsEntryOf, Writes}
+use Rattle.board_core.specs.declared.chipset.Chipset.{Chipset}
+use Rattle.board_core.specs.Ports.{reached, Reaching, IsEntryOf, Writes}
 use Rattle.board_core.proofs.Reach.{IsBeside, IsReached, reaches}
 
 -- ---- what an access writes
@@ -142,6 +143,12 @@ pub target_reached :
 target_reached setup history access target is =
     subst (Reached setup history access) (sym is)
     (reaches setup (byte_of setup history) (config_address history) (is_some setup.disk) access.port access.width)
+
+pub reached_in :
+    {chipset : Chipset} {access : PortAccess} {target : Target} → (reaching : Reaching chipset access target) →
+    Reached reaching.kept.setup reaching.kept.history access target
+reached_in {chipset} {access} {target} reaching =
+    target_reached reaching.kept.setup reaching.kept.history access target reaching.target_is
 
 pub entry_reached :
     {setup : Setup} {history : List Entry} {access : PortAccess} {target shown : Target} {entry : Entry} →

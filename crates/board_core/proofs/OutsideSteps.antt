@@ -1,5 +1,5 @@
 -- Events for the devices alone: they write no register and store nothing.
-use Rattle.std.proofs.Common.{◌≡◌, ◌≤◌, true, List, [], ◌∷◌, None, refl, inl, inr, ℕ}
+use Rattle.std.proofs.Common.{◌≡◌, ◌≤◌, true, List, [], ◌∷◌, None, refl, sym, ◌∙◌, subst, inl, inr, ℕ}
 use Rattle.std.specs.Prelude.{◌==◌, All, find, is_some}
 use Rattle.std.proofs.lemmas.Bool.{cases_Bool, eqb-true}
 use Rattle.std.proofs.lemmas.List.Elements.{All-head, All-tail}
@@ -16,14 +16,7 @@ use Rattle.board_core.specs.Kept.{IsChipsetOf}
 use Rattle.board_core.specs.Ports.{Writes}
 use Rattle.board_core.specs.Steps.{IsForDevices}
 use Rattle.board_core.proofs.ChipsetSteps.{soft, devices_move}
-
-writes_none : (setup : Setup) (history : List Entry) (event : Event) → IsForDevices event →
-    Writes setup history event None None None
-writes_none setup history (Memory access) is = absurd is
-writes_none setup history (Wide access) is = absurd is
-writes_none setup history (Port access) is = absurd is
-writes_none setup history (LookAt kind addr smm) is = absurd is
-writes_none setup history _ is = record { control_is = refl; address_is = refl; store_is = refl }
+use Rattle.board_core.proofs.RegisterSteps.{writes_none}
 
 puts_nothing : (event : Event) (reply : Reply) (cell : Cell) → IsForDevices event → entry_put event reply cell ≡ None
 puts_nothing (Memory access) reply cell is = absurd is
@@ -32,15 +25,16 @@ puts_nothing (Port access) reply cell is = absurd is
 puts_nothing (LookAt kind addr smm) reply cell is = absurd is
 puts_nothing _ reply cell is = refl
 
--- the devices after such an event
-pub told :
+-- the chipset after such an event, by what it makes of the devices
+pub outside_done :
     {setup : Setup} {history : List Entry} {entry : Entry} {event : Event} {old : Chipset} {devices : DevicesValue} →
     entry.event ≡ event → IsForDevices event → IsChipsetOf setup history old →
     (Asks history entry event → AreRoutesOf setup (entry ∷ history) old.registers.south.routes →
     AreDevicesOf setup (entry ∷ history) devices) →
     IsChipsetOf setup (entry ∷ history) (record old { devices = devices })
-told {setup} {history} {entry} {event} is for_devices kept after =
-    let none : Writes setup history entry.event None None None = rw is (writes_none setup history event for_devices) in
+outside_done {setup} {history} {entry} {event} is for_devices kept after =
+    let none : Writes setup history entry.event None None None =
+    writes_none setup history entry.event (λ access same. subst IsForDevices (sym is ∙ same) for_devices) in
     devices_move kept none (λ cell. rw is (puts_nothing event entry.reply cell for_devices))
     (after (record { event_is = is; soft = soft none }))
 
@@ -57,8 +51,8 @@ fitted_in (first ∷ later) dev each some =
     elim (cases_Bool (first.dev == dev)) [
       | inl here ↦
           let is = All-head IsCard first later each in
-          let same : first.dev ≡ dev =
-          eqb-true _ _ here in record { low = rw (← same) is.first; high = rw (← same) is.last }
+          let same : first.dev ≡ dev = eqb-true _ _ here in
+          record { low = rw (← same) is.first; high = rw (← same) is.last }
       | inr not ↦ fitted_in later dev (All-tail IsCard first later each) (rw not at some)
     ]
 

@@ -1,7 +1,9 @@
 -- The registers after one more entry.
 use Rattle.std.proofs.Common.{◌≡◌, ℕ, ◌+◌, ◌<◌, List, [], ◌∷◌, length, Option, Some, None, refl, sym, ◌∙◌, ap, subst, arith}
 use Rattle.std.specs.Prelude.{if◌then◌else◌, unwrap_or, option_map}
+use Rattle.board_base.specs.declared.access.PortAccess.{PortAccess}
 use Rattle.board_spec.specs.declared.event.Event.{Event}
+use Rattle.board_spec.specs.declared.event.Event.TheVariants.{Port}
 use Rattle.board_spec.specs.declared.event.Entry.{Entry}
 use Rattle.board_spec.specs.declared.map_change.MapChange.{MapChange}
 use Rattle.board_spec.specs.declared.map_change.MapChange.TheVariants.{Reset}
@@ -54,7 +56,13 @@ follows {setup} {history} {entry} {old} {new} {written} {store = store} writes h
       flat = flat;
     }
 
--- an event that writes no register
+-- an event that is no access at a port writes no register
+pub writes_none : (setup : Setup) (history : List Entry) (event : Event) →
+    ((access : PortAccess) → event ≡ Port access → ⊥) → Writes setup history event None None None
+writes_none setup history (Port access) not = absurd (not access refl)
+writes_none setup history event not = record { control_is = refl; address_is = refl; store_is = refl }
+
+-- an event that writes no register leaves them all
 pub quiet :
     {setup : Setup} {history : List Entry} {entry : Entry} {old : Registers} →
     Writes setup history entry.event None None None →

@@ -36,7 +36,7 @@ module _
 
   pub cycles_ready : (cycles : List Cycle) → AreParts access (parts_of access) → accesses cycles ≡ parts_of access →
       answers cycles ≡ map (part_answer setup history) (parts_of access) → AreReady rom chipset.stores.contents cycles
-  cycles_ready cycles parts is told = all_ready cycles (rw is parts.each) (rw is told)
+  cycles_ready cycles parts is decoded = all_ready cycles (rw is parts.each) (rw is decoded)
 
 pub all_write : (access : WideAccess) (cycles : List Cycle) → is_write access.kind ≡ true →
     All (IsPart access) (accesses cycles) →

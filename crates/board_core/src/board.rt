@@ -50,7 +50,11 @@ impl Model for Board {
 
     ghost Value = { Standing };
 
-    ghost view = { λ board. record { setup = board.setup; entries = board.history.entries; spare = board.history.spare } };
+    ghost view = { λ board. record {
+      setup = board.setup;
+      entries = board.history.entries;
+      spare = board.history.spare;
+    } };
 
     ghost invariant = { λ board.
         IsKept board.setup board.history.entries board.history.spare board.chipset board.counts };
@@ -85,14 +89,14 @@ fn perform(chipset: &mut Chipset, rom: &[u8], event: &Event) -> Reply
         Event::Wide(access) => wide::access(chipset, rom, access),
         Event::Port(access) => ports::access(chipset, access),
         Event::Look { kind, addr, smm } => looks::look(chipset, *kind, *addr, *smm),
-        _ => outside::tell(chipset, event),
+        _ => outside::answer(chipset, event),
     }
 }
 
 impl Board {
     /// The board of a setup, as after power-on. The memory is 1 to 64 MiB; the cards are at most eight in rising order
-    /// of device, with at most 64 MiB of memory together. BadRom exactly where the ROM is not of 64, 128, 256 or 512 KiB,
-    /// and BadDisk exactly where it is and the disk is not of 1 to 65,536 whole sectors.
+    /// of device, with at most 64 MiB of memory together. BadRom exactly where the ROM is not of 64, 128, 256 or
+    /// 512 KiB, and BadDisk exactly where it is and the disk is not of 1 to 65,536 whole sectors.
     pub fn open(alloc: Global, setup: Setup) -> Result<Board, BoardOpen>
         requires low { 1 ≤ setup.mib }
         requires high { setup.mib ≤ 64 }
@@ -120,7 +124,8 @@ impl Board {
         })
     }
 
-    /// Makes room for at least `n` more entries, where the history with them stays below 4,000,000.
+    /// Makes room for at least `n` more entries, where the history with them stays below 4,000,000. Refused for want of
+    /// memory; then the board is as before.
     pub fn reserve(&mut self, n: u32) -> Result<(), NoMemory>
         requires { length self.old.entries + n < most }
         ensures ok { OnOk result (self.new ≡ record self.old { spare = max self.old.spare n }) }

@@ -14,7 +14,7 @@ use board_base::{Dev, Target};
 use board_spec::{Event, Reply};
 
 /// Does an event that is for the devices alone, and tells the reply.
-pub fn tell(chipset: &mut Chipset, event: &Event) -> Reply
+pub fn answer(chipset: &mut Chipset, event: &Event) -> Reply
     requires devices { IsForDevices event.now }
     requires in_range { (rom : List ℕ) × CanDo chipset.old rom event.now }
     ensures answer { (setup : Setup) (history : List Entry) → IsChipsetOf setup history chipset.old

@@ -65,7 +65,8 @@ impl Registers {
     /// What an access at a port reaches, and what denies it, with a disk fitted or without.
     pub fn decode_port(&self, port: u16, width: Width, disk: bool) -> (Target, Option<Denial>)
         ensures decoded { (setup : Setup) (history : List Entry) → HasRegisters setup history self.now
-            → as_decoded result ≡ port_target_of setup (byte_of setup history) (config_address history) disk port width }
+            → as_decoded result
+            ≡ port_target_of setup (byte_of setup history) (config_address history) disk port width }
     {
         let ports = PortRegs {
             confadd: self.address.read(),

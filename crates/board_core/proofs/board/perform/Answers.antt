@@ -19,6 +19,6 @@ returns-in-Look-clause-board c = λ setup history entry kept image event replied
 
 pub returns-in_default : goal.returns-in_default
 returns-in_default c = record {
-  answer = λ setup history kept image. c.tell.ensures.answer setup history kept;
-  board = λ setup history entry kept image event replied. c.tell.ensures.board setup history entry kept event;
+  answer = λ setup history kept image. c.answer.ensures.answer setup history kept;
+  board = λ setup history entry kept image event replied. c.answer.ensures.board setup history entry kept event;
 }

@@ -1,4 +1,5 @@
 use Rattle.std.proofs.Common.{◌∙◌, refl}
+use Rattle.board_core.proofs.RegisterSteps.{writes_none}
 use Rattle.board_core.proofs.ChipsetSteps.{chipset_put, chipset_stays}
 use Rattle.board_core.proofs.HeldTargets.{ready}
 use Rattle.board_core.proofs.MemorySteps.{writes_when, write_answer, read_answer}
@@ -22,7 +23,7 @@ returns-then-is_write-clause-answer c = λ setup history kept image.
 pub returns-then-is_write-clause-board : goal.returns-then-is_write-clause-board
 returns-then-is_write-clause-board c = λ setup history entry kept image event replied.
     chipset_put c.law_left_alone.ensures.left kept
-    (rw event (record { control_is = refl; address_is = refl; store_is = refl }))
+    (writes_none setup history entry.event (λ port is. cc))
     (rw event tt) (λ cell. rw (event, replied) refl) c.write.ensures.put
 
 pub read-requires : goal.read-requires
@@ -45,5 +46,5 @@ pub returns-clause-board : goal.returns-clause-board
 returns-clause-board c = λ setup history entry kept image event replied.
     let reads = writes_when c.args.access.now.kind c.is_write.result c.is_write.ensures.write ∙ c.if-is_write.false in
     chipset_stays c.law_left_alone.ensures.left kept
-    (rw event (record { control_is = refl; address_is = refl; store_is = refl }))
+    (writes_none setup history entry.event (λ port is. cc))
     (rw event tt) (λ cell. rw (event, replied, reads) refl)

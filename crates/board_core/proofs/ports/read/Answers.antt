@@ -3,7 +3,7 @@ use Rattle.board_base.specs.declared.target.Target.{Target}
 use Rattle.board_spec.specs.Registers.{config_address}
 use Rattle.board_spec.specs.Answer.{value_at}
 use Rattle.board_core.specs.Ports.{IsEntryOf}
-use Rattle.board_core.proofs.Effects.{Reached, target_reached, named, within_function}
+use Rattle.board_core.proofs.Effects.{Reached, target_reached, reached_in, named, within_function}
 use Rattle.board_core.proofs.HeldTargets.{stored_target}
 use Rattle.board_core.proofs.PortSteps.{no_chip, read_stays}
 use Rattle.board_core.proofs.ports.read.Goals as goal
@@ -13,8 +13,7 @@ read-requires c =
     let reaching = c.requires.reaching in
     let kept = reaching.kept in
     let access = c.args.access.now in
-    let at = subst (Reached kept.setup kept.history access) c.in-Config.is
-    (target_reached kept.setup kept.history access c.args.target reaching.target_is) in
+    let at = subst (Reached kept.setup kept.history access) c.in-Config.is (reached_in reaching) in
     record {
       within = within_function kept.setup kept.history access.port access.width c.in-Config.reg
           reaching.bus.aligned at.1;
@@ -27,8 +26,7 @@ read-requires-in_default c =
     record {
       stored =
           stored_target reaching.kept.of access.port access.width c.args.target reaching.bus.aligned
-          (target_reached reaching.kept.setup reaching.kept.history access c.args.target reaching.target_is)
-          c.in_default.not-Device c.in_default.not-Config;
+          (reached_in reaching) c.in_default.not-Device c.in_default.not-Config;
       aligned = rw c.from.ensures reaching.bus.aligned;
     }
 

@@ -1,6 +1,5 @@
 use Rattle.std.proofs.Common.{◌∙◌, refl}
-use Rattle.board_base.specs.declared.target.Target.TheVariants.{Device}
-use Rattle.board_core.proofs.Effects.{target_reached, entry_reached}
+use Rattle.board_core.proofs.Effects.{reached_in, entry_reached}
 use Rattle.board_core.proofs.PortSteps.{chip_at, chip_value, read_stays, chip_changed}
 use Rattle.board_core.proofs.ports.read_device.Goals as goal
 
@@ -10,8 +9,7 @@ read-requires-in_default c =
     record {
       port = (chip_at reaching.kept.setup reaching.kept.history c.args.access.now c.args.dev
           c.in_default.not-Confadd c.in_default.not-Reset c.in_default.not-Keyboard
-          (target_reached reaching.kept.setup reaching.kept.history c.args.access.now
-          (Device c.args.dev) reaching.target_is)).port;
+          (reached_in reaching)).port;
     }
 
 pub returns-in-Confadd-clause-board : goal.returns-in-Confadd-clause-board

@@ -1,7 +1,7 @@
 use Rattle.std.proofs.Common.{subst}
 use Rattle.board_base.specs.declared.target.Target.{Target}
 use Rattle.board_core.specs.Ports.{IsEntryOf}
-use Rattle.board_core.proofs.Effects.{target_reached}
+use Rattle.board_core.proofs.Effects.{reached_in}
 use Rattle.board_core.proofs.HeldTargets.{stored_target}
 use Rattle.board_core.proofs.PortSteps.{write_stored}
 use Rattle.board_core.proofs.ports.write.Goals as goal
@@ -13,8 +13,7 @@ write-requires c =
     record {
       stored =
           stored_target reaching.kept.of access.port access.width c.args.target reaching.bus.aligned
-          (target_reached reaching.kept.setup reaching.kept.history access c.args.target reaching.target_is)
-          c.in_default.not-Device c.in_default.not-Config;
+          (reached_in reaching) c.in_default.not-Device c.in_default.not-Config;
       aligned = rw c.from.ensures reaching.bus.aligned;
       value = rw c.requires.writes at reaching.bus.fits;
     }

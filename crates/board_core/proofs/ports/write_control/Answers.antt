@@ -1,9 +1,7 @@
 use Rattle.std.proofs.Common.{◌≡◌, ◌≤◌, ◌∷◌, ◌∙◌, true, refl, sym, arith}
-use Rattle.board_base.specs.declared.target.Target.TheVariants.{Device}
-use Rattle.board_base.specs.declared.target.Dev.TheVariants.{Reset}
 use Rattle.board_spec.specs.Registers.{is_hard_reset}
 use Rattle.board_core.specs.Kept.{HasRegisters}
-use Rattle.board_core.proofs.Effects.{target_reached, entry_writes, fits_byte}
+use Rattle.board_core.proofs.Effects.{reached_in, entry_writes, fits_byte}
 use Rattle.board_core.proofs.RegisterSteps.{few_changes}
 use Rattle.board_core.proofs.StoreSteps.{stores_stay}
 use Rattle.board_core.proofs.PortSteps.{puts_none, registers_move}
@@ -13,7 +11,7 @@ pub overflow_cast-access : goal.overflow_cast-access
 overflow_cast-access c =
     let reaching = c.requires.reaching in
     let access = c.args.access.now in
-    let at = target_reached reaching.kept.setup reaching.kept.history access (Device Reset) reaching.target_is in
+    let at = reached_in reaching in
     let small : access.value ≤ 0xFF =
     fits_byte access.width access.value at.1 (rw c.requires.writes at reaching.bus.fits) in
     omega arith

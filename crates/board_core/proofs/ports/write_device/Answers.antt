@@ -2,7 +2,7 @@ use Rattle.std.proofs.Common.{refl, ap, subst}
 use Rattle.board_base.specs.declared.target.Dev.{Dev}
 use Rattle.board_base.specs.declared.target.Target.TheVariants.{Device}
 use Rattle.board_core.specs.Ports.{IsEntryOf}
-use Rattle.board_core.proofs.Effects.{target_reached, entry_reached, entry_writes}
+use Rattle.board_core.proofs.Effects.{reached_in, entry_reached, entry_writes}
 use Rattle.board_core.proofs.ChipsetSteps.{soft, chipset_stays}
 use Rattle.board_core.proofs.PortSteps.{chip_at, passes, puts_none, registers_move, chip_changed}
 use Rattle.board_core.proofs.ports.write_device.Goals as goal
@@ -14,8 +14,7 @@ write-requires c =
     record {
       port = (chip_at reaching.kept.setup reaching.kept.history access c.args.dev
           c.in_default.not-Confadd c.in_default.not-Reset c.in_default.not-Keyboard
-          (target_reached reaching.kept.setup reaching.kept.history access
-          (Device c.args.dev) reaching.target_is)).port;
+          (reached_in reaching)).port;
       fits = rw c.requires.writes at reaching.bus.fits;
     }
 

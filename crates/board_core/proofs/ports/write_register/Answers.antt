@@ -1,7 +1,6 @@
 use Rattle.std.proofs.Common.{◌∷◌, refl, arith}
-use Rattle.board_base.specs.declared.target.Target.TheVariants.{Config}
 use Rattle.board_core.specs.Kept.{HasRegisters}
-use Rattle.board_core.proofs.Effects.{target_reached, within_function, entry_writes}
+use Rattle.board_core.proofs.Effects.{reached_in, within_function, entry_writes}
 use Rattle.board_core.proofs.RegisterSteps.{few_changes}
 use Rattle.board_core.proofs.StoreSteps.{stores_stay}
 use Rattle.board_core.proofs.ChipsetSteps.{soft}
@@ -14,12 +13,12 @@ store-requires-clause-within c =
     let kept = reaching.kept in
     let access = c.args.access.now in
     within_function kept.setup kept.history access.port access.width c.args.reg reaching.bus.aligned
-    (target_reached kept.setup kept.history access (Config c.args.reg) reaching.target_is).1
+    (reached_in reaching).1
 
 pub store-requires-clause-version : goal.store-requires-clause-version
 store-requires-clause-version c =
-    let kept = c.requires.reaching.kept in few_changes kept.setup kept.history c.args.chipset.now.registers
-    kept.of.registers kept.few
+    let kept = c.requires.reaching.kept in
+    few_changes kept.setup kept.history c.args.chipset.now.registers kept.of.registers kept.few
 
 pub returns-then-reg-eq-SOUTH_BRIDGE : goal.returns-then-reg-eq-SOUTH_BRIDGE
 returns-then-reg-eq-SOUTH_BRIDGE c = record {

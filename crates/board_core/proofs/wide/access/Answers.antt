@@ -1,6 +1,7 @@
 use Rattle.std.proofs.Common.{◌≡◌, ◌∙◌, true, refl}
 use Rattle.board_spec.specs.Stored.{is_write}
 use Rattle.board_spec.specs.WideParts.{parts_of, parts_list}
+use Rattle.board_core.proofs.RegisterSteps.{writes_none}
 use Rattle.board_core.proofs.ChipsetSteps.{chipset_put, chipset_stays}
 use Rattle.board_core.proofs.MemorySteps.{writes_when}
 use Rattle.board_core.proofs.WideSteps.{cycles_ready, all_write, parts_none, write_answer, read_answer}
@@ -9,12 +10,12 @@ use Rattle.board_core.proofs.wide.access.Goals as goal
 pub write_cycles-requires-clause-ready : goal.write_cycles-requires-clause-ready
 write_cycles-requires-clause-ready c =
     let kept = c.requires.kept in
-    let told = c.cycles_of-cut.ensures.decoded kept.setup kept.history
+    let decoded = c.cycles_of-cut.ensures.decoded kept.setup kept.history
     (c.regs.ensures.stand kept.setup kept.history kept.of.registers) kept.image in
     let is = c.as_slice-cycles.ensures.value in (
       c.args.rom.now,
       cycles_ready kept.of kept.image c.args.access.now _ (c.law_parts.ensures.cut c.args.access.now c.requires.wide)
-          (rw (← is) at c.cycles_of-cut.ensures.parts) (rw (← is) at told),
+          (rw (← is) at c.cycles_of-cut.ensures.parts) (rw (← is) at decoded),
     )
 
 pub write_cycles-requires-clause-writes : goal.write_cycles-requires-clause-writes
@@ -29,46 +30,46 @@ write_cycles-requires-clause-writes c =
 pub returns-then-is_write-clause-answer : goal.returns-then-is_write-clause-answer
 returns-then-is_write-clause-answer c = λ setup history kept image.
     let access = c.args.access.now in
-    let told = c.cycles_of-cut.ensures.decoded setup history (c.regs.ensures.stand setup history kept.registers)
+    let decoded = c.cycles_of-cut.ensures.decoded setup history (c.regs.ensures.stand setup history kept.registers)
     image in
     write_answer setup history access c.parts_of-parts.result
     (writes_when access.kind c.is_write.result c.is_write.ensures.write ∙ c.if-is_write.true)
-    (c.parts_of-parts.ensures.answers ∙ rw (← c.as_slice-cycles.ensures.value) at told)
+    (c.parts_of-parts.ensures.answers ∙ rw (← c.as_slice-cycles.ensures.value) at decoded)
 
 pub returns-then-is_write-clause-board : goal.returns-then-is_write-clause-board
 returns-then-is_write-clause-board c = λ setup history entry kept image event replied.
     let parts = rw (← c.as_slice-cycles.ensures.value) at c.cycles_of-cut.ensures.parts in
     chipset_put c.law_left_alone.ensures.left kept
-    (rw event (record { control_is = refl; address_is = refl; store_is = refl }))
+    (writes_none setup history entry.event (λ port is. cc))
     (rw event tt) (λ cell. rw (event, replied, c.parts_of-parts.ensures.answers, ← parts) refl)
     c.write_cycles.ensures.put
 
 pub read_cycles-requires-clause-ready : goal.read_cycles-requires-clause-ready
 read_cycles-requires-clause-ready c =
     let kept = c.requires.kept in
-    let told = c.cycles_of-cut.ensures.decoded kept.setup kept.history
+    let decoded = c.cycles_of-cut.ensures.decoded kept.setup kept.history
     (c.regs.ensures.stand kept.setup kept.history kept.of.registers) kept.image in
     let is = c.as_slice-cycles.ensures.value in
     cycles_ready kept.of kept.image c.args.access.now _ (c.law_parts.ensures.cut c.args.access.now c.requires.wide)
-    (rw (← is) at c.cycles_of-cut.ensures.parts) (rw (← is) at told)
+    (rw (← is) at c.cycles_of-cut.ensures.parts) (rw (← is) at decoded)
 
 pub returns-clause-answer : goal.returns-clause-answer
 returns-clause-answer c = λ setup history kept image.
     let access = c.args.access.now in
     let is = c.as_slice-cycles.ensures.value in
     let parts = rw (← is) at c.cycles_of-cut.ensures.parts in
-    let told = rw (← is) at
+    let decoded = rw (← is) at
     (c.cycles_of-cut.ensures.decoded setup history (c.regs.ensures.stand setup history kept.registers) image) in
     read_answer setup history access c.parts_of-parts.result c.read_cycles.result
     (writes_when access.kind c.is_write.result c.is_write.ensures.write ∙ c.if-is_write.false)
-    (c.parts_of-parts.ensures.answers ∙ told)
-    (rw (← parts) (c.read_cycles.ensures.value setup history kept.stores image (rw parts told)))
+    (c.parts_of-parts.ensures.answers ∙ decoded)
+    (rw (← parts) (c.read_cycles.ensures.value setup history kept.stores image (rw parts decoded)))
 
 pub returns-clause-board : goal.returns-clause-board
 returns-clause-board c = λ setup history entry kept image event replied.
     let access = c.args.access.now in
     chipset_stays c.law_left_alone.ensures.left kept
-    (rw event (record { control_is = refl; address_is = refl; store_is = refl }))
+    (writes_none setup history entry.event (λ port is. cc))
     (rw event tt)
     (λ cell. rw (event, replied)
     (parts_none access (parts_of access) (parts_list c.parts_of-parts.result) cell
