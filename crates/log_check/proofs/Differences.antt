@@ -18,7 +18,7 @@ use Rattle.script_spec.proofs.LogLaws.{line_whole}
 use Rattle.log_check.specs.Phases.{IsTyped}
 use Rattle.log_check.specs.Walks.{GoesOnWithNone, StopsAt}
 use Rattle.log_check.proofs.TextCuts.{cut_line}
-use Rattle.log_check.proofs.LogLines.{heading, heading_whole, heading-log, log_parts, lines_from, newest_last, lines_behind, log_behind, lined, one_line_more}
+use Rattle.log_check.proofs.LogLines.{heading, heading_whole, heading-log, log_parts, lines_from, newest_last, lines_left, log_joined, lined, one_line_more}
 use Rattle.log_check.proofs.Histories.{no_line, legal_front, begun_front, Extends, extends, completed}
 
 -- what is known of a script
@@ -45,7 +45,7 @@ lines_begin setup version phases history lines known legal begun rest text =
         text =
             sym (append_assoc (text_of_lines lines) rest more)
             ∙ ap (λ (first : List ℕ). first ++ more) text
-            ∙ sym (log_behind version whole.more history);
+            ∙ sym (log_joined version whole.more history);
       };
     }
 
@@ -89,12 +89,12 @@ differs setup version phases bytes entries line known stops =
     let history : List Entry = stops.at_line.before in
     let rest : List ℕ = stops.at_line.rest in
     let first = lined version history in
-    let behind : (log : List ℕ) (left : List ℕ) (whole : IsLogOf setup version phases log) →
+    let goes_on : (log : List ℕ) (left : List ℕ) (whole : IsLogOf setup version phases log) →
     log ≡ log_text version history ++ left → Extends history whole.history left =
     λ log left whole is.
     extends known.one setup phases history whole.history left known.typed stops.legal stops.begun whole.legal
     (complete_is_begun phases whole.history whole.complete)
-    (lines_behind version whole.history history left (sym whole.text ∙ is)) in
+    (lines_left version whole.history history left (sym whole.text ∙ is)) in
     record {
       before = first.lines;
       each = first.each;
@@ -110,15 +110,15 @@ differs setup version phases bytes entries line known stops =
           ∙ append_assoc (text_of_lines first.lines) (this ++ line_feed ∷ []) begun.later
           ∙ ap (λ (text : List ℕ). text ++ (this ++ line_feed ∷ [] ++ begun.later)) first.text
           ∙ ap (λ (text : List ℕ). log_text version history ++ text) (append_assoc this (line_feed ∷ []) begun.later) in
-          let ext = behind (text_of_lines (first.lines ++ this ∷ []) ++ begun.later) (this ++ line_feed ∷ begun.later)
+          let ext = goes_on (text_of_lines (first.lines ++ this ∷ []) ++ begun.later) (this ++ line_feed ∷ begun.later)
           begun.text log in
           no_more setup phases history begun.text.history begun.later this after ext.more
           (subst (GoesOnWithNone setup phases history) is stops.none) single begun.text.legal
           (complete_is_begun phases begun.text.history begun.text.complete) ext.is ext.text;
       other = λ log.
-          let ext = behind bytes rest log stops.at_line.text in
-          no_log setup phases history log.history rest ext.more stops.none stops.unfinished log.legal log.complete ext.is
-          ext.text;
+          let ext = goes_on bytes rest log stops.at_line.text in
+          no_log setup phases history log.history rest ext.more stops.none stops.unfinished log.legal log.complete
+          ext.is ext.text;
     }
 
 -- bytes that do not begin with the heading leave the logs of the script at once

@@ -34,6 +34,13 @@ pub record Walk (setup : Setup) (place : Place) (phase : List Statement) (left :
   pub past : IsPast place history rest
   pub short : place.count < length phase
 
+pub walking :
+    {setup : Setup} {place : Place} {phase : List Statement} {left : ℕ → List Event} {history : List Entry}
+    {rest : List ℕ} → IsLegal setup history → All IsTyped phase → IsWithin place phase left history →
+    IsPast place history rest → place.count < length phase → Walk setup place phase left history rest
+walking legal typed within past short =
+    record { legal = legal; typed = typed; within = within; past = past; short = short }
+
 abbrev at_line :
     (place : Place) (history entries : List Entry) (rest : List ℕ) (line : ℕ) → IsPast place history rest →
     IsAtMostNext history entries → line ≡ length history + 2 → IsAtLine place.version place.bytes entries line
@@ -107,6 +114,17 @@ pub record Made (setup : Setup) (place : Place) (phase : List Statement) (left a
   pub own : left entry.actor ≡ entry.event ∷ after entry.actor
   pub others : (other : ℕ) → other ≢ entry.actor → after other ≡ left other
 
+pub made :
+    {setup : Setup} {place : Place} {phase : List Statement} {left after : ℕ → List Event} {history : List Entry}
+    (actor : ℕ) (entry : Entry) → IsNext setup history entry → entry.actor ≡ actor →
+    left actor ≡ entry.event ∷ after actor → ((other : ℕ) → other ≢ actor → after other ≡ left other) →
+    Made setup place phase left after history entry
+made {left = left} {after = after} actor entry next is own others = record {
+  next = next;
+  own = subst (λ (a : ℕ). left a ≡ entry.event ∷ after a) (sym is) own;
+  others = λ other apart. others other (λ same. apart (same ∙ sym is));
+}
+
 made_within :
     (setup : Setup) (place : Place) (phase : List Statement) (left after : ℕ → List Event) (history : List Entry)
     (entry : Entry) (rest : List ℕ) → Walk setup place phase left history rest →
@@ -143,39 +161,42 @@ pub past_line :
     (setup : Setup) (place : Place) (phase : List Statement) (left after : ℕ → List Event) (history : List Entry)
     (entry : Entry) (rest printed : List ℕ) (line : ℕ) (result : Result (Bor (List ℕ)) CheckFault) → OneReplay →
     Walk setup place phase left history rest → Made setup place phase left after history entry →
-    ((n : ℕ) (other : Entry) (behind : List ℕ) → other.actor < 256 → rest ≡ line_text n other ++ behind →
+    ((n : ℕ) (other : Entry) (remaining : List ℕ) → other.actor < 256 → rest ≡ line_text n other ++ remaining →
     entry.actor ≡ other.actor) → printed ≡ line_text (length history + 1) entry ++ line_feed ∷ [] →
     line ≡ length history + 2 →
-    MatchResult result (λ behind. rest ≡ printed ++ behind.now)
-    (λ fault. (fault ≡ Differs line) × ((behind : List ℕ) → rest ≢ printed ++ behind)) →
+    MatchResult result (λ remaining. rest ≡ printed ++ remaining.now)
+    (λ fault. (fault ≡ Differs line) × ((remaining : List ℕ) → rest ≢ printed ++ remaining)) →
     MatchResult result
-    (λ behind. IsWithin (next_place place) phase after (entry ∷ history) × IsPast place (entry ∷ history) behind.now)
+    (λ remaining. IsWithin (next_place place) phase after (entry ∷ history)
+    × IsPast place (entry ∷ history) remaining.now)
     (λ fault. Stopped setup place.version (phases_of place phase) place.bytes (entry ∷ history) fault)
-past_line setup place phase left after history entry rest printed line (Ok behind) one walk made named is at_place told =
+past_line setup place phase left after history entry rest printed line (Ok remaining) one walk made named is at_place
+    told =
     let text : List ℕ = line_text (length history + 1) entry in (
       made_within setup place phase left after history entry rest walk made,
       walk.past
           ∙ ap (λ (t : List ℕ). log_text place.version history ++ t)
-          (told ∙ ap (λ (t : List ℕ). t ++ behind.now) is ∙ append_assoc text (line_feed ∷ []) behind.now)
-          ∙ sym (log-newest place.version entry history behind.now),
+          (told ∙ ap (λ (t : List ℕ). t ++ remaining.now) is ∙ append_assoc text (line_feed ∷ []) remaining.now)
+          ∙ sym (log-newest place.version entry history remaining.now),
     )
-past_line setup place phase left after history entry rest printed line (Err fault) one walk made named is at_place told =
+past_line setup place phase left after history entry rest printed line (Err fault) one walk made named is at_place
+    told =
     let text : List ℕ = line_text (length history + 1) entry in
     let entries : IsBegunFor (phases_of place phase) (entry ∷ history) =
     made_begun setup place phase left after history entry rest walk made in
     subst (Stopped setup place.version (phases_of place phase) place.bytes (entry ∷ history)) (sym told.0)
     (stopped setup place phase left history (entry ∷ history) rest line walk
-    (λ other behind next more same.
+    (λ other remaining next more same.
     let actor : entry.actor ≡ other.actor =
-    named (length history + 1) other (line_feed ∷ behind)
+    named (length history + 1) other (line_feed ∷ remaining)
     (small_actor place phase left history other walk.within walk.short walk.typed more) same in
     let equal : entry ≡ other =
     same_next one setup (phases_of place phase) history entry other walk.legal made.next next entries more actor in
-    told.1 behind
+    told.1 remaining
     (same
-    ∙ ap (λ (e : Entry). line_text (length history + 1) e ++ line_feed ∷ behind) (sym equal)
-    ∙ sym (append_assoc text (line_feed ∷ []) behind)
-    ∙ ap (λ (t : List ℕ). t ++ behind) (sym is)))
+    ∙ ap (λ (e : Entry). line_text (length history + 1) e ++ line_feed ∷ remaining) (sym equal)
+    ∙ sym (append_assoc text (line_feed ∷ []) remaining)
+    ∙ ap (λ (t : List ℕ). t ++ remaining) (sym is)))
     (inr (entry, refl)) (made.next, walk.legal) entries at_place)
 
 -- a fault is handed on

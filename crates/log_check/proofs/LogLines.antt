@@ -56,7 +56,7 @@ lines-newest entry history rest =
     append_assoc (lines_text history ++ line) (line_feed ∷ []) rest
     ∙ append_assoc (lines_text history) line (line_feed ∷ rest)
 
-pub lines-joined :
+lines-joined :
     (more history : List Entry) →
     lines_text (reverse more ++ history) ≡ lines_text history ++ lines_from (length history) more
 lines-joined [] history = sym (append-nil (lines_text history))
@@ -73,18 +73,18 @@ lines-all history =
     ∙ lines-joined (reverse history) []
 
 -- where a log goes on after that of a history, so do the lines
-pub lines_behind :
+pub lines_left :
     (version : ℕ) (whole history : List Entry) (rest : List ℕ) →
     log_text version whole ≡ log_text version history ++ rest → lines_text whole ≡ lines_text history ++ rest
-lines_behind version whole history rest same =
+lines_left version whole history rest same =
     append_cancel_left (log_text version []) (lines_text whole) (lines_text history ++ rest)
     (sym (log_parts version whole) ∙ same ∙ ap (λ (text : List ℕ). text ++ rest) (log_parts version history)
     ∙ append_assoc (log_text version []) (lines_text history) rest)
 
-pub log_behind :
+pub log_joined :
     (version : ℕ) (more history : List Entry) →
     log_text version (reverse more ++ history) ≡ log_text version history ++ lines_from (length history) more
-log_behind version more history =
+log_joined version more history =
     log_parts version (reverse more ++ history)
     ∙ ap (λ (text : List ℕ). log_text version [] ++ text) (lines-joined more history)
     ∙ sym (append_assoc (log_text version []) (lines_text history) (lines_from (length history) more))
@@ -111,7 +111,8 @@ pub record Lined (version : ℕ) (history : List Entry) : Type 0 where
   pub text : text_of_lines lines ≡ log_text version history
 
 pub one_line_more :
-    (lines : List (List ℕ)) (line : List ℕ) → text_of_lines (lines ++ line ∷ []) ≡ text_of_lines lines ++ (line ++ line_feed ∷ [])
+    (lines : List (List ℕ)) (line : List ℕ) →
+    text_of_lines (lines ++ line ∷ []) ≡ text_of_lines lines ++ (line ++ line_feed ∷ [])
 one_line_more lines line =
     flat_map-append (λ l. l ++ line_feed ∷ []) lines (line ∷ [])
     ∙ ap (λ (text : List ℕ). text_of_lines lines ++ text) (append-nil (line ++ line_feed ∷ []))

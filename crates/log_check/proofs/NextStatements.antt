@@ -1,9 +1,10 @@
 -- A processor has one statement that may come next.
 use Rattle.std.proofs.Common.{ℕ, ◌≡◌, ◌≢◌, ◌+◌, ◌<◌, ◌≤◌, List, [], ◌∷◌, ◌++◌, length, drop, All, refl, sym, ap, ◌∙◌, subst, inl, inr, append_assoc, length-append, arith}
 use Rattle.std.specs.Prelude.{map, filter, ◌==◌}
+use Rattle.std.proofs.Math.Seq.{take-append_seam, drop-append_seam}
 use Rattle.std.proofs.lemmas.Bool.{cases_lt, cond-true, cond-false, eq-eqb, ne_eqb}
 use Rattle.std.proofs.lemmas.List.{append_cancel_left, map-append, append-nil}
-use Rattle.std.proofs.lemmas.List.Elements.{filter-append, All-nil, All-cons, All-head, All-tail}
+use Rattle.std.proofs.lemmas.List.Elements.{filter-append, All-head, All-tail, All-take, All-drop}
 use Rattle.board_spec.specs.declared.event.Event.{Event}
 use Rattle.board_spec.specs.declared.event.Entry.{Entry}
 use Rattle.board_spec.specs.declared.event.Statement.{Statement}
@@ -18,7 +19,7 @@ use Rattle.log_check.proofs.PhaseCuts.{in_first_phase, past_first_phase}
 
 -- ---- the events of a processor
 
-pub events-append :
+events-append :
     (actor : ℕ) (first later : List Statement) →
     events_by actor (first ++ later) ≡ events_by actor first ++ events_by actor later
 events-append actor first later =
@@ -35,7 +36,7 @@ events-own actor first later own =
     ap (map (λ (statement : Statement). statement.event))
     (cond-true (first.actor == actor) _ _ (eq-eqb first.actor actor own))
 
-pub events-other :
+events-other :
     (actor : ℕ) (first : Statement) (later : List Statement) → first.actor ≢ actor →
     events_by actor (first ∷ later) ≡ events_by actor later
 events-other actor first later other =
@@ -89,7 +90,7 @@ same_first phase part left right l r same =
     (sym mine ∙ r.whole) in
     cc
 
-pub some_statement : (statements : List Statement) (last : Statement) → statements ++ last ∷ [] ≡ [] → ⊥
+some_statement : (statements : List Statement) (last : Statement) → statements ++ last ∷ [] ≡ [] → ⊥
 some_statement [] last e = cc
 some_statement (first ∷ later) last e = cc
 
@@ -174,12 +175,12 @@ known_first phase part last typed first =
           (sym (no_events last.actor phase typed large) ∙ first.whole))
     ]
 
-pub all_left :
+pub all_parts :
     {X : Type 0} (P : X → Type 0) (first later : List X) → All P (first ++ later) → All P first × All P later
-all_left P [] later all = (All-nil P, all)
-all_left P (x ∷ xs) later all =
-    let rest : All P xs × All P later = all_left P xs later (All-tail P x (xs ++ later) all) in
-    (All-cons P x xs (All-head P x (xs ++ later) all) rest.0, rest.1)
+all_parts P first later all = (
+  subst (All P) (take-append_seam first later) (All-take P (length first) (first ++ later) all),
+  subst (All P) (drop-append_seam first later) (All-drop P (length first) (first ++ later) all),
+)
 
 -- the processor of a statement that may come next is one of the script's
 known_statement :
@@ -188,7 +189,7 @@ known_statement :
 known_statement [] statements last typed begun = absurd (some_statement statements last begun)
 known_statement (phase ∷ later) statements last typed begun =
     let parts : All IsTyped phase × All IsTyped (in_file_order later) =
-    all_left IsTyped phase (in_file_order later) typed in
+    all_parts IsTyped phase (in_file_order later) typed in
     elim (cases_lt (length statements) (length phase)) [
       | inl short ↦
           known_first phase statements last parts.0

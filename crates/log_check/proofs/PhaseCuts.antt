@@ -1,11 +1,10 @@
 -- Phases that are done, and what follows them.
-use Rattle.std.proofs.Common.{◌≡◌, ◌+◌, ◌<◌, ◌≤◌, List, [], ◌∷◌, ◌++◌, length, take, drop, min, sym, ◌∙◌, subst, inl, inr, length-append, arith}
+use Rattle.std.proofs.Common.{◌≡◌, ◌+◌, ◌<◌, ◌≤◌, List, [], ◌∷◌, ◌++◌, length, take, drop, min, sym, subst, inl, inr, length-append, arith}
 use Rattle.std.proofs.lemmas.List.{take-append-le, drop-append-le, length-take, take_all}
 use Rattle.board_spec.specs.declared.event.Statement.{Statement}
-use Rattle.board_spec.specs.Orders.{events_by, IsWholePhase, IsFrontOfPhase, HasPhases, HasPhasesSoFar}
+use Rattle.board_spec.specs.Orders.{IsWholePhase, IsFrontOfPhase, HasPhases, HasPhasesSoFar}
 use Rattle.board_spec.proofs.GoesOnProofs.{whole_front, nothing_left}
 use Rattle.board_spec.proofs.OrderLawProofs.{whole_is_front}
-use Rattle.std.proofs.lemmas.List.{append-nil}
 
 pub phase_fits :
     (phase statements : List Statement) → IsWholePhase phase (take (length phase) statements) →
@@ -28,27 +27,27 @@ left_again :
 left_again phase before tail whole = drop-append-le (length phase) before tail (phase_fits phase before whole)
 
 -- phases that follow those that are done
-pub begun_behind :
+pub begun_joined :
     (done later : List (List Statement)) (before tail : List Statement) → HasPhases done before →
     HasPhasesSoFar later tail → HasPhasesSoFar (done ++ later) (before ++ tail)
-begun_behind [] later before tail whole begun =
+begun_joined [] later before tail whole begun =
     subst (λ (first : List Statement). HasPhasesSoFar later (first ++ tail)) (sym whole) begun
-begun_behind (phase ∷ done) later before tail whole begun =
+begun_joined (phase ∷ done) later before tail whole begun =
     inr (
       whole_again phase before tail whole.0,
       subst (HasPhasesSoFar (done ++ later)) (sym (left_again phase before tail whole.0))
-          (begun_behind done later (drop (length phase) before) tail whole.1 begun),
+          (begun_joined done later (drop (length phase) before) tail whole.1 begun),
     )
 
-pub whole_behind :
+pub whole_joined :
     (done later : List (List Statement)) (before tail : List Statement) → HasPhases done before →
     HasPhases later tail → HasPhases (done ++ later) (before ++ tail)
-whole_behind [] later before tail whole more =
+whole_joined [] later before tail whole more =
     subst (λ (first : List Statement). HasPhases later (first ++ tail)) (sym whole) more
-whole_behind (phase ∷ done) later before tail whole more = (
+whole_joined (phase ∷ done) later before tail whole more = (
   whole_again phase before tail whole.0,
   subst (HasPhases (done ++ later)) (sym (left_again phase before tail whole.0))
-      (whole_behind done later (drop (length phase) before) tail whole.1 more),
+      (whole_joined done later (drop (length phase) before) tail whole.1 more),
 )
 
 -- what stands after the phases that are done has the phases that follow

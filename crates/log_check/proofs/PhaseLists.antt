@@ -1,15 +1,14 @@
 -- The phases of a script as lists.
-use Rattle.std.proofs.Common.{ℕ, suc, ◌≡◌, ◌+◌, ◌<◌, ◌≤◌, List, [], ◌∷◌, ◌++◌, length, take, drop, get_or, All, sym, ap, ◌∙◌, subst, append-nil, length-append, add-one, arith}
+use Rattle.std.proofs.Common.{ℕ, suc, ◌≡◌, ◌+◌, ◌<◌, ◌≤◌, List, [], ◌∷◌, ◌++◌, length, take, drop, get_or, All, sym, ap, ◌∙◌, subst, length-append, add-one, arith}
 use Rattle.std.specs.declared.vec.Vec.{Vec}
 use Rattle.std.specs.Global.{Global}
 use Rattle.std.proofs.Math.Seq.{drop-cons}
 use Rattle.std.proofs.lemmas.Grind.{flat_map-append}
 use Rattle.std.proofs.lemmas.List.{map-append, take-append-drop, take_more}
-use Rattle.std.proofs.lemmas.List.Elements.{All-append}
 use Rattle.board_spec.specs.declared.event.Statement.{Statement}
 use Rattle.board_spec.specs.OrderLaws.{in_file_order}
 use Rattle.log_check.specs.Phases.{listed}
-use Rattle.log_check.proofs.NextStatements.{all_left}
+use Rattle.log_check.proofs.NextStatements.{all_parts}
 
 -- the phases before one, this one, and those after it
 pub phases_cut :
@@ -51,16 +50,9 @@ pub all_of_phase :
     (P : Statement → Type 0) (before : List (List Statement)) (phase : List Statement)
     (later : List (List Statement)) → All P (in_file_order (before ++ phase ∷ later)) → All P phase
 all_of_phase P before phase later all =
-    (all_left P phase (in_file_order later)
-    (all_left P (in_file_order before) (phase ++ in_file_order later)
+    (all_parts P phase (in_file_order later)
+    (all_parts P (in_file_order before) (phase ++ in_file_order later)
     (subst (All P) (statements_cut before phase later) all)).1).0
-
-pub all_more :
-    (P : Statement → Type 0) (before : List (List Statement)) (phase : List Statement) →
-    All P (in_file_order before) → All P phase → All P (in_file_order (before ++ phase ∷ []))
-all_more P before phase all more =
-    subst (All P) (sym (statements_cut before phase []))
-    (All-append P (in_file_order before) (phase ++ []) all (subst (All P) (sym (append-nil phase)) more))
 
 pub few_so_far :
     (phases : List (Vec Statement Global)) (i : ℕ) (phase : Vec Statement Global) → i < length phases →

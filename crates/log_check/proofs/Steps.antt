@@ -9,7 +9,7 @@ use Rattle.board_spec.specs.Orders.{statement_of, statements_of, events_by, IsFr
 use Rattle.board_spec.proofs.OrderLawProofs.{statements-newest}
 use Rattle.log_check.specs.Phases.{IsTyped}
 use Rattle.log_check.specs.Walks.{Place, IsWithin}
-use Rattle.log_check.proofs.PhaseCuts.{begun_behind, whole_behind, whole_left, begun_left, in_first_phase, full_phase, phase_fits}
+use Rattle.log_check.proofs.PhaseCuts.{begun_joined, whole_joined, whole_left, begun_left, in_first_phase, full_phase, phase_fits}
 use Rattle.log_check.proofs.NextStatements.{events-last, events-last_other, GoesFirst, goes_first, known_first}
 
 front_of :
@@ -27,7 +27,7 @@ pub within_begun :
     IsBegunFor (place.done ++ phase ∷ place.later) history
 within_begun place phase left history within short =
     subst (HasPhasesSoFar (place.done ++ phase ∷ place.later)) (sym within.statements)
-    (begun_behind place.done (phase ∷ place.later) within.before within.part within.whole
+    (begun_joined place.done (phase ∷ place.later) within.before within.part within.whole
     (inl (front_of place phase left history within short)))
 
 -- with all statements of the phase it is complete
@@ -36,8 +36,9 @@ pub within_whole :
     IsWithin place phase left history → place.count ≡ length phase → IsCompleteFor (place.done ++ phase ∷ []) history
 within_whole place phase left history within full =
     subst (HasPhases (place.done ++ phase ∷ [])) (sym within.statements)
-    (whole_behind place.done (phase ∷ []) within.before within.part within.whole
-    (full_phase phase within.part (front_of place phase left history within (omega (arith, full))) (within.size ∙ full)))
+    (whole_joined place.done (phase ∷ []) within.before within.part within.whole
+    (full_phase phase within.part (front_of place phase left history within (omega (arith, full)))
+    (within.size ∙ full)))
 
 -- with fewer it is not
 pub within_unfinished :

@@ -1,5 +1,5 @@
 -- A text is cut at a byte, and a line of a log names its processor.
-use Rattle.std.proofs.Common.{ℕ, suc, ◌≡◌, ◌≢◌, ◌+◌, ◌-◌, ◌<◌, true, cond, ltb, List, [], ◌∷◌, ◌++◌, length, take, drop, All, Option, Some, None, Result, Ok, Err, refl, sym, ap, ◌∙◌, inl, append_assoc, add-one, subst, MatchOption, length-append, length-drop, arith}
+use Rattle.std.proofs.Common.{ℕ, ◌≡◌, ◌≢◌, ◌+◌, ◌-◌, ◌<◌, true, cond, ltb, List, [], ◌∷◌, ◌++◌, length, take, drop, All, Option, Some, None, Result, Ok, Err, refl, sym, ap, ◌∙◌, inl, append_assoc, subst, MatchOption, length-append, length-drop, arith}
 use Rattle.std.specs.Prelude.{decimal, codes, MatchResult, ◌==◌}
 use Rattle.std.specs.List.{position, position_or_len}
 use Rattle.std.specs.Result.{result_ok}
@@ -7,7 +7,7 @@ use Rattle.std.specs.Option.{ok_or}
 use Rattle.std.specs.Str.{IsUtf8}
 use Rattle.std.proofs.lemmas.Str.{IsUtf8-from_ascii}
 use Rattle.std.proofs.lemmas.Fmt.{IsAscii-decimal}
-use Rattle.std.proofs.Math.Seq.{take-append_seam}
+use Rattle.std.proofs.Math.Seq.{take-append_seam, drop-append-add}
 use Rattle.std.proofs.lemmas.Bool.{eq-eqb, ne_eqb, eqb-false, lt-ltb, cond-true}
 use Rattle.std.proofs.lemmas.List.{take_all}
 use Rattle.std.proofs.lemmas.List.Elements.{All-nil, All-cons, All-head, All-tail}
@@ -32,10 +32,10 @@ length_before mark (c ∷ cs) after apart =
       length_before mark cs after (All-tail (λ byte. byte ≢ mark) c cs apart),
     ) (omega arith)
 
-pub position_behind :
+position_of_mark :
     (mark : ℕ) (before after : List ℕ) → All (λ byte. byte ≢ mark) before →
     position (λ byte. byte == mark) (before ++ mark ∷ after) ≡ Some (length before)
-position_behind mark before after apart =
+position_of_mark mark before after apart =
     let here : position_or_len (λ byte. byte == mark) (before ++ mark ∷ after) ≡ length before =
     length_before mark before after apart in
     let whole : length (before ++ mark ∷ after) ≡ length before + length (mark ∷ after) =
@@ -45,28 +45,23 @@ position_behind mark before after apart =
     ∙ cond-true (ltb (length before) (length (before ++ mark ∷ after))) (Some (length before)) None
     (lt-ltb (length before) (length (before ++ mark ∷ after)) within)
 
-drop_behind : (mark : ℕ) (before after : List ℕ) → drop (suc (length before)) (before ++ mark ∷ after) ≡ after
-drop_behind mark [] after = refl
-drop_behind mark (c ∷ cs) after = drop_behind mark cs after
-
 take_rest : (n : ℕ) (bytes : List ℕ) → take (length bytes - n) (drop n bytes) ≡ drop n bytes
 take_rest n bytes =
     let left : length (drop n bytes) ≡ length bytes - n = length-drop n bytes in
     take_all (length bytes - n) (drop n bytes) (omega arith)
 
 -- what stands before the mark and what stands after it
-pub cut_behind :
+pub cut_at_mark :
     (mark at : ℕ) (bytes before after : List ℕ) → All (λ byte. byte ≢ mark) before → bytes ≡ before ++ mark ∷ after →
     position (λ byte. byte == mark) bytes ≡ Some at →
     (take at bytes ≡ before) × (take (length bytes - (at + 1)) (drop (at + 1) bytes) ≡ after)
-cut_behind mark at bytes before after apart is found =
+cut_at_mark mark at bytes before after apart is found =
     let same : Some at ≡ Some (length before) =
-    sym found ∙ ap (position (λ byte. byte == mark)) is ∙ position_behind mark before after apart in
-    let place : at ≡ length before = cc in
-    let next : at + 1 ≡ suc (length before) = ap (λ (n : ℕ). n + 1) place ∙ add-one (length before) in (
+    sym found ∙ ap (position (λ byte. byte == mark)) is ∙ position_of_mark mark before after apart in
+    let place : at ≡ length before = cc in (
       ap (λ (n : ℕ). take n bytes) place ∙ ap (take (length before)) is ∙ take-append_seam before (mark ∷ after),
-      take_rest (at + 1) bytes ∙ ap (λ (n : ℕ). drop n bytes) next ∙ ap (drop (suc (length before))) is
-          ∙ drop_behind mark before after,
+      take_rest (at + 1) bytes ∙ ap (λ (n : ℕ). drop (n + 1) bytes) place ∙ ap (drop (length before + 1)) is
+          ∙ drop-append-add before (mark ∷ after) 1,
     )
 
 pub not_lost :
@@ -74,7 +69,7 @@ pub not_lost :
     position (λ byte. byte == mark) bytes ≡ None → ⊥
 not_lost mark bytes before after apart is lost =
     let same : ◌≡◌ {A = Option ℕ} None (Some (length before)) =
-    sym lost ∙ ap (position (λ byte. byte == mark)) is ∙ position_behind mark before after apart in
+    sym lost ∙ ap (position (λ byte. byte == mark)) is ∙ position_of_mark mark before after apart in
     cc
 
 -- an error where none of the results is read

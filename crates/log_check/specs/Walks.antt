@@ -24,7 +24,8 @@ pub record Place : Type 0 where
 
 -- a history has all of the phases that are done, and so many statements of the open phase, of which its processors have
 -- the others left
-pub record IsWithin (place : Place) (phase : List Statement) (left : ℕ → List Event) (history : List Entry) : Type 0 where
+pub record IsWithin (place : Place) (phase : List Statement) (left : ℕ → List Event)
+    (history : List Entry) : Type 0 where
   pub before : List Statement
   pub part : List Statement
   pub statements : statements_of history ≡ before ++ part
@@ -51,7 +52,8 @@ pub record StopsAt (setup : Setup) (version : ℕ) (phases : List (List Statemen
   pub none : GoesOnWithNone setup phases at_line.before at_line.rest
   pub unfinished : at_line.rest ≡ [] → ¬ IsCompleteFor phases at_line.before
 
-abbrev pub StoppedBy : Setup → (version : ℕ) → List (List Statement) → (bytes : List ℕ) → List Entry → CheckFault → Type 0
+abbrev pub StoppedBy :
+    Setup → (version : ℕ) → List (List Statement) → (bytes : List ℕ) → List Entry → CheckFault → Type 0
 StoppedBy setup version phases bytes entries (Differs line) = StopsAt setup version phases bytes entries line
 StoppedBy setup version phases bytes entries NoMemory = (line : ℕ) × IsAtLine version bytes entries line
 

@@ -39,8 +39,8 @@ fn check_line<'a>(
     ensures walked { (place : Place) → IsWithin place front.old.phase.now (left_of front.old) board.old.entries
         → IsPast place board.old.entries rest.now → place.count < length front.old.phase.now
         → MatchResult result
-        (λ after. IsWithin (record place { count = place.count + 1 }) front.old.phase.now (left_of front.new) board.new.entries
-        × IsPast place board.new.entries after.now)
+        (λ after. IsWithin (record place { count = place.count + 1 }) front.old.phase.now (left_of front.new)
+        board.new.entries × IsPast place board.new.entries after.now)
         (λ fault. Stopped board.old.setup place.version (place.done ++ front.old.phase.now ∷ place.later) place.bytes
         board.new.entries fault) }
 {
@@ -69,9 +69,11 @@ fn check_phase<'a>(
     requires typed { All IsTyped phase.now }
     ensures setup { board.new.setup ≡ board.old.setup }
     ensures spare { OnOk result (board.new.spare + length phase.now ≡ board.old.spare) }
-    ensures walked { (place : Place) → IsCompleteFor place.done board.old.entries → IsPast place board.old.entries rest.now
+    ensures walked { (place : Place) → IsCompleteFor place.done board.old.entries
+        → IsPast place board.old.entries rest.now
         → MatchResult result
-        (λ after. IsCompleteFor (place.done ++ phase.now ∷ []) board.new.entries × IsPast place board.new.entries after.now)
+        (λ after. IsCompleteFor (place.done ++ phase.now ∷ []) board.new.entries
+        × IsPast place board.new.entries after.now)
         (λ fault. Stopped board.old.setup place.version (place.done ++ phase.now ∷ place.later) place.bytes
         board.new.entries fault) }
 {
@@ -138,10 +140,10 @@ fn check_lines(
     }
 }
 
-/// Whether bytes are the log, in a version, of a legal and complete history of the phases of a script: the number of its
-/// entries, or the first line that no such log has after the same lines. The board is fresh, and there are at most
-/// 250,000 statements, each in range for the board. The board goes through the statements of the lines before the named
-/// one, and perhaps through that of the named line.
+/// Whether bytes are the log, in a version, of a legal and complete history of the phases of a script: the number of
+/// its entries, or the first line that no such log has after the same lines. The board is fresh, and there are at most
+/// 250,000 statements, each in range for the board. The board goes through the statements of the lines before the
+/// named one, and perhaps through that of the named line.
 pub fn check_log(
     alloc: Global,
     board: &mut Board,

@@ -47,7 +47,8 @@ impl<'a> Front<'a> {
     pub(crate) fn next(&mut self, actor: u8) -> Option<Statement>
         ensures phase { self.new.phase.now ≡ self.old.phase.now }
         ensures taken { MatchOption result (left_of self.old actor ≡ [])
-            (λ statement. (statement.actor ≡ actor) × (left_of self.old actor ≡ statement.event ∷ left_of self.new actor)) }
+            (λ statement. (statement.actor ≡ actor)
+            × (left_of self.old actor ≡ statement.event ∷ left_of self.new actor)) }
         ensures others { (other : ℕ) → other ≢ actor → left_of self.new other ≡ left_of self.old other }
         ensures in_range { (setup : Setup) → AreInRange setup self.old.phase.now
             → IfSome result (λ statement. AreInRange setup (statement ∷ [])) }

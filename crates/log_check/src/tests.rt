@@ -15,8 +15,8 @@ use std::alloc::{AllocError, Global};
 use std::process::Abort;
 use std::test::Fail;
 
-/// What a processor asks: the write of a byte or of a doubleword to a port, where a read at an address would land, or an
-/// acknowledge.
+/// What a processor asks: the write of a byte to a port, that of a doubleword to 0CF8h, where a read at an address
+/// would land, or an acknowledge.
 #[derive(Clone, Copy)]
 enum Request {
     Out(u16, u8),

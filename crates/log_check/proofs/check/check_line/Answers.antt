@@ -1,4 +1,4 @@
-use Rattle.std.proofs.Common.{ℕ, ◌≡◌, ◌+◌, ◌∷◌, List, [], Some, None, length, refl, sym, ap, ◌∙◌, subst}
+use Rattle.std.proofs.Common.{ℕ, ◌≡◌, ◌+◌, List, [], Some, None, length, refl, sym, ap, ◌∙◌, subst}
 use Rattle.std.specs.Prelude.{MatchResult}
 use Rattle.std.proofs.lemmas.List.Elements.{All-head}
 use Rattle.board_spec.specs.declared.event.Entry.{Entry}
@@ -6,7 +6,7 @@ use Rattle.board_spec.specs.declared.event.Statement.{Statement}
 use Rattle.board_spec.specs.InRange.{IsInRange}
 use Rattle.board_spec.specs.Legal.{next_entry}
 use Rattle.log_check.specs.Fronts.{left_of}
-use Rattle.log_check.proofs.LineSteps.{stops_unnamed, stops_idle, stops_without_memory, past_line, handed_on, phases_of, next_place}
+use Rattle.log_check.proofs.LineSteps.{stops_unnamed, stops_idle, stops_without_memory, past_line, handed_on, phases_of, next_place, walking, made}
 use Rattle.log_check.specs.declared.fault.CheckFault.TheVariants.{NoMemory}
 use Rattle.log_check.specs.Walks.{IsWithin, IsPast, Stopped}
 use Rattle.log_check.proofs.check.check_line.Goals as goal
@@ -15,34 +15,24 @@ pub returns-in_default-clause-walked : goal.returns-in_default-clause-walked
 returns-in_default-clause-walked c = λ place within past short.
     stops_unnamed c.args.board.now.setup place c.args.front.now.phase.now (left_of c.args.front.now)
     c.args.board.now.entries c.args.rest.now (c.len-line.result + 2)
-    (record {
-      legal = c.history.ensures.legal;
-      typed = c.requires.typed;
-      within = within;
-      past = past;
-      short = short;
-    })
+    (walking c.history.ensures.legal c.requires.typed within past short)
     (λ n entry after small text.
     let lost : None ≡ Some entry.actor = sym c.in_default.is ∙ c.processor.ensures.named n entry after small text in
     cc)
-    (ap (λ (n : ℕ). n + 2) (c.len-line.ensures.length ∙ ap (λ history. length history.entries) c.history.ensures.history))
+    (ap (λ (n : ℕ). n + 2)
+    (c.len-line.ensures.length ∙ ap (λ history. length history.entries) c.history.ensures.history))
 
 pub returns-in_default-next-clause-walked : goal.returns-in_default-next-clause-walked
 returns-in_default-next-clause-walked c = λ place within past short.
     stops_idle c.args.board.now.setup place c.args.front.now.phase.now (left_of c.args.front.now)
     c.args.board.now.entries c.args.rest.now (c.len-line.result + 2) c.in-Some.actor
-    (record {
-      legal = c.history.ensures.legal;
-      typed = c.requires.typed;
-      within = within;
-      past = past;
-      short = short;
-    })
+    (walking c.history.ensures.legal c.requires.typed within past short)
     (λ n entry after small text.
     let same : Some c.in-Some.actor ≡ Some entry.actor = c.in-Some.ensures.named n entry after small text in
     cc)
     c.in_default-next.ensures.taken
-    (ap (λ (n : ℕ). n + 2) (c.len-line.ensures.length ∙ ap (λ history. length history.entries) c.history.ensures.history))
+    (ap (λ (n : ℕ). n + 2)
+    (c.len-line.ensures.length ∙ ap (λ history. length history.entries) c.history.ensures.history))
 
 pub step-requires-clause-in_range : goal.step-requires-clause-in_range
 step-requires-clause-in_range c =
@@ -57,20 +47,9 @@ returns-in_err-print_newest-clause-walked c = λ place within past short.
     let stopped =
     stops_without_memory c.args.board.now.setup place c.args.front.now.phase.now (left_of c.args.front.now)
     (left_of c.next.new.self) c.args.board.now.entries entry c.args.rest.now
-    (record {
-      legal = c.history.ensures.legal;
-      typed = c.requires.typed;
-      within = within;
-      past = past;
-      short = short;
-    })
-    (record {
-      next = record { number = refl; answer = c.step.ensures.answer };
-      own =
-          subst (λ (actor : ℕ). left_of c.args.front.now actor
-          ≡ c.in-Some-next.statement.event ∷ left_of c.next.new.self actor) (sym taken.0) taken.1;
-      others = λ other apart. c.next.ensures.others other (λ same. apart (same ∙ sym taken.0));
-    }) in
+    (walking c.history.ensures.legal c.requires.typed within past short)
+    (made c.in-Some.actor entry (record { number = refl; answer = c.step.ensures.answer }) taken.0 taken.1
+    c.next.ensures.others) in
     handed_on c.from_residual.result NoMemory _ _ c.from_residual.ensures.1
     (subst (λ (entries : List Entry). Stopped c.args.board.now.setup place.version
     (phases_of place c.args.front.now.phase.now) place.bytes entries NoMemory)
@@ -85,32 +64,22 @@ returns-clause-walked c = λ place within past short.
     past_line c.args.board.now.setup place c.args.front.now.phase.now (left_of c.args.front.now)
     (left_of c.next.new.self) c.args.board.now.entries entry c.args.rest.now c.deref.result.now (c.len-line.result + 2)
     c.go_past.result c.law_one_replay.ensures.one
-    (record {
-      legal = c.history.ensures.legal;
-      typed = c.requires.typed;
-      within = within;
-      past = past;
-      short = short;
-    })
-    (record {
-      next = record { number = refl; answer = c.step.ensures.answer };
-      own =
-          subst (λ (actor : ℕ). left_of c.args.front.now actor
-          ≡ c.in-Some-next.statement.event ∷ left_of c.next.new.self actor) (sym taken.0) taken.1;
-      others = λ other apart. c.next.ensures.others other (λ same. apart (same ∙ sym taken.0));
-    })
-    (λ n other behind small text.
-    let same : Some c.in-Some.actor ≡ Some other.actor = c.in-Some.ensures.named n other behind small text in
+    (walking c.history.ensures.legal c.requires.typed within past short)
+    (made c.in-Some.actor entry (record { number = refl; answer = c.step.ensures.answer }) taken.0 taken.1
+    c.next.ensures.others)
+    (λ n other remaining small text.
+    let same : Some c.in-Some.actor ≡ Some other.actor = c.in-Some.ensures.named n other remaining small text in
     let actor : c.in-Some.actor ≡ other.actor = cc in
     taken.0 ∙ actor)
     (c.deref.ensures ∙ c.in_ok-print_newest.ensures.printed entry c.args.board.now.entries
     (ap (λ history. history.entries) c.history-2.ensures.history
     ∙ ap (λ board. board.entries) c.step.ensures.entry))
-    (ap (λ (n : ℕ). n + 2) (c.len-line.ensures.length ∙ ap (λ history. length history.entries) c.history.ensures.history))
+    (ap (λ (n : ℕ). n + 2)
+    (c.len-line.ensures.length ∙ ap (λ history. length history.entries) c.history.ensures.history))
     c.go_past.ensures.cases in
     subst (λ (entries : List Entry). MatchResult c.go_past.result
-    (λ behind. IsWithin (next_place place) c.args.front.now.phase.now (left_of c.next.new.self) entries
-    × IsPast place entries behind.now)
+    (λ remaining. IsWithin (next_place place) c.args.front.now.phase.now (left_of c.next.new.self) entries
+    × IsPast place entries remaining.now)
     (λ fault. Stopped c.args.board.now.setup place.version (phases_of place c.args.front.now.phase.now) place.bytes
     entries fault))
     (sym (ap (λ board. board.entries) c.step.ensures.entry)) stopped

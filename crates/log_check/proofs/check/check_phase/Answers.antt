@@ -73,7 +73,7 @@ returns-in_err-left-clause-walked c = λ place complete past.
 pub returns-clause-walked : goal.returns-clause-walked
 returns-clause-walked c = λ place complete past.
     let before = c.loop.invariant.walked place complete past in (
-      within_whole (record place { count = c.loop.counter }) c.args.phase.now (left_of c.loop.front) c.loop.board.entries
-          before.0 (omega (arith, c.loop-test.false, c.loop.auto.counter-end)),
+      within_whole (record place { count = c.loop.counter }) c.args.phase.now (left_of c.loop.front)
+          c.loop.board.entries before.0 (omega (arith, c.loop-test.false, c.loop.auto.counter-end)),
       before.1,
     )

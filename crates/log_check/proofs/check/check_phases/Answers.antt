@@ -40,7 +40,8 @@ check_phase-requires-clause-in_range c =
     let i : ℕ = c.loop-phase.phase-index in
     let P : Statement → Type 0 = λ statement. IsInRange c.args.board.now.setup statement.event in
     let own : All P c.phase-item.result.items =
-    all_of_phase P (listed (take i c.args.phases.now)) c.phase-item.result.items (listed (drop (i + 1) c.args.phases.now))
+    all_of_phase P (listed (take i c.args.phases.now)) c.phase-item.result.items
+    (listed (drop (i + 1) c.args.phases.now))
     (subst (λ (ps : List (List Statement)). All P (in_file_order ps))
     (phases_cut c.args.phases.now i c.phase-item.result c.loop-phase-test.true c.phase-item.is) c.requires.in_range) in
     subst (λ (setup : Setup). AreInRange setup c.deref.result.now) (sym c.loop-phase.invariant.setup)
@@ -96,7 +97,8 @@ returns-in_err-left-clause-walked c = λ version bytes text.
     phases_cut c.args.phases.now i c.phase-item.result c.loop-phase-test.true c.phase-item.is in
     let place : Place = record { version = version; bytes = bytes; done = before; later = later; count = 0 } in
     let stopped =
-    c.in_err-left.ensures.walked place c.loop-phase.invariant.complete (c.loop-phase.invariant.past version bytes text) in
+    c.in_err-left.ensures.walked place c.loop-phase.invariant.complete
+    (c.loop-phase.invariant.past version bytes text) in
     handed_on c.from_residual.result c.in_err-left.field-0.0 _ _ c.from_residual.ensures.1
     (subst (λ (ps : List (List Statement)). Stopped c.args.board.now.setup version ps bytes
     c.check_phase.new.board.entries c.in_err-left.field-0.0) (sym cut)

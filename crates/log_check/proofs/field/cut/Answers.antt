@@ -1,5 +1,5 @@
 use Rattle.std.proofs.Common.{sym}
-use Rattle.log_check.proofs.TextCuts.{cut_behind, not_lost}
+use Rattle.log_check.proofs.TextCuts.{cut_at_mark, not_lost}
 use Rattle.log_check.proofs.field.cut.Goals as goal
 
 pub returns-in_err-at : goal.returns-in_err-at
@@ -11,5 +11,5 @@ returns-in_err-at c = record {
 pub returns : goal.returns
 returns c = record {
   parts = λ before after apart is.
-      cut_behind c.args.mark c.in_ok-at.at c.args.bytes.now before after apart is (sym c.in_ok-at.ensures.place);
+      cut_at_mark c.args.mark c.in_ok-at.at c.args.bytes.now before after apart is (sym c.in_ok-at.ensures.place);
 }

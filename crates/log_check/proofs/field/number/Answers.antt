@@ -14,7 +14,10 @@ returns-in_err-ok c = record {
 pub returns : goal.returns
 returns c = record {
   number = λ number small is.
-      let read = the_value _ _ c.from_utf8.result c.in_ok-ok.field-0 c.from_utf8.ensures.cases (sym c.in_ok-ok.ensures.value) in
-      let parsed = parse-decimal 8 number c.in_ok-ok.field-0.now c.parse.result small (omega (arith, small)) (read.0 ∙ is) c.parse.ensures.value.0 in
+      let read =
+      the_value _ _ c.from_utf8.result c.in_ok-ok.field-0 c.from_utf8.ensures.cases (sym c.in_ok-ok.ensures.value) in
+      let parsed =
+      parse-decimal 8 number c.in_ok-ok.field-0.now c.parse.result small (omega (arith, small)) (read.0 ∙ is)
+      c.parse.ensures.value.0 in
       c.ok-2.ensures.value ∙ ap result_ok parsed;
 }

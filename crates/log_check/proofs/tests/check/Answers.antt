@@ -23,6 +23,7 @@ check_log-requires-clause-few g c =
     let second : List Statement = c.in_ok-phase-2.field-0.items in
     let whole : length (in_file_order (listed c.deref.result.now)) ≡ length (first ++ (second ++ [])) =
     ap (λ phases. length (in_file_order (listed phases))) (c.deref.ensures.value ∙ c.in_ok-phases.ensures.items) in
-    let size : length (first ++ (second ++ [])) ≡ length first + length (second ++ []) = length-append first (second ++ []) in
+    let size : length (first ++ (second ++ [])) ≡ length first + length (second ++ []) =
+    length-append first (second ++ []) in
     let last : length (second ++ []) ≡ length second = ap length (append-nil second) in
     omega (arith, c.in_ok-phase.ensures.count, c.in_ok-phase-2.ensures.count)
