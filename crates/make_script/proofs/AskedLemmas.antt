@@ -48,7 +48,7 @@ lines-back (line ∷ later) lack =
 abbrev pub said : Statement → List ℕ
 said statement = item_text (Ask statement)
 
-pub said-line : (statement : Statement) → lacks line_feed (said statement) ≡ true
+said-line : (statement : Statement) → lacks line_feed (said statement) ≡ true
 unfolding item_text
 said-line statement =
     lacks-append line_feed (decimal statement.actor) (space ∷ event_text statement.event)
@@ -77,9 +77,10 @@ same : (text : List ℕ) → AllZip StandsFor text text
 same [] = tt
 same (c ∷ text) = (inl refl, same text)
 
--- ---- after a setup of two processors, a phase and so many statements
+-- ---- after a setup
 
-pub record AreBehind (count : ℕ) (before : List Item) : Type 0 where
+-- two processors are set up, a phase has begun, and so many statements are asked in it
+pub record AreAsked (count : ℕ) (before : List Item) : Type 0 where
   pub begun : list_any is_phase before ≡ true
   pub cpus : (actor : ℕ) → actor < 2 → list_any (is_cpus_above actor) before ≡ true
   pub statements : length (filter is_statement before) ≡ count
@@ -87,15 +88,15 @@ pub record AreBehind (count : ℕ) (before : List Item) : Type 0 where
   pub pulses : sum_by pulses_of before ≤ 4 * count
   pub memory : memory_of_cards (cards_of before) ≤ 0x400_0000
 
-behind-more : (count : ℕ) (before : List Item) (statement : Statement) → AreBehind count before → IsFine statement
-    → AreBehind (count + 1) (Ask statement ∷ before)
-behind-more count before statement behind fine = record {
-  begun = behind.begun;
-  cpus = behind.cpus;
-  statements = omega (arith, behind.statements);
-  phases = behind.phases;
-  pulses = omega (arith, sum_by-cons pulses_of (Ask statement) before, behind.pulses, fine.few);
-  memory = behind.memory;
+asked-more : (count : ℕ) (before : List Item) (statement : Statement) → AreAsked count before → IsFine statement
+    → AreAsked (count + 1) (Ask statement ∷ before)
+asked-more count before statement has fine = record {
+  begun = has.begun;
+  cpus = has.cpus;
+  statements = omega (arith, has.statements);
+  phases = has.phases;
+  pulses = omega (arith, sum_by-cons pulses_of (Ask statement) before, has.pulses, fine.few);
+  memory = has.memory;
 }
 
 all-false : (a b c d e f g : Bool) → a ≡ false → b ≡ false → c ≡ false → d ≡ false → e ≡ false → f ≡ false → g ≡ false
@@ -106,35 +107,35 @@ all-false a b c d e f g one two three four five six seven = rw (one, two, three,
 none-of-four : (a b c d : Bool) → a ≡ false → b ≡ false → c ≡ false → d ≡ false → (a || b || c || d) ≡ false
 none-of-four a b c d one two three four = rw (one, two, three, four) refl
 
-within-limits : (count : ℕ) (items : List Item) → AreBehind count items → count ≤ 250_000 → passes_limits items ≡ false
-within-limits count items behind few =
+within-limits : (count : ℕ) (items : List Item) → AreAsked count items → count ≤ 250_000 → passes_limits items ≡ false
+within-limits count items has few =
     none-of-four (ltb 250_000 (length (filter is_statement items))) (ltb 1_000 (length (filter is_phase items)))
     (ltb 100_000_000 (sum_by pulses_of items)) (ltb 0x400_0000 (memory_of_cards (cards_of items)))
-    (le-ltb 250_000 (length (filter is_statement items)) (omega (arith, behind.statements, few)))
-    (le-ltb 1_000 (length (filter is_phase items)) behind.phases)
-    (le-ltb 100_000_000 (sum_by pulses_of items) (omega (arith, behind.pulses, few)))
-    (le-ltb 0x400_0000 (memory_of_cards (cards_of items)) behind.memory)
+    (le-ltb 250_000 (length (filter is_statement items)) (omega (arith, has.statements, few)))
+    (le-ltb 1_000 (length (filter is_phase items)) has.phases)
+    (le-ltb 100_000_000 (sum_by pulses_of items) (omega (arith, has.pulses, few)))
+    (le-ltb 0x400_0000 (memory_of_cards (cards_of items)) has.memory)
 
-placed-behind : (before : List Item) (statement : Statement) → list_any is_phase before ≡ true
+placed-after : (before : List Item) (statement : Statement) → list_any is_phase before ≡ true
     → is_misplaced before (Ask statement) ≡ false
-placed-behind before statement begun = rw begun refl
+placed-after before statement begun = rw begun refl
 
 not-so : (b : Bool) → b ≡ true → not b ≡ false
 not-so b holds = rw holds refl
 
-no-reason : (count : ℕ) (before : List Item) (statement : Statement) → AreBehind count before → IsFine statement
+no-reason : (count : ℕ) (before : List Item) (statement : Statement) → AreAsked count before → IsFine statement
     → count + 1 ≤ 250_000 → least_reason before (Ask statement) ≡ None
 unfolding least_reason
-no-reason count before statement behind fine few =
+no-reason count before statement has fine few =
     let item : Item = Ask statement in
     all-false (is_misplaced before item) (is_repeated before item) (is_phase item && lacks_setup before)
     (not (is_in_range item)) (not (is_placed item)) (not (is_there before item)) (passes_limits (item ∷ before))
-    (placed-behind before statement behind.begun) refl refl
+    (placed-after before statement has.begun) refl refl
     (not-so (is_in_range item) fine.range)
     (not-so (is_placed item) fine.placed)
     (not-so (is_there before item) (and_from (list_any (is_cpus_above statement.actor) before)
-    (is_card_there before statement.event) (behind.cpus statement.actor fine.actor) (fine.card before)))
-    (within-limits (count + 1) (item ∷ before) (behind-more count before statement behind fine) few)
+    (is_card_there before statement.event) (has.cpus statement.actor fine.actor) (fine.card before)))
+    (within-limits (count + 1) (item ∷ before) (asked-more count before statement has fine) few)
 
 -- ---- all of them
 
@@ -143,11 +144,11 @@ abbrev pub asked : List Statement → List Item → List Item
 asked [] before = before
 asked (statement ∷ later) before = asked later (Ask statement ∷ before)
 
-pub asks-read : (statements : List Statement) (count : ℕ) (before : List Item) → AreBehind count before
+pub asks-read : (statements : List Statement) (count : ℕ) (before : List Item) → AreAsked count before
     → All IsFine statements → count + length statements ≤ 250_000
     → AreRead 1 before (map said statements) (asked statements before)
-asks-read [] count before behind fine few = refl
-asks-read (statement ∷ later) count before behind fine few =
+asks-read [] count before has fine few = refl
+asks-read (statement ∷ later) count before has fine few =
     let first : IsFine statement = All-head IsFine statement later fine in
     inr (
       Ask statement,
@@ -155,9 +156,9 @@ asks-read (statement ∷ later) count before behind fine few =
         short = first.short;
         read = first.read;
         has = record { form = (omega (arith, first.actor), first.form); says = same (said statement) };
-        none = no-reason count before statement behind first (omega (arith, few));
+        none = no-reason count before statement has first (omega (arith, few));
       },
-      asks-read later (count + 1) (Ask statement ∷ before) (behind-more count before statement behind first)
+      asks-read later (count + 1) (Ask statement ∷ before) (asked-more count before statement has first)
           (All-tail IsFine statement later fine) (omega (arith, few)),
     )
 

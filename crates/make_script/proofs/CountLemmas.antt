@@ -1,5 +1,5 @@
 -- The counts of one entry more.
-use Rattle.std.proofs.Common.{ℕ, ◌≡◌, ◌+◌, ◌≤◌, ◌<◌, ◌^◌, ◌-◌, Bool, cond, List, [], ◌∷◌, length, refl, ap, ◌∙◌, inl, inr, arith}
+use Rattle.std.proofs.Common.{ℕ, ◌≡◌, ◌+◌, ◌≤◌, ◌<◌, Bool, cond, List, [], ◌∷◌, length, refl, ap, ◌∙◌, inl, inr, arith}
 use mir.Val.{bool_byte}
 use Rattle.std.proofs.lemmas.Bool.{cases_Bool}
 use Rattle.std.proofs.lemmas.List.Elements.{All-head, All-tail}
@@ -11,7 +11,7 @@ use Rattle.board_spec.specs.declared.event.Entry.{Entry}
 use Rattle.make_script.specs.Summary.{is_dram, is_shadow, is_smram, is_rom, is_card, is_config, is_device, is_abort, answers, is_look, count_of}
 use Rattle.make_script.specs.Laws.{IsOneCycle, KindsAddUp}
 use Rattle.make_script.specs.declared.counts.Counts.{Counts}
-use Rattle.make_script.specs.Counts.{AreCounts, HasRoom}
+use Rattle.make_script.specs.Counts.{AreCounts, HasRoom, most_counted}
 
 pub count-more :
     (test : Entry → Bool) (entry : Entry) (history : List Entry) (mark : Bool) (n more : ℕ) → mark ≡ test entry
@@ -35,24 +35,24 @@ count-below test (entry ∷ before) =
       | inr fails ↦ rw fails (omega (arith, count-below test before))
     ]
 
-has-room : (test : Entry → Bool) (history : List Entry) (n most : ℕ) → n ≡ count_of test history → length history < most
-    → n < most
-has-room test history n most is few = omega (arith, is, few, count-below test history)
+has-room : (test : Entry → Bool) (history : List Entry) (n : ℕ) → n ≡ count_of test history
+    → length history < most_counted → n < most_counted
+has-room test history n is few = omega (arith, is, few, count-below test history)
 
 -- the counts of a history can take one more, where the history can
-pub counts-room : (history : List Entry) (counts : Counts) → AreCounts history counts → length history < 2 ^ 64 - 1
-    → HasRoom counts
+pub counts-room : (history : List Entry) (counts : Counts) → AreCounts history counts
+    → length history < most_counted → HasRoom counts
 counts-room history counts are few = record {
-  dram = has-room _ history counts.dram (2 ^ 64 - 1) are.dram few;
-  shadow = has-room _ history counts.shadow (2 ^ 64 - 1) are.shadow few;
-  smram = has-room _ history counts.smram (2 ^ 64 - 1) are.smram few;
-  rom = has-room _ history counts.rom (2 ^ 64 - 1) are.rom few;
-  card = has-room _ history counts.card (2 ^ 64 - 1) are.card few;
-  config = has-room _ history counts.config (2 ^ 64 - 1) are.config few;
-  device = has-room _ history counts.device (2 ^ 64 - 1) are.device few;
-  abort = has-room _ history counts.abort (2 ^ 64 - 1) are.abort few;
-  denied = has-room _ history counts.denied (2 ^ 64 - 1) are.denied few;
-  looks = has-room _ history counts.looks (2 ^ 64 - 1) are.looks few;
+  dram = has-room _ history counts.dram are.dram few;
+  shadow = has-room _ history counts.shadow are.shadow few;
+  smram = has-room _ history counts.smram are.smram few;
+  rom = has-room _ history counts.rom are.rom few;
+  card = has-room _ history counts.card are.card few;
+  config = has-room _ history counts.config are.config few;
+  device = has-room _ history counts.device are.device few;
+  abort = has-room _ history counts.abort are.abort few;
+  denied = has-room _ history counts.denied are.denied few;
+  looks = has-room _ history counts.looks are.looks few;
 }
 
 -- ---- an entry counts once

@@ -9,7 +9,7 @@ use Rattle.std.proofs.lemmas.List.Folds.{list_all-append}
 use Rattle.std.proofs.lemmas.List.Elements.{All-nil, All-cons}
 use Rattle.std.proofs.lemmas.List.Sorted.{IsPermutation-reverse}
 use Rattle.std.proofs.lemmas.List.FromFn.{length-map-range_with_len}
-use Rattle.board_spec.specs.Setup.{IsCardList, IsRomSize, IsDisk, MemoryBase, IoBase, FittedCard}
+use Rattle.board_spec.specs.Setup.{IsCardList, IsRomSize, IsDisk, MemoryBase, IoBase}
 use Rattle.board_spec.specs.Text.{line_feed}
 use Rattle.board_spec.specs.LogText.{event_text}
 use Rattle.board_spec.specs.declared.event.Statement.{Statement}
@@ -20,10 +20,10 @@ use Rattle.script_spec.specs.ScriptText.{most_bytes, is_skipped, IsGoodLine, Are
 use Rattle.script_spec.proofs.Digits.{lacks}
 use Rattle.script_spec.proofs.RangeLaws.{scripts_are_in_range}
 use Rattle.make_script.specs.MakeText.{setup_lines, opening_lines, round_lines, lines_of_rounds, make_lines, make_text}
-use Rattle.make_script.specs.MadeScript.{asks, opening_events, round_statements, statements_of_rounds, made_statements, made_cards, made_script}
+use Rattle.make_script.specs.MadeScript.{asks, opening_events, round_statements, statements_of_rounds, made_statements, vga_card, plain_card, made_cards, made_script}
 use Rattle.make_script.specs.Images.{rom_image, disk_image}
 use Rattle.make_script.specs.Laws.{MakeTextIsScript, MadeIsInRange, StatementCount, MadeSetupFits}
-use Rattle.make_script.proofs.AskedLemmas.{lines-back, said, said-lines, AreBehind, asked, asks-read, asked-keeps, asked-run}
+use Rattle.make_script.proofs.AskedLemmas.{lines-back, said, said-lines, AreAsked, asked, asks-read, asked-keeps, asked-run}
 use Rattle.make_script.proofs.FineLemmas.{made-fine}
 
 -- ---- each line is that of its statement
@@ -69,24 +69,24 @@ made-back n =
 
 -- ---- the setup
 
-abbrev vga : FittedCard
-vga = record { dev = 2; vga = true; bases = MemoryBase 20 ∷ []; rom = None }
-
-abbrev plain : FittedCard
-plain = record { dev = 3; vga = false; bases = MemoryBase 12 ∷ IoBase 4 ∷ []; rom = None }
+-- the lines of the setup after the first
+abbrev after_first : List (List ℕ) → List (List ℕ)
+after_first later =
+    codes "cpus 2" ∷ codes "memory 16" ∷ codes "rom make.rom" ∷ codes "disk make.disk" ∷ codes "card 2 vga m20"
+    ∷ codes "card 3 plain m12 i4" ∷ codes "phase" ∷ later
 
 abbrev setup_items : List Item
 setup_items =
-    BeginPhase ∷ FitCard plain ∷ FitCard vga ∷ SetDisk (codes "make.disk") ∷ SetRom (codes "make.rom") ∷ SetMemory 16
-    ∷ SetCpus 2 ∷ []
+    BeginPhase ∷ FitCard plain_card ∷ FitCard vga_card ∷ SetDisk (codes "make.disk") ∷ SetRom (codes "make.rom")
+    ∷ SetMemory 16 ∷ SetCpus 2 ∷ []
 
 cpus-above : (actor : ℕ) → actor < 2 → list_any (is_cpus_above actor) setup_items ≡ true
 cpus-above zero few = refl
 cpus-above (suc zero) few = refl
 cpus-above (suc (suc n)) few = let none : ⊥ = omega (arith, few) in absurd none
 
-setup-behind : AreBehind 0 setup_items
-setup-behind = record {
+setup-asked : AreAsked 0 setup_items
+setup-asked = record {
   begun = refl;
   cpus = cpus-above;
   statements = refl;
@@ -102,10 +102,7 @@ good before line item short read form says none =
     record { short = short; read = read; has = record { form = form; says = says }; none = none }
 
 setup-read : (later : List (List ℕ)) (items : List Item) → AreRead 1 setup_items later items
-    → AreRead 1 []
-    (codes "cpus 2" ∷ codes "memory 16" ∷ codes "rom make.rom" ∷ codes "disk make.disk" ∷ codes "card 2 vga m20"
-    ∷ codes "card 3 plain m12 i4" ∷ codes "phase" ∷ later)
-    items
+    → AreRead 1 [] (after_first later) items
 unfolding digits item_text least_reason
 setup-read later items read =
     inr (
@@ -123,16 +120,16 @@ setup-read later items read =
             good _ (codes "disk make.disk") (SetDisk (codes "make.disk")) (omega arith) refl
                 (record { some = omega arith; few = omega arith; first = refl; each = refl }) refl refl,
             inr (
-              FitCard vga,
-              good _ (codes "card 2 vga m20") (FitCard vga) (omega arith) refl (record {
+              FitCard vga_card,
+              good _ (codes "card 2 vga m20") (FitCard vga_card) (omega arith) refl (record {
                 dev = omega arith;
                 count = omega arith;
                 each = All-cons IsBaseForm (MemoryBase 20) [] (omega arith) (All-nil IsBaseForm);
                 rom = tt;
               }) refl refl,
               inr (
-                FitCard plain,
-                good _ (codes "card 3 plain m12 i4") (FitCard plain) (omega arith) refl (record {
+                FitCard plain_card,
+                good _ (codes "card 3 plain m12 i4") (FitCard plain_card) (omega arith) refl (record {
                   dev = omega arith;
                   count = omega arith;
                   each =
@@ -166,10 +163,9 @@ rounds-count : (n : ℕ) → length (statements_of_rounds n) ≡ 11 * n
 unfolding statements_of_rounds
 rounds-count zero = refl
 rounds-count (suc i) =
-    let joined : length (statements_of_rounds i ++ round_statements i) ≡ length (statements_of_rounds i) + length
-    (round_statements i) =
-    length-append (statements_of_rounds i) (round_statements i)
-    in
+    let joined : length (statements_of_rounds i ++ round_statements i)
+    ≡ length (statements_of_rounds i) + length (round_statements i) =
+    length-append (statements_of_rounds i) (round_statements i) in
     omega (arith, joined, rounds-count i, round-count i)
 
 pub statement-count : StatementCount
@@ -186,9 +182,10 @@ said-by n =
       rom = asked-keeps (find is_rom) statements setup_items (λ s items. refl);
       disk = asked-keeps (find is_disk) statements setup_items (λ s items. refl);
       cards =
-          rw (asked-keeps cards_of statements setup_items (λ s items. refl)) (IsPermutation-reverse (plain ∷ vga ∷ []));
+          rw (asked-keeps cards_of statements setup_items (λ s items. refl))
+          (IsPermutation-reverse (plain_card ∷ vga_card ∷ []));
       rises = (
-        All-cons (λ other. 2 < other.dev) plain [] (omega arith) (All-nil (λ other. 2 < other.dev)),
+        All-cons (λ other. 2 < other.dev) plain_card [] (omega arith) (All-nil (λ other. 2 < other.dev)),
         (All-nil (λ other. 3 < other.dev), tt),
       );
       phases =
@@ -203,14 +200,12 @@ make-text-is-script n few =
     let items : List Item = asked statements setup_items in
     record {
       version = inl refl;
-      later =
-          codes "cpus 2" ∷ codes "memory 16" ∷ codes "rom make.rom" ∷ codes "disk make.disk" ∷ codes "card 2 vga m20"
-          ∷ codes "card 3 plain m12 i4" ∷ codes "phase" ∷ map said statements;
+      later = after_first (map said statements);
       lines = made-back n;
       items = items;
       read =
           setup-read (map said statements) items
-          (asks-read statements 0 setup_items setup-behind (made-fine n (omega (arith, few)))
+          (asks-read statements 0 setup_items setup-asked (made-fine n (omega (arith, few)))
           (omega (arith, few, statement-count n)));
       whole = asked-keeps lacks_setup statements setup_items (λ s items. refl);
       said = said-by n;

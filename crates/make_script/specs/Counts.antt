@@ -1,5 +1,5 @@
 -- What the parts of a reply count as, and how many entries of each kind a history has.
-use Rattle.std.specs.Prelude.{◌≡◌, ◌<◌, ◌^◌, ◌-◌, Bool, List, is_some}
+use Rattle.std.specs.Prelude.{ℕ, ◌≡◌, ◌<◌, ◌^◌, ◌-◌, Bool, List, is_some}
 use Rattle.std.specs.List.{list_any}
 use Rattle.board_base.specs.declared.target.Target.{Target}
 use Rattle.board_spec.specs.declared.event.Part.{Part}
@@ -36,15 +36,19 @@ pub record AreCounts (history : List Entry) (counts : Counts) : Type 0 where
   pub denied : counts.denied ≡ count_of is_denied history
   pub looks : counts.looks ≡ count_of is_look history
 
+-- a count below this can take one more
+abbrev pub most_counted : ℕ
+most_counted = 2 ^ 64 - 1
+
 -- each count can take one more
 pub record HasRoom (counts : Counts) : Type 0 where
-  pub dram : counts.dram < 2 ^ 64 - 1
-  pub shadow : counts.shadow < 2 ^ 64 - 1
-  pub smram : counts.smram < 2 ^ 64 - 1
-  pub rom : counts.rom < 2 ^ 64 - 1
-  pub card : counts.card < 2 ^ 64 - 1
-  pub config : counts.config < 2 ^ 64 - 1
-  pub device : counts.device < 2 ^ 64 - 1
-  pub abort : counts.abort < 2 ^ 64 - 1
-  pub denied : counts.denied < 2 ^ 64 - 1
-  pub looks : counts.looks < 2 ^ 64 - 1
+  pub dram : counts.dram < most_counted
+  pub shadow : counts.shadow < most_counted
+  pub smram : counts.smram < most_counted
+  pub rom : counts.rom < most_counted
+  pub card : counts.card < most_counted
+  pub config : counts.config < most_counted
+  pub device : counts.device < most_counted
+  pub abort : counts.abort < most_counted
+  pub denied : counts.denied < most_counted
+  pub looks : counts.looks < most_counted

@@ -109,12 +109,16 @@ statements_of_rounds (suc i) = statements_of_rounds i ++ round_statements i
 abbrev pub made_statements : (n : ℕ) → List Statement
 made_statements n = map (asks 0) opening_events ++ statements_of_rounds n
 
--- a VGA card with one memory base, and a plain card with a memory base and an I/O base
+-- a VGA card with one memory base
+abbrev pub vga_card : FittedCard
+vga_card = record { dev = 2; vga = true; bases = MemoryBase 20 ∷ []; rom = None }
+
+-- a plain card with a memory base and an I/O base
+abbrev pub plain_card : FittedCard
+plain_card = record { dev = 3; vga = false; bases = MemoryBase 12 ∷ IoBase 4 ∷ []; rom = None }
+
 abbrev pub made_cards : List FittedCard
-made_cards =
-    record { dev = 2; vga = true; bases = MemoryBase 20 ∷ []; rom = None }
-    ∷ record { dev = 3; vga = false; bases = MemoryBase 12 ∷ IoBase 4 ∷ []; rom = None }
-    ∷ []
+made_cards = vga_card ∷ plain_card ∷ []
 
 unfoldable pub made_script : (n : ℕ) → Script
 made_script n = record {

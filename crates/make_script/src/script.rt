@@ -10,6 +10,7 @@ use board_base::NoMemory;
 use board_script::{Line, push_hex_long, push_words};
 use std::alloc::Global;
 
+/// The setup, and the line of the phase.
 const SETUP: &str = "\
 board 1
 cpus 2
@@ -21,6 +22,7 @@ card 3 plain m12 i4
 phase
 ";
 
+/// The 47 statements that program the board.
 const OPENING: &str = "\
 0 out d 0CF8 80000060
 0 out d 0CFC 02020202
@@ -71,7 +73,7 @@ const OPENING: &str = "\
 0 in d 01F0
 ";
 
-// The statements of a round after its accesses to DRAM and to the base of card 2.
+/// The statements of a round after its accesses to DRAM and to the base of card 2.
 const ROUND_END: &str = "\
 1 r b 000A0000
 0 r b 000A0000 smm
@@ -93,13 +95,13 @@ fn push_opening(text: &mut String) -> Result<(), NoMemory>
     push_words(text, OPENING)
 }
 
-/// Appends the line of words and an address.
-fn push_read(text: &mut String, words: &str, addr: u32) -> Result<(), NoMemory>
-    ensures appended { OnOk result (Adds text.old text.new (words.now ++ hex_long addr ++ line_feed ∷ [])) }
+/// Appends words, a number in eight hexadecimal digits, and a line feed.
+fn push_long_line(text: &mut String, words: &str, number: u32) -> Result<(), NoMemory>
+    ensures appended { OnOk result (Adds text.old text.new (words.now ++ hex_long number ++ line_feed ∷ [])) }
     ensures front { OnErr result (KeepsFront text.old text.new) }
 {
     push_words(text, words)?;
-    push_hex_long(text, addr)?;
+    push_hex_long(text, number)?;
     text.push('\n')?;
     Ok(())
 }
@@ -112,7 +114,7 @@ fn push_write(text: &mut String, words: &str, addr: u32, value: u32) -> Result<(
 {
     push_words(text, words)?;
     push_hex_long(text, addr)?;
-    push_read(text, " ", value)
+    push_long_line(text, " ", value)
 }
 
 /// Appends the eleven statements of a round. Rounds count from 0.
@@ -124,7 +126,7 @@ pub(crate) fn push_round(text: &mut String, round: u32) -> Result<(), NoMemory>
     let dram = 0x10_0000 + 4 * (round % 4096);
     let card = 0xE000_0000 + 4 * (round % 256);
     push_write(text, "0 w d ", dram, round)?;
-    push_read(text, "1 r d ", dram)?;
+    push_long_line(text, "1 r d ", dram)?;
     push_write(text, "1 w d ", card, round)?;
     push_words(text, ROUND_END)
 }

@@ -1,9 +1,9 @@
-use Rattle.std.proofs.Common.{rules, ◌≡◌, ◌<◌, ◌-◌, ◌^◌, List, length, take, reverse, sym, subst, arith}
+use Rattle.std.proofs.Common.{rules, ◌≡◌, ◌<◌, ◌^◌, List, length, take, reverse, sym, subst, arith}
 use Rattle.std.proofs.lemmas.List.{length-reverse}
 use Rattle.std.proofs.lemmas.Grind.{common_steps}
 use Rattle.board_spec.specs.declared.event.Entry.{Entry}
 use Rattle.board_script.proofs.Lines.{reverse-take_more}
-use Rattle.make_script.specs.Counts.{AreCounts}
+use Rattle.make_script.specs.Counts.{AreCounts, most_counted}
 use Rattle.make_script.proofs.CountLemmas.{counts-room}
 use Rattle.make_script.proofs.summary.counts_of.Goals as goal
 
@@ -14,7 +14,7 @@ with-counts-requires c =
     let count : length (reverse so_far) ≡ c.loop-entry.entry-index =
     grind (arith, common_steps, c.loop-entry-test.true, length-reverse so_far)
     in
-    let room : length (reverse so_far) < 2 ^ 64 - 1 = omega (arith, fits, count, c.loop-entry-test.true) in
+    let room : length (reverse so_far) < most_counted = omega (arith, fits, count, c.loop-entry-test.true) in
     record { room = counts-room _ c.loop-entry.counts c.loop-entry.invariant room }
 
 pub loop-entry-preserved : goal.loop-entry-preserved
