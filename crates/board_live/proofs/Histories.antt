@@ -1,12 +1,11 @@
 -- Histories that go on, and their map writes.
-use Rattle.std.proofs.Common.{◌≡◌, ℕ, zero, suc, ◌+◌, ◌-◌, ◌≤◌, ◌==◌, Bool, cond, Option, Some, None, List, [], ◌∷◌, ◌++◌, length, drop, filter, inl, inr, refl, sym, ap, ◌∙◌, subst, append_assoc, append-nil, arith}
+use Rattle.std.proofs.Common.{◌≡◌, ℕ, suc, ◌+◌, ◌-◌, ◌≤◌, ◌==◌, Bool, cond, Option, Some, None, List, [], ◌∷◌, ◌++◌, length, drop, filter, inl, inr, refl, sym, ap, ◌∙◌, subst, append_assoc, append-nil, arith}
 use Rattle.std.specs.Prelude.{reverse}
 use Rattle.std.specs.Option.{option_to_list}
 use Rattle.std.proofs.lemmas.Bool.{cases_Bool}
 use Rattle.std.proofs.lemmas.List.{reverse-append}
 use Rattle.std.proofs.lemmas.List.Elements.{filter-append}
 use mathlib.Core.List.{IsPrefix}
-use Rattle.board_spec.specs.declared.event.Event.{Event}
 use Rattle.board_spec.specs.declared.event.Entry.{Entry}
 use Rattle.board_spec.specs.declared.map_change.MapChange.{MapChange}
 use Rattle.board_spec.specs.Setup.{Setup}
@@ -16,12 +15,9 @@ use Rattle.map_publish.specs.declared.mark.Mark.{Mark}
 use Rattle.map_publish.specs.Lists.{changes_of}
 use Rattle.map_publish.proofs.Changes.{changes_extend}
 use Rattle.bus_turn.specs.Views.{own_by}
-use Rattle.board_live.specs.Known.{Extends, oldest, known_after, ArePublished}
+use Rattle.board_live.specs.Known.{Extends, oldest, known_after}
 
 -- ---- lists that go on
-
-pub extends_same : {E : Type 0} (xs ys : List E) → ys ≡ xs → Extends xs ys
-extends_same xs ys same = ([], same)
 
 pub extends_trans : {E : Type 0} (xs ys zs : List E) → Extends xs ys → Extends ys zs → Extends xs zs
 extends_trans {E} xs ys zs a b = (b.0 ++ a.0, b.1 ∙ (ap (λ (w : List E). b.0 ++ w) a.1 ∙ sym (append_assoc b.0 a.0 xs)))
@@ -32,12 +28,14 @@ extends_prefix xs ys (rest, is) = (reverse rest, ap reverse (sym is) ∙ reverse
 
 -- ---- the entries of a caller
 
-pub entries_reversed : (actor : ℕ) (entries : List Entry) → entries_by actor (reverse entries) ≡ reverse (own_by (λ (e : Entry). e.actor) actor entries)
+pub entries_reversed : (actor : ℕ) (entries : List Entry) →
+    entries_by actor (reverse entries) ≡ reverse (own_by (λ (e : Entry). e.actor) actor entries)
 entries_reversed actor [] = refl
 entries_reversed actor (entry ∷ later) =
     let test : Entry → Bool = λ e. e.actor == actor in
     let whole : reverse (entry ∷ later) ≡ reverse later ++ entry ∷ [] = reverse-append (entry ∷ []) later in
-    let here : (b : Bool) → reverse (filter test later) ++ cond b (entry ∷ []) [] ≡ reverse (cond b (entry ∷ filter test later) (filter test later)) =
+    let here : (b : Bool) → reverse (filter test later) ++ cond b (entry ∷ []) []
+    ≡ reverse (cond b (entry ∷ filter test later) (filter test later)) =
     λ b. elim (cases_Bool b) [
       | inl yes' ↦ rw yes' (sym (reverse-append (entry ∷ []) (filter test later)))
       | inr no' ↦ rw no' (append-nil (reverse (filter test later)))
@@ -49,15 +47,19 @@ entries_reversed actor (entry ∷ later) =
 -- ---- what was opened
 
 pub oldest_whole : (history : List Entry) → oldest (length history) history ≡ history
-oldest_whole history = let none : length history - length history ≡ 0 = omega arith in ap (λ (n : ℕ). drop n history) none
+oldest_whole history =
+    let none : length history - length history ≡ 0 = omega arith in ap (λ (n : ℕ). drop n history) none
 
-pub oldest_added : (count : ℕ) (entry : Entry) (history : List Entry) → count ≤ length history → oldest count (entry ∷ history) ≡ oldest count history
+pub oldest_added : (count : ℕ) (entry : Entry) (history : List Entry) → count ≤ length history →
+    oldest count (entry ∷ history) ≡ oldest count history
 oldest_added count entry history within =
-    let one : suc (length history) - count ≡ suc (length history - count) = omega arith in ap (λ (n : ℕ). drop n (entry ∷ history)) one
+    let one : suc (length history) - count ≡ suc (length history - count) = omega arith in
+    ap (λ (n : ℕ). drop n (entry ∷ history)) one
 
 -- ---- map writes
 
-one_write : (change : Option MapChange) (writes : List MapChange) → length (option_to_list change ++ writes) ≤ length writes + 1
+one_write : (change : Option MapChange) (writes : List MapChange) →
+    length (option_to_list change ++ writes) ≤ length writes + 1
 one_write None writes = omega arith
 one_write (Some change) writes = omega arith
 
@@ -71,30 +73,28 @@ writes_few setup (entry ∷ before) =
     omega (arith, earlier, one)
 
 -- a history that goes on has more map writes
-pub writes_extend : (setup : Setup) (shorter longer : List Entry) → Extends shorter longer → Extends (map_writes_of setup shorter) (map_writes_of setup longer)
+pub writes_extend : (setup : Setup) (shorter longer : List Entry) → Extends shorter longer →
+    Extends (map_writes_of setup shorter) (map_writes_of setup longer)
 unfolding map_writes_of
-writes_extend setup shorter longer (more, is) = subst (λ (h : List Entry). Extends (map_writes_of setup shorter) (map_writes_of setup h)) (sym is) (after more)
+writes_extend setup shorter longer (more, is) =
+    subst (λ (h : List Entry). Extends (map_writes_of setup shorter) (map_writes_of setup h)) (sym is) (after more)
   where
     after : (more : List Entry) → Extends (map_writes_of setup shorter) (map_writes_of setup (more ++ shorter))
     after [] = ([], refl)
     after (entry ∷ more) =
         let change = option_to_list (map_change_of setup (more ++ shorter) entry.event) in
-        let before = after more in
-        (change ++ before.0, ap (λ (w : List MapChange). change ++ w) before.1 ∙ sym (append_assoc change before.0 (map_writes_of setup shorter)))
+        let before = after more in (
+          change ++ before.0,
+          ap (λ (w : List MapChange). change ++ w) before.1
+              ∙ sym (append_assoc change before.0 (map_writes_of setup shorter)),
+        )
 
 -- what is known of a published list grows with the list
-pub known_extend : (setup : Setup) (opened : List Entry) (log later : List Mark) → IsPrefix log later → Extends (known_after setup opened log) (known_after setup opened later)
+pub known_extend : (setup : Setup) (opened : List Entry) (log later : List Mark) → IsPrefix log later →
+    Extends (known_after setup opened log) (known_after setup opened later)
 known_extend setup opened log later prefix =
-    let more = changes_extend log later prefix in
-    (more.0, ap (λ (w : List MapChange). w ++ map_writes_of setup opened) more.1 ∙ append_assoc more.0 (changes_of log) (map_writes_of setup opened))
-
--- an entry that is this map write, and one that is none
-pub written : (setup : Setup) (entry : Entry) (before : List Entry) (change : MapChange) → map_change_of setup before entry.event ≡ Some change →
-    map_writes_of setup (entry ∷ before) ≡ change ∷ map_writes_of setup before
-unfolding map_writes_of
-written setup entry before change is = ap (λ (c : Option MapChange). option_to_list c ++ map_writes_of setup before) is
-
-pub unwritten : (setup : Setup) (entry : Entry) (before : List Entry) → map_change_of setup before entry.event ≡ None →
-    map_writes_of setup (entry ∷ before) ≡ map_writes_of setup before
-unfolding map_writes_of
-unwritten setup entry before is = ap (λ (c : Option MapChange). option_to_list c ++ map_writes_of setup before) is
+    let more = changes_extend log later prefix in (
+      more.0,
+      ap (λ (w : List MapChange). w ++ map_writes_of setup opened) more.1
+          ∙ append_assoc more.0 (changes_of log) (map_writes_of setup opened),
+    )

@@ -1,5 +1,5 @@
 -- Passes that are joined into another, one after another.
-use Rattle.std.proofs.Common.{◌≡◌, ℕ, ◌+◌, ◌<◌, ◌≤◌, List, [], ◌∷◌, ◌++◌, Option, Some, length, take, drop, sym, ap, ◌∙◌, subst, append_assoc, length-append, arith, All, Any}
+use Rattle.std.proofs.Common.{◌≡◌, ℕ, ◌+◌, List, [], ◌∷◌, ◌++◌, Option, Some, length, take, drop, sym, ap, ◌∙◌, subst, append_assoc, length-append, arith, All, Any}
 use Rattle.std.specs.Prelude.{reverse}
 use Rattle.std.proofs.lemmas.List.{reverse-reverse, take-append-drop, get_or_append_left}
 use Rattle.std.proofs.Math.Seq.{take-append_seam, get_or-append_seam}
@@ -40,12 +40,12 @@ module _ {X : Type 0} where
         ap (drop (length rest)) all ∙ drop_front rest (x ∷ later),
       )
 
-  pub any_left : (P : X → Type 0) (xs ys : List X) → Any P xs → Any P (xs ++ ys)
+  any_left : (P : X → Type 0) (xs ys : List X) → Any P xs → Any P (xs ++ ys)
   any_left P xs ys (k, x, below, at', holds) =
       let long : length (xs ++ ys) ≡ length xs + length ys = length-append xs ys in
       (k, x, omega (arith, below, long), get_or_append_left xs ys x k below ∙ at', holds)
 
-  pub any_seam : (P : X → Type 0) (xs ys : List X) (x : X) → P x → Any P (xs ++ x ∷ ys)
+  any_seam : (P : X → Type 0) (xs ys : List X) (x : X) → P x → Any P (xs ++ x ∷ ys)
   any_seam P xs ys x holds =
       let long : length (xs ++ x ∷ ys) ≡ length xs + length (x ∷ ys) = length-append xs (x ∷ ys) in
       (length xs, x, omega (arith, long), get_or-append_seam xs x ys x, holds)
@@ -57,12 +57,15 @@ pub joined_more :
     (before now : SharedPass) (more : List (ℕ × List Entry)) (cpu : Cpu) → IsPrefix (seen_in before) (seen_in now) →
     joined_of now ≡ joined_of before ++ more → IsJoined before cpu → IsJoined now cpu
 joined_more before now more cpu later joined has =
-    let grown : Extends (reverse (seen_in before)) (reverse (seen_in now)) = extends_prefix (seen_in before) (seen_in now) later in
+    let grown : Extends (reverse (seen_in before)) (reverse (seen_in now)) =
+    extends_prefix (seen_in before) (seen_in now) later in
     record {
       begins = extends_trans (seen_of cpu) (reverse (seen_in before)) (reverse (seen_in now)) has.begins grown;
-      meets = extends_trans (known_of cpu) (map_writes_of (setup_of cpu) (reverse (seen_in before))) (map_writes_of (setup_of cpu) (reverse (seen_in now)))
+      meets = extends_trans (known_of cpu) (map_writes_of (setup_of cpu) (reverse (seen_in before)))
+          (map_writes_of (setup_of cpu) (reverse (seen_in now)))
           has.meets (writes_extend (setup_of cpu) (reverse (seen_in before)) (reverse (seen_in now)) grown);
-      own = subst (λ (w : List (ℕ × List Entry)). Any (HasOwn cpu) w) (sym joined) (any_left (HasOwn cpu) (joined_of before) more has.own);
+      own = subst (λ (w : List (ℕ × List Entry)). Any (HasOwn cpu) w) (sym joined)
+          (any_left (HasOwn cpu) (joined_of before) more has.own);
     }
 
 own_back : (number : ℕ) (one other : List Entry) → entries_by number (reverse one) ≡ entries_by number (reverse other) →
@@ -70,31 +73,39 @@ own_back : (number : ℕ) (one other : List Entry) → entries_by number (revers
 own_back number one other same =
     let turned : reverse (own_by by_actor number one) ≡ reverse (own_by by_actor number other) =
     sym (entries_reversed number one) ∙ (same ∙ entries_reversed number other) in
-    sym (reverse-reverse (own_by by_actor number one)) ∙ (ap reverse turned ∙ reverse-reverse (own_by by_actor number other))
+    sym (reverse-reverse (own_by by_actor number one))
+    ∙ (ap reverse turned ∙ reverse-reverse (own_by by_actor number other))
 
 -- what a pass has of a caller that knew all that was published, where it has seen as much
 pub caught_up :
-    (pass : SharedPass) (cpu now : Cpu) → IsSameCaller cpu now → AddsNone cpu now → IsPrefix (seen_in now.pass) (seen_in pass) →
-    Extends (seen_of cpu) (reverse (seen_in pass)) × Extends (known_of cpu) (map_writes_of (setup_of cpu) (reverse (seen_in pass)))
+    (pass : SharedPass) (cpu now : Cpu) → IsSameCaller cpu now → AddsNone cpu now →
+    IsPrefix (seen_in now.pass) (seen_in pass) →
+    Extends (seen_of cpu) (reverse (seen_in pass))
+    × Extends (known_of cpu) (map_writes_of (setup_of cpu) (reverse (seen_in pass)))
     × HasOwn cpu (number_of now.pass, mine_in now.pass)
 caught_up pass cpu now same none later =
-    let grown : Extends (seen_of now) (reverse (seen_in pass)) = extends_prefix (seen_in now.pass) (seen_in pass) later in
+    let grown : Extends (seen_of now) (reverse (seen_in pass)) =
+    extends_prefix (seen_in now.pass) (seen_in pass) later in
     let writes : Extends (known_of now) (map_writes_of (setup_of cpu) (reverse (seen_in pass))) =
     subst (λ (w : List MapChange). Extends w (map_writes_of (setup_of cpu) (reverse (seen_in pass)))) (sym none.known)
     (writes_extend (setup_of cpu) (seen_of now) (reverse (seen_in pass)) grown) in
-    let entries : entries_by cpu.number (reverse (seen_in now.pass)) ≡ entries_by cpu.number (reverse (seen_in cpu.pass)) =
+    let entries : entries_by cpu.number (reverse (seen_in now.pass))
+    ≡ entries_by cpu.number (reverse (seen_in cpu.pass)) =
     ap (λ (n : ℕ). entries_by n (reverse (seen_in now.pass))) (sym same.number) ∙ none.mine in
-    let mine : own_by by_actor cpu.number (seen_in now.pass) ≡ own_by by_actor cpu.number (opened_by cpu.pass) ++ mine_in now.pass =
+    let mine : own_by by_actor cpu.number (seen_in now.pass)
+    ≡ own_by by_actor cpu.number (opened_by cpu.pass) ++ mine_in now.pass =
     subst (λ (z : ℕ × List Entry). own_by by_actor z.0 (seen_in now.pass) ≡ own_by by_actor z.0 z.1 ++ mine_in now.pass)
     (λ k. (same.number k, same.opened k)) now.passed.mine in (
       extends_trans (seen_of cpu) (seen_of now) (reverse (seen_in pass)) none.begins grown,
-      extends_trans (known_of cpu) (known_of now) (map_writes_of (setup_of cpu) (reverse (seen_in pass))) none.meets writes,
+      extends_trans (known_of cpu) (known_of now)
+          (map_writes_of (setup_of cpu) (reverse (seen_in pass))) none.meets writes,
       (now.passed.number ∙ same.number, sym mine ∙ own_back cpu.number (seen_in now.pass) (seen_in cpu.pass) entries),
     )
 
 -- the caller whose pass was joined, after it knew all that was published
 pub joined_new :
-    (before pass : SharedPass) (cpu now : Cpu) → IsSameCaller cpu now → AddsNone cpu now → IsPrefix (seen_in now.pass) (seen_in pass) →
+    (before pass : SharedPass) (cpu now : Cpu) → IsSameCaller cpu now → AddsNone cpu now →
+    IsPrefix (seen_in now.pass) (seen_in pass) →
     joined_of pass ≡ joined_of before ++ (number_of now.pass, mine_in now.pass) ∷ joined_of now.pass → IsJoined pass cpu
 joined_new before pass cpu now same none later joined =
     let has = caught_up pass cpu now same none later in
@@ -115,18 +126,22 @@ opened_same cpu other same =
     sym (reverse-reverse (opened_by cpu.pass)) ∙ (ap reverse turned ∙ reverse-reverse (opened_by other.pass))
 
 pub closes :
-    (pass : SharedPass) (done : Shared) (cpu : Cpu) (own : ℕ × List Entry) → Extends (seen_of cpu) (reverse (seen_in pass)) →
+    (pass : SharedPass) (done : Shared) (cpu : Cpu) (own : ℕ × List Entry) →
+    Extends (seen_of cpu) (reverse (seen_in pass)) →
     Extends (known_of cpu) (map_writes_of (setup_of cpu) (reverse (seen_in pass))) → HasOwn cpu own →
     own_by by_actor own.0 (drop (length (opened_by pass)) (reverse done.board.value.entries)) ≡ own.1 →
-    IsPrefix (seen_in pass) (reverse done.board.value.entries) → IsPrefix (opened_by pass) (reverse done.board.value.entries) →
+    IsPrefix (seen_in pass) (reverse done.board.value.entries) →
+    IsPrefix (opened_by pass) (reverse done.board.value.entries) →
     opened_by cpu.pass ≡ opened_by pass → part_of cpu.pass ≡ Some (opened_with done) → Closes done.board.value cpu
 closes pass done cpu own begins meets has is later opens same part =
     let history = done.board.value.entries in
     let setup : setup_of cpu ≡ done.board.value.setup = ap (λ (o : Option Origin). (origin_in o).setup) part in
     let grown : Extends (reverse (seen_in pass)) history =
-    subst (λ (h : List Entry). Extends (reverse (seen_in pass)) h) (reverse-reverse history) (extends_prefix (seen_in pass) (reverse history) later) in
+    subst (λ (h : List Entry). Extends (reverse (seen_in pass)) h) (reverse-reverse history)
+    (extends_prefix (seen_in pass) (reverse history) later) in
     let known : Extends (known_of cpu) (map_writes_of (setup_of cpu) history) =
-    extends_trans (known_of cpu) (map_writes_of (setup_of cpu) (reverse (seen_in pass))) (map_writes_of (setup_of cpu) history) meets
+    extends_trans (known_of cpu) (map_writes_of (setup_of cpu) (reverse (seen_in pass)))
+    (map_writes_of (setup_of cpu) history) meets
     (writes_extend (setup_of cpu) (reverse (seen_in pass)) history grown) in
     let mine : own_by by_actor cpu.number (reverse history) ≡ own_by by_actor cpu.number (opened_by pass) ++ own.1 =
     own_in cpu.number (opened_by pass) (reverse history) own.1 opens
@@ -136,18 +151,22 @@ closes pass done cpu own begins meets has is later opens same part =
     record {
       setup = setup;
       begins = extends_trans (seen_of cpu) (reverse (seen_in pass)) history begins grown;
-      mine = ap (entries_by cpu.number) (sym (reverse-reverse history)) ∙ own_same cpu.number (reverse history) (seen_in cpu.pass) all;
+      mine = ap (entries_by cpu.number) (sym (reverse-reverse history))
+          ∙ own_same cpu.number (reverse history) (seen_in cpu.pass) all;
       meets = subst (λ (s : Setup). Extends (known_of cpu) (map_writes_of s history)) setup known;
     }
 
 -- and of a caller whose pass was joined
 pub closes_joined :
     (pass : SharedPass) (done : Shared) (cpu : Cpu) → IsJoined pass cpu →
-    All (λ other. own_by by_actor other.0 (drop (length (opened_by pass)) (reverse done.board.value.entries)) ≡ other.1) (joined_of pass) →
-    IsPrefix (seen_in pass) (reverse done.board.value.entries) → IsPrefix (opened_by pass) (reverse done.board.value.entries) →
+    All (λ other. own_by by_actor other.0 (drop (length (opened_by pass)) (reverse done.board.value.entries))
+    ≡ other.1) (joined_of pass) →
+    IsPrefix (seen_in pass) (reverse done.board.value.entries) →
+    IsPrefix (opened_by pass) (reverse done.board.value.entries) →
     opened_by cpu.pass ≡ opened_by pass → part_of cpu.pass ≡ Some (opened_with done) → Closes done.board.value cpu
 closes_joined pass done cpu joined each later opens same part =
     let (k, own, below, at', has) = joined.own in
     let is : own_by by_actor own.0 (drop (length (opened_by pass)) (reverse done.board.value.entries)) ≡ own.1 =
-    subst (λ (o : ℕ × List Entry). own_by by_actor o.0 (drop (length (opened_by pass)) (reverse done.board.value.entries)) ≡ o.1) at' (each k own below) in
+    subst (λ (o : ℕ × List Entry). own_by by_actor o.0
+    (drop (length (opened_by pass)) (reverse done.board.value.entries)) ≡ o.1) at' (each k own below) in
     closes pass done cpu own joined.begins joined.meets has is later opens same part

@@ -1,5 +1,5 @@
 -- How many entries a board of few callers has.
-use Rattle.std.proofs.Common.{◌≡◌, ℕ, zero, suc, ◌+◌, ◌*◌, ◌<◌, ◌≤◌, ◌==◌, Bool, true, false, List, [], ◌∷◌, length, All, inl, inr, refl, sym, ap, ◌∙◌, subst, arith}
+use Rattle.std.proofs.Common.{◌≡◌, ℕ, zero, suc, ◌+◌, ◌*◌, ◌<◌, ◌≤◌, ◌==◌, true, false, List, [], ◌∷◌, length, All, inl, inr, refl, subst, arith}
 use Rattle.std.proofs.lemmas.Bool.{cases_Bool}
 use Rattle.std.proofs.lemmas.Bool.Decides.{nat_tests}
 use Rattle.std.proofs.lemmas.List.Elements.{All-head, All-tail, All-cons}
@@ -8,16 +8,19 @@ use Rattle.board_spec.specs.Legal.{entries_by}
 use Rattle.board_live.specs.Known.{AreFew, most_each}
 
 -- an entry is one more of its actor's, and leaves the others'
-pub own_count : (actor : ℕ) (entry : Entry) (history : List Entry) → (entry.actor == actor) ≡ true → length (entries_by actor (entry ∷ history)) ≡ length (entries_by actor history) + 1
+own_count : (actor : ℕ) (entry : Entry) (history : List Entry) → (entry.actor == actor) ≡ true →
+    length (entries_by actor (entry ∷ history)) ≡ length (entries_by actor history) + 1
 own_count actor entry history is = rw is (omega arith)
 
-pub other_count : (actor : ℕ) (entry : Entry) (history : List Entry) → (entry.actor == actor) ≡ false → length (entries_by actor (entry ∷ history)) ≡ length (entries_by actor history)
+other_count : (actor : ℕ) (entry : Entry) (history : List Entry) → (entry.actor == actor) ≡ false →
+    length (entries_by actor (entry ∷ history)) ≡ length (entries_by actor history)
 other_count actor entry history is = rw is refl
 
-no_less : (actor : ℕ) (entry : Entry) (history : List Entry) → length (entries_by actor history) ≤ length (entries_by actor (entry ∷ history))
+no_less : (actor : ℕ) (entry : Entry) (history : List Entry) →
+    length (entries_by actor history) ≤ length (entries_by actor (entry ∷ history))
 no_less actor entry history = elim (cases_Bool (entry.actor == actor)) [
-  | inl own ↦ let e = own_count actor entry history own in omega (arith, e)
-  | inr other ↦ let e = other_count actor entry history other in omega (arith, e)
+  | inl own ↦ omega (arith, own_count actor entry history own)
+  | inr other ↦ omega (arith, other_count actor entry history other)
 ]
 
 -- the entries of the first so many callers
@@ -28,22 +31,17 @@ total (suc n) history = total n history + length (entries_by n history)
 total_no_less : (n : ℕ) (entry : Entry) (history : List Entry) → total n history ≤ total n (entry ∷ history)
 total_no_less zero entry history = omega arith
 total_no_less (suc n) entry history =
-    let before = total_no_less n entry history in
-    let one = no_less n entry history in
-    omega (arith, before, one)
+    omega (arith, total_no_less n entry history, no_less n entry history)
 
-total_more : (n : ℕ) (entry : Entry) (history : List Entry) → entry.actor < n → total n history + 1 ≤ total n (entry ∷ history)
+total_more : (n : ℕ) (entry : Entry) (history : List Entry) → entry.actor < n →
+    total n history + 1 ≤ total n (entry ∷ history)
 total_more zero entry history below = absurd (omega (arith, below))
 total_more (suc n) entry history below = elim (cases_Bool (entry.actor == n)) [
   | inl own ↦
-      let before = total_no_less n entry history in
-      let e = own_count n entry history own in
-      omega (arith, before, e)
+      omega (arith, total_no_less n entry history, own_count n entry history own)
   | inr other ↦
       let lower : entry.actor < n = grind (arith, nat_tests) in
-      let before = total_more n entry history lower in
-      let one = no_less n entry history in
-      omega (arith, before, one)
+      omega (arith, total_more n entry history lower, no_less n entry history)
 ]
 
 covered : (n : ℕ) (history : List Entry) → All (λ entry. entry.actor < n) history → length history ≤ total n history
@@ -51,24 +49,21 @@ covered n [] all = omega arith
 covered n (entry ∷ history) all =
     let first : entry.actor < n = All-head (λ (e : Entry). e.actor < n) entry history all in
     let rest = covered n history (All-tail (λ (e : Entry). e.actor < n) entry history all) in
-    let one = total_more n entry history first in
-    omega (arith, rest, one)
+    omega (arith, rest, total_more n entry history first)
 
-bounded : (n : ℕ) (history : List Entry) → ((actor : ℕ) → length (entries_by actor history) ≤ most_each) → total n history ≤ n * 250_000
+bounded : (n : ℕ) (history : List Entry) → ((actor : ℕ) → length (entries_by actor history) ≤ most_each) →
+    total n history ≤ n * most_each
 bounded zero history each = omega arith
 bounded (suc n) history each =
-    let before : total n history ≤ n * 250_000 = bounded n history each in
-    let one : length (entries_by n history) ≤ 250_000 = each n in
-    omega (arith, before, one)
+    omega (arith, bounded n history each, each n)
 
 pub few_entries : (callers : ℕ) (history : List Entry) → AreFew callers history → length history ≤ 2_000_000
 few_entries callers history few =
     let all : length history ≤ total callers history = covered callers history few.actors in
-    let most : total callers history ≤ callers * 250_000 = bounded callers history few.each in
-    let callers_few : callers ≤ 8 = few.most in
-    omega (arith, all, most, callers_few)
+    omega (arith, all, bounded callers history few.each, few.most)
 
-pub few_added : (callers : ℕ) (entry : Entry) (history : List Entry) → AreFew callers history → entry.actor < callers → length (entries_by entry.actor history) < most_each → AreFew callers (entry ∷ history)
+pub few_added : (callers : ℕ) (entry : Entry) (history : List Entry) → AreFew callers history → entry.actor < callers →
+    length (entries_by entry.actor history) < most_each → AreFew callers (entry ∷ history)
 few_added callers entry history few below room = record {
   some = few.some;
   most = few.most;
@@ -77,7 +72,8 @@ few_added callers entry history few below room = record {
     | inl own ↦
         let same : entry.actor ≡ actor = grind (arith, nat_tests) in
         let e = own_count actor entry history own in
-        let less : length (entries_by actor history) < most_each = subst (λ (a : ℕ). length (entries_by a history) < most_each) same room in
+        let less : length (entries_by actor history) < most_each =
+        subst (λ (a : ℕ). length (entries_by a history) < most_each) same room in
         omega (arith, e, less)
     | inr other ↦
         let e = other_count actor entry history other in

@@ -1,9 +1,8 @@
 -- Callers of a board that was just opened.
-use Rattle.std.proofs.Common.{◌≡◌, ℕ, zero, suc, ◌+◌, ◌<◌, Option, Some, List, [], ◌∷◌, ◌++◌, length, get_or, map, refl, sym, ap, ◌∙◌, subst, arith, All, Any}
+use Rattle.std.proofs.Common.{◌≡◌, ℕ, zero, suc, ◌+◌, ◌<◌, Option, Some, List, [], ◌∷◌, ◌++◌, length, get_or, map, refl, sym, ap, ◌∙◌, subst, arith, Any}
 use Rattle.std.specs.Prelude.{reverse}
 use Rattle.std.specs.List.{range_with_len}
 use Rattle.std.proofs.lemmas.List.{map-append, reverse-reverse, get_or_default}
-use Rattle.std.proofs.lemmas.List.Elements.{All-nil}
 use Rattle.bus_turn.specs.Passes.{opened_of as opened_by, part_of}
 use Rattle.board_spec.specs.declared.event.Entry.{Entry}
 use Rattle.map_publish.specs.declared.viewer.Viewer.{Viewer}
@@ -20,27 +19,28 @@ use Rattle.board_live.specs.Passes.{SharedPass, IsViewerFor, setup_in, callers_i
 use Rattle.board_live.specs.declared.shared.Shared.{Shared}
 use Rattle.board_live.specs.Steps.{opened_with}
 use Rattle.board_live.proofs.Histories.{oldest_whole}
-use Rattle.board_live.specs.Callers.{IsCallerOf, IsSameCaller, AreAllOf, IsNewOf, seen_of, known_of}
+use Rattle.board_live.specs.Callers.{IsCallerOf, IsSameCaller, AreAllOf, IsNewOf}
 
 -- a pass that was opened with the same has the same viewers and the same callers
-pub viewer_for : (one other : SharedPass) (viewer : Viewer) → opened_by other ≡ opened_by one → part_of other ≡ part_of one → IsViewerFor one viewer → IsViewerFor other viewer
+pub viewer_for : (one other : SharedPass) (viewer : Viewer) → opened_by other ≡ opened_by one →
+    part_of other ≡ part_of one → IsViewerFor one viewer → IsViewerFor other viewer
 viewer_for one other viewer opened part has = record {
   part = subst
-      (λ (t : Option Origin × List Entry). t.0 ≡ Some (origin (origin_in t.0).setup (origin_in t.0).callers (reverse t.1) viewer.front.seen.book))
+      (λ (t : Option Origin × List Entry). t.0
+      ≡ Some (origin (origin_in t.0).setup (origin_in t.0).callers (reverse t.1) viewer.front.seen.book))
       (λ k. (sym part k, sym opened k)) has.part;
-  opens = subst (λ (t : Option Origin × List Entry). Opens (origin_in t.0).setup (reverse t.1) (opened_of viewer.front.seen.log)) (λ k. (sym part k, sym opened k)) has.opens;
+  opens = subst (λ (t : Option Origin × List Entry). Opens (origin_in t.0).setup (reverse t.1)
+      (opened_of viewer.front.seen.log)) (λ k. (sym part k, sym opened k)) has.opens;
   none = has.none;
 }
 
-pub new_of : (one other : SharedPass) (cpu : Cpu) → opened_by other ≡ opened_by one → part_of other ≡ part_of one → IsNewOf other cpu → IsNewOf one cpu
+pub new_of : (one other : SharedPass) (cpu : Cpu) → opened_by other ≡ opened_by one → part_of other ≡ part_of one →
+    IsNewOf other cpu → IsNewOf one cpu
 new_of one other cpu opened part new = record {
   part = new.part ∙ part;
   seen = new.seen ∙ ap reverse opened;
   known = new.known ∙ λ k. map_writes_of (origin_in (part k)).setup (reverse (opened k));
 }
-
-pub none_all : {X : Type 0} (P : X → Type 0) (xs : List X) → xs ≡ [] → All P xs
-none_all {X} P xs none = subst (λ (w : List X). All P w) (sym none) (All-nil P)
 
 range_more : (a n : ℕ) → range_with_len a (suc n) ≡ range_with_len a n ++ (a + n) ∷ []
 range_more a zero = let same : a ≡ a + 0 = omega arith in ap (λ (k : ℕ). k ∷ []) same
@@ -50,7 +50,8 @@ range_more a (suc n) =
 
 -- a caller more has the next number
 pub numbers_more : (cpus all : List Cpu) (cpu : Cpu) → all ≡ cpus ++ cpu ∷ [] → cpu.number ≡ length cpus + 1 →
-    map (λ (c : Cpu). c.number) cpus ≡ range_with_len 1 (length cpus) → map (λ (c : Cpu). c.number) all ≡ range_with_len 1 (length cpus + 1)
+    map (λ (c : Cpu). c.number) cpus ≡ range_with_len 1 (length cpus) →
+    map (λ (c : Cpu). c.number) all ≡ range_with_len 1 (length cpus + 1)
 numbers_more cpus all cpu is number before =
     let next : cpu.number ≡ 1 + length cpus = omega (arith, number) in
     let one : suc (length cpus) ≡ length cpus + 1 = omega arith in
@@ -61,18 +62,22 @@ numbers_more cpus all cpu is number before =
 -- ---- what a board is opened with
 
 pub opened_viewer :
-    (pass : SharedPass) (shared : Shared) (viewer : Viewer) → part_of pass ≡ Some (opened_with shared) → opened_by pass ≡ reverse shared.board.value.entries →
-    shared.opened ≡ length shared.board.value.entries → viewer.front ≡ shared.publisher.front → changes_of shared.publisher.front.seen.log ≡ [] → IsViewerFor pass viewer
+    (pass : SharedPass) (shared : Shared) (viewer : Viewer) → part_of pass ≡ Some (opened_with shared) →
+    opened_by pass ≡ reverse shared.board.value.entries →
+    shared.opened ≡ length shared.board.value.entries → viewer.front ≡ shared.publisher.front →
+    changes_of shared.publisher.front.seen.log ≡ [] → IsViewerFor pass viewer
 opened_viewer pass shared viewer part opened count front none =
     let setup : shared.board.value.setup ≡ setup_in pass = sym (ap (λ (o : Option Origin). (origin_in o).setup) part) in
     let callers : shared.callers ≡ callers_in pass = sym (ap (λ (o : Option Origin). (origin_in o).callers) part) in
     let whole : oldest shared.opened shared.board.value.entries ≡ opened_in pass =
     ap (λ (n : ℕ). oldest n shared.board.value.entries) count
-    ∙ (oldest_whole shared.board.value.entries ∙ sym (ap reverse opened ∙ reverse-reverse shared.board.value.entries)) in
+    ∙ (oldest_whole shared.board.value.entries
+    ∙ sym (ap reverse opened ∙ reverse-reverse shared.board.value.entries)) in
     let back : shared.publisher.front ≡ viewer.front = sym front in
     record {
       part = part ∙ λ k. Some (origin (setup k) (callers k) (whole k) (back k).seen.book);
-      opens = subst (λ (t : Setup × List Entry × Front). Opens t.0 t.1 (opened_of t.2.seen.log)) (λ k. (setup k, whole k, back k)) shared.opens;
+      opens = subst (λ (t : Setup × List Entry × Front). Opens t.0 t.1 (opened_of t.2.seen.log))
+          (λ k. (setup k, whole k, back k)) shared.opens;
       none = ap (λ (f : Front). changes_of f.seen.log) front ∙ none;
     }
 
@@ -92,16 +97,24 @@ any_numbered a (cpu ∷ later) is (suc number) below =
 -- all callers, after each has gone on
 pub all_again :
     (live : Live) (old new : List Cpu) → length new ≡ length old →
-    ((i : ℕ) (d : Cpu) → i < length old → IsCallerOf live (get_or new i d) × IsSameCaller (get_or old i d) (get_or new i d)) →
+    ((i : ℕ) (d : Cpu) → i < length old →
+    IsCallerOf live (get_or new i d) × IsSameCaller (get_or old i d) (get_or new i d)) →
     AreAllOf live old → AreAllOf live new
 all_again live old new size went all = record {
   opened = all.opened;
   own = λ k d below. (went k d (omega (arith, below, size))).0;
-  same = λ k d below. let within : k < length old = omega (arith, below, size) in (went k d within).1.part ∙ all.same k d within;
+  same = λ k d below. let within : k < length old = omega (arith, below, size) in
+      (went k d within).1.part ∙ all.same k d within;
   count = size ∙ all.count;
   some = omega (arith, size, all.some);
   each = λ number below.
       let (k, x, within, at', is) = all.each number (omega (arith, below, size)) in
-      let inside : k < length new = omega (arith, within, size) in
-      (k, get_or new k x, inside, get_or_default new k (get_or new k x) x inside, (went k x within).1.number ∙ (ap (λ (cpu : Cpu). cpu.number) at' ∙ is));
+      let inside : k < length new = omega (arith, within, size) in (
+        k,
+        get_or new k x,
+        inside,
+        get_or_default new k (get_or new k x) x inside,
+        (went k x within).1.number
+            ∙ (ap (λ (cpu : Cpu). cpu.number) at' ∙ is),
+      );
 }

@@ -1,5 +1,5 @@
 -- The opened map stands for the registers after the map writes of the history.
-use Rattle.std.proofs.Common.{◌≡◌, ℕ, ◌+◌, ◌*◌, ◌<◌, ◌≤◌, Bool, true, false, ◌&&◌, ◌||◌, List, Option, Some, None, refl, sym, ap, ◌∙◌, arith}
+use Rattle.std.proofs.Common.{◌≡◌, ℕ, ◌+◌, true, ◌&&◌, ◌||◌, List, Option, Some, None, refl, sym, ap, ◌∙◌, arith}
 use Rattle.std.specs.Prelude.{◌==◌, is_some}
 use Rattle.std.proofs.lemmas.Bool.Decides.{nat_tests}
 use Rattle.board_spec.specs.declared.event.Entry.{Entry}
@@ -7,8 +7,8 @@ use Rattle.board_spec.specs.Bits.{is_within}
 use Rattle.board_spec.specs.Setup.{Setup, card_at}
 use Rattle.board_spec.specs.Decode.{Bytes}
 use Rattle.board_spec.specs.Laws.{SameMapBytes}
-use Rattle.board_spec.specs.MapWrites.{has_rom, reg_after, map_writes_of, registers_after}
-use Rattle.board_spec.specs.RegisterNames.{bridge, isa, card_register, base_register, expansion_rom}
+use Rattle.board_spec.specs.MapWrites.{has_rom, map_writes_of, registers_after}
+use Rattle.board_spec.specs.RegisterNames.{bridge, smram, xbcs, card_register, base_register, expansion_rom}
 use Rattle.board_spec.specs.Registers.{byte_of}
 use Rattle.board_spec.proofs.MapWriteLaws.{map_writes_decide}
 use Rattle.board_spec.proofs.MapByteLaws.{third, fourth}
@@ -35,10 +35,12 @@ module _ (setup : Setup) (bytes other : Bytes) (same : SameMapBytes setup bytes 
       (is_some (card_at setup dev) && true && (off == 0x04 || is_within 0x10 0x27 off))
       (has_rom (card_at setup dev)) (is_within 0x30 0x33 off) fitted is)
 
-  rom_moves : (dev value : ℕ) (size : Option ℕ) → (is_some size ≡ true → has_rom (card_at setup dev) ≡ true) → HoldsRom bytes dev value size → HoldsRom other dev value size
+  rom_moves : (dev value : ℕ) (size : Option ℕ) → (is_some size ≡ true → has_rom (card_at setup dev) ≡ true) →
+      HoldsRom bytes dev value size → HoldsRom other dev value size
   rom_moves dev value None has holds = tt
   rom_moves dev value (Some bits) has holds =
-      holds-same bytes other (expansion_rom dev) value (λ j below. sym (rom_same dev (0x30 + j) (has refl) (grind (arith, nat_tests)))) holds
+      holds-same bytes other (expansion_rom dev) value
+      (λ j below. sym (rom_same dev (0x30 + j) (has refl) (grind (arith, nat_tests)))) holds
 
   decodes_moves : (card : CardBytes) → DecodesAs setup bytes card → DecodesAs setup other card
   decodes_moves card is =
@@ -48,20 +50,24 @@ module _ (setup : Setup) (bytes other : Bytes) (same : SameMapBytes setup bytes 
         command = sym (card_same card.card.dev 0x04 fitted refl) ∙ is.command;
         bases = λ k below.
             holds-same bytes other (base_register card.card.dev k) _
-            (λ j within. sym (card_same card.card.dev ((base_register card.card.dev k).off + j) fitted (grind (arith, nat_tests)))) (is.bases k below);
+            (λ j within. sym (card_same card.card.dev ((base_register card.card.dev k).off + j) fitted
+            (grind (arith, nat_tests)))) (is.bases k below);
         rom = rom_moves card.card.dev card.rom card.card.rom (λ some. ap has_rom is.fitted ∙ some) is.rom;
       }
 
-  pub stands_moves : (regs : MapBytes) → StandsFor setup bytes regs → StandsFor setup other regs
+  stands_moves : (regs : MapBytes) → StandsFor setup bytes regs → StandsFor setup other regs
   stands_moves regs stands = record {
     rows = λ row below. stands.rows row below ∙ bridge_same (0x60 + row) (grind (arith, nat_tests));
     hole = stands.hole ∙ bridge_same 0x68 refl;
     windows = λ off within. stands.windows off within ∙ bridge_same off (grind (arith, nat_tests));
-    smram = stands.smram ∙ same (bridge 0x72) refl;
-    xbcs = stands.xbcs ∙ same (isa 0x4E) refl;
+    smram = stands.smram ∙ same smram refl;
+    xbcs = stands.xbcs ∙ same xbcs refl;
     cards = (stands.cards.0, λ k d below. decodes_moves _ (stands.cards.1 k d below));
   }
 
-pub stands_after : (setup : Setup) (history : List Entry) (regs : MapBytes) → StandsFor setup (byte_of setup history) regs →
+pub stands_after : (setup : Setup) (history : List Entry) (regs : MapBytes) →
+    StandsFor setup (byte_of setup history) regs →
     StandsFor setup (registers_after setup (map_writes_of setup history)) regs
-stands_after setup history regs = stands_moves setup (byte_of setup history) (registers_after setup (map_writes_of setup history)) (map_writes_decide setup history) regs
+stands_after setup history regs =
+    stands_moves setup (byte_of setup history) (registers_after setup (map_writes_of setup history))
+    (map_writes_decide setup history) regs

@@ -1,16 +1,11 @@
--- What a caller's calls do.
-use Rattle.std.specs.Prelude.{ℕ, ◌≡◌, Bool, List, ◌∷◌, length}
-use Rattle.board_base.specs.declared.access.Kind.{Kind}
+-- What a call of the bus does.
+use Rattle.std.specs.Prelude.{◌≡◌, List, ◌∷◌, length}
 use Rattle.board_spec.specs.declared.event.Event.{Event}
 use Rattle.board_spec.specs.declared.event.Event.TheVariants.{Look as LookAt}
-use Rattle.board_spec.specs.declared.event.Look.{Look}
 use Rattle.board_spec.specs.declared.event.Entry.{Entry}
-use Rattle.board_spec.specs.declared.map_change.MapChange.{MapChange}
-use Rattle.board_spec.specs.Setup.{Setup}
 use Rattle.board_spec.specs.Answer.{IsAnswer}
 use Rattle.board_spec.specs.Legal.{entries_by, next_entry}
 use Rattle.board_spec.specs.MapWrites.{map_writes_of}
-use Rattle.map_publish.specs.Laws.{IsLookAfter}
 use Rattle.board_live.specs.declared.shared.Answered.{Answered}
 use Rattle.board_live.specs.declared.cpu.Cpu.{Cpu}
 use Rattle.board_live.specs.Known.{Extends}
@@ -39,7 +34,3 @@ pub record AddsNone (before now : Cpu) : Type 0 where
   pub mine : mine_of now ≡ mine_of before
   pub meets : Extends (known_of before) (known_of now)
   pub known : known_of now ≡ map_writes_of (setup_of before) (seen_of now)
-
--- what a look gives after these map writes: their number, and a span of the registers after them
-abbrev pub IsLookOf : Setup → List MapChange → (addr : ℕ) → Kind → (smm : Bool) → Look → Type 0
-IsLookOf setup writes addr kind smm look = IsLookAfter setup writes addr kind smm look

@@ -1,9 +1,9 @@
 -- What a caller knows. Histories and map writes have the newest first.
-use Rattle.std.specs.Prelude.{ℕ, ◌≡◌, ◌+◌, ◌<◌, List, [], ◌++◌, length, reverse, Option, Some}
+use Rattle.std.specs.Prelude.{ℕ, ◌≡◌, ◌+◌, ◌<◌, List, [], ◌++◌, reverse, Option, Some}
 use Rattle.atomic_table.specs.declared.shared.Seat.{Seat}
 use Rattle.logbook.specs.Pages.{Book}
 use Rattle.bus_turn.specs.declared.view.View.{View}
-use Rattle.bus_turn.specs.Passes.{IsIdle, number_of, splits_of, opened_of, part_of, seen_of, mine_of, joined_of}
+use Rattle.bus_turn.specs.Passes.{number_of, splits_of, opened_of, part_of, seen_of, mine_of, joined_of}
 use Rattle.bus_turn.specs.Views.{own_by}
 use Rattle.board_spec.specs.declared.event.Entry.{Entry}
 use Rattle.board_spec.specs.Setup.{Setup}

@@ -13,7 +13,8 @@ use Rattle.board_live.specs.Origins.{origin}
 -- what a shared board was opened with
 abbrev pub opened_with : Shared → Origin
 opened_with shared =
-    origin shared.board.value.setup shared.callers (oldest shared.opened shared.board.value.entries) shared.publisher.front.seen.book
+    origin shared.board.value.setup shared.callers (oldest shared.opened shared.board.value.entries)
+    shared.publisher.front.seen.book
 
 -- the same board, publisher and callers
 pub record IsSameBoard (before now : Shared) : Type 0 where
@@ -23,7 +24,7 @@ pub record IsSameBoard (before now : Shared) : Type 0 where
   pub book : now.publisher.front.seen.book ≡ before.publisher.front.seen.book
 
 -- a board did an event of a caller, which added one entry
-pub record Steps (number : ℕ) (event : Event) (answered : Answered) (before now : Standing) : Type 0 where
+pub record AddsEntry (number : ℕ) (event : Event) (answered : Answered) (before now : Standing) : Type 0 where
   pub place : answered.place ≡ length before.entries
   pub answer : IsAnswer before.setup before.entries event answered.reply
   pub entry : now.entries ≡ next_entry before.entries number event answered.reply ∷ before.entries

@@ -21,7 +21,8 @@ use bus_turn::{Held, Pass};
 use map_publish::{Publisher, Viewer};
 use std::sync::Wait;
 
-/// A caller: its number, its pass of the turn, and its viewer of the published map. It is not `Drop`: `Live::close` ends it.
+/// A caller: its number, its pass of the turn, and its viewer of the published map. It is not `Drop`: `Live::close`
+/// ends it.
 pub struct Cpu {
     pub number: u8,
     pub pass: Pass<Shared>,
@@ -50,15 +51,18 @@ fn meet<R: Wait>(rt: &R, publisher: &mut Publisher, viewer: &mut Viewer)
 fn enter<R: Wait>(live: &Live, rt: &R, pass: &mut Pass<Shared>, viewer: &mut Viewer) -> Held<Shared>
     requires own { IsOf live.now.turn pass.old }
     requires idle { IsIdle pass.old }
-    requires part { part_of pass.old ≡ Some (origin (setup_in pass.old) (callers_in pass.old) (opened_in pass.old) viewer.old.front.seen.book) }
+    requires part { part_of pass.old
+        ≡ Some (origin (setup_in pass.old) (callers_in pass.old) (opened_in pass.old) viewer.old.front.seen.book) }
     ensures own { IsOf live.now.turn pass.new }
     ensures holds { IsHolding pass.new }
-    ensures same { IsSamePass pass.old pass.new × HasSameJoined pass.old pass.new × (mine_in pass.new ≡ mine_in pass.old) }
+    ensures same { IsSamePass pass.old pass.new × HasSameJoined pass.old pass.new
+        × (mine_in pass.new ≡ mine_in pass.old) }
     ensures viewer { viewer.new ≡ viewer.old }
     ensures list { seen_in pass.new ≡ reverse result.value.board.value.entries }
     ensures begins { IsPrefix (seen_in pass.old) (reverse result.value.board.value.entries) }
     ensures opened { IsPrefix (opened_by pass.old) (reverse result.value.board.value.entries) }
-    ensures mine { own_by (λ entry. entry.actor) (number_of pass.old) (drop (length (opened_by pass.old)) (reverse result.value.board.value.entries)) ≡ mine_in pass.old }
+    ensures mine { own_by (λ entry. entry.actor) (number_of pass.old)
+        (drop (length (opened_by pass.old)) (reverse result.value.board.value.entries)) ≡ mine_in pass.old }
     ensures part { part_of pass.old ≡ Some (opened_with result.value) }
     ensures copies { result.value.publisher.front.seen.book ≡ viewer.old.front.seen.book }
     ensures meets { IsPrefix viewer.old.front.seen.log result.value.publisher.front.seen.log }
@@ -91,7 +95,8 @@ fn leave(live: &Live, pass: &mut Pass<Shared>, viewer: &mut Viewer, held: Held<S
 
 impl Cpu {
     ghost use Rattle.board_live.specs.Callers.{IsCallerOf, IsNewOf, IsSameCaller, setup_of, seen_of, mine_of, known_of};
-    ghost use Rattle.board_live.specs.Bus.{Adds, AddsNone, IsLookOf, IsNoLook};
+    ghost use Rattle.board_live.specs.Bus.{Adds, AddsNone, IsNoLook};
+    ghost use Rattle.map_publish.specs.Laws.{IsLookAfter};
     ghost use Rattle.board_live.specs.Known.{Extends, most_each};
 
     /// A caller that has seen what was opened.
@@ -113,9 +118,9 @@ impl Cpu {
         }
     }
 
-    /// Does an event at the shared board, in one turn. It waits for the turn, and for viewers that look at an older map.
-    /// The event is in range and is no look, and the caller has fewer than 250,000 entries. Refused for want of memory;
-    /// then no entry was added, and nothing was published.
+    /// Does an event at the shared board, in one turn. It waits for the turn, and for viewers that look at an older
+    /// map. The event is in range and is no look, and the caller has fewer than 250,000 entries. Refused for want of
+    /// memory; then no entry was added, and nothing was published.
     pub fn bus<R: Wait>(&mut self, live: &Live, rt: &R, event: &Event) -> Result<Answered, NoMemory>
         requires own { IsCallerOf live.now self.old }
         requires event { IsInRange (setup_of self.old) event.now }
@@ -147,7 +152,7 @@ impl Cpu {
         ensures same { IsSameCaller self.old self.new }
         ensures seen { (seen_of self.new ≡ seen_of self.old) × (mine_of self.new ≡ mine_of self.old) }
         ensures later { Extends (known_of self.old) (known_of self.new) }
-        ensures look { IsLookOf (setup_of self.new) (known_of self.new) addr kind smm result }
+        ensures look { IsLookAfter (setup_of self.new) (known_of self.new) addr kind smm result }
     {
         self.viewer.look(addr, kind, smm)
     }

@@ -1,4 +1,5 @@
-//! The shared board: callers on threads of their own take turns at one board, and look at its memory map without a turn.
+//! The shared board: callers on threads of their own take turns at one board, and look at its memory map without a
+//! turn.
 #![tactic(auto)]
 
 mod cpu;

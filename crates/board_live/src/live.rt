@@ -29,6 +29,7 @@ pub struct LiveOpen {
 }
 
 impl LiveOpen {
+    /// Gives the board back from the heap.
     fn of(board: Box<Board>) -> LiveOpen
         ensures board { result.board ≡ board.value }
     {
@@ -179,7 +180,8 @@ impl Live {
         requires cpus { All (IsCallerOf self.now) cpus.items }
         ensures own { IsOf self.now.turn pass.new }
         ensures idle { IsIdle pass.new }
-        ensures same { IsSamePass pass.old pass.new × (splits_of pass.new ≡ splits_of pass.old) × (mine_in pass.new ≡ mine_in pass.old) }
+        ensures same { IsSamePass pass.old pass.new × (splits_of pass.new ≡ splits_of pass.old)
+            × (mine_in pass.new ≡ mine_in pass.old) }
         ensures count { length (joined_of pass.new) ≡ length (joined_of pass.old) + length cpus.items }
         ensures seen { IsPrefix (seen_in pass.old) (seen_in pass.new) }
         ensures joined { All (IsJoined pass.new) cpus.items }

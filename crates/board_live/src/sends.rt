@@ -4,12 +4,14 @@ ghost use Rattle.std.specs.Prelude.{◌≡◌};
 use crate::cpu::Cpu;
 use crate::live::Live;
 
+/// The value itself, of a type that may go to another thread.
 fn sent<X: Send>(x: X) -> X
     ensures same { result ≡ x }
 {
     x
 }
 
+/// The reference itself, to a type that threads may share.
 fn lent<X: Sync>(x: &X) -> &X
     ensures same { result.now ≡ x.now }
 {

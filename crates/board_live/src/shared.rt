@@ -4,6 +4,7 @@ ghost use mathlib.Core.List.{IsPrefix};
 ghost use Rattle.board_spec.specs.InRange.{IsInRange};
 ghost use Rattle.board_spec.specs.Legal.{entries_by};
 ghost use Rattle.std.specs.Option.{option_to_list};
+ghost use Rattle.access_history.specs.Past.{most};
 ghost use Rattle.map_publish.specs.Lists.{opened_of, changes_of, version_after};
 ghost use Rattle.board_live.specs.Known.{oldest, ArePublished, Opens, most_each, AreFew};
 ghost use Rattle.board_live.specs.Props.{Opens-prop, AreFew-prop};
@@ -74,10 +75,11 @@ fn publish<R: Wait>(
     rt: &R,
     change: Option<MapChange>,
 ) -> Result<(), NoMemory>
-    requires room { version_after publisher.old.front.seen.log < 4_000_000 }
+    requires room { version_after publisher.old.front.seen.log < most }
     ensures own { publisher.new.front.seen.book ≡ publisher.old.front.seen.book }
     ensures opened { opened_of publisher.new.front.seen.log ≡ opened_of publisher.old.front.seen.log }
-    ensures ok { OnOk result (changes_of publisher.new.front.seen.log ≡ option_to_list change ++ changes_of publisher.old.front.seen.log) }
+    ensures ok { OnOk result (changes_of publisher.new.front.seen.log
+        ≡ option_to_list change ++ changes_of publisher.old.front.seen.log) }
     ensures refused { OnErr result (publisher.new.front.seen.log ≡ publisher.old.front.seen.log) }
     ensures later { IsPrefix publisher.old.front.seen.log publisher.new.front.seen.log }
 {
@@ -88,10 +90,10 @@ fn publish<R: Wait>(
 }
 
 impl Shared {
-    ghost use Rattle.board_live.specs.Steps.{Steps, IsSameBoard};
+    ghost use Rattle.board_live.specs.Steps.{AddsEntry, IsSameBoard};
 
-    /// Makes room, publishes the map write where the event is one, and steps the board. Refused for want of memory; then
-    /// the history and what is published are as before.
+    /// Makes room, publishes the map write where the event is one, and steps the board. Refused for want of memory;
+    /// then the history and what is published are as before.
     pub(crate) fn step<R: Wait>(
         &mut self,
         rt: &R,
@@ -102,7 +104,8 @@ impl Shared {
         requires few { length (entries_by number self.old.board.value.entries) < most_each }
         requires event { IsInRange self.old.board.value.setup event.now }
         ensures same { IsSameBoard self.old self.new }
-        ensures steps { IfOk result (λ answered. Steps number event.now answered self.old.board.value self.new.board.value) }
+        ensures steps { IfOk result (λ answered.
+            AddsEntry number event.now answered self.old.board.value self.new.board.value) }
         ensures refused { OnErr result (self.new.board.value.entries ≡ self.old.board.value.entries) }
         ensures later { IsPrefix self.old.publisher.front.seen.log self.new.publisher.front.seen.log }
         ensures unpublished { OnErr result (self.new.publisher.front.seen.log ≡ self.old.publisher.front.seen.log) }

@@ -42,6 +42,7 @@ fn pam0(value: u8) -> Event
     })
 }
 
+/// The reply to a write that this target took.
 fn written(target: Target) -> Reply {
     Reply::Bus {
         value: None,

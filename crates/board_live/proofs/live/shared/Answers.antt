@@ -1,8 +1,8 @@
-use Rattle.std.proofs.Common.{rules, ◌≡◌, ◌≤◌, ℕ, [], ◌++◌, List, length, sym, ap, ◌∙◌, subst, refl, arith}
+use Rattle.std.proofs.Common.{rules, ◌≡◌, ℕ, ◌++◌, List, length, sym, ap, ◌∙◌, subst, arith}
 use Rattle.board_spec.specs.declared.event.Entry.{Entry}
 use Rattle.board_spec.specs.declared.map_change.MapChange.{MapChange}
 use Rattle.board_spec.specs.MapWrites.{map_writes_of}
-use Rattle.map_publish.specs.Lists.{opened_of, changes_of}
+use Rattle.map_publish.specs.Lists.{opened_of}
 use Rattle.board_live.specs.Known.{oldest, Opens}
 use Rattle.board_live.proofs.Histories.{oldest_whole}
 use Rattle.board_live.proofs.live.shared.Goals as goal
@@ -12,12 +12,14 @@ invariant_of-result c =
     let board = c.args.board.value in
     let log = c.args.publisher.front.seen.log in
     let count : c.len-opened.result ≡ length board.entries = search rules in
-    let whole : oldest c.len-opened.result board.entries ≡ board.entries = ap (λ (n : ℕ). oldest n board.entries) count ∙ oldest_whole board.entries in
+    let whole : oldest c.len-opened.result board.entries ≡ board.entries =
+    ap (λ (n : ℕ). oldest n board.entries) count ∙ oldest_whole board.entries in
     record {
       within = omega (arith, count);
       few = c.requires.few;
       published =
           ap (map_writes_of board.setup) (sym whole)
-          ∙ ap (λ (w : List MapChange). w ++ map_writes_of board.setup (oldest c.len-opened.result board.entries)) (sym c.requires.none);
+          ∙ ap (λ (w : List MapChange). w ++ map_writes_of board.setup (oldest c.len-opened.result board.entries))
+          (sym c.requires.none);
       opens = subst (λ (h : List Entry). Opens board.setup h (opened_of log)) (sym whole) c.requires.opens;
     }

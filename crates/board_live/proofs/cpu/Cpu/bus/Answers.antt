@@ -1,22 +1,20 @@
-use Rattle.std.proofs.Common.{rules, ◌≡◌, ◌<◌, ◌∷◌, [], ◌++◌, ℕ, List, drop, reverse, length, sym, ap, ◌∙◌, subst, refl}
+use Rattle.std.proofs.Common.{rules, ◌≡◌, ◌<◌, ◌∷◌, [], ◌++◌, List, drop, reverse, length, sym, ap, ◌∙◌, subst, refl}
 use Rattle.std.proofs.lemmas.List.{reverse-append, reverse-reverse}
 use mathlib.Core.List.{IsPrefix}
 use Rattle.bus_turn.specs.Passes.{opened_of as opened_by, seen_of as seen_in, mine_of as mine_in, IsSameCaller as IsSamePass}
 use Rattle.bus_turn.specs.Views.{own_by}
 use Rattle.bus_turn.proofs.Rows.{prefix_trans}
 use Rattle.board_spec.specs.declared.event.Entry.{Entry}
-use Rattle.board_spec.specs.declared.map_change.MapChange.{MapChange}
 use Rattle.board_spec.specs.Setup.{Setup}
 use Rattle.board_spec.specs.Answer.{IsAnswer}
 use Rattle.board_spec.specs.Legal.{entries_by, next_entry}
 use Rattle.board_spec.specs.MapWrites.{map_writes_of}
 use Rattle.map_publish.specs.declared.mark.Mark.{Mark}
 use Rattle.map_publish.specs.Lists.{opened_of}
-use Rattle.board_live.specs.declared.shared.Shared.{Shared}
-use Rattle.board_live.specs.Known.{Extends, known_after, most_each}
+use Rattle.board_live.specs.Known.{known_after, most_each}
 use Rattle.board_live.specs.Steps.{IsSameBoard}
 use Rattle.board_live.specs.Passes.{setup_in, opened_in}
-use Rattle.board_live.proofs.Turns.{Finds, finds, known_left, passed_again, opens_again, own_pushed, own_first}
+use Rattle.board_live.proofs.Turns.{Finds, finds, known_left, passed_again, opens_again, own_pushed, own_first, passed_idly, HasLearnt, has_learnt}
 use Rattle.board_live.proofs.cpu.Cpu.bus.Goals as goal
 
 pub step-requires-clause-few : goal.step-requires-clause-few
@@ -24,8 +22,7 @@ step-requires-clause-few g c =
     let cpu = c.args.self.now in
     let held = c.enter-held.result.value in
     let e = c.enter-held.ensures in
-    let found : Finds cpu.number cpu.pass cpu.viewer.front.seen.log held =
-    finds cpu.number cpu.viewer.front.seen.book cpu.pass cpu.viewer.front.seen.log held cpu.passed e.begins e.opened e.mine e.part e.meets in
+    let found : Finds cpu held = finds cpu held e.begins e.opened e.mine e.part e.meets in
     subst (λ (w : List Entry). length w < most_each) (sym found.own) c.requires.room
 
 pub commit-requires-clause-adds : goal.commit-requires-clause-adds
@@ -36,16 +33,19 @@ commit-requires-clause-adds g c =
     let entries : c.step.new.self.board.value.entries ≡ entry ∷ held.board.value.entries = search rules in
     let list : seen_in c.enter-held.new.pass ≡ reverse held.board.value.entries = c.enter-held.ensures.list in (
       entry,
-      ap reverse entries ∙ (reverse-append (entry ∷ []) held.board.value.entries ∙ ap (λ (w : List Entry). w ++ entry ∷ []) (sym list)),
+      ap reverse entries ∙ (reverse-append (entry ∷ []) held.board.value.entries
+          ∙ ap (λ (w : List Entry). w ++ entry ∷ []) (sym list)),
       search rules,
     )
 
 pub leave-requires-clause-begins : goal.leave-requires-clause-begins
 leave-requires-clause-begins g c =
     let viewer : c.enter-held.new.viewer.front.seen.log ≡ c.args.self.now.viewer.front.seen.log = search rules in
-    let now : c.commit.new.held.value.publisher.front.seen.log ≡ c.step.new.self.publisher.front.seen.log = search rules in
+    let now : c.commit.new.held.value.publisher.front.seen.log ≡ c.step.new.self.publisher.front.seen.log =
+    search rules in
     subst (λ (z : List Mark × List Mark). IsPrefix z.0 z.1) (λ k. (sym viewer k, sym now k))
-    (prefix_trans c.args.self.now.viewer.front.seen.log c.enter-held.result.value.publisher.front.seen.log c.step.new.self.publisher.front.seen.log
+    (prefix_trans c.args.self.now.viewer.front.seen.log c.enter-held.result.value.publisher.front.seen.log
+    c.step.new.self.publisher.front.seen.log
     c.enter-held.ensures.meets c.step.ensures.later)
 
 pub invariant_of-self : goal.invariant_of-self
@@ -56,43 +56,37 @@ invariant_of-self g c =
     let now = c.leave.new.pass in
     let e = c.enter-held.ensures in
     let same : IsSamePass pass now = search rules in
-    let found : Finds cpu.number pass cpu.viewer.front.seen.log held =
-    finds cpu.number cpu.viewer.front.seen.book pass cpu.viewer.front.seen.log held cpu.passed e.begins e.opened e.mine e.part e.meets in
+    let found : Finds cpu held = finds cpu held e.begins e.opened e.mine e.part e.meets in
     let entry : Entry = next_entry held.board.value.entries cpu.number c.args.event.now c.in-Ok.answered.reply in
     let entries : c.step.new.self.board.value.entries ≡ entry ∷ held.board.value.entries = search rules in
     let list = reverse held.board.value.entries in
-    let whole : reverse c.step.new.self.board.value.entries ≡ list ++ entry ∷ [] = ap reverse entries ∙ reverse-append (entry ∷ []) held.board.value.entries in
+    let whole : reverse c.step.new.self.board.value.entries ≡ list ++ entry ∷ [] =
+    ap reverse entries ∙ reverse-append (entry ∷ []) held.board.value.entries in
     let seen : seen_in now ≡ list ++ entry ∷ [] = search (rules, whole) in
     let mine : mine_in now ≡ mine_in pass ++ drop (length list) (list ++ entry ∷ []) = search (rules, whole) in
     let opened : opened_of c.leave.new.viewer.front.seen.log ≡ opened_of cpu.viewer.front.seen.log = search rules in
     record {
-      passed = passed_again cpu.number cpu.viewer.front.seen.book c.leave.new.viewer.front.seen.book pass now cpu.passed same (search rules) (search rules)
+      passed = passed_again cpu c.leave.new.viewer.front.seen.book now same (search rules) (search rules)
           (ap (own_by (λ (entry : Entry). entry.actor) cpu.number) seen
           ∙ (own_pushed cpu.number (opened_by pass) list (mine_in pass) entry refl found.listed
-          ∙ ap (λ (w : List Entry). own_by (λ (entry : Entry). entry.actor) cpu.number (opened_by pass) ++ w) (sym mine)));
+          ∙ ap (λ (w : List Entry). own_by (λ (entry : Entry). entry.actor) cpu.number (opened_by pass) ++ w)
+          (sym mine)));
       idle = c.leave.ensures.idle;
-      opens = opens_again pass now (opened_of cpu.viewer.front.seen.log) (opened_of c.leave.new.viewer.front.seen.log) same opened cpu.opens;
+      opens = opens_again cpu now (opened_of c.leave.new.viewer.front.seen.log) same opened;
     }
 
 pub invariant_of-self-in-Err : goal.invariant_of-self-in-Err
 invariant_of-self-in-Err g c =
     let cpu = c.args.self.now in
     let held = c.enter-held.result.value in
-    let pass = cpu.pass in
     let now = c.leave-in-Err.new.pass in
     let e = c.enter-held.ensures in
-    let same : IsSamePass pass now = search rules in
-    let found : Finds cpu.number pass cpu.viewer.front.seen.log held =
-    finds cpu.number cpu.viewer.front.seen.book pass cpu.viewer.front.seen.log held cpu.passed e.begins e.opened e.mine e.part e.meets in
-    let seen : seen_in now ≡ reverse held.board.value.entries = search rules in
-    let mine : mine_in now ≡ mine_in pass = search rules in
-    let opened : opened_of c.leave-in-Err.new.viewer.front.seen.log ≡ opened_of cpu.viewer.front.seen.log = search rules in
+    let found : Finds cpu held = finds cpu held e.begins e.opened e.mine e.part e.meets in
     record {
-      passed = passed_again cpu.number cpu.viewer.front.seen.book c.leave-in-Err.new.viewer.front.seen.book pass now cpu.passed same (search rules) (search rules)
-          (ap (own_by (λ (entry : Entry). entry.actor) cpu.number) seen
-          ∙ (found.listed ∙ ap (λ (w : List Entry). own_by (λ (entry : Entry). entry.actor) cpu.number (opened_by pass) ++ w) (sym mine)));
+      passed = passed_idly cpu held c.leave-in-Err.new.viewer.front.seen.book now found (search rules) (search rules)
+          (search rules) (search rules) (search rules);
       idle = c.leave-in-Err.ensures.idle;
-      opens = opens_again pass now (opened_of cpu.viewer.front.seen.log) (opened_of c.leave-in-Err.new.viewer.front.seen.log) same opened cpu.opens;
+      opens = opens_again cpu now (opened_of c.leave-in-Err.new.viewer.front.seen.log) (search rules) (search rules);
     }
 
 pub returns-in-Ok-clause-added : goal.returns-in-Ok-clause-added
@@ -102,28 +96,33 @@ returns-in-Ok-clause-added g c =
     let pass = cpu.pass in
     let now = c.leave.new.pass in
     let e = c.enter-held.ensures in
-    let found : Finds cpu.number pass cpu.viewer.front.seen.log held =
-    finds cpu.number cpu.viewer.front.seen.book pass cpu.viewer.front.seen.log held cpu.passed e.begins e.opened e.mine e.part e.meets in
+    let found : Finds cpu held = finds cpu held e.begins e.opened e.mine e.part e.meets in
     let same : IsSamePass pass now = search rules in
     let stepped : IsSameBoard held c.step.new.self = c.step.ensures.same in
     let entry : Entry = next_entry held.board.value.entries cpu.number c.args.event.now c.in-Ok.answered.reply in
     let entries : c.step.new.self.board.value.entries ≡ entry ∷ held.board.value.entries = search rules in
     let listed : seen_in now ≡ reverse c.step.new.self.board.value.entries = search rules in
-    let seen : reverse (seen_in now) ≡ entry ∷ held.board.value.entries = ap reverse listed ∙ (reverse-reverse c.step.new.self.board.value.entries ∙ entries) in
+    let seen : reverse (seen_in now) ≡ entry ∷ held.board.value.entries =
+    ap reverse listed ∙ (reverse-reverse c.step.new.self.board.value.entries ∙ entries) in
     let log : c.leave.new.viewer.front.seen.log ≡ c.step.new.self.publisher.front.seen.log = search rules in
-    let known : known_after (setup_in now) (opened_in now) c.leave.new.viewer.front.seen.log ≡ map_writes_of (setup_in pass) c.step.new.self.board.value.entries =
-    known_left pass now c.step.new.self c.leave.new.viewer.front.seen.log same log (found.setup ∙ sym stepped.setup) (found.opened ∙ sym stepped.opened) in
+    let known : known_after (setup_in now) (opened_in now) c.leave.new.viewer.front.seen.log
+    ≡ map_writes_of (setup_in pass) c.step.new.self.board.value.entries =
+    known_left pass now c.step.new.self c.leave.new.viewer.front.seen.log same log (found.setup ∙ sym stepped.setup)
+    (found.opened ∙ sym stepped.opened) in
     let place : c.in-Ok.answered.place ≡ length held.board.value.entries = search rules in
-    let answer : IsAnswer held.board.value.setup held.board.value.entries c.args.event.now c.in-Ok.answered.reply = search rules in
+    let answer : IsAnswer held.board.value.setup held.board.value.entries c.args.event.now c.in-Ok.answered.reply =
+    search rules in
     record {
       list = held.board.value.entries;
       begins = found.begins;
       own = found.own;
       meets = found.meets;
       place = place;
-      answer = subst (λ (setup : Setup). IsAnswer setup held.board.value.entries c.args.event.now c.in-Ok.answered.reply) (sym found.setup) answer;
+      answer = subst (λ (setup : Setup).
+          IsAnswer setup held.board.value.entries c.args.event.now c.in-Ok.answered.reply) (sym found.setup) answer;
       seen = seen;
-      mine = ap (entries_by cpu.number) seen ∙ (own_first cpu.number entry held.board.value.entries refl ∙ ap (λ (w : List Entry). entry ∷ w) found.own);
+      mine = ap (entries_by cpu.number) seen
+          ∙ (own_first cpu.number entry held.board.value.entries refl ∙ ap (λ (w : List Entry). entry ∷ w) found.own);
       known = known ∙ ap (map_writes_of (setup_in pass)) (entries ∙ sym seen);
     }
 
@@ -131,20 +130,8 @@ pub returns-in-Err-clause-refused : goal.returns-in-Err-clause-refused
 returns-in-Err-clause-refused g c =
     let cpu = c.args.self.now in
     let held = c.enter-held.result.value in
-    let pass = cpu.pass in
-    let now = c.leave-in-Err.new.pass in
     let e = c.enter-held.ensures in
-    let found : Finds cpu.number pass cpu.viewer.front.seen.log held =
-    finds cpu.number cpu.viewer.front.seen.book pass cpu.viewer.front.seen.log held cpu.passed e.begins e.opened e.mine e.part e.meets in
-    let same : IsSamePass pass now = search rules in
-    let listed : seen_in now ≡ reverse held.board.value.entries = search rules in
-    let seen : reverse (seen_in now) ≡ held.board.value.entries = ap reverse listed ∙ reverse-reverse held.board.value.entries in
-    let log : c.leave-in-Err.new.viewer.front.seen.log ≡ held.publisher.front.seen.log = search rules in
-    let known : known_after (setup_in now) (opened_in now) c.leave-in-Err.new.viewer.front.seen.log ≡ map_writes_of (setup_in pass) held.board.value.entries =
-    known_left pass now held c.leave-in-Err.new.viewer.front.seen.log same log found.setup found.opened in
-    record {
-      begins = subst (λ (h : List Entry). Extends (reverse (seen_in pass)) h) (sym seen) found.begins;
-      mine = ap (entries_by cpu.number) seen ∙ found.own;
-      meets = subst (λ (w : List MapChange). Extends (known_after (setup_in pass) (opened_in pass) cpu.viewer.front.seen.log) w) (sym known) found.meets;
-      known = known ∙ ap (map_writes_of (setup_in pass)) (sym seen);
-    }
+    let found : Finds cpu held = finds cpu held e.begins e.opened e.mine e.part e.meets in
+    let learnt : HasLearnt cpu c.leave-in-Err.new.pass c.leave-in-Err.new.viewer.front.seen.log =
+    has_learnt cpu held _ _ found (search rules) (search rules) (search rules) in
+    record { begins = learnt.begins; mine = learnt.mine; meets = learnt.meets; known = learnt.known }

@@ -1,4 +1,4 @@
-use Rattle.std.proofs.Common.{◌≡◌, List, sym, subst}
+use Rattle.std.proofs.Common.{sym, subst}
 use Rattle.map_builder.specs.Map.{Mapped}
 use Rattle.map_publish.specs.Lists.{opened_of}
 use Rattle.board_live.specs.Known.{Opens}
@@ -11,12 +11,15 @@ use Rattle.board_live.proofs.cpu.Cpu.look.Goals as goal
 pub returns-clause-later : goal.returns-clause-later
 returns-clause-later c =
     let pass = c.args.self.now.pass in
-    known_extend (setup_in pass) (opened_in pass) c.args.self.now.viewer.front.seen.log c.look.new.self.front.seen.log c.look.ensures.later
+    known_extend (setup_in pass) (opened_in pass) c.args.self.now.viewer.front.seen.log c.look.new.self.front.seen.log
+    c.look.ensures.later
 
 pub returns-clause-look : goal.returns-clause-look
 returns-clause-look c =
     let pass = c.args.self.now.pass in
     let log = c.look.new.self.front.seen.log in
     let opens : Opens (setup_in pass) (opened_in pass) (opened_of log) =
-    subst (λ (map : Mapped). Opens (setup_in pass) (opened_in pass) map) (sym c.look.ensures.opened) c.args.self.now.opens in
-    looks_go_on (setup_in pass) (map_writes_of (setup_in pass) (opened_in pass)) log c.args.addr c.args.kind c.args.smm c.look.result opens c.look.ensures.look
+    subst (λ (map : Mapped). Opens (setup_in pass) (opened_in pass) map)
+    (sym c.look.ensures.opened) c.args.self.now.opens in
+    looks_go_on (setup_in pass) (map_writes_of (setup_in pass) (opened_in pass)) log c.args.addr c.args.kind c.args.smm
+    c.look.result opens c.look.ensures.look

@@ -1,22 +1,22 @@
-use Rattle.std.proofs.Common.{rules, ◌≡◌, ℕ, ◌+◌, ◌≤◌, List, Some, [], ◌∷◌, ◌++◌, length, map, All, sym, ap, ◌∙◌, subst, refl, arith, vec_capacity, length-append}
+use Rattle.std.proofs.Common.{rules, ◌≡◌, ℕ, ◌+◌, List, Some, [], ◌∷◌, ◌++◌, length, map, sym, ap, ◌∙◌, subst, refl, arith, length-append}
 use Rattle.std.specs.List.{range_with_len}
-use Rattle.std.proofs.lemmas.List.Elements.{All-same, All-push, All-pop}
-use Rattle.bus_turn.specs.Passes.{IsSameCaller as IsSamePass, opened_of as opened_by, part_of, splits_of}
-use Rattle.map_publish.specs.declared.viewer.Viewer.{Viewer}
+use Rattle.std.proofs.lemmas.List.Elements.{All-nil, All-same, All-push, All-pop}
 use Rattle.board_live.specs.declared.cpu.Cpu.{Cpu}
-use Rattle.board_live.specs.Passes.{IsFresh, IsViewerFor, callers_in}
+use Rattle.board_live.specs.Passes.{IsViewerFor}
 use Rattle.board_live.specs.Callers.{IsCallerOf, IsNewOf}
-use Rattle.board_live.proofs.Opening.{viewer_for, new_of, none_all, numbers_more}
+use Rattle.board_live.proofs.Opening.{viewer_for, new_of, numbers_more}
 use Rattle.board_live.proofs.live.Live.callers.Goals as goal
 
 pub loop-viewer-init : goal.loop-viewer-init
 loop-viewer-init c =
     let pass = c.args.pass in
     let is : c.args.viewers.items ≡ c.pop.new.self.items ++ c.unwrap-first.result ∷ [] = search rules in
-    let viewers = All-pop (IsViewerFor pass) c.args.viewers.items c.pop.new.self.items (Some c.unwrap-first.result) is c.requires.viewers in
+    let viewers = All-pop (IsViewerFor pass) c.args.viewers.items c.pop.new.self.items
+    (Some c.unwrap-first.result) is c.requires.viewers in
     let none = c.requires.room.0 in
     let no_cpus : length c.args.cpus.items ≡ 0 = ap length none in
-    let long : length c.args.viewers.items ≡ length c.pop.new.self.items + 1 = ap length is ∙ length-append c.pop.new.self.items (c.unwrap-first.result ∷ []) in
+    let long : length c.args.viewers.items ≡ length c.pop.new.self.items + 1 =
+    ap length is ∙ length-append c.pop.new.self.items (c.unwrap-first.result ∷ []) in
     record {
       own = c.requires.own;
       idle = c.requires.idle;
@@ -26,19 +26,24 @@ loop-viewer-init c =
       left = omega (arith, no_cpus, long, c.requires.count);
       viewers = viewers.0;
       room = c.requires.room.1;
-      callers = none_all (IsCallerOf c.args.self.now) c.args.cpus.items none;
-      new = none_all (IsNewOf pass) c.args.cpus.items none;
-      numbers = subst (λ (w : List Cpu). map (λ (cpu : Cpu). cpu.number) w ≡ range_with_len 1 (length w)) (sym none) refl;
+      callers = All-same (IsCallerOf c.args.self.now) c.args.cpus.items [] none
+          (All-nil (IsCallerOf c.args.self.now));
+      new = All-same (IsNewOf pass) c.args.cpus.items [] none (All-nil (IsNewOf pass));
+      numbers = subst (λ (w : List Cpu). map (λ (cpu : Cpu). cpu.number) w ≡ range_with_len 1 (length w))
+          (sym none) refl;
     }
 
 pub new-requires-clause-viewer : goal.new-requires-clause-viewer
 new-requires-clause-viewer c =
     let i = c.loop-viewer.invariant in
-    let is : c.loop-viewer.viewers.items ≡ c.pop-in-loop-viewer.new.self.items ++ c.in-Some.viewer ∷ [] = search rules in
-    let viewers = All-pop (IsViewerFor c.args.pass) c.loop-viewer.viewers.items c.pop-in-loop-viewer.new.self.items (Some c.in-Some.viewer) is i.viewers in
+    let is : c.loop-viewer.viewers.items ≡ c.pop-in-loop-viewer.new.self.items ++ c.in-Some.viewer ∷ [] =
+    search rules in
+    let viewers = All-pop (IsViewerFor c.args.pass) c.loop-viewer.viewers.items c.pop-in-loop-viewer.new.self.items
+    (Some c.in-Some.viewer) is i.viewers in
     let further = c.split-further.ensures.further in
     let same = c.split-further.ensures.same in
-    viewer_for c.args.pass c.split-further.result c.in-Some.viewer (further.opened ∙ (same.1 ∙ i.same.1)) (further.part ∙ (same.2 ∙ i.same.2)) viewers.1
+    viewer_for c.args.pass c.split-further.result c.in-Some.viewer (further.opened ∙ (same.1 ∙ i.same.1))
+    (further.part ∙ (same.2 ∙ i.same.2)) viewers.1
 
 pub loop-viewer-preserved : goal.loop-viewer-preserved
 loop-viewer-preserved c =
@@ -46,16 +51,20 @@ loop-viewer-preserved c =
     let cpus = c.loop-viewer.cpus.items in
     let all = c.push.new.self.items in
     let cpu = c.new.result in
-    let is : c.loop-viewer.viewers.items ≡ c.pop-in-loop-viewer.new.self.items ++ c.in-Some.viewer ∷ [] = search rules in
-    let viewers = All-pop (IsViewerFor c.args.pass) c.loop-viewer.viewers.items c.pop-in-loop-viewer.new.self.items (Some c.in-Some.viewer) is i.viewers in
+    let is : c.loop-viewer.viewers.items ≡ c.pop-in-loop-viewer.new.self.items ++ c.in-Some.viewer ∷ [] =
+    search rules in
+    let viewers = All-pop (IsViewerFor c.args.pass) c.loop-viewer.viewers.items c.pop-in-loop-viewer.new.self.items
+    (Some c.in-Some.viewer) is i.viewers in
     let added : all ≡ cpus ++ cpu ∷ [] = search rules in
     let long : length all ≡ length cpus + 1 = ap length added ∙ length-append cpus (cpu ∷ []) in
-    let fewer : length c.loop-viewer.viewers.items ≡ length c.pop-in-loop-viewer.new.self.items + 1 = ap length is ∙ length-append c.pop-in-loop-viewer.new.self.items (c.in-Some.viewer ∷ []) in
+    let fewer : length c.loop-viewer.viewers.items ≡ length c.pop-in-loop-viewer.new.self.items + 1 =
+    ap length is ∙ length-append c.pop-in-loop-viewer.new.self.items (c.in-Some.viewer ∷ []) in
     let further = c.split-further.ensures.further in
     let same = c.split-further.ensures.same in
     let own : IsCallerOf c.args.self.now cpu = search rules in
     let new : IsNewOf c.args.pass cpu =
-    new_of c.args.pass c.split-further.result cpu (further.opened ∙ (same.1 ∙ i.same.1)) (further.part ∙ (same.2 ∙ i.same.2)) c.new.ensures.new in
+    new_of c.args.pass c.split-further.result cpu (further.opened ∙ (same.1 ∙ i.same.1))
+    (further.part ∙ (same.2 ∙ i.same.2)) c.new.ensures.new in
     let number : cpu.number ≡ length cpus + 1 = search rules in
     record {
       own = c.split-further.ensures.own.0;
@@ -70,8 +79,10 @@ loop-viewer-preserved c =
       left = omega (arith, i.left, long, fewer);
       viewers = viewers.0;
       room = search rules;
-      callers = All-same (IsCallerOf c.args.self.now) all (cpus ++ cpu ∷ []) added (All-push (IsCallerOf c.args.self.now) cpus cpu i.callers own);
-      new = All-same (IsNewOf c.args.pass) all (cpus ++ cpu ∷ []) added (All-push (IsNewOf c.args.pass) cpus cpu i.new new);
+      callers = All-same (IsCallerOf c.args.self.now) all (cpus ++ cpu ∷ []) added
+          (All-push (IsCallerOf c.args.self.now) cpus cpu i.callers own);
+      new = All-same (IsNewOf c.args.pass) all (cpus ++ cpu ∷ []) added
+          (All-push (IsNewOf c.args.pass) cpus cpu i.new new);
       numbers = numbers_more cpus all cpu added number i.numbers ∙ ap (range_with_len 1) (sym long);
     }
 
@@ -79,5 +90,6 @@ pub new-requires-2-clause-viewer : goal.new-requires-2-clause-viewer
 new-requires-2-clause-viewer c =
     let i = c.loop-viewer.invariant in
     let is : c.args.viewers.items ≡ c.pop.new.self.items ++ c.unwrap-first.result ∷ [] = search rules in
-    let viewers = All-pop (IsViewerFor c.args.pass) c.args.viewers.items c.pop.new.self.items (Some c.unwrap-first.result) is c.requires.viewers in
+    let viewers = All-pop (IsViewerFor c.args.pass) c.args.viewers.items c.pop.new.self.items
+    (Some c.unwrap-first.result) is c.requires.viewers in
     viewer_for c.args.pass c.loop-viewer.pass c.unwrap-first.result i.same.1 i.same.2 viewers.1

@@ -1,4 +1,4 @@
-use Rattle.std.proofs.Common.{◌≡◌, ◌+◌, ◌≤◌, ◌<◌, length, map, All, vec_capacity}
+use Rattle.std.proofs.Common.{◌≡◌, ◌+◌, ◌≤◌, length, map, All, vec_capacity}
 use Rattle.std.specs.List.{range_with_len}
 use Rattle.bus_turn.specs.Passes.{IsIdle, IsSameCaller as IsSamePass, splits_of}
 use Rattle.bus_turn.specs.Turns.{IsOf}

@@ -1,4 +1,4 @@
-use Rattle.std.proofs.Common.{rules, ◌≡◌, ℕ, ◌<◌, List, ◌∷◌, length, drop, get_or, remove, reverse, All, Some, sym, ap, ◌∙◌, subst, arith}
+use Rattle.std.proofs.Common.{rules, ◌≡◌, ℕ, ◌<◌, List, ◌∷◌, length, drop, get_or, remove, reverse, All, Some, sym, ◌∙◌, subst}
 use Rattle.std.specs.List.{Any}
 use Rattle.std.proofs.lemmas.List.Elements.{All-cons, All-get_or}
 use Rattle.std.proofs.lemmas.List.Sorted.{IsPermutation-remove, IsPermutation-sym, All-permutation}
@@ -8,17 +8,18 @@ use Rattle.bus_turn.specs.Views.{own_by}
 use Rattle.board_spec.specs.declared.event.Entry.{Entry}
 use Rattle.board_core.specs.Kept.{Standing}
 use Rattle.board_live.specs.declared.cpu.Cpu.{Cpu}
-use Rattle.board_live.specs.declared.shared.Origin.{Origin}
 use Rattle.board_live.specs.Steps.{opened_with}
 use Rattle.board_live.specs.Callers.{Closes}
-use Rattle.board_live.specs.Joins.{HasOwn}
 use Rattle.board_live.proofs.Joining.{caught_up, closes, closes_joined, opened_same}
 use Rattle.board_live.proofs.live.Live.close.Goals as goal
 
 pub place_of_first-place-requires : goal.place_of_first-place-requires
 place_of_first-place-requires g c =
     let some : Any (λ (cpu : Cpu). cpu.number ≡ 0) c.args.cpus.items = c.requires.cpus.each 0 c.requires.cpus.some in
-    record { first = subst (λ (cpus : List Cpu). Any (λ (cpu : Cpu). cpu.number ≡ 0) cpus) (sym c.deref.ensures.value) some }
+    record {
+      first = subst (λ (cpus : List Cpu). Any (λ (cpu : Cpu). cpu.number ≡ 0) cpus)
+          (sym c.deref.ensures.value) some;
+    }
 
 pub returns-clause-cpus : goal.returns-clause-cpus
 returns-clause-cpus g c =
@@ -34,7 +35,8 @@ returns-clause-cpus g c =
     let is : first ≡ get_or items place first = search rules in
     let left : rest ≡ remove items place = search rules in
     let first_part : part_of first.pass ≡ Some opened =
-    subst (λ (cpu : Cpu). part_of cpu.pass ≡ Some opened) (sym is) (All-get_or (λ (cpu : Cpu). part_of cpu.pass ≡ Some opened) items place first below c.requires.cpus.same) in
+    subst (λ (cpu : Cpu). part_of cpu.pass ≡ Some opened) (sym is)
+    (All-get_or (λ (cpu : Cpu). part_of cpu.pass ≡ Some opened) items place first below c.requires.cpus.same) in
     let rest_part : All (λ (cpu : Cpu). part_of cpu.pass ≡ Some opened) rest = search rules in
     let same : IsSamePass now.pass pass = search rules in
     let pass_part : part_of pass ≡ part_of first.pass = search rules in
@@ -43,19 +45,24 @@ returns-clause-cpus g c =
     let seen : IsPrefix (seen_in now.pass) (seen_in pass) = c.join.ensures.seen in
     let has = caught_up pass first now c.catch_up.ensures.same c.catch_up.ensures.seen seen in
     let mines : mine_in pass ≡ mine_in now.pass = search rules in
-    let own : own_by (λ (entry : Entry). entry.actor) (number_of now.pass) (drop (length (opened_by pass)) (reverse done.board.value.entries)) ≡ mine_in now.pass =
-    subst (λ (z : ℕ × List Entry). own_by (λ (entry : Entry). entry.actor) z.0 (drop (length (opened_by pass)) (reverse done.board.value.entries)) ≡ z.1)
+    let own : own_by (λ (entry : Entry). entry.actor) (number_of now.pass)
+    (drop (length (opened_by pass)) (reverse done.board.value.entries)) ≡ mine_in now.pass =
+    subst (λ (z : ℕ × List Entry). own_by (λ (entry : Entry). entry.actor) z.0
+    (drop (length (opened_by pass)) (reverse done.board.value.entries)) ≡ z.1)
     (λ k. (same.0 k, mines k)) c.close.ensures.mine in
     let firstly : Closes done.board.value first =
-    closes pass done first (number_of now.pass, mine_in now.pass) has.0 has.1 has.2 own c.close.ensures.begins c.close.ensures.opened opened_first (first_part ∙ part) in
+    closes pass done first (number_of now.pass, mine_in now.pass) has.0 has.1 has.2 own c.close.ensures.begins
+    c.close.ensures.opened opened_first (first_part ∙ part) in
     let others : All (Closes done.board.value) rest =
     λ k d within.
     let cpu = get_or rest k d in
     let its_part : part_of cpu.pass ≡ Some opened = rest_part k d within in
-    closes_joined pass done cpu (c.join.ensures.joined k d within) c.close.ensures.joined c.close.ensures.begins c.close.ensures.opened
+    closes_joined pass done cpu (c.join.ensures.joined k d within) c.close.ensures.joined c.close.ensures.begins
+    c.close.ensures.opened
     (opened_same cpu first (its_part ∙ sym first_part) ∙ opened_first) (its_part ∙ part) in
     let all : All (Closes done.board.value) items =
     All-permutation (Closes done.board.value) (first ∷ remove items place) items
     (IsPermutation-sym items (first ∷ remove items place) (IsPermutation-remove items place first below is))
-    (All-cons (Closes done.board.value) first (remove items place) firstly (subst (λ (w : List Cpu). All (Closes done.board.value) w) left others)) in
+    (All-cons (Closes done.board.value) first (remove items place) firstly
+    (subst (λ (w : List Cpu). All (Closes done.board.value) w) left others)) in
     subst (λ (b : Standing). All (Closes b) items) (sym c.unshared.ensures.board) all

@@ -1,8 +1,7 @@
-use Rattle.std.proofs.Common.{rules, ◌≡◌, ℕ, ◌+◌, List, [], ◌∷◌, ◌++◌, length, take, drop, All, sym, ap, ◌∙◌, subst, refl, arith, length-append}
+use Rattle.std.proofs.Common.{rules, ◌≡◌, ℕ, ◌+◌, List, [], ◌∷◌, ◌++◌, length, drop, All, sym, ap, ◌∙◌, subst, arith, length-append}
 use Rattle.std.proofs.lemmas.List.Elements.{All-cons, All-weaker}
 use Rattle.bus_turn.specs.Passes.{number_of, mine_of as mine_in, joined_of}
 use Rattle.bus_turn.proofs.Rows.{prefix_trans}
-use Rattle.board_spec.specs.declared.event.Entry.{Entry}
 use Rattle.board_live.specs.declared.cpu.Cpu.{Cpu}
 use Rattle.board_live.specs.Joins.{IsJoined}
 use Rattle.board_live.proofs.Joining.{popped, joined_more, joined_new}
@@ -19,17 +18,22 @@ loop-cpu-preserved g c =
     let pass = c.join.new.pass in
     let is : items ≡ rest ++ cpu ∷ [] = search rules in
     let both = popped whole items rest cpu i.left is in
-    let added : joined_of pass ≡ joined_of c.loop-cpu.pass ++ (number_of now.pass, mine_in now.pass) ∷ joined_of now.pass = c.join.ensures.joined in
+    let added : joined_of pass ≡ joined_of c.loop-cpu.pass ++
+    (number_of now.pass, mine_in now.pass) ∷ joined_of now.pass = c.join.ensures.joined in
     let none : joined_of now.pass ≡ [] = now.passed.joined in
-    let long : length (joined_of pass) ≡ length (joined_of c.loop-cpu.pass) + length ((number_of now.pass, mine_in now.pass) ∷ joined_of now.pass) =
-    ap length added ∙ length-append (joined_of c.loop-cpu.pass) ((number_of now.pass, mine_in now.pass) ∷ joined_of now.pass) in
+    let long : length (joined_of pass)
+    ≡ length (joined_of c.loop-cpu.pass) + length ((number_of now.pass, mine_in now.pass) ∷ joined_of now.pass) =
+    ap length added ∙ length-append (joined_of c.loop-cpu.pass)
+    ((number_of now.pass, mine_in now.pass) ∷ joined_of now.pass) in
     let no_more : length (joined_of now.pass) ≡ 0 = ap length none in
     let fewer : length items ≡ length rest + 1 = ap length is ∙ length-append rest (cpu ∷ []) in
     let before : All (IsJoined pass) (drop (length items) whole) =
     All-weaker (IsJoined c.loop-cpu.pass) (IsJoined pass)
-    (λ other has. joined_more c.loop-cpu.pass pass ((number_of now.pass, mine_in now.pass) ∷ joined_of now.pass) other c.join.ensures.seen.0 added has)
+    (λ other has. joined_more c.loop-cpu.pass pass
+    ((number_of now.pass, mine_in now.pass) ∷ joined_of now.pass) other c.join.ensures.seen.0 added has)
     (drop (length items) whole) i.joined in
-    let this : IsJoined pass cpu = joined_new c.loop-cpu.pass pass cpu now c.catch_up.ensures.same c.catch_up.ensures.seen c.join.ensures.seen.1 added in
+    let this : IsJoined pass cpu = joined_new c.loop-cpu.pass pass cpu now c.catch_up.ensures.same
+    c.catch_up.ensures.seen c.join.ensures.seen.1 added in
     record {
       own = c.join.ensures.own;
       idle = c.join.ensures.idle;
@@ -37,7 +41,8 @@ loop-cpu-preserved g c =
       left = both.0;
       count = omega (arith, i.count, long, no_more, fewer);
       seen = prefix_trans _ _ _ i.seen c.join.ensures.seen.0;
-      joined = subst (λ (w : List Cpu). All (IsJoined pass) w) (sym both.1) (All-cons (IsJoined pass) cpu (drop (length items) whole) this before);
+      joined = subst (λ (w : List Cpu). All (IsJoined pass) w) (sym both.1)
+          (All-cons (IsJoined pass) cpu (drop (length items) whole) this before);
     }
 
 pub returns-clause-joined : goal.returns-clause-joined

@@ -1,11 +1,9 @@
-use Rattle.std.proofs.Common.{rules, ◌≡◌, ℕ, ◌+◌, ◌<◌, ◌≤◌, List, Option, Some, [], ◌∷◌, ◌++◌, length, map, reverse, All, sym, ap, ◌∙◌, subst, refl, arith}
+use Rattle.std.proofs.Common.{rules, ◌≡◌, ℕ, ◌+◌, ◌≤◌, Option, Some, [], length, map, reverse, All, sym, ap, ◌∙◌, subst, arith}
 use Rattle.std.specs.List.{Any, range_with_len}
 use Rattle.std.proofs.lemmas.List.{reverse-reverse, length-map}
 use Rattle.std.proofs.lemmas.List.FromFn.{length-range_with_len}
 use Rattle.std.proofs.lemmas.List.Elements.{All-weaker}
 use Rattle.bus_turn.specs.Passes.{opened_of as opened_by, part_of}
-use Rattle.board_spec.specs.declared.event.Entry.{Entry}
-use Rattle.board_spec.specs.Setup.{Setup}
 use Rattle.board_spec.specs.MapWrites.{map_writes_of}
 use Rattle.board_core.specs.Kept.{Standing}
 use Rattle.map_builder.specs.Map.{Mapped}
@@ -29,7 +27,11 @@ shared-requires-clause-opens g c =
     let version : c.map.result.now.version ≡ length (map_writes_of board.setup board.entries) = c.map.ensures.version in
     subst (λ (b : Standing). Opens b.setup b.entries (opened_of c.in-Ok-open.publisher.front.seen.log)) c.deref.ensures
     (subst (λ (m : Mapped). Opens board.setup board.entries m) (sym map)
-    (record { stands = stands_after board.setup board.entries c.map.result.now.regs c.map.ensures.stands; version = version }))
+    (record {
+      stands = stands_after board.setup board.entries c.map.result.now.regs
+          c.map.ensures.stands;
+      version = version;
+    }))
 
 pub callers-cpus-requires-clause-viewers : goal.callers-cpus-requires-clause-viewers
 callers-cpus-requires-clause-viewers g c =
@@ -39,7 +41,8 @@ callers-cpus-requires-clause-viewers g c =
     let opened : opened_by pass ≡ reverse shared.board.value.entries = search rules in
     let count : shared.opened ≡ length shared.board.value.entries = search rules in
     let none : changes_of shared.publisher.front.seen.log ≡ [] = search rules in
-    let fronts : All (λ (viewer : Viewer). viewer.front ≡ shared.publisher.front) c.in-Ok-open.viewers.items = search rules in
+    let fronts : All (λ (viewer : Viewer). viewer.front ≡ shared.publisher.front) c.in-Ok-open.viewers.items =
+    search rules in
     All-weaker (λ (viewer : Viewer). viewer.front ≡ shared.publisher.front) (IsViewerFor pass)
     (λ viewer front. opened_viewer pass shared viewer part opened count front none) c.in-Ok-open.viewers.items fronts
 
@@ -56,19 +59,23 @@ returns-in-Ok-open-2-clause-opened g c =
     let many : callers_in pass ≡ c.args.n = ap (λ (o : Option Origin). (origin_in o).callers) part ∙ callers in
     let its : shared.board.value.setup ≡ board.setup = search rules in
     let setup : setup_in pass ≡ board.setup = ap (λ (o : Option Origin). (origin_in o).setup) part ∙ its in
-    let numbers : map (λ (cpu : Cpu). cpu.number) cpus ≡ range_with_len 0 c.args.n = c.callers-cpus.ensures.numbers ∙ ap (range_with_len 0) many in
-    let count : length cpus ≡ c.args.n = sym (length-map cpus (λ (cpu : Cpu). cpu.number)) ∙ (ap length numbers ∙ length-range_with_len 0 c.args.n) in
+    let numbers : map (λ (cpu : Cpu). cpu.number) cpus ≡ range_with_len 0 c.args.n =
+    c.callers-cpus.ensures.numbers ∙ ap (range_with_len 0) many in
+    let count : length cpus ≡ c.args.n =
+    sym (length-map cpus (λ (cpu : Cpu). cpu.number)) ∙ (ap length numbers ∙ length-range_with_len 0 c.args.n) in
     let one : 1 ≤ c.args.n = c.requires.few.some in
     record {
       all = record {
         opened = opened_with shared;
         own = c.callers-cpus.ensures.own;
-        same = All-weaker (IsNewOf pass) (λ (cpu : Cpu). part_of cpu.pass ≡ Some (opened_with shared)) (λ cpu new. new.part ∙ part) cpus c.callers-cpus.ensures.new;
+        same = All-weaker (IsNewOf pass) (λ (cpu : Cpu). part_of cpu.pass ≡ Some (opened_with shared))
+            (λ cpu new. new.part ∙ part) cpus c.callers-cpus.ensures.new;
         count = count ∙ sym callers;
         some = omega (arith, count, one);
         each = λ number below.
             let same : 0 + number ≡ number = omega arith in
-            subst (λ (n : ℕ). Any (λ (cpu : Cpu). cpu.number ≡ n) cpus) same (any_numbered 0 cpus (numbers ∙ ap (range_with_len 0) (sym count)) number below);
+            subst (λ (n : ℕ). Any (λ (cpu : Cpu). cpu.number ≡ n) cpus) same
+            (any_numbered 0 cpus (numbers ∙ ap (range_with_len 0) (sym count)) number below);
       };
       numbers = numbers;
       new = All-weaker (IsNewOf pass) (IsNew board)

@@ -1,8 +1,7 @@
-use Rattle.std.proofs.Common.{rules, ◌≡◌, ℕ, ◌≤◌, ◌∷◌, ◌++◌, List, Option, length, refl, ap, ◌∙◌, arith}
+use Rattle.std.proofs.Common.{rules, ◌≡◌, ◌≤◌, ◌++◌, List, Option, length, refl, ap, ◌∙◌, arith}
 use Rattle.std.specs.Option.{option_to_list}
 use Rattle.board_spec.specs.declared.event.Entry.{Entry}
 use Rattle.board_spec.specs.declared.map_change.MapChange.{MapChange}
-use Rattle.board_spec.specs.Setup.{Setup}
 use Rattle.board_spec.specs.MapWrites.{map_change_of, version_of}
 use Rattle.board_spec.specs.Legal.{next_entry}
 use Rattle.board_core.specs.Kept.{Standing}
@@ -10,24 +9,28 @@ use Rattle.map_publish.specs.Lists.{opened_of, changes_of, version_after}
 use Rattle.board_live.specs.Known.{oldest}
 use Rattle.board_live.proofs.Histories.{oldest_added, writes_few}
 use Rattle.board_live.proofs.Limits.{few_entries, few_added}
-use Rattle.board_live.proofs.Shares.{published_added, published_version}
+use Rattle.board_live.proofs.Shares.{published_added, published_version, IsStepped, is_stepped}
 use Rattle.board_live.proofs.shared.Shared.step.Goals as goal
 
 pub reserve-requires : goal.reserve-requires
 reserve-requires g c =
     let board = c.args.self.now.board.value in
-    let all : length board.entries ≤ 2_000_000 = few_entries c.args.self.now.callers board.entries c.args.self.now.few in
-    let same : length c.deref_mut.result.now.entries ≡ length board.entries = ap (λ (b : Standing). length b.entries) c.deref_mut.ensures.value in
+    let all : length board.entries ≤ 2_000_000 =
+    few_entries c.args.self.now.callers board.entries c.args.self.now.few in
+    let same : length c.deref_mut.result.now.entries ≡ length board.entries =
+    ap (λ (b : Standing). length b.entries) c.deref_mut.ensures.value in
     omega (arith, all, same)
 
 pub publish-requires : goal.publish-requires
 publish-requires g c =
     let shared = c.args.self.now in
     let log = shared.publisher.front.seen.log in
-    let all : length shared.board.value.entries ≤ 2_000_000 = few_entries shared.callers shared.board.value.entries shared.few in
+    let all : length shared.board.value.entries ≤ 2_000_000 =
+    few_entries shared.callers shared.board.value.entries shared.few in
     let writes = writes_few shared.board.value.setup shared.board.value.entries in
     let version : version_after log ≡ version_of shared.board.value.setup shared.board.value.entries =
-    published_version shared.board.value.setup shared.opened shared.board.value.entries log shared.published shared.opens.version in
+    published_version shared.board.value.setup shared.opened shared.board.value.entries log shared.published
+    shared.opens.version in
     record { room = omega (arith, all, writes, version) }
 
 pub invariant_of-self-2 : goal.invariant_of-self-2
@@ -38,27 +41,19 @@ invariant_of-self-2 g c =
     let event = c.args.event.now in
     let reply = c.step-reply.result in
     let entry : Entry = next_entry board.entries c.args.number event reply in
-    let room : c.reserve.new.self ≡ record c.deref_mut.result.now { spare = c.reserve.new.self.spare } = search rules in
-    let setup : c.reserve.new.self.setup ≡ board.setup =
-    ap (λ (b : Standing). b.setup) room ∙ ap (λ (b : Standing). b.setup) c.deref_mut.ensures.value in
-    let entries : c.reserve.new.self.entries ≡ board.entries =
-    ap (λ (b : Standing). b.entries) room ∙ ap (λ (b : Standing). b.entries) c.deref_mut.ensures.value in
-    let lent = c.deref_mut-2.ensures.value in
-    let now_setup : now.setup ≡ board.setup =
-    ap (λ (b : Standing). b.setup) c.step-reply.ensures.entry ∙ (ap (λ (b : Standing). b.setup) lent ∙ setup) in
-    let now_entries : now.entries ≡ entry ∷ board.entries =
-    ap (λ (b : Standing). b.entries) c.step-reply.ensures.entry
-    ∙ (ap (λ (b : Standing). next_entry b.entries c.args.number event reply ∷ b.entries) lent
-    ∙ ap (λ (h : List Entry). next_entry h c.args.number event reply ∷ h) entries) in
+    let stepped : IsStepped board c.reserve.new.self now entry =
+    is_stepped board c.deref_mut.result.now c.reserve.new.self c.deref_mut-2.result.now now c.reserve.new.self.spare _
+    c.args.number event reply c.deref_mut.ensures.value (search rules) c.deref_mut-2.ensures.value
+    c.step-reply.ensures.entry in
     let log = shared.publisher.front.seen.log in
     let later = c.publish.new.publisher.front.seen.log in
     let changes : changes_of later ≡ option_to_list c.map_change-change.result ++ changes_of log = search rules in
     let change : c.map_change-change.result ≡ map_change_of board.setup board.entries event =
     c.map_change-change.ensures.change
     ∙ (ap (λ (b : Standing). map_change_of b.setup b.entries event) c.deref-2.ensures
-    ∙ λ k. map_change_of (setup k) (entries k) event) in
+    ∙ λ k. map_change_of (stepped.reserved_setup k) (stepped.reserved_entries k) event) in
     let opened : opened_of later ≡ opened_of log = c.publish.ensures.opened in
-    rw (now_setup, now_entries) (record {
+    rw (stepped.setup, stepped.entries) (record {
       within = let within : shared.opened ≤ length board.entries = shared.within in omega (arith, within);
       few = few_added shared.callers entry board.entries shared.few c.requires.number c.requires.few;
       published = published_added board.setup shared.opened board.entries entry log later shared.within shared.published
@@ -74,21 +69,14 @@ returns-clause-same g c =
     let event = c.args.event.now in
     let reply = c.step-reply.result in
     let entry : Entry = next_entry board.entries c.args.number event reply in
-    let room : c.reserve.new.self ≡ record c.deref_mut.result.now { spare = c.reserve.new.self.spare } = search rules in
-    let setup : c.reserve.new.self.setup ≡ board.setup =
-    ap (λ (b : Standing). b.setup) room ∙ ap (λ (b : Standing). b.setup) c.deref_mut.ensures.value in
-    let entries : c.reserve.new.self.entries ≡ board.entries =
-    ap (λ (b : Standing). b.entries) room ∙ ap (λ (b : Standing). b.entries) c.deref_mut.ensures.value in
-    let lent = c.deref_mut-2.ensures.value in
-    let now_setup : now.setup ≡ board.setup =
-    ap (λ (b : Standing). b.setup) c.step-reply.ensures.entry ∙ (ap (λ (b : Standing). b.setup) lent ∙ setup) in
-    let now_entries : now.entries ≡ entry ∷ board.entries =
-    ap (λ (b : Standing). b.entries) c.step-reply.ensures.entry
-    ∙ (ap (λ (b : Standing). next_entry b.entries c.args.number event reply ∷ b.entries) lent
-    ∙ ap (λ (h : List Entry). next_entry h c.args.number event reply ∷ h) entries) in
+    let stepped : IsStepped board c.reserve.new.self now entry =
+    is_stepped board c.deref_mut.result.now c.reserve.new.self c.deref_mut-2.result.now now c.reserve.new.self.spare _
+    c.args.number event reply c.deref_mut.ensures.value (search rules) c.deref_mut-2.ensures.value
+    c.step-reply.ensures.entry in
     record {
-      setup = now_setup;
-      opened = ap (λ (h : List Entry). oldest shared.opened h) now_entries ∙ oldest_added shared.opened entry board.entries shared.within;
+      setup = stepped.setup;
+      opened = ap (λ (h : List Entry). oldest shared.opened h) stepped.entries
+          ∙ oldest_added shared.opened entry board.entries shared.within;
       callers = refl;
       book = c.publish.ensures.own;
     }
