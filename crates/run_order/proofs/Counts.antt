@@ -1,13 +1,13 @@
 -- How many looks there are, and how many entries each has.
-use Rattle.std.proofs.Common.{◌≡◌, ℕ, zero, suc, ◌+◌, ◌^◌, ◌<◌, ◌≤◌, ◌==◌, List, [], ◌∷◌, ◌++◌, length, map, take, get_or, set, ◌∙◌, ap, arith, inl, inr}
+use Rattle.std.proofs.Common.{◌≡◌, ℕ, zero, suc, ◌+◌, ◌^◌, ◌<◌, ◌≤◌, ◌==◌, List, [], ◌∷◌, ◌++◌, length, map, take, get_or, set, Any, refl, ◌∙◌, ap, arith, inl, inr}
 use Rattle.std.specs.Prelude.{slice_index}
-use Rattle.std.proofs.lemmas.Bool.{cases_Bool}
+use Rattle.std.proofs.lemmas.Bool.{cases_Bool, cases_lt}
 use Rattle.std.proofs.lemmas.List.{take_more, map-append}
 use Rattle.board_spec.specs.declared.event.Entry.{Entry}
 use Rattle.board_spec.specs.Legal.{entries_by}
 use Rattle.run_order.specs.declared.done.Done.{Done}
 use Rattle.run_order.specs.declared.done.Done.TheVariants.{Went, Looked}
-use Rattle.run_order.specs.Room.{IsCounted, looks_in, all_looks_in}
+use Rattle.run_order.specs.Room.{IsCounted, looks_in, all_looks_in, IsLook, HaveLooked}
 
 looks_append : (xs ys : List Done) → looks_in (xs ++ ys) ≡ looks_in xs + looks_in ys
 looks_append [] ys = omega arith
@@ -59,3 +59,26 @@ count_fits entries spare capacity counts actor place same below some kept =
     let count : slice_index counts actor ≡ length (entries_by actor entries) = kept.counted actor below in
     let few : length (entries_by actor entries) ≤ length entries = no_more_by entries actor in
     rw same (omega (arith, kept.few))
+
+-- ---- who looked
+
+module _ {X : Type 0} (P : X → Type 0) where
+  any_first : (x : X) (xs : List X) → P x → Any P (x ∷ xs)
+  any_first x xs holds = (0, x, omega arith, refl, holds)
+
+  any_later : (x : X) (xs : List X) → Any P xs → Any P (x ∷ xs)
+  any_later x xs (k, y, less, at', holds) = (suc k, y, omega (arith, less), at', holds)
+
+a_look : (done : List Done) → 0 < looks_in done → Any IsLook done
+a_look [] some = absurd (omega (arith, some))
+a_look (Went event version ∷ done) some = any_later IsLook (Went event version) done (a_look done some)
+a_look (Looked kind addr smm look ∷ done) some = any_first IsLook (Looked kind addr smm look) done tt
+
+-- where there are looks, a processor looked
+pub have_looked : (works : List (List Done)) → 0 < all_looks_in works → HaveLooked works
+have_looked [] some = absurd (omega (arith, some))
+have_looked (done ∷ rests) some =
+    elim (cases_lt 0 (looks_in done)) [
+      | inl own ↦ any_first (Any IsLook) done rests (a_look done own)
+      | inr none ↦ any_later (Any IsLook) done rests (have_looked rests (omega (arith, some, none)))
+    ]

@@ -11,7 +11,7 @@ use Rattle.run_order.specs.Placing.{left_after, with_all_looks, all_left, done_b
 use Rattle.run_order.specs.Room.{Entries, looks_in, all_looks_in}
 use Rattle.run_order.proofs.Counts.{count_set}
 
-done_at : (rests : List (List Done)) (first k : ℕ) → done_by first (first + k) rests ≡ get_or rests k []
+pub done_at : (rests : List (List Done)) (first k : ℕ) → done_by first (first + k) rests ≡ get_or rests k []
 unfolding done_by
 done_at [] first k = refl
 done_at (done ∷ rests) first zero = let is : (first + 0 == first) ≡ true = grind (arith, nat_tests) in rw is refl

@@ -1,5 +1,6 @@
 -- What the history of a run is seen as, and what it keeps.
 use Rattle.std.specs.Prelude.{ℕ, ◌≡◌, ◌+◌, ◌^◌, ◌<◌, ◌≤◌, List, [], ◌∷◌, length, slice_index}
+use Rattle.std.specs.List.{Any}
 use Rattle.board_spec.specs.declared.event.Entry.{Entry}
 use Rattle.board_spec.specs.Legal.{entries_by}
 use Rattle.run_order.specs.declared.done.Done.{Done}
@@ -9,6 +10,10 @@ use Rattle.run_order.specs.declared.done.Done.TheVariants.{Went, Looked}
 pub record Entries : Type 0 where
   pub entries : List Entry
   pub spare : ℕ
+
+-- how many entries there are and is room for in all
+abbrev pub in_all : Entries → ℕ
+in_all history = length history.entries + history.spare
 
 -- entries and room stay below this
 abbrev pub most : ℕ
@@ -29,3 +34,12 @@ looks_in (Looked kind addr smm look ∷ done) = looks_in done + 1
 abbrev pub all_looks_in : List (List Done) → ℕ
 all_looks_in [] = 0
 all_looks_in (done ∷ rests) = looks_in done + all_looks_in rests
+
+-- a look was done
+abbrev pub IsLook : Done → Type 0
+IsLook (Went event version) = ⊥
+IsLook (Looked kind addr smm look) = Unit {0}
+
+-- a processor looked
+abbrev pub HaveLooked : List (List Done) → Type 0
+HaveLooked works = Any (Any IsLook) works

@@ -1,6 +1,6 @@
 //! The history of a run, with the looks of all processors.
 
-ghost use Rattle.std.specs.Prelude.{◌≡◌, ◌-◌, ◌+◌, ◌<◌, ◌≤◌, ℕ, List, [], ◌∷◌, length, map, reverse, All, max, IsFalse, IsOk, IfOk, OnOk, OnErr};
+ghost use Rattle.std.specs.Prelude.{◌≡◌, ◌-◌, ◌+◌, ◌<◌, ◌≤◌, ℕ, List, [], ◌∷◌, length, map, reverse, All, max, IsTrue, IsFalse, IsOk, IfOk, OnOk, OnErr};
 ghost use Rattle.board_spec.specs.declared.event.Entry.{Entry};
 ghost use Rattle.board_spec.specs.declared.event.Statement.{Statement};
 ghost use Rattle.board_spec.specs.Setup.{Setup};
@@ -8,7 +8,7 @@ ghost use Rattle.board_spec.specs.MapWrites.{version_of};
 ghost use Rattle.board_spec.specs.Legal.{IsLegal, next_entry};
 ghost use Rattle.run_order.specs.PhaseRun.{bare, IsPhaseRun, IsPlaced};
 ghost use Rattle.run_order.specs.Placing.{with_looks, left_after, with_all_looks, all_left, placed};
-ghost use Rattle.run_order.specs.Room.{Entries, most, looks_in, all_looks_in};
+ghost use Rattle.run_order.specs.Room.{Entries, in_all, most, looks_in, all_looks_in, HaveLooked};
 ghost use Rattle.run_order.specs.Settled.{IsSettledBut};
 
 use crate::done::Done;
@@ -51,8 +51,10 @@ impl Model for RunHistory {
 }
 
 /// Whether a processor looked in a phase.
+#[tactic(auto, using(crate::proofs::Counts::have_looked))]
 pub fn has_looks(works: &Works) -> bool
     ensures none { IsFalse result → all_looks_in (map (λ done. done.now) works.now.items) ≡ 0 }
+    ensures some { IsTrue result → HaveLooked (map (λ done. done.now) works.now.items) }
 {
     entries_in(&[], works) > 0
 }
@@ -87,6 +89,7 @@ impl RunHistory {
         requires callers { All (λ entry. entry.actor < 8) entries.now }
         requires legal { (setup : Setup) × IsLegal setup (reverse entries.now) }
         ensures same { IfOk result (λ history. history.entries ≡ reverse entries.now) }
+        ensures room { IfOk result (λ history. most ≤ in_all history) }
     {
         let mut history = RunHistory::new(alloc);
         history.reserve(most.max(entries.len()))?;
@@ -104,8 +107,8 @@ impl RunHistory {
     }
 
     /// Adds the entries that the bus's history gained in a phase, the oldest first, and the looks of all processors at
-    /// their places. `version` is that of the map before the phase. Where there is no memory, or there would be 2^32
-    /// entries, nothing changes.
+    /// their places. `version` is that of the map before the phase. Of the room that there was it uses what it needs,
+    /// and keeps the rest. Where there is no memory, or there would be 2^32 entries, nothing changes.
     pub fn place(&mut self, version: u32, later: &[Entry], mut works: Works) -> Result<(), NoMemory>
         requires callers { All (λ entry. entry.actor < length works.items) later.now }
         ensures placed { OnOk result (self.new.entries
@@ -114,6 +117,7 @@ impl RunHistory {
             → IsPhaseRun setup opened later.now phase (map (λ done. done.now) works.entry.items)
             → version ≡ version_of setup opened → IsLegal setup self.old.entries → bare self.old.entries ≡ bare opened
             → IsPlaced setup opened later.now phase self.old.entries self.new.entries) }
+        ensures keeps { OnOk result (in_all self.old ≤ in_all self.new) }
         ensures unplaced { OnErr result (self.new ≡ self.old) }
         ensures room { length later.now + all_looks_in (map (λ done. done.now) works.entry.items) ≤ self.old.spare
             → IsOk result }
@@ -149,6 +153,7 @@ impl RunHistory {
           entries = next_entry self.old.entries actor event reply ∷ self.old.entries;
           spare = self.old.spare - 1;
         } }
+        ensures keeps { in_all self.new ≡ in_all self.old }
     {
         let seq = self.counts[usize::from(actor)] + 1;
         let entry = Entry {
@@ -170,6 +175,7 @@ impl RunHistory {
         ensures placed { self.new.entries ≡ with_looks version actor done.now self.old.entries }
         ensures left { result.now ≡ left_after version done.now }
         ensures room { self.new.spare + looks_in done.now ≡ self.old.spare + looks_in result.now }
+        ensures keeps { in_all self.new ≡ in_all self.old }
     {
         let mut rest = done;
         while let Some(next) = due_look(version, rest) {
@@ -188,6 +194,7 @@ impl RunHistory {
         ensures left { map (λ done. done.now) rests.new ≡ all_left version (map (λ done. done.now) rests.old) }
         ensures room { self.new.spare + all_looks_in (map (λ done. done.now) rests.old)
             ≡ self.old.spare + all_looks_in (map (λ done. done.now) rests.new) }
+        ensures keeps { in_all self.new ≡ in_all self.old }
     {
         for actor in 0..rests.len() {
             rests[actor] = self.looks(version, actor as u8, rests[actor]);
@@ -206,6 +213,7 @@ impl RunHistory {
         ensures left { map (λ done. done.now) rests.new ≡ all_left version (map (λ done. done.now) rests.old) }
         ensures room { self.new.spare + all_looks_in (map (λ done. done.now) rests.old)
             ≡ self.old.spare + all_looks_in (map (λ done. done.now) rests.new) }
+        ensures keeps { in_all self.new ≡ in_all self.old }
     {
         if version != before {
             self.all_looks(version, rests);
@@ -222,6 +230,7 @@ impl RunHistory {
         requires room { length later.now + all_looks_in (map (λ done. done.now) rests.old) ≤ self.old.spare }
         ensures placed { self.new.entries
             ≡ placed version later.now (map (λ done. done.now) rests.old) self.old.entries }
+        ensures keeps { in_all self.new ≡ in_all self.old }
     {
         let mut version = version;
         self.all_looks(version, rests);

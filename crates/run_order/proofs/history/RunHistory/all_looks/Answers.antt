@@ -24,7 +24,11 @@ loop-actor-preserved c =
     (c.looks.ensures.left ∙ ap (left_after c.args.version) (sym one))
     (c.looks.ensures.placed ∙ ap (λ (d : List Done). with_looks c.args.version l.actor d l.self.entries) (sym one))
     (omega (arith, c.looks.ensures.room, ap looks_in one)) in
-    record { looked = rw (map-set (λ done. done.now) l.rests l.actor c.looks.result) new; version = refl }
+    record {
+      looked = rw (map-set (λ done. done.now) l.rests l.actor c.looks.result) new;
+      keeps = c.looks.ensures.keeps ∙ l.invariant.keeps;
+      version = refl;
+    }
 
 pub returns-clause-placed : goal.returns-clause-placed
 returns-clause-placed c =

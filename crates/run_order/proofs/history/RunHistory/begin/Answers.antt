@@ -9,4 +9,5 @@ loop-entry-preserved c =
     record {
       same = begin_step c.requires.legal.0 c.args.entries.now l.entry-index _ c.requires.legal.1 c.loop-entry-test.true l.history.entries l.history.spare l.invariant.same _ c.push.ensures.pushed;
       room = omega (arith, ap (λ (e : Entries). e.spare) c.push.ensures.pushed, l.invariant.room, c.loop-entry-test.true);
+      most = omega (arith, c.push.ensures.keeps, l.invariant.most);
     }

@@ -1,6 +1,6 @@
 use Rattle.std.proofs.Common.{◌≡◌, ◌+◌, length}
 use Rattle.run_order.specs.Placing.{with_looks, left_after}
-use Rattle.run_order.specs.Room.{looks_in}
+use Rattle.run_order.specs.Room.{in_all, looks_in}
 use Rattle.run_order.proofs.history.RunHistory.looks.Given as goal
 
 abbrev pub invariant-loop-next : goal.invariant-loop-next
@@ -8,6 +8,7 @@ invariant-loop-next l = record {
   placed : with_looks l.version l.actor l.rest l.self.entries ≡ with_looks l.fn.version l.fn.actor l.fn.done l.fn.self.entries;
   left : left_after l.version l.rest ≡ left_after l.fn.version l.fn.done;
   room : l.self.spare + looks_in l.fn.done ≡ l.fn.self.spare + looks_in l.rest;
+  keeps : in_all l.self ≡ in_all l.fn.self;
   actor : l.actor ≡ l.fn.actor;
 }
 

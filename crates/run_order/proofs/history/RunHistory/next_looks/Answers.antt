@@ -33,4 +33,5 @@ returns c =
       placed = all.placed;
       left = set_is ∙ all.left_is;
       room = omega (arith, all.room, ap all_looks_in set_is);
+      keeps = c.looks.ensures.keeps;
     }

@@ -16,6 +16,7 @@ loop-entry-init c =
           (placed_first c.args.later.now c.args.version old c.args.self.now.entries c.args.self.now.spare c.requires.room)
           (record { placed = c.all_looks.ensures.placed; left_is = c.all_looks.ensures.left; room = c.all_looks.ensures.room });
       settled = subst (IsSettled c.args.version) (sym c.all_looks.ensures.left) (left_is_settled c.args.version old);
+      keeps = c.all_looks.ensures.keeps;
     }
 
 pub next_looks-requires-clause-room : goal.next_looks-requires-clause-room
@@ -59,6 +60,7 @@ loop-entry-preserved c =
           c.push.new.self.entries c.next_looks.new.self.entries c.push.new.self.spare c.next_looks.new.self.spare stepped
           (record { placed = c.next_looks.ensures.placed; left_is = c.next_looks.ensures.left; room = c.next_looks.ensures.room });
       settled = subst (IsSettled c.noted-version.result) (sym c.next_looks.ensures.left) (left_is_settled c.noted-version.result _);
+      keeps = c.next_looks.ensures.keeps ∙ (c.push.ensures.keeps ∙ l.invariant.keeps);
     }
 
 pub returns : goal.returns
@@ -69,4 +71,5 @@ returns c =
       placed = sym (settled_placed l.version 0 rests l.self.entries l.invariant.settled)
           ∙ placed_last c.args.later.now l.entry-index c.args.version l.version (map (λ done. done.now) c.args.rests.now) rests
           c.args.self.now.entries l.self.entries l.self.spare l.invariant.placed (omega (arith, c.loop-entry-test.false));
+      keeps = l.invariant.keeps;
     }
