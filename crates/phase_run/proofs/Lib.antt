@@ -1,5 +1,6 @@
 pub mod Beginnings
 pub mod Pairs
 pub mod Phases
+pub mod Looks
 pub mod Numbers
 pub mod Workers

@@ -1,6 +1,6 @@
 //! A run that has ended.
 
-ghost use Rattle.std.specs.Prelude.{◌≡◌, reverse};
+ghost use Rattle.std.specs.Prelude.{◌≡◌, reverse, is_none};
 ghost use Rattle.phase_run.specs.Placed.{entries_of};
 
 use board_core::Board;
@@ -17,24 +17,25 @@ pub(crate) enum Kept {
     Placed(RunHistory),
 }
 
-/// A run that has ended. Contracts see the entries of its history, the newest first.
+/// A run that has ended. Contracts see the entries of its history, the newest first, and whether it is the board's own.
 #[derive(Drop)]
 pub struct EndedRun {
     kept: Kept,
 }
 
 impl Model for EndedRun {
-    ghost use Rattle.phase_run.specs.Ended.{Ended, entries_in};
+    ghost use Rattle.phase_run.specs.Ended.{Ended, entries_in, is_own};
 
     ghost Value = { Ended };
 
-    ghost view = { λ run. record { entries = entries_in run.kept } };
+    ghost view = { λ run. record { entries = entries_in run.kept; own = is_own run.kept } };
 }
 
 impl EndedRun {
     /// The end of a run that led to this board. Its history is the board's, where it has none of its own.
     pub(crate) fn new(board: Board, history: Option<RunHistory>) -> EndedRun
         ensures entries { result.entries ≡ entries_of history board.entries }
+        ensures own { result.own ≡ is_none history }
     {
         match history {
             Some(history) => EndedRun {

@@ -1,9 +1,10 @@
 //! The history of a run beside that of its board.
 
-ghost use Rattle.std.specs.Prelude.{◌≡◌, ◌<◌, ◌++◌, All, length, map, reverse, OnOk};
+ghost use Rattle.std.specs.Prelude.{◌≡◌, ◌<◌, ◌++◌, All, None, length, map, reverse, OnOk};
 ghost use Rattle.board_spec.specs.Setup.{Setup};
 ghost use Rattle.board_spec.specs.Legal.{IsLegal};
 ghost use Rattle.run_order.specs.Placing.{placed};
+ghost use Rattle.run_order.specs.Room.{HaveLooked};
 ghost use Rattle.phase_run.specs.Placed.{entries_of};
 
 use board_base::NoMemory;
@@ -21,7 +22,7 @@ pub(crate) struct Placing {
 
 impl Placing {
     /// Adds what a phase did. The board's own history was `before`, and gained `later`, each with the oldest entry
-    /// first.
+    /// first. While nobody looks nothing is copied.
     pub(crate) fn add(
         &mut self,
         alloc: Global,
@@ -35,6 +36,8 @@ impl Placing {
         requires callers { All (λ entry. entry.actor < length works.items) later.now }
         ensures placed { OnOk result (entries_of self.new.history (reverse later.now ++ reverse before.now)
             ≡ placed version later.now (map (λ done. done.now) works.entry.items) (entries_of self.old.history (reverse before.now))) }
+        ensures own { ¬ HaveLooked (map (λ done. done.now) works.entry.items)
+            → self.old.history ≡ None → self.new.history ≡ None }
     {
         if let Some(history) = &mut self.history {
             return history.place(version, later, works);

@@ -1,11 +1,11 @@
 //! A script's phases, one after another.
 
-ghost use Rattle.std.specs.Prelude.{◌≡◌, ◌≤◌, [], All, length, map, flat_map, IfOk};
+ghost use Rattle.std.specs.Prelude.{◌≡◌, ◌≤◌, [], All, None, true, length, map, flat_map, IfOk, OnOk};
 ghost use Rattle.board_spec.specs.Setup.{IsCardList};
 ghost use Rattle.board_spec.specs.Legal.{IsLegal};
 ghost use Rattle.board_spec.specs.Orders.{IsCompleteFor};
 ghost use Rattle.run_order.specs.PhaseRun.{bare};
-ghost use Rattle.phase_run.specs.Placed.{entries_of};
+ghost use Rattle.phase_run.specs.Placed.{entries_of, HasNoLook};
 ghost use Rattle.phase_run.specs.Works.{most_statements};
 ghost use Rattle.phase_run.specs.Jobs.{IsStatement, CanDo, GoesOn, HasRun, TakesIn};
 
@@ -77,6 +77,7 @@ fn run_phase<R: Threads + Wait + Sync, G: Gate>(
     ensures goes_on { IfOk result (GoesOn phase.now run) }
     ensures takes_in { IfOk result (λ next. TakesIn phase.now run.board next.board
         (entries_of placing.old.history run.board.entries) (entries_of placing.new.history next.board.entries)) }
+    ensures own { OnOk result (HasNoLook phase.now → placing.old.history ≡ None → placing.new.history ≡ None) }
 {
     let version = run.board.map().version();
     let opened = run.board.history().entries().len();
@@ -100,7 +101,8 @@ fn statements_in(phases: &[Vec<Statement>]) -> usize {
 
 /// Runs the phases of a script on a fresh board, with 1 to 8 processors. In each phase every processor does its own
 /// statements on a thread of its own; the gate is told before and after each. What is answered has the history of the
-/// run: it is legal, and has each phase's statements. Refused for want of memory.
+/// run: it is legal, and has each phase's statements. Where none is a look it is the board's own. Refused for want of
+/// memory.
 pub fn run_phases<R: Threads + Wait + Sync, G: Gate>(
     rt: &R,
     alloc: Global,
@@ -117,6 +119,7 @@ pub fn run_phases<R: Threads + Wait + Sync, G: Gate>(
     requires statements { length (flat_map (λ phase. phase.items) phases.now) ≤ most_statements }
     ensures legal { IfOk result (λ history. IsLegal board.setup history.entries) }
     ensures complete { IfOk result (λ history. IsCompleteFor (map (λ phase. phase.items) phases.now) history.entries) }
+    ensures own { IfOk result (λ history. All (λ phase. HasNoLook phase.items) phases.now → history.own ≡ true) }
 {
     let mut board = board;
     let most = statements_in(phases).min(MOST_STATEMENTS);

@@ -6,7 +6,7 @@ use Rattle.board_spec.specs.Legal.{IsLegal}
 use Rattle.board_spec.specs.Orders.{statements_of, HasPhases}
 use Rattle.phase_run.specs.Works.{most_statements}
 use Rattle.phase_run.specs.Jobs.{AreAsked}
-use Rattle.phase_run.specs.Placed.{entries_of}
+use Rattle.phase_run.specs.Placed.{entries_of, HasNoLook}
 use Rattle.phase_run.proofs.Phases.{phases_more, statements_more, statements_within}
 use Rattle.phase_run.proofs.run.run_phases.Goals as goal
 
@@ -49,5 +49,6 @@ loop-phase-preserved g c =
       legal = subst (λ (setup : Setup). IsLegal setup (entries_of c.run_phase.new.placing.history next.board.entries)) l.invariant.setup c.in_ok-run.ensures.takes_in.legal;
       same = c.in_ok-run.ensures.takes_in.same;
       phases = subst (λ (ps : List (List Statement)). HasPhases ps (statements_of (entries_of c.run_phase.new.placing.history next.board.entries))) phases_are (c.in_ok-run.ensures.takes_in.phases _ l.invariant.phases);
+      own = λ all. c.in_ok-run.ensures.own (subst HasNoLook (sym (c.deref.ensures.value)) (subst (λ (phase : Vec Statement Global). HasNoLook phase.items) at (all l.phase-index c.phase-item.result c.loop-phase-test.true))) (l.invariant.own all);
       asked = subst (λ (most : ℕ). AreAsked most next.board.entries next.works.items) (ap (λ (n : ℕ). done + n) size ∙ sym more) asked;
     }

@@ -1,9 +1,9 @@
-use Rattle.std.proofs.Common.{◌≡◌, length, map, take, flat_map}
+use Rattle.std.proofs.Common.{◌≡◌, All, None, length, map, take, flat_map}
 use Rattle.board_spec.specs.Legal.{IsLegal}
 use Rattle.board_spec.specs.Orders.{statements_of, HasPhases}
 use Rattle.run_order.specs.PhaseRun.{bare}
 use Rattle.phase_run.specs.Jobs.{AreAsked}
-use Rattle.phase_run.specs.Placed.{entries_of}
+use Rattle.phase_run.specs.Placed.{entries_of, HasNoLook}
 use Rattle.phase_run.proofs.run.run_phases.Given as goal
 
 abbrev pub invariant-loop-phase : goal.invariant-loop-phase
@@ -13,5 +13,6 @@ invariant-loop-phase g l = record {
   legal : IsLegal l.fn.board.setup (entries_of l.placing.history l.run.board.entries);
   same : bare (entries_of l.placing.history l.run.board.entries) ≡ bare l.run.board.entries;
   phases : HasPhases (map (λ phase. phase.items) (take l.phase-index l.phases)) (statements_of (entries_of l.placing.history l.run.board.entries));
+  own : All (λ phase. HasNoLook phase.items) l.phases → l.placing.history ≡ None;
   asked : AreAsked (length (flat_map (λ phase. phase.items) (take l.phase-index l.phases))) l.run.board.entries l.run.works.items;
 }

@@ -17,6 +17,7 @@ returns-then-not-has_looks c =
     record {
       placed = subst (λ (history : Option Entries). entries_of history (reverse later ++ before) ≡ placed c.args.version later lists (entries_of history before)) (sym none)
           (sym (unlooked c.requires.legal.0 c.args.version later lists before looks c.requires.legal.1));
+      own = λ nobody was. was;
     }
 
 pub begin-requires-clause-legal : goal.begin-requires-clause-legal
