@@ -17,7 +17,7 @@ use Rattle.phase_run.specs.Jobs.{HasRun, done_in}
 use Rattle.phase_run.specs.Placed.{HasNoLook}
 
 look_is : (done : Done) → IsLook done → is_look (event_of done) ≡ true
-look_is (Went event version) look = absurd look
+look_is (Went version event) look = absurd look
 look_is (Looked kind addr smm look') look = refl
 
 none_by : (actor : ℕ) (phase : List Statement) → HasNoLook phase → All (λ (event : Event). is_look event ≡ false) (events_by actor phase)

@@ -101,7 +101,7 @@ begins_opened : (setup : Setup) (actor : ℕ) (opened : List Entry) (done : List
     → IsDone setup actor opened done seen known → Begins opened seen
 begins_opened setup actor opened [] seen known d = ([], d.0)
 begins_opened setup actor opened (Looked kind addr smm look ∷ before) seen known d = begins_opened setup actor opened before seen d.0 d.2
-begins_opened setup actor opened (Went event version ∷ before) seen known d =
+begins_opened setup actor opened (Went version event ∷ before) seen known d =
     begins_trans opened d.0 seen (begins_opened setup actor opened before d.0 d.1 d.5)
     (begins_trans d.0 d.2.list seen d.2.begins (d.2.entry ∷ [], d.2.now_is))
 

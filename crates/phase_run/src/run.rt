@@ -20,6 +20,7 @@ use board_spec::Statement;
 use board_spec::limits::MOST_STATEMENTS;
 use run_order::laws::law_phase_runs;
 use std::alloc::Global;
+use std::mem;
 use std::sync::Wait;
 use std::thread::Threads;
 
@@ -60,28 +61,29 @@ fn run_workers<R: Threads + Wait + Sync, G: Gate>(
     Ok(Run { board, works })
 }
 
-/// Runs a phase, and adds what it did to the history of the run.
+/// Runs a phase, and adds what it did to the history of the run. The memory of its statements is given back before.
 fn run_phase<R: Threads + Wait + Sync, G: Gate>(
     rt: &R,
     alloc: Global,
     run: Run,
-    phase: &[Statement],
+    phase: Vec<Statement>,
     gate: &G,
     placing: &mut Placing,
 ) -> Result<Run, NoMemory>
     requires cards { IsCardList run.board.setup.cards }
-    requires can { CanDo run phase.now }
+    requires can { CanDo run phase.items }
     requires legal { IsLegal run.board.setup (entries_of placing.old.history run.board.entries) }
     requires same { bare (entries_of placing.old.history run.board.entries) ≡ bare run.board.entries }
     ensures setup { IfOk result (λ next. next.board.setup ≡ run.board.setup) }
-    ensures goes_on { IfOk result (GoesOn phase.now run) }
-    ensures takes_in { IfOk result (λ next. TakesIn phase.now run.board next.board
+    ensures goes_on { IfOk result (GoesOn phase.items run) }
+    ensures takes_in { IfOk result (λ next. TakesIn phase.items run.board next.board
         (entries_of placing.old.history run.board.entries) (entries_of placing.new.history next.board.entries)) }
-    ensures own { OnOk result (HasNoLook phase.now → placing.old.history ≡ None → placing.new.history ≡ None) }
+    ensures own { OnOk result (HasNoLook phase.items → placing.old.history ≡ None → placing.new.history ≡ None) }
 {
     let version = run.board.map().version();
     let opened = run.board.history().entries().len();
-    let run = run_workers(rt, alloc, run, phase, gate)?;
+    let run = run_workers(rt, alloc, run, &phase, gate)?;
+    drop(phase);
     let entries = run.board.history().entries();
     let before = &entries[..opened];
     let later = &entries[opened..];
@@ -108,21 +110,21 @@ pub fn run_phases<R: Threads + Wait + Sync, G: Gate>(
     alloc: Global,
     board: Board,
     cpus: u8,
-    phases: &[Vec<Statement>],
+    phases: Vec<Vec<Statement>>,
     gate: &G,
 ) -> Result<EndedRun, NoMemory>
     requires fresh { board.entries ≡ [] }
     requires cards { IsCardList board.setup.cards }
     requires some { 1 ≤ cpus }
     requires few { cpus ≤ 8 }
-    requires in_range { All (λ phase. All (IsStatement board.setup cpus) phase.items) phases.now }
-    requires statements { length (flat_map (λ phase. phase.items) phases.now) ≤ most_statements }
+    requires in_range { All (λ phase. All (IsStatement board.setup cpus) phase.items) phases.items }
+    requires statements { length (flat_map (λ phase. phase.items) phases.items) ≤ most_statements }
     ensures legal { IfOk result (λ history. IsLegal board.setup history.entries) }
-    ensures complete { IfOk result (λ history. IsCompleteFor (map (λ phase. phase.items) phases.now) history.entries) }
-    ensures own { IfOk result (λ history. All (λ phase. HasNoLook phase.items) phases.now → history.own ≡ true) }
+    ensures complete { IfOk result (λ history. IsCompleteFor (map (λ phase. phase.items) phases.items) history.entries) }
+    ensures own { IfOk result (λ history. All (λ phase. HasNoLook phase.items) phases.items → history.own ≡ true) }
 {
-    let mut board = board;
-    let most = statements_in(phases).min(MOST_STATEMENTS);
+    let (mut board, mut phases) = (board, phases);
+    let most = statements_in(&phases).min(MOST_STATEMENTS);
     board.reserve(most as u32)?;
     let works = first_works(alloc, cpus)?;
     let mut run = Run { board, works };
@@ -130,7 +132,8 @@ pub fn run_phases<R: Threads + Wait + Sync, G: Gate>(
         most,
         history: None,
     };
-    for phase in phases {
+    for index in 0..phases.len() {
+        let phase = mem::replace(&mut phases[index], Vec::new(alloc));
         run = run_phase(rt, alloc, run, phase, gate, &mut placing)?;
     }
     let Run {

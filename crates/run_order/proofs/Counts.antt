@@ -11,7 +11,7 @@ use Rattle.run_order.specs.Room.{IsCounted, looks_in, all_looks_in, IsLook, Have
 
 looks_append : (xs ys : List Done) → looks_in (xs ++ ys) ≡ looks_in xs + looks_in ys
 looks_append [] ys = omega arith
-looks_append (Went event version ∷ xs) ys = looks_append xs ys
+looks_append (Went version event ∷ xs) ys = looks_append xs ys
 looks_append (Looked kind addr smm look ∷ xs) ys = let more = looks_append xs ys in omega (arith, more)
 
 -- one more statement
@@ -71,7 +71,7 @@ module _ {X : Type 0} (P : X → Type 0) where
 
 a_look : (done : List Done) → 0 < looks_in done → Any IsLook done
 a_look [] some = absurd (omega (arith, some))
-a_look (Went event version ∷ done) some = any_later IsLook (Went event version) done (a_look done some)
+a_look (Went version event ∷ done) some = any_later IsLook (Went version event) done (a_look done some)
 a_look (Looked kind addr smm look ∷ done) some = any_first IsLook (Looked kind addr smm look) done tt
 
 -- where there are looks, a processor looked

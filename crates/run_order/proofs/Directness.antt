@@ -69,7 +69,7 @@ call_in_place setup history before actor (BadSector sector) reply not = tt
 left_late : (v : ℕ) (items : List Done) → Late (v + 1) (left_after v items)
 unfolding left_after
 left_late v [] = tt
-left_late v (Went event after ∷ items) = tt
+left_late v (Went after event ∷ items) = tt
 left_late v (Looked kind addr smm look ∷ items) =
     elim (cases_Bool (nat_le look.version v)) [
       | inl is ↦ rw is (left_late v items)
@@ -100,26 +100,26 @@ passed_each K actor own (items ∷ rests) first each =
 -- a look that comes first and is due is in its place after these entries
 abbrev FirstIsDirect : Setup → List Entry → ℕ → ℕ → List Done → List Entry → Type 0
 FirstIsDirect setup history v actor [] added = Unit {0}
-FirstIsDirect setup history v actor (Went event after ∷ items) added = Unit {0}
+FirstIsDirect setup history v actor (Went after event ∷ items) added = Unit {0}
 FirstIsDirect setup history v actor (Looked kind addr smm look ∷ items) added =
     look.version ≤ v → IsPlaceOf setup history actor look.version (without_lower actor added)
 
 own_first : (setup : Setup) (history : List Entry) (v : ℕ) (items : List Done) (entry : Entry) (before : List Entry) → FirstIsDirect setup history v entry.actor items (entry ∷ before)
 own_first setup history v [] entry before = tt
-own_first setup history v (Went event after ∷ items) entry before = tt
+own_first setup history v (Went after event ∷ items) entry before = tt
 own_first setup history v (Looked kind addr smm look ∷ items) entry before =
     λ due. subst (IsPlaceOf setup history entry.actor look.version) (sym (own_stays entry before)) (inl refl)
 
 first_moves : (setup : Setup) (history : List Entry) (v actor : ℕ) (items : List Done) (added other : List Entry) → without_lower actor added ≡ without_lower actor other →
     FirstIsDirect setup history v actor items other → FirstIsDirect setup history v actor items added
 first_moves setup history v actor [] added other same first = tt
-first_moves setup history v actor (Went event after ∷ items) added other same first = tt
+first_moves setup history v actor (Went after event ∷ items) added other same first = tt
 first_moves setup history v actor (Looked kind addr smm look ∷ items) added other same first =
     λ due. subst (IsPlaceOf setup history actor look.version) (sym same) (first due)
 
 start_first : (setup : Setup) (history : List Entry) (v actor : ℕ) (items : List Done) → FirstIsDirect setup history v actor items []
 start_first setup history v actor [] = tt
-start_first setup history v actor (Went event after ∷ items) = tt
+start_first setup history v actor (Went after event ∷ items) = tt
 start_first setup history v actor (Looked kind addr smm look ∷ items) = λ due. tt
 
 start_each : (setup : Setup) (history : List Entry) (v : ℕ) (rests : List (List Done)) (first : ℕ) → Each (λ a items. FirstIsDirect setup history v a items []) first rests
@@ -130,7 +130,7 @@ start_each setup history v (items ∷ rests) first = (start_first setup history 
 write_first : (setup : Setup) (history : List Entry) (actor : ℕ) (items : List Done) (entry : Entry) (before : List Entry) → is_look entry.event ≡ false →
     Late (version_of setup (before ++ history) + 1) items → FirstIsDirect setup history (version_of setup (entry ∷ before ++ history)) actor items (entry ∷ before)
 write_first setup history actor [] entry before call late = tt
-write_first setup history actor (Went event after ∷ items) entry before call late = tt
+write_first setup history actor (Went after event ∷ items) entry before call late = tt
 write_first setup history actor (Looked kind addr smm look ∷ items) entry before call late =
     λ due.
     let step = version_step setup entry (before ++ history) in
@@ -149,7 +149,7 @@ module _ (setup : Setup) (history since : List Entry) (ends : EndsBare since) (v
       FirstIsDirect setup history v actor items (have.looks ++ since) → HaveLooks setup history since (actor + 1) (with_looks v actor items final)
   unfolding with_looks
   with_looks_direct actor [] final have first = have
-  with_looks_direct actor (Went event after ∷ items) final have first = have
+  with_looks_direct actor (Went after event ∷ items) final have first = have
   with_looks_direct actor (Looked kind addr smm look ∷ items) final have first =
       let entry : Entry = next_entry final actor (LookAt kind addr smm) (Saw look) in
       elim (cases_Bool (nat_le look.version v)) [
@@ -188,7 +188,7 @@ version_same setup final before same = ap length (writes_bare setup final ∙ (a
 headed_no_look : (event : Event) (version : ℕ) (P : List Done → Type 0) (items : List Done) → Headed event version P items → is_look event ≡ false
 headed_no_look event version P [] h = absurd h
 headed_no_look event version P (Looked kind addr smm look ∷ items) h = absurd h
-headed_no_look event version P (Went said after ∷ items) h = h.2
+headed_no_look event version P (Went after said ∷ items) h = h.2
 
 module _ (blind : AnswersAreBlind) (setup : Setup) (history : List Entry) where
   placed_direct : (later before : List Entry) (rests : List (List Done)) (final since : List Entry) → EndsBare since → final ≡ since ++ history → AreInPlace setup history since →

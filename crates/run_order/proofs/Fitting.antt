@@ -21,7 +21,7 @@ use Rattle.run_order.proofs.Following.{Follows}
 -- the looks at the front that are due after a history are right there, and K holds of what is left
 abbrev pub Due : Setup → List Entry → (List Done → Type 0) → List Done → Type 0
 Due setup before K [] = K []
-Due setup before K (Went event after ∷ items) = K (Went event after ∷ items)
+Due setup before K (Went after event ∷ items) = K (Went after event ∷ items)
 Due setup before K (Looked kind addr smm look ∷ items) =
     MatchBool (nat_le look.version (version_of setup before))
     (IsAnswer setup before (LookAt kind addr smm) (Saw look) × Due setup before K items)
@@ -31,7 +31,7 @@ Due setup before K (Looked kind addr smm look ∷ items) =
 abbrev pub Headed : Event → ℕ → (List Done → Type 0) → List Done → Type 0
 Headed event version P [] = ⊥
 Headed event version P (Looked kind addr smm look ∷ items) = ⊥
-Headed event version P (Went said after ∷ items) = (said ≡ event) × (after ≡ version) × (is_look event ≡ false) × P items
+Headed event version P (Went after said ∷ items) = (said ≡ event) × (after ≡ version) × (is_look event ≡ false) × P items
 
 abbrev pub Fits : Setup → ℕ → List Entry → List Entry → List Done → Type 0
 Fits setup actor before [] items = Due setup before (λ rest. rest ≡ []) items
@@ -41,12 +41,12 @@ Fits setup actor before (entry ∷ later) items =
 -- a look that comes next has at least so many map writes
 abbrev pub Late : ℕ → List Done → Type 0
 Late n [] = Unit {0}
-Late n (Went event after ∷ items) = Unit {0}
+Late n (Went after event ∷ items) = Unit {0}
 Late n (Looked kind addr smm look ∷ items) = n ≤ look.version
 
 pub late_by : (setup : Setup) (whole : List Entry) (actor : ℕ) (from : List Entry) (low n : ℕ) (items : List Done) → Follows setup whole actor from low items → n ≤ low → Late n items
 late_by setup whole actor from low n [] f le = tt
-late_by setup whole actor from low n (Went event after ∷ items) f le = tt
+late_by setup whole actor from low n (Went after event ∷ items) f le = tt
 late_by setup whole actor from low n (Looked kind addr smm look ∷ items) f le = omega (arith, f.0, le)
 
 module _ (setup : Setup) (whole : List Entry) (actor : ℕ) where
@@ -59,7 +59,7 @@ module _ (setup : Setup) (whole : List Entry) (actor : ℕ) where
   until_call (Looked kind addr smm look ∷ items) from low f before entry b own n =
       let more = until_call items from look.version f.3 before entry b own n in
       omega (arith, f.0, more)
-  until_call (Went event after ∷ items) from low f before entry b own n =
+  until_call (Went after event ∷ items) from low f before entry b own n =
       let call = f.2 in
       let one = same_place actor whole f.1 entry f.0 before call.place b call.own own (call.next ∙ sym n) in
       subst (λ (h : List Entry). low ≤ version_of setup h) one.1 call.known
@@ -68,7 +68,7 @@ module _ (setup : Setup) (whole : List Entry) (actor : ℕ) where
       → ((items : List Done) (low : ℕ) → Follows setup whole actor from low items → Late (version_of setup before + 1) items → K items)
       → (items : List Done) (low : ℕ) → Follows setup whole actor from low items → Late (version_of setup before) items → Due setup before K items
   due before from K b k [] low f late = k [] low f tt
-  due before from K b k (Went event after ∷ items) low f late = k (Went event after ∷ items) low f tt
+  due before from K b k (Went after event ∷ items) low f late = k (Went after event ∷ items) low f tt
   due before from K b k (Looked kind addr smm look ∷ items) low f late =
       elim (cases_Bool (nat_le look.version (version_of setup before))) [
         | inl is ↦
@@ -85,7 +85,7 @@ module _ (setup : Setup) (whole : List Entry) (actor : ℕ) where
   none_left before from is n [] low f late = refl
   none_left before from is n (Looked kind addr smm look ∷ items) low f late =
       let bound : look.version ≤ version_of setup before = subst (λ (h : List Entry). look.version ≤ version_of setup h) is f.1 in absurd (omega (arith, bound, late))
-  none_left before from is n (Went event after ∷ items) low f late =
+  none_left before from is n (Went after event ∷ items) low f late =
       let call = f.2 in
       let less = own_later actor f.1 f.0 whole call.place call.own in
       absurd (omega (arith, less, ap (λ (h : List Entry). length (entries_by actor h)) is, ap length n, ap length call.next))
@@ -100,7 +100,7 @@ module _ (setup : Setup) (whole : List Entry) (actor : ℕ) where
   headed entry before from P b own n p (Looked kind addr smm look ∷ items) low f late =
       let bound = until_call items from look.version f.3 before entry b own n in
       absurd (omega (arith, bound, late))
-  headed entry before from P b own n p (Went event after ∷ items) low f late =
+  headed entry before from P b own n p (Went after event ∷ items) low f late =
       let call = f.2 in
       let one = same_place actor whole f.1 entry f.0 before call.place b call.own own (call.next ∙ sym n) in
       let next : entry ∷ before ≡ f.1 ∷ f.0 = cc (one.0, one.1) in (
@@ -132,5 +132,5 @@ module _ (setup : Setup) (whole : List Entry) (actor : ℕ) where
     where
       later_still : (rest : List Done) → Late (version_of setup before + 1) rest → version_of setup (entry ∷ before) ≤ version_of setup before + 1 → Late (version_of setup (entry ∷ before)) rest
       later_still [] late le = tt
-      later_still (Went event after ∷ rest) late le = tt
+      later_still (Went after event ∷ rest) late le = tt
       later_still (Looked kind addr smm look ∷ rest) late le = omega (arith, late, le)

@@ -39,7 +39,7 @@ Follows setup whole actor from low [] = entries_by actor whole ≡ entries_by ac
 Follows setup whole actor from low (Looked kind addr smm look ∷ items) =
     (low ≤ look.version) × (look.version ≤ version_of setup whole) × IsRight setup whole (LookAt kind addr smm) look
     × Follows setup whole actor from look.version items
-Follows setup whole actor from low (Went event version ∷ items) =
+Follows setup whole actor from low (Went version event ∷ items) =
     (before : List Entry) × (entry : Entry) × IsCall setup whole actor from low event version before entry
     × Follows setup whole actor (entry ∷ before) (version_of setup (entry ∷ before)) items
 

@@ -47,7 +47,7 @@ module _ (setup : Setup) where
   headed_rest : (event : Event) (version : ℕ) (P : List Done → Type 0) (items : List Done) → Headed event version P items → P (without_first items)
   headed_rest event version P [] h = absurd h
   headed_rest event version P (Looked kind addr smm look ∷ items) h = absurd h
-  headed_rest event version P (Went said after ∷ items) h = h.3
+  headed_rest event version P (Went after said ∷ items) h = h.3
 
   pass_none : (entry : Entry) (before later : List Entry) (rests : List (List Done)) (first : ℕ) → entry.actor < first → Each (Beside setup entry before later) first rests
       → Each (λ a. Fits setup a (entry ∷ before) later) first rests
@@ -99,7 +99,7 @@ passed_length actor first (items ∷ rests) =
 headed_noted : (event : Event) (version : ℕ) (P : List Done → Type 0) (items : List Done) (v : ℕ) → Headed event version P items → noted v items ≡ version
 headed_noted event version P [] v h = absurd h
 headed_noted event version P (Looked kind addr smm look ∷ items) v h = absurd h
-headed_noted event version P (Went said after ∷ items) v h = h.1
+headed_noted event version P (Went after said ∷ items) v h = h.1
 
 -- what the processor of a call does next
 pub own_head : (setup : Setup) (entry : Entry) (before later : List Entry) (left : List (List Done)) → entry.actor < length left → Each (Beside setup entry before later) 0 left
@@ -144,7 +144,7 @@ module _ (setup : Setup) (blind : AnswersAreBlind) where
       → Good setup before (with_looks (version_of setup before) actor items final) × K (left_after (version_of setup before) items)
   unfolding with_looks left_after
   with_looks_good before actor K [] final good due = (good, due)
-  with_looks_good before actor K (Went event after ∷ items) final good due = (good, due)
+  with_looks_good before actor K (Went after event ∷ items) final good due = (good, due)
   with_looks_good before actor K (Looked kind addr smm look ∷ items) final good due =
       go (λ final' good' due'. with_looks_good before actor K items final' good' due') (nat_le look.version (version_of setup before)) refl due
     where

@@ -18,7 +18,7 @@ use Rattle.run_order.proofs.Steps.{ArePlaced, placed_step}
 not_due_left : (version : ℕ) (done : List Done) → IsNotDue version (left_after version done)
 unfolding left_after
 not_due_left version [] = tt
-not_due_left version (Went event after ∷ done) = tt
+not_due_left version (Went after event ∷ done) = tt
 not_due_left version (Looked kind addr smm look ∷ done) =
     elim (cases_Bool (nat_le look.version version)) [
       | inl is ↦ rw is (not_due_left version done)
@@ -28,14 +28,14 @@ not_due_left version (Looked kind addr smm look ∷ done) =
 not_due_placed : (version actor : ℕ) (done : List Done) (history : List Entry) → IsNotDue version done → with_looks version actor done history ≡ history
 unfolding with_looks
 not_due_placed version actor [] history not = refl
-not_due_placed version actor (Went event after ∷ done) history not = refl
+not_due_placed version actor (Went after event ∷ done) history not = refl
 not_due_placed version actor (Looked kind addr smm look ∷ done) history not =
     let no : nat_le look.version version ≡ false = grind (arith, nat_tests) in rw no refl
 
 not_due_same : (version : ℕ) (done : List Done) → IsNotDue version done → left_after version done ≡ done
 unfolding left_after
 not_due_same version [] not = refl
-not_due_same version (Went event after ∷ done) not = refl
+not_due_same version (Went after event ∷ done) not = refl
 not_due_same version (Looked kind addr smm look ∷ done) not =
     let no : nat_le look.version version ≡ false = grind (arith, nat_tests) in rw no refl
 

@@ -31,7 +31,7 @@ passed_at (done ∷ rests) first (suc k) =
 
 first_is_one : (done : List Done) → looks_in (without_first done) ≤ looks_in done
 first_is_one [] = omega arith
-first_is_one (Went event version ∷ done) = omega arith
+first_is_one (Went version event ∷ done) = omega arith
 first_is_one (Looked kind addr smm look ∷ done) = omega arith
 
 -- the first `i` entries of the bus have entered

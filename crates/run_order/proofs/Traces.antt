@@ -82,7 +82,7 @@ module _ (setup : Setup) (cards : IsCardList setup.cards) (whole : List Entry) (
       let rest : Follows setup whole actor seen look.version items = subst (λ (n : ℕ). Follows setup whole actor seen n items) (sym one.saw.version) f in
       follows_on before seen older (Looked kind addr smm look ∷ items) d.2 b (extends_trans older known (map_writes_of setup whole) one.later e)
       (omega (arith, less, one.saw.version), omega (arith, most, one.saw.version), right known kind addr smm look one.saw e, rest)
-  follows_on (Went event version ∷ before) seen known items d b e f =
+  follows_on (Went version event ∷ before) seen known items d b e f =
       let was : List Entry = d.0 in let older : List MapChange = d.1 in let one = d.2 in
       let place : Begins (one.entry ∷ one.list) whole = subst (λ (h : List Entry). Begins h whole) one.now_is b in
       let inside : Begins one.list whole = begins_before one.entry one.list whole place in
@@ -97,7 +97,7 @@ module _ (setup : Setup) (cards : IsCardList setup.cards) (whole : List Entry) (
       } in
       let rest : Follows setup whole actor (one.entry ∷ one.list) (version_of setup (one.entry ∷ one.list)) items =
       subst (λ (z : List Entry × ℕ). Follows setup whole actor z.0 z.1 items) (λ i. (one.now_is i, (ap length one.known_is ∙ ap (λ (h : List Entry). version_of setup h) one.now_is) i)) f in
-      follows_on before was older (Went event version ∷ items) d.5 (begins_trans was one.list whole one.begins inside)
+      follows_on before was older (Went version event ∷ items) d.5 (begins_trans was one.list whole one.begins inside)
       (extends_trans older (map_writes_of setup one.list) (map_writes_of setup whole) one.meets (writes_extend setup one.list whole inside))
       (one.list, one.entry, call, rest)
 

@@ -30,13 +30,13 @@ next_onto setup later before entry legal = next_is setup before entry (legal_bef
 none_placed : (version actor : ℕ) (done : List Done) (history : List Entry) → looks_in done ≡ 0 → with_looks version actor done history ≡ history
 unfolding with_looks
 none_placed version actor [] history none = refl
-none_placed version actor (Went event after ∷ done) history none = refl
+none_placed version actor (Went after event ∷ done) history none = refl
 none_placed version actor (Looked kind addr smm look ∷ done) history none = absurd (omega (arith, none))
 
 none_left : (version : ℕ) (done : List Done) → looks_in done ≡ 0 → left_after version done ≡ done
 unfolding left_after
 none_left version [] none = refl
-none_left version (Went event after ∷ done) none = refl
+none_left version (Went after event ∷ done) none = refl
 none_left version (Looked kind addr smm look ∷ done) none = absurd (omega (arith, none))
 
 none_of_all : (version first : ℕ) (rests : List (List Done)) (history : List Entry) → all_looks_in rests ≡ 0 → with_all_looks version first rests history ≡ history
@@ -53,7 +53,7 @@ all_are_left version (done ∷ rests) none =
 
 none_after : (done : List Done) → looks_in done ≡ 0 → looks_in (without_first done) ≡ 0
 none_after [] none = refl
-none_after (Went event after ∷ done) none = none
+none_after (Went after event ∷ done) none = none
 none_after (Looked kind addr smm look ∷ done) none = absurd (omega (arith, none))
 
 none_passed : (first actor : ℕ) (rests : List (List Done)) → all_looks_in rests ≡ 0 → all_looks_in (passed first actor rests) ≡ 0

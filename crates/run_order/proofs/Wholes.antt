@@ -31,7 +31,7 @@ own_old c entry h not = ap (map (λ (e : Entry). e.event)) (other_entry c entry 
 with_looks_own : (v actor : ℕ) (items : List Done) (final : List Entry) → onto (map event_of (left_after v items)) (own actor (with_looks v actor items final)) ≡ onto (map event_of items) (own actor final)
 unfolding with_looks left_after
 with_looks_own v actor [] final = refl
-with_looks_own v actor (Went event after ∷ items) final = refl
+with_looks_own v actor (Went after event ∷ items) final = refl
 with_looks_own v actor (Looked kind addr smm look ∷ items) final =
     let entry : Entry = next_entry final actor (LookAt kind addr smm) (Saw look) in
     elim (cases_Bool (nat_le look.version v)) [
@@ -42,7 +42,7 @@ with_looks_own v actor (Looked kind addr smm look ∷ items) final =
 with_looks_other : (v actor c : ℕ) (items : List Done) (final : List Entry) → (actor == c) ≡ false → own c (with_looks v actor items final) ≡ own c final
 unfolding with_looks
 with_looks_other v actor c [] final other = refl
-with_looks_other v actor c (Went event after ∷ items) final other = refl
+with_looks_other v actor c (Went after event ∷ items) final other = refl
 with_looks_other v actor c (Looked kind addr smm look ∷ items) final other =
     let entry : Entry = next_entry final actor (LookAt kind addr smm) (Saw look) in
     elim (cases_Bool (nat_le look.version v)) [
@@ -109,13 +109,13 @@ none_at (items ∷ rests) first c each =
 headed_events : (event : Event) (version : ℕ) (P : List Done → Type 0) (items : List Done) → Headed event version P items → map event_of items ≡ event ∷ map event_of (without_first items)
 headed_events event version P [] h = absurd h
 headed_events event version P (Looked kind addr smm look ∷ items) h = absurd h
-headed_events event version P (Went said after ∷ items) h = ap (λ (e : Event). e ∷ map event_of items) h.0
+headed_events event version P (Went after said ∷ items) h = ap (λ (e : Event). e ∷ map event_of items) h.0
 
 -- what is left keeps K
 left_one : (setup : Setup) (before : List Entry) (K : List Done → Type 0) (items : List Done) → Due setup before K items → K (left_after (version_of setup before) items)
 unfolding left_after
 left_one setup before K [] due = due
-left_one setup before K (Went event after ∷ items) due = due
+left_one setup before K (Went after event ∷ items) due = due
 left_one setup before K (Looked kind addr smm look ∷ items) due = go (λ d. left_one setup before K items d) (nat_le look.version (version_of setup before)) refl due
   where
     go : (Due setup before K items → K (left_after (version_of setup before) items)) → (b : Bool) → nat_le look.version (version_of setup before) ≡ b

@@ -15,14 +15,14 @@ is_look _ = false
 
 -- the statement that was done
 abbrev pub event_of : Done → Event
-event_of (Went event version) = event
+event_of (Went version event) = event
 event_of (Looked kind addr smm look) = LookAt kind addr smm
 
 -- the looks that come first in what a processor did enter a history, in their order, as far as they are of this version
 -- or before
 unfoldable pub with_looks : (version actor : ℕ) → List Done → List Entry → List Entry
 with_looks version actor [] history = history
-with_looks version actor (Went event after ∷ done) history = history
+with_looks version actor (Went after event ∷ done) history = history
 with_looks version actor (Looked kind addr smm look ∷ done) history =
     if nat_le look.version version
     then with_looks version actor done (next_entry history actor (LookAt kind addr smm) (Saw look) ∷ history)
@@ -31,7 +31,7 @@ with_looks version actor (Looked kind addr smm look ∷ done) history =
 -- and what is left of it then
 unfoldable pub left_after : (version : ℕ) → List Done → List Done
 left_after version [] = []
-left_after version (Went event after ∷ done) = Went event after ∷ done
+left_after version (Went after event ∷ done) = Went after event ∷ done
 left_after version (Looked kind addr smm look ∷ done) =
     if nat_le look.version version then left_after version done else Looked kind addr smm look ∷ done
 
@@ -61,7 +61,7 @@ passed first actor (done ∷ rests) =
 
 -- the version after a processor's next statement, as it noted it
 abbrev pub noted : (version : ℕ) → List Done → ℕ
-noted version (Went event after ∷ done) = after
+noted version (Went after event ∷ done) = after
 noted version _ = version
 
 -- the history with the entries that the bus's history gained in a phase, and with the looks of all processors: before

@@ -28,7 +28,7 @@ pub record IsCounted (entries : List Entry) (spare capacity : ℕ) (counts : Lis
 -- how many looks are in what a processor did, and in what all did
 abbrev pub looks_in : List Done → ℕ
 looks_in [] = 0
-looks_in (Went event version ∷ done) = looks_in done
+looks_in (Went version event ∷ done) = looks_in done
 looks_in (Looked kind addr smm look ∷ done) = looks_in done + 1
 
 abbrev pub all_looks_in : List (List Done) → ℕ
@@ -37,7 +37,7 @@ all_looks_in (done ∷ rests) = looks_in done + all_looks_in rests
 
 -- a look was done
 abbrev pub IsLook : Done → Type 0
-IsLook (Went event version) = ⊥
+IsLook (Went version event) = ⊥
 IsLook (Looked kind addr smm look) = Unit {0}
 
 -- a processor looked

@@ -6,7 +6,7 @@ use Rattle.run_order.specs.declared.done.Done.TheVariants.{Went, Looked}
 -- what a processor did does not begin with a look of this version or of one before
 abbrev pub IsNotDue : (version : ℕ) → List Done → Type 0
 IsNotDue version [] = Unit {0}
-IsNotDue version (Went event after ∷ done) = Unit {0}
+IsNotDue version (Went after event ∷ done) = Unit {0}
 IsNotDue version (Looked kind addr smm look ∷ done) = version < look.version
 
 -- the same of each processor

@@ -55,7 +55,7 @@ IsDone setup actor opened [] seen known = (seen ≡ opened) × (known ≡ map_wr
 IsDone setup actor opened (Looked kind addr smm look ∷ before) seen known =
     (older : List MapChange) × IsLooked setup older known kind addr smm look
     × IsDone setup actor opened before seen older
-IsDone setup actor opened (Went event version ∷ before) seen known =
+IsDone setup actor opened (Went version event ∷ before) seen known =
     (was : List Entry) × (older : List MapChange) × IsGone setup actor was older event seen known
     × (version ≡ length known) × (is_look event ≡ false) × IsDone setup actor opened before was older
 

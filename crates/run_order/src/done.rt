@@ -8,8 +8,8 @@ use board_spec::{Event, Look};
 pub enum Done {
     /// It went through the bus turn. The version is that of the address map after it.
     Went {
-        event: Event,
         version: u32,
+        event: Event,
     },
     /// It looked at the published map, and saw this.
     Looked {

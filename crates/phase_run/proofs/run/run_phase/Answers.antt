@@ -2,11 +2,12 @@ use Rattle.std.proofs.Common.{◌≡◌, ℕ, ◌<◌, List, Bor, map, length, A
 use Rattle.std.specs.Prelude.{reverse}
 use Rattle.access_history.specs.Past.{Past}
 use Rattle.board_spec.specs.declared.event.Entry.{Entry}
+use Rattle.board_spec.specs.declared.event.Statement.{Statement}
 use Rattle.board_spec.specs.MapWrites.{version_of}
 use Rattle.board_spec.specs.Legal.{IsLegal}
 use Rattle.run_order.specs.declared.done.Done.{Done}
 use Rattle.phase_run.specs.declared.worker.Work.{Work}
-use Rattle.phase_run.specs.Jobs.{IsStatement, done_in}
+use Rattle.phase_run.specs.Jobs.{IsStatement, GoesOn, HasRun, done_in}
 use Rattle.phase_run.proofs.Looks.{nobody_looks}
 use Rattle.phase_run.proofs.Phases.{gained, gained_all, front_all, parts_are, phase_is_run, takes_in}
 use Rattle.phase_run.proofs.run.run_phase.Goals as goal
@@ -21,8 +22,9 @@ add-requires g c =
     let entries : List Entry = c.entries-entries.result.now in
     let old : opened ≡ reverse before.entries = c.entries-opened.ensures.entries ∙ ap (λ (past : Past). reverse past.entries) c.history.ensures.history in
     let is : entries ≡ reverse now.entries = c.entries-entries.ensures.entries ∙ ap (λ (past : Past). reverse past.entries) c.history-2.ensures.history in
-    let are : map (λ (done : Bor (List Done)). done.now) c.works_of.result.items ≡ done_in works = c.works_of.ensures.done ∙ ap done_in c.deref.ensures.value in
-    let asked = c.in_ok-run.ensures.goes_on.asked c.requires.can.most c.requires.can.asked c.requires.can.room in
+    let are : map (λ (done : Bor (List Done)). done.now) c.works_of.result.items ≡ done_in works = c.works_of.ensures.done ∙ ap done_in c.deref-2.ensures.value in
+    let goes_on = subst (λ (phase : List Statement). GoesOn phase c.args.run c.in_ok-run.run') c.deref.ensures.value c.in_ok-run.ensures.goes_on in
+    let asked = goes_on.asked c.requires.can.most c.requires.can.asked c.requires.can.room in
     let count : length c.works_of.result.items ≡ length works =
     sym (length-map c.works_of.result.items (λ (done : Bor (List Done)). done.now)) ∙ (ap length are ∙ length-map works (λ (work : Work). work.done.items)) in
     let begins = c.in_ok-run.ensures.run.begins in
@@ -32,6 +34,9 @@ add-requires g c =
       callers = subst (λ (n : ℕ). All (λ (entry : Entry). entry.actor < n) (gained opened entries)) (sym count)
           (gained_all (λ (entry : Entry). entry.actor < length works) now.entries opened entries is asked.actors);
     }
+
+pub returns-clause-goes_on : goal.returns-clause-goes_on
+returns-clause-goes_on g c = subst (λ (phase : List Statement). GoesOn phase c.args.run c.in_ok-run.run') c.deref.ensures.value c.in_ok-run.ensures.goes_on
 
 pub returns-clause-takes_in : goal.returns-clause-takes_in
 returns-clause-takes_in g c =
@@ -43,18 +48,21 @@ returns-clause-takes_in g c =
     let lists : List (List Done) = map (λ (done : Bor (List Done)). done.now) c.works_of.result.items in
     let old : opened ≡ reverse before.entries = c.entries-opened.ensures.entries ∙ ap (λ (past : Past). reverse past.entries) c.history.ensures.history in
     let is : entries ≡ reverse now.entries = c.entries-entries.ensures.entries ∙ ap (λ (past : Past). reverse past.entries) c.history-2.ensures.history in
-    let are : lists ≡ done_in works = c.works_of.ensures.done ∙ ap done_in c.deref.ensures.value in
-    let asked = c.in_ok-run.ensures.goes_on.asked c.requires.can.most c.requires.can.asked c.requires.can.room in
-    let count : length c.args.run.works.items ≡ length works = sym c.in_ok-run.ensures.goes_on.count in
-    let speakers = subst (λ (n : ℕ). All (IsStatement before.setup n) c.args.phase.now) count c.requires.can.in_range in
-    let run = phase_is_run before now opened entries c.args.phase.now works lists c.in_ok-run.ensures.run old is are c.requires.cards c.history-2.ensures.legal asked.actors speakers in
+    let are : lists ≡ done_in works = c.works_of.ensures.done ∙ ap done_in c.deref-2.ensures.value in
+    let goes_on = subst (λ (phase : List Statement). GoesOn phase c.args.run c.in_ok-run.run') c.deref.ensures.value c.in_ok-run.ensures.goes_on in
+    let asked = goes_on.asked c.requires.can.most c.requires.can.asked c.requires.can.room in
+    let count : length c.args.run.works.items ≡ length works = sym goes_on.count in
+    let ran = subst (λ (phase : List Statement). HasRun before now phase works) c.deref.ensures.value c.in_ok-run.ensures.run in
+    let speakers = subst (λ (n : ℕ). All (IsStatement before.setup n) c.args.phase.items) count c.requires.can.in_range in
+    let run = phase_is_run before now opened entries c.args.phase.items works lists ran old is are c.requires.cards c.history-2.ensures.legal asked.actors speakers in
     let version : c.version-version.result ≡ version_of before.setup before.entries = c.version-version.ensures.version ∙ c.map.ensures.version in
-    takes_in before now opened entries c.args.phase.now lists c.args.placing.now.history c.add.new.self.history c.version-version.result
+    takes_in before now opened entries c.args.phase.items lists c.args.placing.now.history c.add.new.self.history c.version-version.result
     c.law_phase_runs.ensures.runs run c.in_ok-run.ensures.run.begins old is version c.requires.legal c.requires.same c.in_ok-add.ensures.placed
 
 pub returns-clause-own : goal.returns-clause-own
 returns-clause-own g c = λ none was.
     let works : List Work = c.in_ok-run.run'.works.items in
     let lists : List (List Done) = map (λ (done : Bor (List Done)). done.now) c.works_of.result.items in
-    let are : lists ≡ done_in works = c.works_of.ensures.done ∙ ap done_in c.deref.ensures.value in
-    c.in_ok-add.ensures.own (nobody_looks c.args.run.board c.in_ok-run.run'.board c.args.phase.now works lists c.in_ok-run.ensures.run are none) was
+    let are : lists ≡ done_in works = c.works_of.ensures.done ∙ ap done_in c.deref-2.ensures.value in
+    let ran = subst (λ (phase : List Statement). HasRun c.args.run.board c.in_ok-run.run'.board phase works) c.deref.ensures.value c.in_ok-run.ensures.run in
+    c.in_ok-add.ensures.own (nobody_looks c.args.run.board c.in_ok-run.run'.board c.args.phase.items works lists ran are none) was
