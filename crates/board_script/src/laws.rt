@@ -4,6 +4,7 @@ ghost use Rattle.std.specs.Prelude.{◌≡◌, ◌<◌, ◌-◌, ◌^◌, length
 ghost use Rattle.board_spec.specs.LogText.{log_text};
 ghost use Rattle.script_spec.specs.ScriptText.{IsVersion};
 ghost use Rattle.script_spec.specs.WellFormed.{IsWellFormed};
+ghost use Rattle.board_script.specs.LinesFrom.{LinesOfHistory, LinesOfParts};
 ghost use Rattle.board_script.specs.declared.fault.LogFault.{LogFault};
 
 use crate::fault::LogFault;
@@ -25,3 +26,10 @@ pub fn law_log_back(alloc: Global, version: u8, entries: &[Entry]) -> Result<Log
     push_log(&mut text, version, entries)?;
     read_log(alloc, text.as_bytes())
 }
+
+/// The lines of a history, from 1 on, are those of its log. Cut into parts it has the lines of each part, numbered on
+/// from those of the part before.
+pub fn law_lines()
+    ensures whole { LinesOfHistory }
+    ensures parts { LinesOfParts }
+{}

@@ -1,9 +1,10 @@
 //! The log of a history: a heading, and a line for each entry.
 
-ghost use Rattle.std.specs.Prelude.{◌≡◌, ◌+◌, ◌<◌, ◌≤◌, ◌∷◌, ◌++◌, [], length, drop, OnOk, OnErr, IfOk, reverse, decimal, codes};
+ghost use Rattle.std.specs.Prelude.{◌≡◌, ◌+◌, ◌^◌, ◌<◌, ◌≤◌, ◌∷◌, ◌++◌, [], length, drop, OnOk, OnErr, IfOk, reverse, decimal, codes};
 ghost use Rattle.board_spec.specs.Text.{space, line_feed};
 ghost use Rattle.board_spec.specs.LogText.{line_text, log_text};
 ghost use Rattle.board_script.specs.Adds.{Adds, KeepsFront};
+ghost use Rattle.board_script.specs.LinesFrom.{lines_from};
 
 use crate::line::Line;
 use crate::reply::{push_reply, reply_bytes};
@@ -67,12 +68,24 @@ pub fn push_line(text: &mut String, n: u64, entry: &Entry) -> Result<(), NoMemor
 
 /// Appends the heading of a log of this version.
 #[tactic(auto, unfolding(board_spec::specs::LogText::lines_text))]
-fn push_heading(text: &mut String, version: u8) -> Result<(), NoMemory>
+pub fn push_heading(text: &mut String, version: u8) -> Result<(), NoMemory>
     ensures appended { OnOk result (Adds text.old text.new (log_text version [])) }
     ensures front { OnErr result (KeepsFront text.old text.new) }
 {
     push_numbered(text, "access log ", version)?;
     text.push('\n')?;
+    Ok(())
+}
+
+/// Appends the lines of a part of a history, the oldest entry first, numbered from `first` on.
+pub fn push_lines(text: &mut String, first: u64, entries: &[Entry]) -> Result<(), NoMemory>
+    requires fits { first + length entries.now ≤ 2 ^ 64 }
+    ensures appended { OnOk result (Adds text.old text.new (lines_from first entries.now)) }
+    ensures front { OnErr result (KeepsFront text.old text.new) }
+{
+    for (index, entry) in entries.iter().enumerate() {
+        push_line(text, first + index as u64, entry)?;
+    }
     Ok(())
 }
 
@@ -82,10 +95,7 @@ pub fn push_log(text: &mut String, version: u8, entries: &[Entry]) -> Result<(),
     ensures front { OnErr result (KeepsFront text.old text.new) }
 {
     push_heading(text, version)?;
-    for (index, entry) in entries.iter().enumerate() {
-        push_line(text, index as u64 + 1, entry)?;
-    }
-    Ok(())
+    push_lines(text, 1, entries)
 }
 
 /// Line `n` of the log, without its line feed. Lines count from 1.

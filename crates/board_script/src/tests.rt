@@ -353,6 +353,21 @@ fn a_log_has_a_heading_and_a_line_for_each_entry(rt: HostRuntime) -> Result<(), 
 }
 
 #[test]
+fn lines_are_numbered_on(rt: HostRuntime) -> Result<(), Fail> {
+    let entries = [
+        entry(7, Event::Ack, device(Some(0x25), Dev::Vector(0))),
+        entry(8, Event::Pulses(1), device(None, Dev::Pit)),
+    ];
+    let mut text = String::new(rt.alloc());
+    push_lines(&mut text, 99, &entries)?;
+    assert_eq!(rt;
+        text.as_str(),
+        "99 0.7 ack = 25 vec0 -\n100 0.8 pulse 1 = - pit -\n"
+    );
+    Ok(())
+}
+
+#[test]
 fn the_heading_names_the_version(rt: HostRuntime) -> Result<(), Fail> {
     let mut text = String::new(rt.alloc());
     push_log(&mut text, 2, &[])?;

@@ -1,7 +1,8 @@
-use Rattle.board_script.proofs.Lines.{log_text-more}
+use Rattle.board_script.proofs.Joined.{appended_twice}
+use Rattle.board_script.proofs.Parts.{log_text-lines}
 use Rattle.board_script.proofs.log.push_log.Goals as goal
 
-pub loop-index-preserved : goal.loop-index-preserved
-loop-index-preserved c =
-    log_text-more c.args.version c.args.entries.now c.loop-index.index _ c.loop-index-test.true _ _ _
-    c.loop-index.invariant c.in_ok-push_line.ensures.appended
+pub returns-clause-appended : goal.returns-clause-appended
+returns-clause-appended c =
+    appended_twice _ _ _ _ _ _ _ c.in_ok-push_heading.ensures.appended c.push_lines.ensures.appended
+    (log_text-lines c.args.version c.args.entries.now)

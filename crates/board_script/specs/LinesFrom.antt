@@ -1,0 +1,20 @@
+-- The lines of a part of a history. Here the oldest entry stands first.
+use Rattle.std.specs.Prelude.{ℕ, ◌≡◌, ◌+◌, ◌++◌, List, [], ◌∷◌, length, reverse}
+use Rattle.board_spec.specs.declared.event.Entry.{Entry}
+use Rattle.board_spec.specs.Text.{line_feed}
+use Rattle.board_spec.specs.LogText.{line_text, lines_text}
+
+-- the line of the oldest entry has the number `first`
+unfoldable pub lines_from : (first : ℕ) → List Entry → List ℕ
+lines_from first [] = []
+lines_from first (entry ∷ later) = (line_text first entry ++ line_feed ∷ []) ++ lines_from (first + 1) later
+
+-- from 1 on they are the lines of the history
+abbrev pub LinesOfHistory : Type 0
+LinesOfHistory = (entries : List Entry) → lines_text (reverse entries) ≡ lines_from 1 entries
+
+-- of two parts, one after the other, the later one is numbered on
+abbrev pub LinesOfParts : Type 0
+LinesOfParts =
+    (first : ℕ) (early late : List Entry) →
+    lines_from first (early ++ late) ≡ lines_from first early ++ lines_from (first + length early) late
