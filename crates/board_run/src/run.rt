@@ -9,8 +9,8 @@ ghost use Rattle.board_run.specs.Texts.{IsRunText};
 
 use board_base::{Gate, NoMemory};
 use board_core::Board;
-use board_script::push_log;
 use board_spec::laws::law_lock;
+use log_pieces::push_log_by;
 use phase_run::{EndedRun, run_phases};
 use script_text::Script;
 use std::alloc::Global;
@@ -36,7 +36,8 @@ pub fn run_script<R: Threads + Wait + Sync, G: Gate>(
     run_phases(rt, alloc, board, script.cpus, &script.phases, gate)
 }
 
-/// The log of a run of a script. The memory of the script is given back before the log takes its own.
+/// The log of a run of a script, which as many threads write as there are processors. The memory of the script is given
+/// back before the log takes its own.
 pub fn log_of_run<R: Threads + Wait + Sync, G: Gate>(
     rt: &R,
     alloc: Global,
@@ -50,10 +51,10 @@ pub fn log_of_run<R: Threads + Wait + Sync, G: Gate>(
     ensures text { IfOk result (λ text. IsRunText board.setup (said_of script) (string_bytes text)) }
 {
     let history = run_script(rt, alloc, board, &script, gate)?;
-    let version = script.version;
+    let (version, cpus) = (script.version, script.cpus);
     drop(script);
     let mut text = String::new(alloc);
-    push_log(&mut text, version, history.entries())?;
+    push_log_by(rt, alloc, cpus, &mut text, version, history.entries())?;
     law_lock();
     Ok(text)
 }

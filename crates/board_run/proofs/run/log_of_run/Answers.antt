@@ -16,7 +16,7 @@ returns g c =
         complete = c.in_ok-history.ensures.complete;
         locked = c.law_lock.ensures.kept c.args.board.setup history c.in_ok-history.ensures.legal;
         log =
-            c.in_ok-push_log.ensures.appended
+            c.in_ok-push_log_by.ensures.appended
             ∙ ap (λ (front : List ℕ). front ++ log_text version (reverse c.entries.result.now)) c.new-text.ensures.bytes
             ∙ ap (λ (entries : List Entry). log_text version (reverse entries)) c.entries.ensures.entries
             ∙ ap (log_text version) (reverse-reverse history);
