@@ -25,6 +25,7 @@ fn level_of(level: u32) -> Option<bool>
     }
 }
 
+/// The level of a card's INTA#, where the numbers are in range.
 #[tactic(auto, unfolding(crate::specs::Asked::wire_of))]
 fn wire_of(dev: u32, level: u32) -> Option<Event>
     ensures event { result ≡ wire_of dev level }
@@ -34,6 +35,7 @@ fn wire_of(dev: u32, level: u32) -> Option<Event>
     Some(Event::Wire { dev, on })
 }
 
+/// The level of an interrupt line, where the numbers are in range.
 #[tactic(auto, unfolding(crate::specs::Asked::line_of))]
 fn line_of(irq: u32, level: u32) -> Option<Event>
     ensures event { result ≡ line_of irq level }

@@ -1,6 +1,6 @@
 //! Texts that are cut at a mark, and small numbers.
 
-ghost use Rattle.std.specs.Prelude.{◌≡◌, ◌<◌, length, map, IfSome, option_map};
+ghost use Rattle.std.specs.Prelude.{◌≡◌, ◌<◌, length, IfSome, option_map};
 ghost use Rattle.log_lines.specs.Cuts.{cut, digit_in, byte_in};
 
 use script_lines::digit_of;

@@ -1,7 +1,6 @@
 //! The reply that a line says, by its event.
 
 ghost use Rattle.std.specs.Prelude.{◌≡◌, ◌≤◌, ◌<◌, ◌^◌, ◌∷◌, ℕ, false, length, IfSome};
-ghost use Rattle.board_base.specs.Access.{bytes_of};
 ghost use Rattle.board_spec.specs.declared.event.Reply.{Reply};
 ghost use Rattle.board_spec.specs.Stored.{is_write};
 ghost use Rattle.board_spec.specs.WideParts.{parts_of};
@@ -182,6 +181,7 @@ fn reply_of(event: &Event, words: Fields<'_>) -> Option<Reply>
     }
 }
 
+/// The reply by the fields of the text after `=`, of which the first is empty.
 #[tactic(auto, unfolding(crate::specs::Replies::reply_in))]
 fn reply_in(event: &Event, fields: Fields<'_>) -> Option<Reply>
     requires bytes { IsNarrow event.now }

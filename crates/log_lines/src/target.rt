@@ -3,7 +3,6 @@
 ghost use Rattle.std.specs.Prelude.{◌≡◌, ◌<◌, IfSome, option_map};
 ghost use Rattle.script_spec.specs.WellFormed.{FitsReg, FitsArea, FitsDevice, FitsTarget, FitsDenial};
 ghost use Rattle.script_lines.specs.Numbers.{hex_of};
-ghost use Rattle.log_lines.specs.Cuts.{digit_in};
 ghost use Rattle.log_lines.specs.Targets.{register_of, denial_word, denial_of, base_of, area_with, placed_area, area_of, card_of, target_with, placed_target, chip_of, named_device, device_of, other_target, target_of};
 
 use crate::cuts::{cut, digit_in};
@@ -73,47 +72,24 @@ fn base_of(field: &[u8]) -> Option<(u8, u8)>
     Some((dev, base))
 }
 
-fn card_area(place: &[u8]) -> Option<Area>
-    ensures area { result ≡ option_map (λ p. Area.Card p.0 p.1) (base_of place.now) }
-    ensures fits { IfSome result FitsArea }
-{
-    let (dev, base) = base_of(place)?;
-    Some(Area::Card(dev, base))
-}
-
-fn dram_area(place: &[u8]) -> Option<Area>
-    ensures area { result ≡ option_map Area.Dram (digit_in place.now) }
-    ensures fits { IfSome result FitsArea }
-{
-    let row = digit_in(place)?;
-    Some(Area::Dram(row))
-}
-
-fn shadow_area(place: &[u8]) -> Option<Area>
-    ensures area { result ≡ option_map Area.Shadow (digit_in place.now) }
-    ensures fits { IfSome result FitsArea }
-{
-    let row = digit_in(place)?;
-    Some(Area::Shadow(row))
-}
-
 /// An area with a place after its word, like `dram:0`.
 fn area_with(kind: &[u8], place: &[u8]) -> Option<Area>
     ensures area { result ≡ area_with kind.now place.now }
     ensures fits { IfSome result FitsArea }
 {
     if is_word(kind, "dram") {
-        return dram_area(place);
+        return digit_in(place).map(Area::Dram);
     }
     if is_word(kind, "shadow") {
-        return shadow_area(place);
+        return digit_in(place).map(Area::Shadow);
     }
     if is_word(kind, "card") {
-        return card_area(place);
+        return base_of(place).map(|(dev, base)| Area::Card(dev, base));
     }
     None
 }
 
+/// An area that is a word, a colon and a place.
 #[tactic(auto, unfolding(crate::specs::Targets::placed_area))]
 fn placed_area(field: &[u8]) -> Option<Area>
     ensures area { result ≡ placed_area field.now }
@@ -151,22 +127,6 @@ fn card_of(place: &[u8]) -> Option<Target>
     Some(Target::Card(dev, base, off as u32))
 }
 
-fn dram_target(place: &[u8]) -> Option<Target>
-    ensures target { result ≡ option_map Target.Dram (digit_in place.now) }
-    ensures fits { IfSome result FitsTarget }
-{
-    let row = digit_in(place)?;
-    Some(Target::Dram(row))
-}
-
-fn shadow_target(place: &[u8]) -> Option<Target>
-    ensures target { result ≡ option_map Target.Shadow (digit_in place.now) }
-    ensures fits { IfSome result FitsTarget }
-{
-    let row = digit_in(place)?;
-    Some(Target::Shadow(row))
-}
-
 /// An offset in the ROM has five digits.
 fn rom_target(place: &[u8]) -> Option<Target>
     ensures target { result ≡ option_map Target.Rom (hex_of 5 place.now) }
@@ -176,24 +136,16 @@ fn rom_target(place: &[u8]) -> Option<Target>
     Some(Target::Rom(off as u32))
 }
 
-fn config_target(place: &[u8]) -> Option<Target>
-    ensures target { result ≡ option_map Target.Config (register_of place.now) }
-    ensures fits { IfSome result FitsTarget }
-{
-    let reg = register_of(place)?;
-    Some(Target::Config(reg))
-}
-
 /// A target with a place after its word, like `rom:00012`.
 fn target_with(kind: &[u8], place: &[u8]) -> Option<Target>
     ensures target { result ≡ target_with kind.now place.now }
     ensures fits { IfSome result FitsTarget }
 {
     if is_word(kind, "dram") {
-        return dram_target(place);
+        return digit_in(place).map(Target::Dram);
     }
     if is_word(kind, "shadow") {
-        return shadow_target(place);
+        return digit_in(place).map(Target::Shadow);
     }
     if is_word(kind, "rom") {
         return rom_target(place);
@@ -202,11 +154,12 @@ fn target_with(kind: &[u8], place: &[u8]) -> Option<Target>
         return card_of(place);
     }
     if is_word(kind, "config") {
-        return config_target(place);
+        return register_of(place).map(Target::Config);
     }
     None
 }
 
+/// A target that is a word, a colon and a place.
 #[tactic(auto, unfolding(crate::specs::Targets::placed_target))]
 fn placed_target(field: &[u8]) -> Option<Target>
     ensures target { result ≡ placed_target field.now }

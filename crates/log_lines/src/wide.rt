@@ -21,6 +21,7 @@ fn part_of(target: &[u8], denial: &[u8]) -> Option<Part>
     Some(Part { target, denial })
 }
 
+/// Four parts, the last by its two words.
 fn four_parts(a: Part, b: Part, c: Part, target: &[u8], denial: &[u8]) -> Option<Parts>
     requires first { FitsPart a }
     requires second { FitsPart b }
