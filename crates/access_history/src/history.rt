@@ -1,6 +1,6 @@
 //! A list of entries with room that was reserved for more.
 
-ghost use Rattle.std.specs.Prelude.{◌≡◌, ℕ, ◌+◌, ◌-◌, ◌<◌, ◌≤◌, List, [], ◌∷◌, length, max, reverse, slice_get, Some, OnOk, OnErr};
+ghost use Rattle.std.specs.Prelude.{◌≡◌, ◌+◌, ◌-◌, ◌<◌, ◌≤◌, [], ◌∷◌, length, max, reverse, slice_get, Some, OnOk, OnErr};
 
 use board_base::NoMemory;
 use board_spec::Entry;

@@ -1,6 +1,6 @@
 //! A history may be shared by turns.
 
-ghost use Rattle.std.specs.Prelude.{◌≡◌, length, reverse};
+ghost use Rattle.std.specs.Prelude.{reverse};
 
 use crate::{Entry, History};
 use bus_turn::Kept;

@@ -1,5 +1,5 @@
 //! A caller of the shared board.
-ghost use Rattle.std.specs.Prelude.{◌≡◌, ◌+◌, ◌<◌, ◌≤◌, length, drop, reverse, Some, IfOk, OnErr};
+ghost use Rattle.std.specs.Prelude.{◌≡◌, ◌+◌, ◌<◌, length, drop, reverse, Some, IfOk, OnErr};
 ghost use mathlib.Core.List.{IsPrefix};
 ghost use Rattle.board_spec.specs.InRange.{IsInRange};
 ghost use Rattle.bus_turn.specs.Passes.{IsIdle, IsHolding, IsSameCaller as IsSamePass, HasSameJoined, number_of, splits_of, opened_of as opened_by, part_of, seen_of as seen_in, mine_of as mine_in};

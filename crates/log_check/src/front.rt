@@ -1,6 +1,6 @@
 //! How far each processor is in a phase.
 
-ghost use Rattle.std.specs.Prelude.{◌≡◌, ◌≢◌, ◌<◌, ◌≤◌, ℕ, [], ◌∷◌, All, drop, length, slice_index, slice_get, Some, IfSome, MatchOption};
+ghost use Rattle.std.specs.Prelude.{◌≡◌, ◌≢◌, ◌<◌, ℕ, [], ◌∷◌, drop, Some, IfSome, MatchOption};
 ghost use Rattle.board_spec.specs.Setup.{Setup};
 ghost use Rattle.board_spec.specs.Orders.{events_by};
 ghost use Rattle.board_core.specs.Steps.{AreInRange};

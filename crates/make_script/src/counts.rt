@@ -1,6 +1,6 @@
 //! How many entries of a history there are of each kind.
 
-ghost use Rattle.std.specs.Prelude.{◌≡◌, ◌+◌, ◌++◌, ℕ, List, [], ◌∷◌, length};
+ghost use Rattle.std.specs.Prelude.{◌≡◌, ◌+◌, ◌++◌, List, [], ◌∷◌};
 ghost use Rattle.board_spec.specs.declared.event.Entry.{Entry as AnEntry};
 ghost use Rattle.board_spec.specs.declared.event.Part.{Part as APart};
 ghost use Rattle.board_spec.specs.WideParts.{parts_list};

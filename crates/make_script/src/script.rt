@@ -4,7 +4,7 @@ ghost use Rattle.std.specs.Prelude.{◌≡◌, ◌+◌, ◌*◌, ◌%◌, [], �
 ghost use Rattle.board_spec.specs.Text.{space, line_feed, hex_long};
 ghost use Rattle.script_spec.specs.Lines.{text_of_lines};
 ghost use Rattle.board_script.specs.Adds.{Adds, KeepsFront};
-ghost use Rattle.make_script.specs.MakeText.{setup_lines, opening_lines, dram_addr, card_addr, round_lines, make_text};
+ghost use Rattle.make_script.specs.MakeText.{setup_lines, opening_lines, round_lines, make_text};
 
 use board_base::NoMemory;
 use board_script::{Line, push_hex_long, push_words};
