@@ -19,25 +19,24 @@ use std::thread::Threads;
 
 /// Runs a script on a fresh board with its cards: in each phase every processor does its own statements on a thread of its
 /// own, and the gate is told before and after each. A phase begins when the one before has ended. The history is legal, and
-/// has each phase's statements.
+/// has each phase's statements. Their memory is given back phase by phase.
 pub fn run_script<R: Threads + Wait + Sync, G: Gate>(
     rt: &R,
     alloc: Global,
     board: Board,
-    script: &Script,
+    script: Script,
     gate: &G,
 ) -> Result<EndedRun, NoMemory>
-    requires in_range { IsInRangeScript (said_of script.now) }
-    requires cards { board.setup.cards ≡ (said_of script.now).cards }
+    requires in_range { IsInRangeScript (said_of script) }
+    requires cards { board.setup.cards ≡ (said_of script).cards }
     requires fresh { board.entries ≡ [] }
     ensures legal { IfOk result (λ history. IsLegal board.setup history.entries) }
-    ensures complete { IfOk result (λ history. IsCompleteFor (said_of script.now).phases history.entries) }
+    ensures complete { IfOk result (λ history. IsCompleteFor (said_of script).phases history.entries) }
 {
-    run_phases(rt, alloc, board, script.cpus, &script.phases, gate)
+    run_phases(rt, alloc, board, script.cpus, script.phases, gate)
 }
 
-/// The log of a run of a script, which as many threads write as there are processors. The memory of the script is given
-/// back before the log takes its own.
+/// The log of a run of a script, which as many threads write as there are processors.
 pub fn log_of_run<R: Threads + Wait + Sync, G: Gate>(
     rt: &R,
     alloc: Global,
@@ -50,9 +49,8 @@ pub fn log_of_run<R: Threads + Wait + Sync, G: Gate>(
     requires fresh { board.entries ≡ [] }
     ensures text { IfOk result (λ text. IsRunText board.setup (said_of script) (string_bytes text)) }
 {
-    let history = run_script(rt, alloc, board, &script, gate)?;
     let (version, cpus) = (script.version, script.cpus);
-    drop(script);
+    let history = run_script(rt, alloc, board, script, gate)?;
     let mut text = String::new(alloc);
     push_log_by(rt, alloc, cpus, &mut text, version, history.entries())?;
     law_lock();

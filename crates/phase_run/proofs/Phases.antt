@@ -1,7 +1,7 @@
 -- A phase, as the history of the run takes it in.
 use Rattle.std.proofs.Common.{◌≡◌, ℕ, ◌+◌, ◌-◌, ◌<◌, ◌≤◌, List, [], ◌∷◌, ◌++◌, map, length, take, drop, flat_map, All, Option, Vec, Global, sym, ◌∙◌, ap, subst, arith}
-use Rattle.std.specs.Prelude.{reverse, slice_index_or}
-use Rattle.std.proofs.lemmas.List.{reverse-append, reverse-reverse, length-append, length-map, map-append, append-nil, take_all, take_more, take-append-drop}
+use Rattle.std.specs.Prelude.{reverse}
+use Rattle.std.proofs.lemmas.List.{reverse-append, reverse-reverse, length-append, length-map, map-append, append-nil, take_all}
 use Rattle.std.proofs.lemmas.Grind.{flat_map-append}
 use Rattle.std.proofs.Math.Seq.{drop-append_seam, take-append_seam}
 use Rattle.std.proofs.lemmas.List.Elements.{All-take, All-drop}
@@ -117,23 +117,20 @@ Phase = Vec Statement Global
 abbrev in_phase : Phase → List Statement
 in_phase phase = phase.items
 
-phase_at : (phases : List Phase) (i : ℕ) (phase : Phase) → i < length phases → slice_index_or phases i phase ≡ phase → take (i + 1) phases ≡ take i phases ++ phase ∷ []
-phase_at phases i phase less is = take_more phases i phase less ∙ ap (λ (one : Phase). take i phases ++ one ∷ []) is
+pub phases_more : (done : List Phase) (phase : Phase) → map in_phase (done ++ phase ∷ []) ≡ map in_phase done ++ phase.items ∷ []
+phases_more done phase = map-append in_phase done (phase ∷ [])
 
-pub phases_more : (phases : List Phase) (i : ℕ) (phase : Phase) → i < length phases → slice_index_or phases i phase ≡ phase
-    → map in_phase (take (i + 1) phases) ≡ map in_phase (take i phases) ++ phase.items ∷ []
-phases_more phases i phase less is = ap (map in_phase) (phase_at phases i phase less is) ∙ map-append in_phase (take i phases) (phase ∷ [])
+pub statements_more : (done : List Phase) (phase : Phase)
+    → length (flat_map in_phase (done ++ phase ∷ [])) ≡ length (flat_map in_phase done) + length phase.items
+statements_more done phase =
+    ap length (flat_map-append in_phase done (phase ∷ []))
+    ∙ (length-append (flat_map in_phase done) (phase.items ++ [])
+    ∙ ap (λ (items : List Statement). length (flat_map in_phase done) + length items) (append-nil phase.items))
 
-pub statements_more : (phases : List Phase) (i : ℕ) (phase : Phase) → i < length phases → slice_index_or phases i phase ≡ phase
-    → length (flat_map in_phase (take (i + 1) phases)) ≡ length (flat_map in_phase (take i phases)) + length phase.items
-statements_more phases i phase less is =
-    ap (λ (ps : List Phase). length (flat_map in_phase ps)) (phase_at phases i phase less is)
-    ∙ (ap length (flat_map-append in_phase (take i phases) (phase ∷ [])) ∙ (length-append (flat_map in_phase (take i phases)) (phase.items ++ [])
-    ∙ ap (λ (one : List Statement). length (flat_map in_phase (take i phases)) + length one) (append-nil phase.items)))
-
-pub statements_within : (phases : List Phase) (i : ℕ) → length (flat_map in_phase (take i phases)) ≤ length (flat_map in_phase phases)
-statements_within phases i =
-    let whole : length (flat_map in_phase phases) ≡ length (flat_map in_phase (take i phases)) + length (flat_map in_phase (drop i phases)) =
-    ap (λ (ps : List Phase). length (flat_map in_phase ps)) (sym (take-append-drop i phases))
-    ∙ (ap length (flat_map-append in_phase (take i phases) (drop i phases)) ∙ length-append (flat_map in_phase (take i phases)) (flat_map in_phase (drop i phases))) in
-    omega (arith, whole)
+pub statements_within : (done : List Phase) (phase : Phase) (rest : List Phase)
+    → length (flat_map in_phase done) + length phase.items ≤ length (flat_map in_phase (done ++ phase ∷ rest))
+statements_within done phase rest =
+    let whole = ap length (flat_map-append in_phase done (phase ∷ rest))
+    ∙ length-append (flat_map in_phase done) (phase.items ++ flat_map in_phase rest) in
+    let later = length-append phase.items (flat_map in_phase rest) in
+    omega (arith, whole, later)

@@ -20,7 +20,6 @@ use board_spec::Statement;
 use board_spec::limits::MOST_STATEMENTS;
 use run_order::laws::law_phase_runs;
 use std::alloc::Global;
-use std::mem;
 use std::sync::Wait;
 use std::thread::Threads;
 
@@ -123,7 +122,7 @@ pub fn run_phases<R: Threads + Wait + Sync, G: Gate>(
     ensures complete { IfOk result (λ history. IsCompleteFor (map (λ phase. phase.items) phases.items) history.entries) }
     ensures own { IfOk result (λ history. All (λ phase. HasNoLook phase.items) phases.items → history.own ≡ true) }
 {
-    let (mut board, mut phases) = (board, phases);
+    let mut board = board;
     let most = statements_in(&phases).min(MOST_STATEMENTS);
     board.reserve(most as u32)?;
     let works = first_works(alloc, cpus)?;
@@ -132,8 +131,7 @@ pub fn run_phases<R: Threads + Wait + Sync, G: Gate>(
         most,
         history: None,
     };
-    for index in 0..phases.len() {
-        let phase = mem::replace(&mut phases[index], Vec::new(alloc));
+    for phase in phases {
         run = run_phase(rt, alloc, run, phase, gate, &mut placing)?;
     }
     let Run {

@@ -5,11 +5,10 @@ use Rattle.board_run.proofs.run.run_script.Goals as goal
 
 pub run_phases-requires-clause-in_range : goal.run_phases-requires-clause-in_range
 run_phases-requires-clause-in_range g c = λ _ _.
-    let script = said_of c.args.script.now in
-    rw c.deref.ensures.value
-    (phases_in_range c.args.board.setup script.version script.cpus c.args.script.now.phases.items
+    let script = said_of c.args.script in
+    (phases_in_range c.args.board.setup script.version script.cpus c.args.script.phases.items
     (c.requires.in_range.each c.args.board.setup c.requires.cards))
 
 pub run_phases-requires-clause-statements : goal.run_phases-requires-clause-statements
 run_phases-requires-clause-statements g c = λ _ _.
-    rw (c.deref.ensures.value, sym (listed_one_by_one c.args.script.now.phases.items)) c.requires.in_range.statements
+    rw (sym (listed_one_by_one c.args.script.phases.items)) c.requires.in_range.statements

@@ -1,5 +1,7 @@
-use Rattle.std.proofs.Common.{rules, ◌≡◌, ◌≢◌, ℕ, ◌+◌, ◌<◌, ◌≤◌, List, [], ◌∷◌, ◌++◌, length, map, take, flat_map, All, Vec, Global, sym, ◌∙◌, ap, subst, arith, get_or-set_other}
-use Rattle.std.specs.Prelude.{slice_index_or}
+use Rattle.std.proofs.Common.{rules, ◌≡◌, ℕ, ◌+◌, ◌<◌, ◌≤◌, List, [], ◌∷◌, ◌++◌, length, flat_map, All, Vec, Global, sym, ◌∙◌, ap, subst, arith, append_assoc}
+use Rattle.std.specs.Vec.Iter.{into_iter_items}
+use Rattle.std.proofs.lemmas.List.{length-append}
+use Rattle.std.proofs.Math.Seq.{get_or-append_seam}
 use Rattle.board_spec.specs.declared.event.Statement.{Statement}
 use Rattle.board_spec.specs.Setup.{Setup}
 use Rattle.board_spec.specs.Legal.{IsLegal}
@@ -10,55 +12,73 @@ use Rattle.phase_run.specs.Placed.{entries_of, HasNoLook}
 use Rattle.phase_run.proofs.Phases.{phases_more, statements_more, statements_within}
 use Rattle.phase_run.proofs.run.run_phases.Goals as goal
 
+abbrev Phase : Type 0
+Phase = Vec Statement Global
+
+abbrev in_phase : Phase → List Statement
+in_phase phase = phase.items
+
+-- what holds of each phase holds of one between others
+of_one : (P : Phase → Type 0) (done : List Phase) (phase : Phase) (rest : List Phase) → All P (done ++ phase ∷ rest) → P phase
+of_one P done phase rest all =
+    let size = length-append done (phase ∷ rest) in
+    let less : length done < length (done ++ phase ∷ rest) = omega (arith, size) in
+    subst P (get_or-append_seam done phase rest phase) (all (length done) phase less)
+
+room_for : (done : List Phase) (phase : Phase) (rest phases : List Phase) → done ++ phase ∷ rest ≡ phases
+    → length (flat_map in_phase phases) ≤ most_statements → length (flat_map in_phase done) + length phase.items ≤ most_statements
+room_for done phase rest phases whole most =
+    let within = statements_within done phase rest in
+    let all : length (flat_map in_phase (done ++ phase ∷ rest)) ≤ most_statements =
+    subst (λ (ps : List Phase). length (flat_map in_phase ps) ≤ most_statements) (sym whole) most in
+    omega (arith, within, all)
+
 pub run_phase-requires-clause-can : goal.run_phase-requires-clause-can
-run_phase-requires-clause-can g c κs within' =
-    let l = c.loop-index in
-    let phases = c.args.phases.items in
-    let phase = c.replace-phase.result in
-    let held : slice_index_or l.phases.items l.index phase ≡ phase = search rules in
-    let at : slice_index_or phases l.index phase ≡ phase = sym (l.invariant.left l.index phase (omega arith)) ∙ held in
-    let less : l.index < length phases = omega (arith, c.loop-index-test.true, l.invariant.size) in
-    let more = statements_more phases l.index phase less at in
-    let within = statements_within phases (l.index + 1) in
-    let done = length (flat_map (λ (phase : Vec Statement Global). phase.items) (take l.index phases)) in
-    let room : done + length phase.items ≤ most_statements = omega (arith, more, within, c.requires.statements) in
+run_phase-requires-clause-can g c κs within =
+    let l = c.loop-phase in
+    let phase = c.in-Some.phase in
+    let rest : List Phase = into_iter_items c.next.new.self in
+    let steps : into_iter_items l.phase-iterator ≡ phase ∷ rest = c.in-Some.ensures.steps.0 in
+    let whole : l.yielded ++ phase ∷ rest ≡ c.args.phases.items =
+    ap (λ (phases : List Phase). l.yielded ++ phases) (sym steps) ∙ l.invariant.left in
+    let ranges = of_one (λ (one : Phase). All (IsStatement c.args.board.setup c.args.cpus) one.items) l.yielded phase rest
+    (subst (All (λ (one : Phase). All (IsStatement c.args.board.setup c.args.cpus) one.items)) (sym whole) c.requires.in_range) in
     record {
       some = search rules;
       few = search rules;
       in_range = subst (λ (n : ℕ). All (IsStatement l.run.board.setup n) phase.items) (sym l.invariant.count)
-          (subst (λ (setup : Setup). All (IsStatement setup c.args.cpus) phase.items) (sym l.invariant.setup)
-          (subst (λ (one : Vec Statement Global). All (IsStatement c.args.board.setup c.args.cpus) one.items) at
-          (c.requires.in_range l.index phase less)));
-      most = done;
+          (subst (λ (setup : Setup). All (IsStatement setup c.args.cpus) phase.items) (sym l.invariant.setup) ranges);
+      most = length (flat_map in_phase l.yielded);
       asked = l.invariant.asked;
-      room = room;
+      room = room_for l.yielded phase rest c.args.phases.items whole c.requires.statements;
     }
 
-pub loop-index-preserved : goal.loop-index-preserved
-loop-index-preserved g c =
-    let l = c.loop-index in
-    let phases = c.args.phases.items in
-    let phase = c.replace-phase.result in
-    let held : slice_index_or l.phases.items l.index phase ≡ phase = search rules in
-    let at : slice_index_or phases l.index phase ≡ phase = sym (l.invariant.left l.index phase (omega arith)) ∙ held in
-    let less : l.index < length phases = omega (arith, c.loop-index-test.true, l.invariant.size) in
-    let more = statements_more phases l.index phase less at in
-    let within = statements_within phases (l.index + 1) in
-    let done = length (flat_map (λ (phase : Vec Statement Global). phase.items) (take l.index phases)) in
-    let room : done + length phase.items ≤ most_statements = omega (arith, more, within, c.requires.statements) in
+pub loop-phase-preserved : goal.loop-phase-preserved
+loop-phase-preserved g c =
+    let l = c.loop-phase in
+    let phase = c.in-Some.phase in
+    let rest : List Phase = into_iter_items c.next.new.self in
+    let steps : into_iter_items l.phase-iterator ≡ phase ∷ rest = c.in-Some.ensures.steps.0 in
+    let whole : l.yielded ++ phase ∷ rest ≡ c.args.phases.items =
+    ap (λ (phases : List Phase). l.yielded ++ phases) (sym steps) ∙ l.invariant.left in
+    let room = room_for l.yielded phase rest c.args.phases.items whole c.requires.statements in
     let next = c.in_ok-run.run' in
-    let asked = c.in_ok-run.ensures.goes_on.asked done l.invariant.asked room in
+    let asked = c.in_ok-run.ensures.goes_on.asked (length (flat_map in_phase l.yielded)) l.invariant.asked room in
     record {
+      left = append_assoc l.yielded (phase ∷ []) rest ∙ whole;
+      len =
+          let was = l.invariant.len in
+          let gone = c.in-Some.ensures.steps.1 in
+          let short = ap length steps in
+          omega arith;
       setup = c.in_ok-run.ensures.setup ∙ l.invariant.setup;
       count = c.in_ok-run.ensures.goes_on.count ∙ l.invariant.count;
       legal = subst (λ (setup : Setup). IsLegal setup (entries_of c.run_phase.new.placing.history next.board.entries)) l.invariant.setup c.in_ok-run.ensures.takes_in.legal;
       same = c.in_ok-run.ensures.takes_in.same;
-      size = search rules;
-      left = λ k d above.
-          let apart : k ≢ l.index = λ is. absurd (omega (arith, is, above)) in
-          get_or-set_other l.phases.items l.index k _ d apart ∙ l.invariant.left k d (omega (arith, above));
       phases = subst (λ (ps : List (List Statement)). HasPhases ps (statements_of (entries_of c.run_phase.new.placing.history next.board.entries)))
-          (sym (phases_more phases l.index phase less at)) (c.in_ok-run.ensures.takes_in.phases _ l.invariant.phases);
-      own = λ all. c.in_ok-run.ensures.own (subst (λ (phase : Vec Statement Global). HasNoLook phase.items) at (all l.index phase less)) (l.invariant.own all);
-      asked = subst (λ (most : ℕ). AreAsked most next.board.entries next.works.items) (sym more) asked;
+          (sym (phases_more l.yielded phase)) (c.in_ok-run.ensures.takes_in.phases _ l.invariant.phases);
+      own = λ all. c.in_ok-run.ensures.own
+          (of_one (λ (one : Phase). HasNoLook one.items) l.yielded phase rest (subst (All (λ (one : Phase). HasNoLook one.items)) (sym whole) all))
+          (l.invariant.own all);
+      asked = subst (λ (most : ℕ). AreAsked most next.board.entries next.works.items) (sym (statements_more l.yielded phase)) asked;
     }
