@@ -89,6 +89,7 @@ impl Work {
         ensures mine { OnOk result (length (entries_by (C.number cpu.old) (C.seen cpu.new))
             ≤ length (entries_by (C.number cpu.old) (C.seen cpu.old)) + length phase.now) }
         ensures asked { self.new.asked ≤ self.old.asked + length phase.now }
+        ensures counted { OnOk result (self.new.asked ≡ self.old.asked + length self.new.done.items) }
     {
         let number = cpu.number();
         for statement in phase {
