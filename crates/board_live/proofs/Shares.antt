@@ -54,7 +54,8 @@ pub is_stepped :
     now ≡ record again { entries = next_entry again.entries number event reply ∷ again.entries; spare = spare } →
     IsStepped board reserved now (next_entry board.entries number event reply)
 is_stepped board lent reserved again now room spare number event reply is made same done =
-    let setup : reserved.setup ≡ board.setup = ap (λ (b : Standing). b.setup) made ∙ ap (λ (b : Standing). b.setup) is in
+    let setup : reserved.setup ≡ board.setup =
+    ap (λ (b : Standing). b.setup) made ∙ ap (λ (b : Standing). b.setup) is in
     let entries : reserved.entries ≡ board.entries =
     ap (λ (b : Standing). b.entries) made ∙ ap (λ (b : Standing). b.entries) is in
     record {
