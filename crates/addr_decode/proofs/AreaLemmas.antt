@@ -2,7 +2,7 @@
 use Rattle.std.proofs.Common.{◌≡◌, ℕ, false, [], ◌∷◌, refl}
 use Rattle.board_base.specs.declared.access.Kind.TheVariants.{Read, Write}
 use Rattle.board_spec.specs.Setup.{Setup}
-use Rattle.board_spec.specs.Decode.{Bytes, is_smram_range, area_of}
+use Rattle.board_spec.specs.Decode.{Bytes, is_smram_range, is_shadow_range, area_of}
 use Rattle.board_spec.specs.FlatMap.{six_areas}
 
 pub areas_beside_smram : (setup : Setup) (bytes : Bytes) (addr : ℕ) → is_smram_range addr ≡ false →
@@ -12,3 +12,12 @@ pub areas_beside_smram : (setup : Setup) (bytes : Bytes) (addr : ℕ) → is_smr
     ∷ []
 unfolding area_of
 areas_beside_smram setup bytes addr beside = rw beside refl
+
+-- and outside the shadow windows too that of a read
+pub areas_beside_windows : (setup : Setup) (bytes : Bytes) (addr : ℕ) → is_smram_range addr ≡ false → is_shadow_range addr ≡ false →
+    six_areas setup bytes addr
+    ≡ area_of setup bytes addr Read false ∷ area_of setup bytes addr Read false ∷ area_of setup bytes addr Read false
+    ∷ area_of setup bytes addr Read false ∷ area_of setup bytes addr Read false ∷ area_of setup bytes addr Read false
+    ∷ []
+unfolding area_of
+areas_beside_windows setup bytes addr beside closed = rw (beside, closed) refl

@@ -1,6 +1,6 @@
 -- The edges that the code looks through are those of the board, and what it finds is the next one.
 use Rattle.std.proofs.Common.{◌≡◌, ℕ, zero, suc, ◌+◌, ◌*◌, ◌<◌, ◌≤◌, ◌⊎◌, inl, inr, ◌&&◌, List, [], ◌∷◌, ◌++◌, length, map, Option, Some, None, refl, sym, ◌∙◌, ap, subst, arith}
-use Rattle.std.specs.Prelude.{nat_lt, min, All, flat_map, slice_index, IfSome, IsNone, ◌↔◌}
+use Rattle.std.specs.Prelude.{nat_lt, min, All, flat_map, slice_index, unwrap_or, IfSome, IsNone, ◌↔◌}
 use Rattle.std.specs.List.{Contains, enumerate_from}
 use Rattle.std.proofs.lemmas.Bool.{cases_Bool, cases_lt}
 use Rattle.std.proofs.lemmas.Bool.Decides.{nat_tests}
@@ -240,15 +240,43 @@ unfolding nearest
 in_two addr addr' found first all xs ys same is_first is_all =
     rw (is_all, same, is_first, fold-append (nearer addr) found xs ys) refl
 
+-- two edges, and two lists, in the other order
+nearer_swap : (addr a b : ℕ) (found : Option ℕ) → nearer addr (nearer addr found a) b ≡ nearer addr (nearer addr found b) a
+nearer_swap addr a b found =
+    elim (cases_Bool (nat_lt addr a && nat_lt a address_count)) [
+      | inr not_a ↦ rw not_a refl
+      | inl is_a ↦
+          elim (cases_Bool (nat_lt addr b && nat_lt b address_count)) [
+            | inr not_b ↦ rw (is_a, not_b) refl
+            | inl is_b ↦ rw (is_a, is_b) (ap Some (least_swap a b found))
+          ]
+    ]
+  where
+    least_swap : (a b : ℕ) (found : Option ℕ) → min (min (unwrap_or found a) a) b ≡ min (min (unwrap_or found b) b) a
+    least_swap a b None = grind (arith, nat_tests)
+    least_swap a b (Some least) = grind (arith, nat_tests)
+
+nearer_past : (addr edge : ℕ) (found : Option ℕ) (ys : List ℕ) → nearest addr (nearer addr found edge) ys ≡ nearer addr (nearest addr found ys) edge
+unfolding nearest
+nearer_past addr edge found [] = refl
+nearer_past addr edge found (y ∷ ys) = rw (nearer_swap addr edge y found) (nearer_past addr edge (nearer addr found y) ys)
+
+nearest_swap : (addr : ℕ) (found : Option ℕ) (xs ys : List ℕ) → nearest addr (nearest addr found xs) ys ≡ nearest addr (nearest addr found ys) xs
+unfolding nearest
+nearest_swap addr found [] ys = refl
+nearest_swap addr found (x ∷ xs) ys =
+    nearest_swap addr (nearer addr found x) xs ys ∙ ap (λ (least : Option ℕ). nearest addr least xs) (nearer_past addr x found ys)
+
 pub in_parts :
-    (addr addr' : ℕ) (fixed rows all : Option ℕ) (drb : List ℕ) (cards : List CardBytes) → addr' ≡ addr →
-    fixed ≡ nearest addr None fixed_edges → rows ≡ nearest addr fixed (map (λ b. b * boundary_unit) drb) →
-    all ≡ nearest addr' rows (flat_map ends_of_card cards) → all ≡ nearest addr None (kept_edges drb cards)
-in_parts addr addr' fixed rows all drb cards same is_fixed is_rows is_all =
-    in_two addr addr None fixed all fixed_edges (map (λ b. b * boundary_unit) drb ++ flat_map ends_of_card cards) refl
-    is_fixed
-    (in_two addr addr' fixed rows all (map (λ b. b * boundary_unit) drb) (flat_map ends_of_card cards) same is_rows
-    is_all)
+    (addr addr' : ℕ) (fixed cards_found all : Option ℕ) (drb : List ℕ) (cards : List CardBytes) → addr' ≡ addr →
+    fixed ≡ nearest addr None fixed_edges → cards_found ≡ nearest addr fixed (flat_map ends_of_card cards) →
+    all ≡ nearest addr' cards_found (map (λ b. b * boundary_unit) drb) → all ≡ nearest addr None (kept_edges drb cards)
+in_parts addr addr' fixed cards_found all drb cards same is_fixed is_cards is_all =
+    let rows : List ℕ = map (λ b. b * boundary_unit) drb in
+    let turned : all ≡ nearest addr (nearest addr fixed rows) (flat_map ends_of_card cards) =
+    rw (is_all, same, is_cards) (nearest_swap addr fixed (flat_map ends_of_card cards) rows) in
+    in_two addr addr None fixed all fixed_edges (rows ++ flat_map ends_of_card cards) refl is_fixed
+    (in_two addr addr fixed (nearest addr fixed rows) all rows (flat_map ends_of_card cards) refl refl turned)
 
 pub kept_are_edges :
     (setup : Setup) (bytes : Bytes) (drb : List ℕ) (cards : List CardBytes) → length drb ≡ 8 → IsRowsOf bytes drb →

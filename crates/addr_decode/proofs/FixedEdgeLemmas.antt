@@ -1,9 +1,11 @@
 -- In a rising list of edges the first above an address is the least above it.
-use Rattle.std.proofs.Common.{◌≡◌, ℕ, ◌<◌, ◌≤◌, true, List, [], ◌∷◌, Some, None, refl, sym, inl, inr, arith}
-use Rattle.std.specs.Prelude.{nat_lt, min, find}
+use Rattle.std.proofs.Common.{◌≡◌, ℕ, zero, suc, ◌+◌, ◌*◌, ◌/◌, ◌^◌, ◌<◌, ◌≤◌, true, false, List, [], ◌∷◌, map, take, drop, Option, Some, None, refl, sym, ◌∙◌, ap, inl, inr, arith}
+use Rattle.std.specs.Prelude.{nat_lt, min, find, slice_index}
+use Rattle.std.specs.List.{AllByRecursion}
 use Rattle.std.proofs.lemmas.Bool.{cases_Bool}
 use Rattle.std.proofs.lemmas.Bool.Decides.{nat_tests}
 use Rattle.board_spec.specs.FlatMap.{address_count}
+use Rattle.board_spec.specs.Ranges.{boundary_unit}
 use Rattle.addr_decode.specs.Edges.{fixed_edges}
 use Rattle.addr_decode.specs.EdgeSearch.{nearer, nearest}
 
@@ -37,6 +39,58 @@ first_is_nearest addr from (edge ∷ later) rise =
       | inl above ↦ rw (above, within, alone) (sym (nearest_stays addr edge later rise.2))
       | inr not_above ↦ rw not_above (first_is_nearest addr edge later rise.2)
     ]
+
+-- edges that do not lie above an address need not be looked at
+skip_first : (addr count : ℕ) (edges : List ℕ) → AllByRecursion (λ edge. edge ≤ addr) (take count edges) →
+    find (nat_lt addr) (drop count edges) ≡ find (nat_lt addr) edges
+skip_first addr zero edges low = refl
+skip_first addr (suc count) [] low = refl
+skip_first addr (suc count) (edge ∷ later) low =
+    let not_above : nat_lt addr edge ≡ false = grind (arith, nat_tests) in
+    rw not_above (skip_first addr count later low.1)
+
+pub skip_to_expansion : (addr : ℕ) → 0xC_0000 ≤ addr → find (nat_lt addr) (drop 3 fixed_edges) ≡ find (nat_lt addr) fixed_edges
+unfolding fixed_edges
+skip_to_expansion addr from = skip_first addr 3 fixed_edges (search arith)
+
+pub skip_to_system_bios : (addr : ℕ) → 0x10_0000 ≤ addr → find (nat_lt addr) (drop 16 fixed_edges) ≡ find (nat_lt addr) fixed_edges
+unfolding fixed_edges
+skip_to_system_bios addr from = skip_first addr 16 fixed_edges (search arith)
+
+-- ---- the ends of rows
+
+-- at or above the largest top none lies above
+pub rows_below : (addr : ℕ) (found : Option ℕ) (drb : List ℕ) → 0x7F80_0000 ≤ addr → ((k : ℕ) → slice_index drb k < 2 ^ 8) →
+    nearest addr found (map (λ boundary. boundary * boundary_unit) drb) ≡ found
+unfolding nearest
+rows_below addr found [] high bytes = refl
+rows_below addr found (boundary ∷ later) high bytes =
+    let byte : boundary < 2 ^ 8 = bytes 0 in
+    let not_above : nat_lt addr (boundary * boundary_unit) ≡ false = grind (arith, nat_tests) in
+    let here : nearer addr found (boundary * boundary_unit) ≡ found = rw not_above refl in
+    ap (λ (least : Option ℕ). nearest addr least (map (λ boundary. boundary * boundary_unit) later)) here
+    ∙ rows_below addr found later high (λ k. bytes (suc k))
+
+-- those above an address lie at the next multiple of 8 MiB or above it
+row_is_far : (addr least boundary : ℕ) → least ≤ (addr / boundary_unit + 1) * boundary_unit →
+    nearer addr (Some least) (boundary * boundary_unit) ≡ Some least
+row_is_far addr least boundary near =
+    elim (cases_Bool (nat_lt addr (boundary * boundary_unit))) [
+      | inl above ↦
+          let over : addr < boundary * boundary_unit = grind (arith, nat_tests) in
+          nearer_stays addr least (boundary * boundary_unit) (omega arith)
+      | inr not_above ↦ rw not_above refl
+    ]
+
+pub rows_are_far : (addr least : ℕ) (drb : List ℕ) → least ≤ (addr / boundary_unit + 1) * boundary_unit →
+    nearest addr (Some least) (map (λ boundary. boundary * boundary_unit) drb) ≡ Some least
+unfolding nearest
+rows_are_far addr least [] near = refl
+rows_are_far addr least (boundary ∷ later) near =
+    ap (λ (found : Option ℕ). nearest addr found (map (λ boundary. boundary * boundary_unit) later)) (row_is_far addr least boundary near)
+    ∙ rows_are_far addr least later near
+
+-- ---- the least of the fixed edges
 
 pub first_fixed_edge : (addr : ℕ) → find (nat_lt addr) fixed_edges ≡ nearest addr None fixed_edges
 unfolding fixed_edges

@@ -9,7 +9,7 @@ use Rattle.board_spec.specs.Setup.{Setup}
 use Rattle.board_spec.specs.Ranges.{lies_in, upper_memory}
 use Rattle.board_spec.specs.Decode.{Window, first_of, line_where, is_smram_range, is_shadow_range, card_area, area_under, Bytes, row_of, is_in, hole_of, pam_register, is_high_window, nibble, is_open, is_shadowed, smram_answers, is_rom_selected, memory_claim, area_of}
 use Rattle.board_spec.specs.RegisterNames.{xbcs as select_register, smram as smram_register, fdhc as hole_register}
-use Rattle.addr_decode.specs.Memory.{dram_area, above_dram, area_by}
+use Rattle.addr_decode.specs.Memory.{dram_area, above_dram, beside_dram, area_by}
 
 -- the table of the memory map over the ranges that the address lies in, SMRAM's and all of upper memory, and over what
 -- the registers say of it
@@ -87,22 +87,11 @@ by_parts setup bytes addr kind smm =
     (is_in (hole_of (bytes hole_register)) addr) (is_rom_selected (bytes select_register) addr)
     (memory_claim setup bytes addr) addr
 
-pub dram_answers : (setup : Setup) (bytes : Bytes) (addr : ℕ) (kind : Kind) (smm : Bool) (area : Area) →
-    Some area ≡ dram_by bytes addr kind smm → area ≡ area_of setup bytes addr kind smm
-dram_answers setup bytes addr kind smm area dram =
-    ap (λ (found : Option Area). above_dram found (is_rom_selected (bytes select_register) addr)
-    (memory_claim setup bytes addr)) dram
-    ∙ sym (by_parts setup bytes addr kind smm)
-
-pub rom_answers : (setup : Setup) (bytes : Bytes) (addr : ℕ) (kind : Kind) (smm : Bool) (xbcs : ℕ) →
-    None ≡ dram_by bytes addr kind smm → xbcs ≡ bytes select_register → true ≡ is_rom_selected xbcs addr →
-    Rom ≡ area_of setup bytes addr kind smm
-rom_answers setup bytes addr kind smm xbcs dram same rom =
+pub rom_answers : (setup : Setup) (bytes : Bytes) (addr xbcs : ℕ) → xbcs ≡ bytes select_register →
+    true ≡ is_rom_selected xbcs addr → Rom ≡ beside_dram setup bytes addr
+rom_answers setup bytes addr xbcs same rom =
     ap (λ (selected : Bool). above_dram None selected (memory_claim setup bytes addr))
     (rom ∙ ap (λ (n : ℕ). is_rom_selected n addr) same)
-    ∙ ap (λ (found : Option Area). above_dram found (is_rom_selected (bytes select_register) addr)
-    (memory_claim setup bytes addr)) dram
-    ∙ sym (by_parts setup bytes addr kind smm)
 
 claim_area :
     (claim : Option Window) →
@@ -111,15 +100,26 @@ claim_area None = refl
 claim_area (Some window) = refl
 
 pub claim_answers :
-    (setup : Setup) (bytes : Bytes) (addr : ℕ) (kind : Kind) (smm : Bool) (xbcs : ℕ) (claim : Option (ℕ × ℕ)) →
-    None ≡ dram_by bytes addr kind smm → xbcs ≡ bytes select_register → false ≡ is_rom_selected xbcs addr →
+    (setup : Setup) (bytes : Bytes) (addr xbcs : ℕ) (claim : Option (ℕ × ℕ)) → xbcs ≡ bytes select_register →
+    false ≡ is_rom_selected xbcs addr →
     claim ≡ option_map (λ window. (window.dev, window.base)) (memory_claim setup bytes addr) →
-    area_by claim ≡ area_of setup bytes addr kind smm
-claim_answers setup bytes addr kind smm xbcs claim dram same rom is =
+    area_by claim ≡ beside_dram setup bytes addr
+claim_answers setup bytes addr xbcs claim same rom is =
     ap area_by is
     ∙ claim_area (memory_claim setup bytes addr)
     ∙ ap (λ (selected : Bool). above_dram None selected (memory_claim setup bytes addr))
     (rom ∙ ap (λ (n : ℕ). is_rom_selected n addr) same)
-    ∙ ap (λ (found : Option Area). above_dram found (is_rom_selected (bytes select_register) addr)
-    (memory_claim setup bytes addr)) dram
+
+-- where DRAM answers or not
+or_beside : (dram : Option Area) (rom : Bool) (claim : Option Window) →
+    unwrap_or dram (above_dram None rom claim) ≡ above_dram dram rom claim
+or_beside None rom claim = refl
+or_beside (Some area) rom claim = refl
+
+pub either_answers : (setup : Setup) (bytes : Bytes) (addr : ℕ) (kind : Kind) (smm : Bool) (dram : Option Area) (beside : Area) →
+    dram ≡ dram_by bytes addr kind smm → beside ≡ beside_dram setup bytes addr → unwrap_or dram beside ≡ area_of setup bytes addr kind smm
+either_answers setup bytes addr kind smm dram beside is_dram is_beside =
+    ap (λ (other : Area). unwrap_or dram other) is_beside
+    ∙ or_beside dram (is_rom_selected (bytes select_register) addr) (memory_claim setup bytes addr)
+    ∙ ap (λ (found : Option Area). above_dram found (is_rom_selected (bytes select_register) addr) (memory_claim setup bytes addr)) is_dram
     ∙ sym (by_parts setup bytes addr kind smm)

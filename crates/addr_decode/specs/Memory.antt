@@ -4,8 +4,9 @@ use Rattle.board_base.specs.declared.target.Area.{Area}
 use Rattle.board_base.specs.declared.target.Area.TheVariants.{Dram, Shadow, Smram, Rom, Card, Abort}
 use Rattle.board_base.specs.declared.target.Denial.{Denial}
 use Rattle.board_base.specs.declared.target.Denial.TheVariants.{Register, NoRegister}
+use Rattle.board_spec.specs.Setup.{Setup}
 use Rattle.board_spec.specs.Ranges.{lies_in, selectable_bios, expansion_range, largest_top}
-use Rattle.board_spec.specs.Decode.{Window, line_where, is_smram_range, is_shadow_range, card_area, pam_register}
+use Rattle.board_spec.specs.Decode.{Bytes, Window, line_where, is_smram_range, is_shadow_range, is_rom_selected, card_area, memory_claim, pam_register}
 use Rattle.board_spec.specs.RegisterNames.{drb, fdhc, smram, xbcs, card_command, expansion_rom}
 
 -- where an access below the top of DRAM reaches it, over what the registers say of the address
@@ -23,6 +24,10 @@ abbrev pub above_dram : (dram : Option Area) → (rom : Bool) → (claim : Optio
 above_dram (Some area) rom claim = area
 above_dram None true claim = Rom
 above_dram None false claim = unwrap_or (option_map card_area claim) Abort
+
+-- at an address of a board
+abbrev pub beside_dram : Setup → Bytes → ℕ → Area
+beside_dram setup bytes addr = above_dram None (is_rom_selected (bytes xbcs) addr) (memory_claim setup bytes addr)
 
 -- the area that a claim gives
 abbrev pub area_by : Option (ℕ × ℕ) → Area

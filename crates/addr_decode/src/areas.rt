@@ -6,10 +6,10 @@ ghost use Rattle.board_spec.specs.FlatMap.{six_areas};
 ghost use Rattle.pci_bars.specs.Cards.{AreFitted};
 ghost use Rattle.addr_decode.specs.MapRegs.{StandsFor, map_bytes};
 
-use crate::memory::area_of;
+use crate::memory::{area_beside_dram, area_of, area_or};
 use crate::regs::MapRegs;
 use board_base::{Area, Kind, Steps};
-use board_spec::range::SMRAM_RANGE;
+use board_spec::range::{SHADOW_RANGE, SMRAM_RANGE};
 use std::sync::ledger::Ledger;
 
 /// The areas of an address: of a fetch, a read and a write outside SMM, and then of these in SMM.
@@ -49,34 +49,51 @@ pub fn areas_at(regs: &MapRegs, addr: u32) -> SixAreas
     areas_beside_smram(regs, addr)
 }
 
-/// The areas of an address at which SMRAM can answer, so that each of them is looked up.
+/// The areas of an address at which SMRAM can answer, so that each kind of access is looked up.
 fn areas_in_smram(regs: &MapRegs, addr: u32) -> SixAreas
     requires cards { AreFitted regs.now.cards.items }
     ensures areas { (setup : Setup) (bytes : Bytes) → StandsFor setup bytes (map_bytes regs.now)
         → result.areas ≡ six_areas setup bytes addr }
 {
     let (fetch, read, write) = (Kind::Fetch, Kind::Read, Kind::Write);
+    let beside = area_beside_dram(regs, addr);
     SixAreas {
         areas: [
-            area_of(regs, addr, fetch, false),
-            area_of(regs, addr, read, false),
-            area_of(regs, addr, write, false),
-            area_of(regs, addr, fetch, true),
-            area_of(regs, addr, read, true),
-            area_of(regs, addr, write, true),
+            area_or(regs, addr, fetch, false, beside),
+            area_or(regs, addr, read, false, beside),
+            area_or(regs, addr, write, false, beside),
+            area_or(regs, addr, fetch, true, beside),
+            area_or(regs, addr, read, true, beside),
+            area_or(regs, addr, write, true, beside),
         ],
     }
 }
 
-/// The areas of an address at which SMRAM cannot answer: a fetch reaches what a read does, and SMM does not count.
+/// The areas of an address at which SMRAM cannot answer. Outside the shadow windows all kinds of access reach the same.
 fn areas_beside_smram(regs: &MapRegs, addr: u32) -> SixAreas
     requires cards { AreFitted regs.now.cards.items }
     requires beside { is_smram_range addr ≡ false }
     ensures areas { (setup : Setup) (bytes : Bytes) → StandsFor setup bytes (map_bytes regs.now)
         → result.areas ≡ six_areas setup bytes addr }
 {
-    let read = area_of(regs, addr, Kind::Read, false);
-    let write = area_of(regs, addr, Kind::Write, false);
+    if SHADOW_RANGE.contains(addr) {
+        return areas_in_shadow(regs, addr);
+    }
+    SixAreas {
+        areas: [area_of(regs, addr, Kind::Read, false); 6],
+    }
+}
+
+/// The areas of an address in a shadow window: a fetch reaches what a read does, and SMM does not count.
+fn areas_in_shadow(regs: &MapRegs, addr: u32) -> SixAreas
+    requires cards { AreFitted regs.now.cards.items }
+    requires beside { is_smram_range addr ≡ false }
+    ensures areas { (setup : Setup) (bytes : Bytes) → StandsFor setup bytes (map_bytes regs.now)
+        → result.areas ≡ six_areas setup bytes addr }
+{
+    let beside = area_beside_dram(regs, addr);
+    let read = area_or(regs, addr, Kind::Read, false, beside);
+    let write = area_or(regs, addr, Kind::Write, false, beside);
     SixAreas {
         areas: [read, read, write, read, read, write],
     }

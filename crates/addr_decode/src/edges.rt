@@ -1,5 +1,5 @@
 //! The edges of the memory map: the addresses whose six areas may differ from those of the address below.
-ghost use Rattle.std.specs.Prelude.{◌≡◌, ◌<◌, ◌≤◌, ◌*◌, ◌↔◌, ◌+◌, [], ◌∷◌, IfSome, IsNone, nat_lt, find, All, length, map, unwrap_or, flat_map};
+ghost use Rattle.std.specs.Prelude.{ℕ, ◌≡◌, ◌<◌, ◌≤◌, ◌*◌, ◌^◌, ◌↔◌, ◌+◌, [], ◌∷◌, IfSome, IsNone, true, nat_lt, find, slice_index, All, length, map, unwrap_or, flat_map};
 ghost use Rattle.board_spec.specs.Setup.{Setup, IsBase, IsCard, IsExpansionRom};
 ghost use Rattle.board_spec.specs.Decode.{Bytes};
 ghost use Rattle.board_spec.specs.FlatMap.{address_count};
@@ -7,13 +7,13 @@ ghost use Rattle.board_spec.specs.Ranges.{boundary_unit};
 ghost use Rattle.pci_bars.specs.Bases.{base_of};
 ghost use Rattle.pci_bars.specs.Cards.{AreCards, AreFitted};
 ghost use Rattle.addr_decode.specs.MapRegs.{StandsFor, map_bytes};
-ghost use Rattle.addr_decode.specs.Edges.{IsNextEdge, NoEdgeAbove, SameAreas, edges_after};
+ghost use Rattle.addr_decode.specs.Edges.{IsNextEdge, NoEdgeAbove, SameAreas, edges_after, fixed_edges};
 ghost use Rattle.addr_decode.specs.EdgeSearch.{nearer, nearest, ends_of, ends_from, ends_of_rom, ends_of_card};
 
 use crate::regs::MapRegs;
 use board_spec::range::{
-    EXPANSION_RANGE, EXTENDED_BIOS, HIGH_BIOS, HOLE_AT_15_MIB, HOLE_AT_512_KIB, LOWER_HIGH_BIOS,
-    SMRAM_RANGE, SYSTEM_BIOS,
+    BOUNDARY_UNIT, EXPANSION_RANGE, EXTENDED_BIOS, HIGH_BIOS, HOLE_AT_15_MIB, HOLE_AT_512_KIB,
+    LARGEST_TOP, LOWER_HIGH_BIOS, SMRAM_RANGE, SYSTEM_BIOS,
 };
 use pam_windows::WINDOW_SIZE;
 use pci_bars::{BASE_COUNT, BaseSpec, CardRegs};
@@ -45,6 +45,11 @@ const FIXED_EDGES: [u32; 21] = [
     HIGH_BIOS.first,
 ];
 
+/// How many of the fixed edges come up to the first shadow window, and up to the end of the last.
+const UP_TO_EXPANSION: usize = 3;
+
+const UP_TO_SYSTEM_BIOS: usize = 16;
+
 /// The least address above this one at which the six areas may change. None where they stay the same up to the last
 /// address.
 pub fn next_edge(regs: &MapRegs, addr: u32) -> Option<u32>
@@ -61,11 +66,24 @@ pub fn next_edge(regs: &MapRegs, addr: u32) -> Option<u32>
 {
     let mut nearest = Nearest {
         addr,
-        edge: first_above(addr, &FIXED_EDGES),
+        edge: fixed_above(addr),
     };
-    nearest.see_rows(&regs.drb);
     nearest.see_cards(&regs.cards);
+    nearest.see_rows(&regs.drb);
     nearest.edge
+}
+
+/// The least of the fixed edges above an address. Those that its range shows not to lie above it are not looked at.
+fn fixed_above(addr: u32) -> Option<u32>
+    ensures first { result ≡ find (nat_lt addr) fixed_edges }
+{
+    if addr < EXPANSION_RANGE.first {
+        return first_above(addr, &FIXED_EDGES);
+    }
+    if addr <= SYSTEM_BIOS.last {
+        return first_above(addr, &FIXED_EDGES[UP_TO_EXPANSION..]);
+    }
+    first_above(addr, &FIXED_EDGES[UP_TO_SYSTEM_BIOS..])
 }
 
 /// The first of these edges that lies above an address. Where they rise, it is the least.
@@ -90,8 +108,26 @@ impl Nearest {
             ≡ nearest self.old.addr self.old.edge (map (λ boundary. boundary * boundary_unit) drb.now) }
         ensures same { self.new.addr ≡ self.old.addr }
     {
+        if self.is_before_rows(drb) {
+            return;
+        }
         for boundary in drb {
             self.see(end_of(*boundary));
+        }
+    }
+
+    /// Whether the ends of rows are known to be no nearer: they are multiples of 8 MiB, at most 7F800000h.
+    fn is_before_rows(&self, drb: &[u8; 8]) -> bool
+        ensures rows { result ≡ true → nearest self.now.addr self.now.edge (map (λ boundary. boundary * boundary_unit) drb.now)
+            ≡ self.now.edge }
+    {
+        are_bytes(drb);
+        if self.addr >= LARGEST_TOP {
+            return true;
+        }
+        match self.edge {
+            Some(edge) => edge <= (self.addr / BOUNDARY_UNIT + 1) * BOUNDARY_UNIT,
+            None => false,
         }
     }
 
@@ -200,3 +236,8 @@ impl Nearest {
         }
     }
 }
+
+/// Does nothing: its clause says of numbers what their type does.
+fn are_bytes(values: &[u8])
+    ensures bytes { (k : ℕ) → slice_index values.now k < 2 ^ 8 }
+{}

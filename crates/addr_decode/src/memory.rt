@@ -6,7 +6,7 @@ ghost use Rattle.board_spec.specs.RegisterNames.{fdhc, smram};
 ghost use Rattle.pam_windows.specs.Pam.{IsPamOf};
 ghost use Rattle.pci_bars.specs.Cards.{AreFitted};
 ghost use Rattle.addr_decode.specs.MapRegs.{StandsFor, map_bytes};
-ghost use Rattle.addr_decode.specs.Memory.{dram_area, row_area};
+ghost use Rattle.addr_decode.specs.Memory.{beside_dram, dram_area, row_area};
 
 use crate::denial::denial_in;
 use crate::regs::MapRegs;
@@ -38,9 +38,28 @@ pub(crate) fn area_of(regs: &MapRegs, addr: u32, kind: Kind, smm: bool) -> Area
     ensures area { (setup : Setup) (bytes : Bytes) → StandsFor setup bytes (map_bytes regs.now)
         → result ≡ area_of setup bytes addr kind smm }
 {
-    if let Some(area) = dram_area(regs, addr, kind, smm) {
-        return area;
+    match dram_area(regs, addr, kind, smm) {
+        Some(area) => area,
+        None => area_beside_dram(regs, addr),
     }
+}
+
+/// The area that an access reaches, where what answers beside DRAM is known.
+pub(crate) fn area_or(regs: &MapRegs, addr: u32, kind: Kind, smm: bool, beside: Area) -> Area
+    requires beside { (setup : Setup) (bytes : Bytes) → StandsFor setup bytes (map_bytes regs.now)
+        → beside ≡ beside_dram setup bytes addr }
+    ensures area { (setup : Setup) (bytes : Bytes) → StandsFor setup bytes (map_bytes regs.now)
+        → result ≡ area_of setup bytes addr kind smm }
+{
+    dram_area(regs, addr, kind, smm).unwrap_or(beside)
+}
+
+/// What answers at an address where DRAM does not: the ROM, a card or nothing, whatever the kind of access.
+pub(crate) fn area_beside_dram(regs: &MapRegs, addr: u32) -> Area
+    requires cards { AreFitted regs.now.cards.items }
+    ensures area { (setup : Setup) (bytes : Bytes) → StandsFor setup bytes (map_bytes regs.now)
+        → result ≡ beside_dram setup bytes addr }
+{
     if rom_selected(regs.xbcs, addr) {
         return Area::Rom;
     }

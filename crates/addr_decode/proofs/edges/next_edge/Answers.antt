@@ -9,17 +9,17 @@ use Rattle.addr_decode.proofs.EdgeLaws.{same_to_next}
 use Rattle.addr_decode.proofs.EdgeCounts.{fewer_after}
 use Rattle.addr_decode.proofs.edges.next_edge.Goals as goal
 
-found_by_parts : (c : goal.After-see_cards) →
-    c.see_cards.new.self.edge ≡ nearest c.args.addr None (kept_edges c.args.regs.now.drb c.args.regs.now.cards.items)
+found_by_parts : (c : goal.After-see_rows) →
+    c.see_rows.new.self.edge ≡ nearest c.args.addr None (kept_edges c.args.regs.now.drb c.args.regs.now.cards.items)
 unfolding fixed_edges
 found_by_parts c =
-    in_parts c.args.addr c.see_rows.new.self.addr c.first_above.result c.see_rows.new.self.edge
-    c.see_cards.new.self.edge c.args.regs.now.drb c.args.regs.now.cards.items
-    c.see_rows.ensures.same (c.first_above.ensures.first ∙ first_fixed_edge c.args.addr) c.see_rows.ensures.nearest
-    (rw c.deref.ensures.0 at c.see_cards.ensures.nearest)
+    in_parts c.args.addr c.see_cards.new.self.addr c.fixed_above.result c.see_cards.new.self.edge
+    c.see_rows.new.self.edge c.args.regs.now.drb c.args.regs.now.cards.items
+    c.see_cards.ensures.same (c.fixed_above.ensures.first ∙ first_fixed_edge c.args.addr)
+    (rw c.deref.ensures.0 at c.see_cards.ensures.nearest) c.see_rows.ensures.nearest
 
-found : (c : goal.After-see_cards) (setup : _) (bytes : _) → StandsFor setup bytes (map_bytes c.args.regs.now) →
-    c.see_cards.new.self.edge ≡ nearest c.args.addr None (edges_of setup bytes)
+found : (c : goal.After-see_rows) (setup : _) (bytes : _) → StandsFor setup bytes (map_bytes c.args.regs.now) →
+    c.see_rows.new.self.edge ≡ nearest c.args.addr None (edges_of setup bytes)
 found c setup bytes stands =
     let eight : length c.args.regs.now.drb ≡ 8 = search rules in
     found_by_parts c
@@ -30,23 +30,23 @@ found c setup bytes stands =
 -- src/edges.rt:46:1
 pub returns-clause-above : goal.returns-clause-above
 returns-clause-above c =
-    kept_above c.args.addr c.args.regs.now.drb c.args.regs.now.cards.items c.see_cards.new.self.edge
+    kept_above c.args.addr c.args.regs.now.drb c.args.regs.now.cards.items c.see_rows.new.self.edge
     (found_by_parts c)
 
 pub returns-clause-next : goal.returns-clause-next
 returns-clause-next c =
-    λ setup bytes stands. is_next setup bytes c.args.addr c.see_cards.new.self.edge (found c setup bytes stands)
+    λ setup bytes stands. is_next setup bytes c.args.addr c.see_rows.new.self.edge (found c setup bytes stands)
 
 pub returns-clause-last : goal.returns-clause-last
 returns-clause-last c =
-    λ setup bytes stands. is_last setup bytes c.args.addr c.see_cards.new.self.edge (found c setup bytes stands)
+    λ setup bytes stands. is_last setup bytes c.args.addr c.see_rows.new.self.edge (found c setup bytes stands)
 
 pub returns-clause-equal : goal.returns-clause-equal
 returns-clause-equal c = λ setup bytes stands.
-    same_to_next setup bytes c.args.addr c.see_cards.new.self.edge (returns-clause-next c setup bytes stands)
+    same_to_next setup bytes c.args.addr c.see_rows.new.self.edge (returns-clause-next c setup bytes stands)
     (returns-clause-last c setup bytes stands).0
 
 pub returns-clause-fewer : goal.returns-clause-fewer
 returns-clause-fewer c =
     λ setup bytes stands.
-    fewer_after setup bytes c.args.addr c.see_cards.new.self.edge (returns-clause-next c setup bytes stands)
+    fewer_after setup bytes c.args.addr c.see_rows.new.self.edge (returns-clause-next c setup bytes stands)
