@@ -11,7 +11,7 @@ use Rattle.addr_decode.specs.MapRegs.{MapBytes, StandsFor}
 use Rattle.map_builder.specs.declared.range.Changed.{Changed}
 use Rattle.map_builder.specs.declared.range.Range.{Range}
 use Rattle.map_builder.specs.Map.{range_of}
-use Rattle.map_builder.specs.Find.{no_range, range_at, Holds}
+use Rattle.map_builder.specs.Find.{no_range, range_at, Begins, Holds}
 use Rattle.map_builder.specs.Build.{GoesOn, IsBuilt, IsRightWhere, IsMapWhere, IsBelow, IsBetween, IsBeside}
 use Rattle.map_builder.specs.Changed.{from_to}
 use Rattle.map_builder.specs.Sorted.{AreAbove, Rise, rows_in}
@@ -109,6 +109,23 @@ holds_after ranges k addr is holds high address =
           let end : (range_at ranges k).hi + 1 ≡ address_count = is.last k (omega (arith, holds.within)) in
           absurd (omega arith)
     ]
+
+-- where the range at an index ends below an address, the next begins at it or below it
+pub begins_next : (ranges : List Range) (k addr : ℕ) → Placed 0 ranges → Begins ranges k addr → (range_at ranges k).hi < addr → addr < address_count →
+    Begins ranges (k + 1) addr
+begins_next ranges k addr is begins low address =
+    elim (cases_lt (k + 1) (length ranges)) [
+      | inl more ↦ record { within = more; above = omega (arith, is.next k more) }
+      | inr last ↦ absurd (omega (arith, is.last k (omega (arith, begins.within))))
+    ]
+
+-- and so at or below a later address
+pub begins_later : (ranges : List Range) (k addr later : ℕ) → Begins ranges k addr → addr ≤ later → Begins ranges k later
+begins_later ranges k addr later begins order = record { within = begins.within; above = omega (arith, begins.above) }
+
+-- a range that holds an address begins at it or below it
+pub holds_begins : (ranges : List Range) (k addr later : ℕ) → Holds ranges k addr → addr ≤ later → Begins ranges k later
+holds_begins ranges k addr later holds order = record { within = holds.within; above = omega (arith, holds.above) }
 
 pub kept_on : (regs : MapBytes) (ranges ranges' : List MapRange) (last last' : MapRange) (old : List Range) (k after hi until : ℕ) →
     IsMapWhere regs (IsBetween after until) (map range_of old) → Holds old k (hi + 1) → after ≤ hi → hi < until → until < address_count →

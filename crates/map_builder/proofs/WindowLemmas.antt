@@ -1,14 +1,12 @@
 -- The windows that registers govern, as the code finds them.
 use Rattle.std.proofs.Common.{◌≡◌, ℕ, zero, suc, ◌+◌, ◌-◌, ◌*◌, ◌/◌, ◌^◌, ◌<◌, ◌≤◌, List, [], ◌∷◌, ◌++◌, length, map, drop, get_or, refl, sym, ◌∙◌, ap, arith, mul_comm, append_assoc}
-use Rattle.std.specs.Prelude.{slice_index, flat_map, take}
+use Rattle.std.specs.Prelude.{slice_get, slice_index, flat_map, take}
+use Rattle.std.specs.Option.{option_map_or}
 use Rattle.std.proofs.lemmas.List.{drop_all, drop_more, take_more, append-nil}
 use Rattle.std.proofs.lemmas.Grind.{flat_map-append}
 use Rattle.std.proofs.lemmas.Option.{slice_get-map, slice_get_past}
 use Rattle.std.proofs.lemmas.Nat.{mul-add-lt, pow-add, pow_pos}
 use Rattle.std.proofs.Math.Nat.{div-lt_iff_lt-mul}
-use Rattle.board_base.specs.declared.access.Width.{Width}
-use Rattle.board_base.specs.declared.access.Width.TheVariants.{One, Two, Four}
-use Rattle.board_base.specs.Access.{bytes_of}
 use Rattle.pci_bars.specs.declared.spec.BaseSpec.{BaseSpec}
 use Rattle.pci_bars.specs.Bases.{base_of}
 use Rattle.map_builder.specs.declared.range.Changed.{Changed}
@@ -63,6 +61,18 @@ held_on bases values k d found next within is =
 pub held_all : (bases : List BaseSpec) (values : List ℕ) (k : ℕ) (found : List Changed) → length bases ≤ k →
     found ++ held_from values k (map base_of (drop k bases)) ≡ found
 held_all bases values k found past = rw (drop_all k bases past) (append-nil found)
+
+-- a base by its number
+held_one : (value : ℕ) (bases : List BaseSpec) (k : ℕ) (d : BaseSpec) → k < length bases →
+    option_map_or (λ base. held_by base value) (slice_get (map base_of bases) k) [] ≡ held_by (base_of (get_or bases k d)) value
+held_one value [] k d within = absurd (omega arith)
+held_one value (base ∷ later) zero d within = refl
+held_one value (base ∷ later) (suc k) d within = held_one value later k d (omega arith)
+
+pub held_here : (values : List ℕ) (bases : List BaseSpec) (k : ℕ) (base : BaseSpec) → k < length bases → base ≡ get_or bases k base →
+    held_by (base_of base) (slice_index values k) ≡ held_at values (map base_of bases) k
+held_here values bases k base within is =
+    ap (λ (it : BaseSpec). held_by (base_of it) (slice_index values k)) is ∙ sym (held_one (slice_index values k) bases k base within)
 
 -- there is no such base
 pub held_past : (values : List ℕ) (bases : List BaseSpec) (k : ℕ) → length bases ≤ k → held_at values (map base_of bases) k ≡ []

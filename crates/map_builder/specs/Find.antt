@@ -25,6 +25,11 @@ pub record Holds (ranges : List Range) (k addr : ℕ) : Type 0 where
   pub above : (range_at ranges k).lo ≤ addr
   pub below : addr ≤ (range_at ranges k).hi
 
+-- the range at an index begins at an address or below it
+pub record Begins (ranges : List Range) (k addr : ℕ) : Type 0 where
+  pub within : k < length ranges
+  pub above : (range_at ranges k).lo ≤ addr
+
 -- the least index from which on up to another the ranges have its area in a column
 pub record IsFirstAlike (ranges : List Range) (column index first : ℕ) : Type 0 where
   pub below : first ≤ index

@@ -1,7 +1,6 @@
 //! The ranges of the memory map, built from the registers on which it depends: all of them, or those that a change of
 //! the registers may have changed.
 ghost use Rattle.std.specs.Prelude.{ℕ, ◌≡◌, ◌≤◌, ◌<◌, ◌+◌, ◌-◌, [], length, map, unwrap_or, IfSome};
-ghost use Rattle.arrayvec.specs.ArrayVec.{array_vec_len};
 ghost use Rattle.board_spec.specs.Setup.{Setup};
 ghost use Rattle.board_spec.specs.Decode.{Bytes};
 ghost use Rattle.board_spec.specs.FlatMap.{address_count, Tiles, IsFlatMapOf};
@@ -9,22 +8,18 @@ ghost use Rattle.pci_bars.specs.Cards.{AreFitted};
 ghost use Rattle.addr_decode.specs.MapRegs.{MapBytes, StandsFor, map_bytes};
 ghost use Rattle.addr_decode.specs.Edges.{SameAreas, edges_after};
 ghost use Rattle.map_builder.specs.Map.{range_of, HasBoard};
-ghost use Rattle.map_builder.specs.Find.{Holds};
+ghost use Rattle.map_builder.specs.Find.{Begins, Holds};
 ghost use Rattle.map_builder.specs.Build.{GoesOn, IsBuilt, IsMapWhere, IsBelow, IsBetween, IsBeside, IsKept, IsWhole};
 ghost use Rattle.map_builder.specs.Sorted.{Rise, rows_in as rows_of};
 
 use crate::changed::EVERYTHING;
 use crate::find::index_of;
 use crate::range::{Changed, Range};
+use crate::ranges::{CAPACITY, Ranges};
 use addr_decode::{MapRegs, SixAreas, next_edge, row};
-use arrayvec::ArrayVec;
 use board_base::Steps;
 use std::sync::ledger::Ledger;
 
-/// The most ranges that a map can keep. A board's map has at most 142.
-pub const CAPACITY: usize = 160;
-/// The ranges of a map in rising order of address.
-pub type Ranges = ArrayVec<Range, CAPACITY>;
 /// The last address.
 const LAST_ADDRESS: u32 = 0xFFFF_FFFF;
 
@@ -38,7 +33,7 @@ pub fn ranges_of<L: Ledger>(regs: &MapRegs, steps: &mut Steps<L>) -> Ranges
         → IsFlatMapOf setup bytes (map range_of result.items) }
     ensures few { length result.items ≤ 142 }
 {
-    let mut ranges = ArrayVec::new();
+    let mut ranges = Ranges::new();
     let first = first_range(regs, steps);
     let last = rows_in(&mut ranges, first, regs, EVERYTHING, steps);
     ranges.push(last);
@@ -68,8 +63,9 @@ pub fn rebuild<L: Ledger>(
     if windows.is_empty() {
         return;
     }
-    let before = &mut before[..ranges.len()];
-    before.copy_from_slice(ranges);
+    let kept = ranges.as_slice();
+    let before = &mut before[..kept.len()];
+    before.copy_from_slice(kept);
     sweep(ranges, before, regs, windows, steps);
 }
 
@@ -92,17 +88,18 @@ fn sweep<L: Ledger>(
         → steps.new ≤ steps.old + rows_of (edges_after setup bytes) windows.now }
 {
     let first = windows[0];
-    let cut = cut_below(ranges, regs, first.lo, steps);
+    let from = index_of(before, first.lo.saturating_sub(1));
+    let cut = cut_below(ranges, before, from, regs, first.lo, steps);
     let mut last = rows_in(ranges, cut, regs, first, steps);
     let mut hi = first.hi;
     for index in 1..windows.len() {
         let window = windows[index];
-        last = keep(ranges, last, before, hi, window.lo - 1);
+        last = keep(ranges, last, before, from, hi, window.lo - 1);
         last = row_at(ranges, last, regs, window.lo, steps);
         last = rows_in(ranges, last, regs, window, steps);
         hi = window.hi;
     }
-    finish(ranges, last, before, hi);
+    finish(ranges, last, before, from, hi);
 }
 
 /// The range that begins at the first address, as long as no other follows.
@@ -118,23 +115,32 @@ fn first_range<L: Ledger>(regs: &MapRegs, steps: &mut Steps<L>) -> Range
     }
 }
 
-/// Leaves of a map the ranges below an address, and gives the last range as it stands at the address.
-fn cut_below<L: Ledger>(ranges: &mut Ranges, regs: &MapRegs, lo: u32, steps: &mut Steps<L>) -> Range
+/// Leaves of a map the ranges below an address, and gives the last range as it stands at the address. `from` is the
+/// index of the range that holds the address below.
+fn cut_below<L: Ledger>(
+    ranges: &mut Ranges,
+    before: &[Range],
+    from: usize,
+    regs: &MapRegs,
+    lo: u32,
+    steps: &mut Steps<L>,
+) -> Range
     requires cards { AreFitted regs.now.cards.items }
-    requires below { IsMapWhere (map_bytes regs.now) (IsBelow lo) (map range_of ranges.old.items) }
+    requires same { ranges.old.items ≡ before.now }
+    requires holds { Holds before.now from (lo - 1) }
+    requires below { IsMapWhere (map_bytes regs.now) (IsBelow lo) (map range_of before.now) }
     ensures built { IsBuilt (map_bytes regs.now) (map range_of ranges.new.items) (range_of result) lo }
     ensures step { steps.new ≡ steps.old + 1 }
 {
     if lo == 0 {
-        ranges.clear();
+        ranges.truncate(0);
         return first_range(regs, steps);
     }
-    let index = index_of(ranges, lo - 1);
     let last = Range {
         hi: LAST_ADDRESS,
-        ..ranges[index]
+        ..before[from]
     };
-    ranges.truncate(index);
+    ranges.truncate(from);
     range_at(ranges, last, lo, row(regs, lo, steps))
 }
 
@@ -156,9 +162,18 @@ fn row_at<L: Ledger>(
     range_at(ranges, last, addr, row(regs, addr, steps))
 }
 
-/// Goes on with the ranges of a map after an address up to another, and gives the last of them.
-fn keep(ranges: &mut Ranges, last: Range, before: &[Range], after: u32, until: u32) -> Range
+/// Goes on with the ranges of a map after an address up to another, and gives the last of them. The range at the index
+/// `from` begins at the address or below it.
+fn keep(
+    ranges: &mut Ranges,
+    last: Range,
+    before: &[Range],
+    from: usize,
+    after: u32,
+    until: u32,
+) -> Range
     requires tiles { Tiles 0 (map range_of before.now) }
+    requires from { Begins before.now from after }
     requires order { after ≤ until }
     requires kept { IsKept (map range_of ranges.old.items) (range_of last) (map range_of before.now) after until }
     ensures built { (regs : MapBytes) → IsBuilt regs (map range_of ranges.old.items) (range_of last) after
@@ -167,7 +182,7 @@ fn keep(ranges: &mut Ranges, last: Range, before: &[Range], after: u32, until: u
 {
     let mut last = last;
     let mut hi = after;
-    let mut index = index_of(before, after);
+    let mut index = index_from(before, from, after);
     while hi < until {
         index = index_after(before, index, hi);
         last = range_at(ranges, last, hi + 1, before[index].row);
@@ -176,9 +191,10 @@ fn keep(ranges: &mut Ranges, last: Range, before: &[Range], after: u32, until: u
     last
 }
 
-/// Ends the ranges with those of a map after an address.
-fn finish(ranges: &mut Ranges, last: Range, before: &[Range], after: u32)
+/// Ends the ranges with those of a map after an address. The range at the index `from` begins at the address or below it.
+fn finish(ranges: &mut Ranges, last: Range, before: &[Range], from: usize, after: u32)
     requires tiles { Tiles 0 (map range_of before.now) }
+    requires from { Begins before.now from after }
     requires kept { IsKept (map range_of ranges.old.items) (range_of last) (map range_of before.now) after 0xFFFF_FFFF }
     ensures whole { (regs : MapBytes) → HasBoard regs → IsBuilt regs (map range_of ranges.old.items) (range_of last) after
         → IsMapWhere regs (IsBetween after 0xFFFF_FFFF) (map range_of before.now) → IsWhole regs ranges.new.items }
@@ -187,14 +203,27 @@ fn finish(ranges: &mut Ranges, last: Range, before: &[Range], after: u32)
         ranges.push(last);
         return;
     }
-    let index = index_after(before, index_of(before, after), after);
+    let index = index_from(before, from, after + 1);
     let next = before[index];
     let last = range_at(ranges, last, after + 1, next.row);
     ranges.push(Range {
         hi: next.hi,
         ..last
     });
-    ranges.try_extend_from_slice(&before[index + 1..]).unwrap();
+    ranges.extend(&before[index + 1..]);
+}
+
+/// The index of the range that holds an address, where the range at this index begins at the address or below it.
+fn index_from(ranges: &[Range], from: usize, addr: u32) -> usize
+    requires tiles { Tiles 0 (map range_of ranges.now) }
+    requires from { Begins ranges.now from addr }
+    ensures holds { Holds ranges.now result addr }
+{
+    let mut index = from;
+    while ranges[index].hi < addr {
+        index += 1;
+    }
+    index
 }
 
 /// The index of the range that holds the address after one that the range at this index holds.
@@ -255,7 +284,7 @@ fn edge_up_to(regs: &MapRegs, addr: u32, hi: u32) -> Option<u32>
 /// The range of an address with these areas, where the last range is this one so far: it goes on where it has the same
 /// areas. Else it ends below the address, is pushed, and a new range begins.
 fn range_at(ranges: &mut Ranges, last: Range, addr: u32, row: SixAreas) -> Range
-    requires room { array_vec_len ranges.old < 160 }
+    requires room { length ranges.old.items < 160 }
     requires above { last.lo < addr }
     ensures goes_on { GoesOn (map range_of ranges.old.items) (map range_of ranges.new.items) (range_of last) (range_of result) addr row.areas }
 {

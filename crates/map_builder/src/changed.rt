@@ -13,7 +13,6 @@ ghost use Rattle.map_builder.specs.Held.{block, held_by, held_from, held_at, rom
 use crate::range::Changed;
 use crate::windows::Windows;
 use addr_decode::{MapChange, MapRegs};
-use arrayvec::ArrayVec;
 use board_base::{Reg, Width};
 use board_spec::offset::{
     BASE0, BASE5_END, COMMAND, DRB0, DRB7, EXPANSION_ROM, EXPANSION_ROM_END, FDHC, HOST_BRIDGE,
@@ -23,7 +22,7 @@ use board_spec::range::{
     AddressRange, EXPANSION_RANGE, HOLE_AT_15_MIB, HOLE_AT_512_KIB, LARGEST_TOP, LOWER_BIOS,
     SELECTABLE_BIOS, SMRAM_RANGE, SYSTEM_BIOS,
 };
-use pci_bars::{BaseSpec, CardRegs, card_at};
+use pci_bars::{BaseSpec, CardRegs};
 
 /// Every address.
 pub const EVERYTHING: Changed = Changed {
@@ -39,9 +38,6 @@ const ROWS: Changed = Changed {
 };
 /// How many addresses the two windows of a PAM register have.
 const PAM_SIZE: u32 = 0x8000;
-
-/// The windows that one register byte governs: at most six bases of a card, its expansion ROM and its VGA window.
-type Governed = ArrayVec<Changed, 8>;
 
 /// Adds the windows that the registers govern which a change covers, by what they hold now.
 #[tactic(auto, unfolding(crate::specs::Changed::windows_covered))]
@@ -71,7 +67,7 @@ fn push_of_store(windows: &mut Windows, regs: &MapRegs, reg: Reg, width: Width)
     }
 }
 
-/// Adds the windows of the register `k` offsets after another.
+/// Adds the windows of the register `k` offsets after another. None past offset FFh.
 fn push_after(windows: &mut Windows, regs: &MapRegs, reg: Reg, k: u8)
     requires cards { AreFitted regs.now.cards.items }
     requires room { length windows.old.items ≤ 56 }
@@ -79,76 +75,65 @@ fn push_after(windows: &mut Windows, regs: &MapRegs, reg: Reg, k: u8)
     ensures windows { (setup : Setup) (bytes : Bytes) → StandsFor setup bytes (map_bytes regs.now)
         → windows.new.items ≡ windows.old.items ++ windows_by setup bytes (reg_after reg k) }
 {
-    let governed = windows_after(regs, reg, k);
-    windows.try_extend_from_slice(&governed).unwrap();
-}
-
-/// The windows of the register `k` offsets after another. None past offset FFh.
-fn windows_after(regs: &MapRegs, reg: Reg, k: u8) -> Governed
-    requires cards { AreFitted regs.now.cards.items }
-    ensures windows { (setup : Setup) (bytes : Bytes) → StandsFor setup bytes (map_bytes regs.now)
-        → result.items ≡ windows_by setup bytes (reg_after reg k) }
-{
     match reg.off.checked_add(k) {
-        Some(off) => windows_of(regs, Reg { off, ..reg }),
-        None => ArrayVec::new(),
+        Some(off) => push_of_register(windows, regs, Reg { off, ..reg }),
+        None => {}
     }
 }
 
-/// The windows that a register governs.
-fn windows_of(regs: &MapRegs, reg: Reg) -> Governed
+/// Adds the windows that a register governs.
+fn push_of_register(windows: &mut Windows, regs: &MapRegs, reg: Reg)
     requires cards { AreFitted regs.now.cards.items }
+    requires room { length windows.old.items ≤ 56 }
+    ensures few { length windows.new.items ≤ length windows.old.items + 8 }
     ensures windows { (setup : Setup) (bytes : Bytes) → StandsFor setup bytes (map_bytes regs.now)
-        → result.items ≡ windows_by setup bytes reg }
+        → windows.new.items ≡ windows.old.items ++ windows_by setup bytes reg }
 {
     if reg.fun != 0 {
-        return ArrayVec::new();
+        return;
     }
     match reg.dev {
-        HOST_BRIDGE => bridge_windows(reg.off),
-        SOUTH_BRIDGE => isa_windows(reg.off),
-        dev => device_windows(&regs.cards, dev, reg.off),
+        HOST_BRIDGE => push_of_bridge(windows, reg.off),
+        SOUTH_BRIDGE => push_of_isa(windows, reg.off),
+        dev => push_of_device(windows, &regs.cards, dev, reg.off),
     }
 }
 
-fn one(window: Changed) -> Governed
-    ensures windows { result.items ≡ window ∷ [] }
+/// Adds a range as a window.
+fn push_range(windows: &mut Windows, range: AddressRange)
+    requires room { length windows.old.items ≤ 63 }
+    ensures windows { windows.new.items ≡ windows.old.items ++ from_to range.first range.last ∷ [] }
 {
-    let mut windows = ArrayVec::new();
-    windows.push(window);
-    windows
-}
-
-fn two(first: Changed, second: Changed) -> Governed
-    ensures windows { result.items ≡ first ∷ second ∷ [] }
-{
-    let mut windows = one(first);
-    windows.push(second);
-    windows
-}
-
-/// A range as a window.
-fn window(range: AddressRange) -> Changed
-    ensures window { result ≡ from_to range.first range.last }
-{
-    Changed {
+    windows.push(Changed {
         lo: range.first,
         hi: range.last,
+    });
+}
+
+/// Adds the windows of a register of the host bridge.
+fn push_of_bridge(windows: &mut Windows, off: u8)
+    requires room { length windows.old.items ≤ 56 }
+    ensures few { length windows.new.items ≤ length windows.old.items + 8 }
+    ensures windows { windows.new.items ≡ windows.old.items ++ windows_of_bridge off }
+{
+    match off {
+        PAM0 => push_range(windows, SYSTEM_BIOS),
+        PAM1..=PAM6 => windows.push(windows_of_pam(off)),
+        DRB0..=DRB7 => windows.push(ROWS),
+        FDHC => push_two(windows, HOLE_AT_512_KIB, HOLE_AT_15_MIB),
+        SMRAM => push_range(windows, SMRAM_RANGE),
+        _ => {}
     }
 }
 
-/// The windows of a register of the host bridge.
-fn bridge_windows(off: u8) -> Governed
-    ensures windows { result.items ≡ windows_of_bridge off }
+/// Adds two ranges as windows.
+fn push_two(windows: &mut Windows, first: AddressRange, second: AddressRange)
+    requires room { length windows.old.items ≤ 62 }
+    ensures windows { windows.new.items
+        ≡ windows.old.items ++ from_to first.first first.last ∷ from_to second.first second.last ∷ [] }
 {
-    match off {
-        PAM0 => one(window(SYSTEM_BIOS)),
-        PAM1..=PAM6 => one(windows_of_pam(off)),
-        DRB0..=DRB7 => one(ROWS),
-        FDHC => two(window(HOLE_AT_512_KIB), window(HOLE_AT_15_MIB)),
-        SMRAM => one(window(SMRAM_RANGE)),
-        _ => ArrayVec::new(),
-    }
+    push_range(windows, first);
+    push_range(windows, second);
 }
 
 /// The two shadow windows of a PAM register after PAM0.
@@ -164,122 +149,133 @@ fn windows_of_pam(off: u8) -> Changed
     }
 }
 
-/// The windows of a register of the ISA bridge.
-fn isa_windows(off: u8) -> Governed
-    ensures windows { result.items ≡ windows_of_isa off }
+/// Adds the windows of a register of the ISA bridge.
+fn push_of_isa(windows: &mut Windows, off: u8)
+    requires room { length windows.old.items ≤ 56 }
+    ensures few { length windows.new.items ≤ length windows.old.items + 8 }
+    ensures windows { windows.new.items ≡ windows.old.items ++ windows_of_isa off }
 {
     if off == XBCS {
-        return two(window(LOWER_BIOS), window(SELECTABLE_BIOS));
+        push_two(windows, LOWER_BIOS, SELECTABLE_BIOS);
     }
-    ArrayVec::new()
 }
 
-/// The windows of a register of the card at a device number. None where there is no such card.
-fn device_windows(cards: &[CardRegs], dev: u8, off: u8) -> Governed
+/// Adds the windows of a register of the card at a device number. None where there is no such card.
+fn push_of_device(windows: &mut Windows, cards: &[CardRegs], dev: u8, off: u8)
     requires cards { AreCards cards.now }
-    ensures windows { result.items ≡ device_held dev off cards.now }
+    requires room { length windows.old.items ≤ 56 }
+    ensures few { length windows.new.items ≤ length windows.old.items + 8 }
+    ensures windows { windows.new.items ≡ windows.old.items ++ device_held dev off cards.now }
 {
     for card in cards {
         if card.spec.dev == dev {
-            return card_windows(card, off);
+            push_of_card(windows, card, off);
+            return;
         }
     }
-    ArrayVec::new()
 }
 
-/// The windows of a register of a card.
-fn card_windows(card: &CardRegs, off: u8) -> Governed
+/// Adds the windows of a register of a card.
+fn push_of_card(windows: &mut Windows, card: &CardRegs, off: u8)
     requires card { IsCard card.now.card }
-    ensures windows { result.items ≡ card_held off card.now }
+    requires room { length windows.old.items ≤ 56 }
+    ensures few { length windows.new.items ≤ length windows.old.items + 8 }
+    ensures windows { windows.new.items ≡ windows.old.items ++ card_held off card.now }
 {
     match off {
-        COMMAND => command_windows(card),
-        BASE0..=BASE5_END => base_window(card, usize::from((off - BASE0) / 4)),
-        EXPANSION_ROM..=EXPANSION_ROM_END => rom_window(card),
-        _ => ArrayVec::new(),
+        COMMAND => push_of_command(windows, card),
+        BASE0..=BASE5_END => push_base_of(windows, card, usize::from((off - BASE0) / 4)),
+        EXPANSION_ROM..=EXPANSION_ROM_END => push_rom_of(windows, card),
+        _ => {}
     }
 }
 
-/// The memory bases of a card, its expansion ROM and its VGA window.
-fn command_windows(card: &CardRegs) -> Governed
+/// Adds the memory bases of a card, its expansion ROM and its VGA window.
+fn push_of_command(windows: &mut Windows, card: &CardRegs)
     requires card { IsCard card.now.card }
-    ensures windows { result.items ≡ held_from card.now.bases 0 card.now.card.bases
-        ++ rom_held card.now.card.rom card.now.rom ++ vga_held card.now.card.vga }
+    requires room { length windows.old.items ≤ 56 }
+    ensures few { length windows.new.items ≤ length windows.old.items + 8 }
+    ensures windows { windows.new.items ≡ windows.old.items ++ (held_from card.now.bases 0 card.now.card.bases
+        ++ rom_held card.now.card.rom card.now.rom ++ vga_held card.now.card.vga) }
 {
-    let mut windows = windows_of_bases(&card.spec.bases, &card.bases);
-    windows.try_extend_from_slice(&rom_window(card)).unwrap();
+    push_bases(windows, &card.spec.bases, &card.bases);
+    push_rom_of(windows, card);
     if card.spec.vga {
-        windows.push(window(SMRAM_RANGE));
+        push_range(windows, SMRAM_RANGE);
     }
-    windows
 }
 
-/// The expansion ROM of a card. None where it has none.
-fn rom_window(card: &CardRegs) -> Governed
+/// Adds the expansion ROM of a card. None where it has none.
+fn push_rom_of(windows: &mut Windows, card: &CardRegs)
     requires card { IsCard card.now.card }
-    ensures windows { result.items ≡ rom_held card.now.card.rom card.now.rom }
-    ensures few { length result.items ≤ 1 }
+    requires room { length windows.old.items ≤ 63 }
+    ensures few { length windows.new.items ≤ length windows.old.items + 1 }
+    ensures windows { windows.new.items ≡ windows.old.items ++ rom_held card.now.card.rom card.now.rom }
 {
-    window_of_rom(card.spec.rom, card.rom)
+    push_rom(windows, card.spec.rom, card.rom);
 }
 
-/// The addresses that an expansion ROM with this register covers.
-fn window_of_rom(rom: Option<u8>, register: u32) -> Governed
+/// Adds the addresses that an expansion ROM with this register covers.
+fn push_rom(windows: &mut Windows, rom: Option<u8>, register: u32)
     requires rom { IsExpansionRom rom }
-    ensures windows { result.items ≡ rom_held rom register }
-    ensures few { length result.items ≤ 1 }
+    requires room { length windows.old.items ≤ 63 }
+    ensures few { length windows.new.items ≤ length windows.old.items + 1 }
+    ensures windows { windows.new.items ≡ windows.old.items ++ rom_held rom register }
 {
     match rom {
-        Some(bits) => one(block(register, bits)),
-        None => ArrayVec::new(),
+        Some(bits) => windows.push(block(register, bits)),
+        None => {}
     }
 }
 
-/// The memory bases among these that hold these values.
-fn windows_of_bases(bases: &[BaseSpec], values: &[u32; 6]) -> Governed
+/// Adds the memory bases among these that hold these values.
+fn push_bases(windows: &mut Windows, bases: &[BaseSpec], values: &[u32; 6])
     requires bases { All IsBase (map base_of bases.now) }
     requires count { length bases.now ≤ 6 }
-    ensures windows { result.items ≡ held_from values.now 0 (map base_of bases.now) }
-    ensures few { length result.items ≤ 6 }
+    requires room { length windows.old.items ≤ 56 }
+    ensures few { length windows.new.items ≤ length windows.old.items + 6 }
+    ensures windows { windows.new.items ≡ windows.old.items ++ held_from values.now 0 (map base_of bases.now) }
 {
-    let mut windows = ArrayVec::new();
     for (index, base) in bases.iter().enumerate() {
-        if let BaseSpec::Memory(bits) = base {
-            windows.push(block(values[index], *bits));
-        }
+        push_base(windows, *base, values[index]);
     }
-    windows
 }
 
-/// A base of a card, 0 to 5. None where it does not exist, or is for I/O ports.
-fn base_window(card: &CardRegs, index: usize) -> Governed
+/// Adds a base of a card, 0 to 5. None where it does not exist, or is for I/O ports.
+fn push_base_of(windows: &mut Windows, card: &CardRegs, index: usize)
     requires card { IsCard card.now.card }
     requires index { index < 6 }
-    ensures windows { result.items ≡ held_at card.now.bases card.now.card.bases index }
+    requires room { length windows.old.items ≤ 56 }
+    ensures few { length windows.new.items ≤ length windows.old.items + 1 }
+    ensures windows { windows.new.items ≡ windows.old.items ++ held_at card.now.bases card.now.card.bases index }
 {
-    window_of_base(&card.spec.bases, &card.bases, index)
+    push_base_at(windows, &card.spec.bases, &card.bases, index);
 }
 
-/// One of these bases that hold these values. None where it does not exist, or is for I/O ports.
-fn window_of_base(bases: &[BaseSpec], values: &[u32; 6], index: usize) -> Governed
+/// Adds one of these bases that hold these values. None where it does not exist, or is for I/O ports.
+fn push_base_at(windows: &mut Windows, bases: &[BaseSpec], values: &[u32; 6], index: usize)
     requires bases { All IsBase (map base_of bases.now) }
     requires index { index < 6 }
-    ensures windows { result.items ≡ held_at values.now (map base_of bases.now) index }
+    requires room { length windows.old.items ≤ 56 }
+    ensures few { length windows.new.items ≤ length windows.old.items + 1 }
+    ensures windows { windows.new.items ≡ windows.old.items ++ held_at values.now (map base_of bases.now) index }
 {
     match bases.get(index) {
-        Some(base) => window_of(*base, values[index]),
-        None => ArrayVec::new(),
+        Some(base) => push_base(windows, *base, values[index]),
+        None => {}
     }
 }
 
-/// The addresses that a base decodes where it holds this value. None where it is for I/O ports.
-fn window_of(base: BaseSpec, value: u32) -> Governed
+/// Adds the addresses that a base decodes where it holds this value. None where it is for I/O ports.
+fn push_base(windows: &mut Windows, base: BaseSpec, value: u32)
     requires base { IsBase (base_of base) }
-    ensures windows { result.items ≡ held_by (base_of base) value }
+    requires room { length windows.old.items ≤ 63 }
+    ensures few { length windows.new.items ≤ length windows.old.items + 1 }
+    ensures windows { windows.new.items ≡ windows.old.items ++ held_by (base_of base) value }
 {
     match base {
-        BaseSpec::Memory(bits) => one(block(value, bits)),
-        BaseSpec::Io(_) => ArrayVec::new(),
+        BaseSpec::Memory(bits) => windows.push(block(value, bits)),
+        BaseSpec::Io(_) => {}
     }
 }
 

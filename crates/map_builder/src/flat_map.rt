@@ -12,10 +12,11 @@ ghost use Rattle.addr_decode.specs.MapRegs.{StandsFor, map_bytes};
 ghost use Rattle.map_builder.specs.Map.{range_of, HasBoard, IsMapOf};
 ghost use Rattle.map_builder.specs.Changed.{after, changed_windows, bounds_or_zero, most_rows, IsOutside};
 
-use crate::build::{CAPACITY, Ranges, ranges_of, rebuild};
+use crate::build::{ranges_of, rebuild};
 use crate::changed::push_covered;
 use crate::find::span_of;
 use crate::range::{Changed, Range, Span};
+use crate::ranges::{CAPACITY, Ranges};
 use crate::rows::choose_windows;
 use crate::unchanged::{held_at, is_same_byte};
 use crate::widths::hold_widths;
@@ -81,8 +82,8 @@ impl FlatMap {
     pub fn copy(&self) -> FlatMap
         ensures equal { result ≡ self.now }
     {
-        let mut ranges = ArrayVec::new();
-        ranges.try_extend_from_slice(&self.ranges).unwrap();
+        let mut ranges = Ranges::new();
+        ranges.extend(self.ranges.as_slice());
         FlatMap {
             regs: self.regs.copy(),
             ranges,
@@ -98,8 +99,8 @@ impl FlatMap {
         ensures copied { self.new ≡ other.now }
     {
         self.regs = other.regs.copy();
-        self.ranges.clear();
-        self.ranges.try_extend_from_slice(&other.ranges).unwrap();
+        self.ranges.truncate(0);
+        self.ranges.extend(other.ranges.as_slice());
         self.version = other.version;
     }
 
@@ -110,7 +111,7 @@ impl FlatMap {
         ensures map { (setup : Setup) (bytes : Bytes) → StandsFor setup bytes self.now.regs
             → IsFlatMapOf setup bytes self.now.ranges }
     {
-        &self.ranges
+        self.ranges.as_slice()
     }
 
     /// The registers that this is the map of.
@@ -133,7 +134,7 @@ impl FlatMap {
         ensures span { (setup : Setup) (bytes : Bytes) → StandsFor setup bytes self.now.regs
             → IsSpan setup bytes addr kind smm result.lo result.hi result.area }
     {
-        span_of(&self.ranges, addr, kind, smm)
+        span_of(self.ranges.as_slice(), addr, kind, smm)
     }
 
     /// Makes a change of the registers, which raises the version by one, and tells the bounds of the addresses whose

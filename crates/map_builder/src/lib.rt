@@ -7,6 +7,7 @@ mod find;
 mod flat_map;
 pub mod laws;
 mod range;
+mod ranges;
 mod rows;
 mod unchanged;
 mod widths;

@@ -2,12 +2,18 @@ use Rattle.std.proofs.Common.{map, arith}
 use Rattle.addr_decode.specs.MapRegs.{map_bytes}
 use Rattle.addr_decode.specs.Edges.{edges_after}
 use Rattle.map_builder.specs.Map.{range_of}
-use Rattle.map_builder.proofs.RebuildLemmas.{first_below, order_at, sweep_first, above, sweep_agrees, sweep_next, sweep_end, rows_at, no_rows}
+use Rattle.map_builder.proofs.RebuildLemmas.{holds_begins, begins_later, window_at, first_below, order_at, sweep_first, above, sweep_agrees, sweep_next, sweep_end, rows_at, no_rows}
 use Rattle.map_builder.proofs.build.sweep.Goals as goal
+
+pub index_of-from-requires : goal.index_of-from-requires
+index_of-from-requires g c = record { tiles = c.requires.beside.tiles }
+
+pub cut_below-cut-requires-clause-holds : goal.cut_below-cut-requires-clause-holds
+cut_below-cut-requires-clause-holds g c = rw c.saturating_sub.ensures at c.index_of-from.ensures.holds
 
 pub cut_below-cut-requires-clause-below : goal.cut_below-cut-requires-clause-below
 cut_below-cut-requires-clause-below g c =
-    rw c.requires.same (first_below (map_bytes c.args.regs.now) (map range_of c.args.before.now) c.args.windows.now c.requires.some c.requires.rise c.requires.beside)
+    first_below (map_bytes c.args.regs.now) (map range_of c.args.before.now) c.args.windows.now c.requires.some c.requires.rise c.requires.beside
 
 pub rows_in-last-requires-clause-order : goal.rows_in-last-requires-clause-order
 rows_in-last-requires-clause-order g c = order_at c.args.windows.now 0 c.requires.some c.requires.rise
@@ -19,6 +25,9 @@ loop-index-init g c = record {
       c.args.windows.now c.requires.some c.requires.rise c.requires.beside c.rows_in-last.ensures.fits c.rows_in-last.ensures.built;
   rows = λ setup bytes stands.
       omega (arith, rows_at (edges_after setup bytes) c.args.windows.now 0 c.requires.some, c.rows_in-last.ensures.rows setup bytes stands, c.cut_below-cut.ensures.step);
+  from =
+      holds_begins c.args.before.now c.index_of-from.result c.saturating_sub.result (window_at c.args.windows.now 0).hi c.index_of-from.ensures.holds
+      (omega (arith, c.saturating_sub.ensures, order_at c.args.windows.now 0 c.requires.some c.requires.rise));
 }
 
 pub keep-last-requires-clause-order : goal.keep-last-requires-clause-order
@@ -70,6 +79,14 @@ loop-index-preserved g c = record {
         c.rows_in-last-in-loop-index.ensures.rows setup bytes stands,
         c.row_at-last.ensures.step,
       );
+  from =
+      begins_later c.args.before.now c.index_of-from.result c.loop-index.hi (window_at c.args.windows.now c.loop-index.index).hi c.loop-index.invariant.from
+      (omega (
+        arith,
+        order_at c.args.windows.now c.loop-index.index (omega arith) c.loop-index.invariant.sweep.rise,
+        above (map_bytes c.args.regs.now) (map range_of c.loop-index.ranges.items) (map range_of c.args.before.now) (range_of c.loop-index.last) c.loop-index.hi
+            c.args.windows.now c.loop-index.index (omega arith) c.loop-index.invariant.sweep,
+      ));
 }
 
 pub finish-requires-clause-kept : goal.finish-requires-clause-kept

@@ -1,0 +1,9 @@
+use Rattle.std.proofs.Common.{arith}
+use Rattle.map_builder.proofs.FindLemmas.{placed}
+use Rattle.map_builder.proofs.RebuildLemmas.{begins_next}
+use Rattle.map_builder.proofs.build.index_from.Goals as goal
+
+pub loop-index-preserved : goal.loop-index-preserved
+loop-index-preserved c =
+    begins_next c.args.ranges.now c.loop-index.index c.args.addr (placed 0 c.args.ranges.now (omega arith) c.requires.tiles) c.loop-index.invariant
+    c.loop-index-test.true (omega arith)

@@ -1,7 +1,0 @@
-use Rattle.std.proofs.Common.{◌≡◌}
-use Rattle.std.specs.Prelude.{drop}
-use Rattle.map_builder.specs.Held.{device_held}
-use Rattle.map_builder.proofs.changed.device_windows.Given as goal
-
-abbrev pub invariant-loop-card : goal.invariant-loop-card
-invariant-loop-card l = device_held l.dev l.off (drop l.card-index l.cards) ≡ device_held l.dev l.off l.cards
