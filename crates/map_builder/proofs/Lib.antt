@@ -4,6 +4,7 @@ pub mod BuildLemmas
 pub mod StepLemmas
 pub mod FindLemmas
 pub mod RebuildLemmas
+pub mod KeepLemmas
 pub mod WindowLemmas
 pub mod DeviceLemmas
 pub mod OutsideLemmas

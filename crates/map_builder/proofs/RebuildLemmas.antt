@@ -21,14 +21,14 @@ use Rattle.map_builder.proofs.StepLemmas.{AreasAt, one_address, same_at_each, is
 
 -- ---- ranges by their indices
 
-abbrev row_at : List Range → ℕ → List Area
+abbrev pub row_at : List Range → ℕ → List Area
 row_at ranges k = (range_at ranges k).row.areas
 
 -- a range as the last of those built
 abbrev pub open_at : List Range → ℕ → MapRange
 open_at ranges k = range (range_at ranges k).lo 0xFFFF_FFFF (row_at ranges k)
 
-differ_at : (ranges : List Range) (k : ℕ) → NeighboursDiffer (map range_of ranges) → k + 1 < length ranges →
+pub differ_at : (ranges : List Range) (k : ℕ) → NeighboursDiffer (map range_of ranges) → k + 1 < length ranges →
     row_at ranges (k + 1) ≢ row_at ranges k
 differ_at [] k differ within = absurd (omega arith)
 differ_at (here ∷ []) k differ within = absurd (omega arith)
@@ -96,19 +96,6 @@ module _ (regs : MapBytes) (lo : ℕ) (address : lo < address_count) (ranges : L
       (built_below k (lo - 1) holds.within holds.above holds.below (omega arith))
 
 -- ---- between windows
-
--- the range that holds the next address
-pub holds_after : (ranges : List Range) (k addr : ℕ) → Placed 0 ranges → Holds ranges k addr → (range_at ranges k).hi ≤ addr → addr + 1 < address_count →
-    Holds ranges (k + 1) (addr + 1)
-holds_after ranges k addr is holds high address =
-    elim (cases_lt (k + 1) (length ranges)) [
-      | inl more ↦
-          let next : (range_at ranges (k + 1)).lo ≡ (range_at ranges k).hi + 1 = is.next k more in
-          record { within = more; above = omega (arith, holds.below); below = omega (arith, is.whole (k + 1) more, holds.below) }
-      | inr last ↦
-          let end : (range_at ranges k).hi + 1 ≡ address_count = is.last k (omega (arith, holds.within)) in
-          absurd (omega arith)
-    ]
 
 -- where the range at an index ends below an address, the next begins at it or below it
 pub begins_next : (ranges : List Range) (k addr : ℕ) → Placed 0 ranges → Begins ranges k addr → (range_at ranges k).hi < addr → addr < address_count →

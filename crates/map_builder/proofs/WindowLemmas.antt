@@ -7,9 +7,17 @@ use Rattle.std.proofs.lemmas.Grind.{flat_map-append}
 use Rattle.std.proofs.lemmas.Option.{slice_get-map, slice_get_past}
 use Rattle.std.proofs.lemmas.Nat.{mul-add-lt, pow-add, pow_pos}
 use Rattle.std.proofs.Math.Nat.{div-lt_iff_lt-mul}
+use Rattle.board_base.specs.declared.access.Width.{Width}
+use Rattle.board_base.specs.declared.access.Width.TheVariants.{One}
+use Rattle.board_base.specs.declared.target.Reg.{Reg}
+use Rattle.board_base.specs.Access.{bytes_of}
+use Rattle.board_spec.specs.Setup.{Setup}
+use Rattle.board_spec.specs.Decode.{Bytes}
+use Rattle.board_spec.specs.MapWrites.{reg_after}
 use Rattle.pci_bars.specs.declared.spec.BaseSpec.{BaseSpec}
 use Rattle.pci_bars.specs.Bases.{base_of}
 use Rattle.map_builder.specs.declared.range.Changed.{Changed}
+use Rattle.map_builder.specs.Changed.{windows_of}
 use Rattle.map_builder.specs.Held.{held_by, held_from, held_at}
 
 -- the last address of a block is an address
@@ -48,6 +56,14 @@ covered_on windows k first found next below found_is next_is =
       append-nil (windows k),
       append_assoc first (flat_map windows (take k offsets)) (windows k),
     ) refl
+
+-- a store of one byte covers its register alone
+pub one_covered : (setup : Setup) (bytes : Bytes) (reg : Reg) (width : Width) → width ≡ One →
+    windows_of setup bytes reg ≡ flat_map (λ k. windows_of setup bytes (reg_after reg k)) (take (bytes_of width) offsets)
+one_covered setup bytes reg width is =
+    let same : reg.off + 0 ≡ reg.off = omega arith in
+    rw (is, append-nil (windows_of setup bytes (reg_after reg 0)))
+    (ap (λ (off : ℕ). windows_of setup bytes (record reg { off = off })) (sym same))
 
 -- one more base
 pub held_on : (bases : List BaseSpec) (values : List ℕ) (k : ℕ) (d : BaseSpec) (found next : List Changed) → k < length bases →

@@ -180,15 +180,25 @@ fn keep(
         → IsMapWhere regs (IsBetween after until) (map range_of before.now)
         → IsBuilt regs (map range_of ranges.new.items) (range_of result) until }
 {
-    let mut last = last;
-    let mut hi = after;
-    let mut index = index_from(before, from, after);
-    while hi < until {
-        index = index_after(before, index, hi);
-        last = range_at(ranges, last, hi + 1, before[index].row);
-        hi = until.min(before[index].hi);
+    if after == until {
+        return last;
     }
-    last
+    let index = index_from(before, from, after + 1);
+    let here = before[index];
+    let last = range_at(ranges, last, after + 1, here.row);
+    if until <= here.hi {
+        return last;
+    }
+    ranges.push(Range {
+        hi: here.hi,
+        ..last
+    });
+    let end = index_from(before, index + 1, until);
+    ranges.extend(&before[index + 1..end]);
+    Range {
+        hi: LAST_ADDRESS,
+        ..before[end]
+    }
 }
 
 /// Ends the ranges with those of a map after an address. The range at the index `from` begins at the address or below it.
@@ -218,25 +228,13 @@ fn index_from(ranges: &[Range], from: usize, addr: u32) -> usize
     requires tiles { Tiles 0 (map range_of ranges.now) }
     requires from { Begins ranges.now from addr }
     ensures holds { Holds ranges.now result addr }
+    ensures from { from ≤ result }
 {
     let mut index = from;
     while ranges[index].hi < addr {
         index += 1;
     }
     index
-}
-
-/// The index of the range that holds the address after one that the range at this index holds.
-fn index_after(ranges: &[Range], index: usize, addr: u32) -> usize
-    requires tiles { Tiles 0 (map range_of ranges.now) }
-    requires holds { Holds ranges.now index addr }
-    requires more { addr < 0xFFFF_FFFF }
-    ensures holds { Holds ranges.now result (addr + 1) }
-{
-    if addr < ranges[index].hi {
-        return index;
-    }
-    index + 1
 }
 
 /// Builds the ranges on from the first to the last address of an interval, and gives the last of them.

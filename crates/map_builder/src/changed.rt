@@ -62,6 +62,20 @@ fn push_of_store(windows: &mut Windows, regs: &MapRegs, reg: Reg, width: Width)
     ensures windows { (setup : Setup) (bytes : Bytes) → StandsFor setup bytes (map_bytes regs.now)
         → windows.new.items ≡ windows.old.items ++ windows_covered setup bytes (Store reg width 0) }
 {
+    match width {
+        Width::One => push_of_register(windows, regs, reg),
+        Width::Two | Width::Four => push_of_wide_store(windows, regs, reg, width),
+    }
+}
+
+/// Adds the windows of the registers that a store covers, one after another.
+fn push_of_wide_store(windows: &mut Windows, regs: &MapRegs, reg: Reg, width: Width)
+    requires cards { AreFitted regs.now.cards.items }
+    requires room { length windows.old.items ≤ 32 }
+    ensures few { length windows.new.items ≤ length windows.old.items + 32 }
+    ensures windows { (setup : Setup) (bytes : Bytes) → StandsFor setup bytes (map_bytes regs.now)
+        → windows.new.items ≡ windows.old.items ++ windows_covered setup bytes (Store reg width 0) }
+{
     for k in 0..width.bytes() as u8 {
         push_after(windows, regs, reg, k);
     }

@@ -1,9 +1,12 @@
-use Rattle.std.proofs.Common.{◌-◌, length}
+use Rattle.std.proofs.Common.{◌-◌, ◌≤◌, length}
 use Rattle.map_builder.specs.Find.{Begins}
 use Rattle.map_builder.proofs.build.index_from.Given as goal
 
 abbrev pub invariant-loop-index : goal.invariant-loop-index
-invariant-loop-index l = Begins l.ranges l.index l.addr
+invariant-loop-index l = record {
+  begins : Begins l.ranges l.index l.addr;
+  from : l.from ≤ l.index;
+}
 
 abbrev pub decreases-loop-index : goal.decreases-loop-index
 decreases-loop-index l = length l.ranges - l.index

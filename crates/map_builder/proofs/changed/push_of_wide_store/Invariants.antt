@@ -6,7 +6,7 @@ use Rattle.board_spec.specs.MapWrites.{reg_after}
 use Rattle.addr_decode.specs.MapRegs.{StandsFor, map_bytes}
 use Rattle.map_builder.specs.Changed.{windows_of}
 use Rattle.map_builder.proofs.WindowLemmas.{offsets}
-use Rattle.map_builder.proofs.changed.push_of_store.Given as goal
+use Rattle.map_builder.proofs.changed.push_of_wide_store.Given as goal
 
 abbrev pub invariant-loop-k : goal.invariant-loop-k
 invariant-loop-k l = record {
