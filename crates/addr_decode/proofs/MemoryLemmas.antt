@@ -9,7 +9,7 @@ use Rattle.board_spec.specs.Setup.{Setup}
 use Rattle.board_spec.specs.Ranges.{lies_in, upper_memory}
 use Rattle.board_spec.specs.Decode.{Window, first_of, line_where, is_smram_range, is_shadow_range, card_area, area_under, Bytes, row_of, is_in, hole_of, pam_register, is_high_window, nibble, is_open, is_shadowed, smram_answers, is_rom_selected, memory_claim, area_of}
 use Rattle.board_spec.specs.RegisterNames.{xbcs as select_register, smram as smram_register, fdhc as hole_register}
-use Rattle.addr_decode.specs.Memory.{dram_area, above_dram, beside_dram, area_by}
+use Rattle.addr_decode.specs.Memory.{dram_area, row_area, above_dram, beside_dram, area_by}
 
 -- the table of the memory map over the ranges that the address lies in, SMRAM's and all of upper memory, and over what
 -- the registers say of it
@@ -123,3 +123,29 @@ either_answers setup bytes addr kind smm dram beside is_dram is_beside =
     ∙ or_beside dram (is_rom_selected (bytes select_register) addr) (memory_claim setup bytes addr)
     ∙ ap (λ (found : Option Area). above_dram found (is_rom_selected (bytes select_register) addr) (memory_claim setup bytes addr)) is_dram
     ∙ sym (by_parts setup bytes addr kind smm)
+
+-- at an address of a shadow window
+row_shadow : (row : ℕ) (opened shadowed hole : Bool) (addr : ℕ) → is_smram_range addr ≡ false → is_shadow_range addr ≡ true →
+    row_area row opened shadowed hole addr ≡ line_where shadowed (Shadow row)
+row_shadow row opened shadowed hole addr beside window = rw (beside, window) refl
+
+pub shadow_answers : (setup : Setup) (bytes : Bytes) (addr row : ℕ) (kind : Kind) (smm open' : Bool) (beside : Area) → is_shadow_range addr ≡ true →
+    Some row ≡ row_of bytes addr → open' ≡ is_shadowed bytes addr kind → beside ≡ beside_dram setup bytes addr →
+    unwrap_or (line_where open' (Shadow row)) beside ≡ area_of setup bytes addr kind smm
+shadow_answers setup bytes addr row kind smm open' beside window is_row is_open' is_beside =
+    let apart : is_smram_range addr ≡ false = grind (arith, nat_tests) in
+    let answers : Bool = smram_answers (bytes smram_register) kind smm in
+    let hole : Bool = is_in (hole_of (bytes hole_register)) addr in
+    let dram : line_where open' (Shadow row) ≡ dram_by bytes addr kind smm =
+    sym (row_shadow row answers open' hole addr apart window)
+    ∙ ap (λ (found : Option ℕ). dram_area found answers open' hole addr) is_row
+    ∙ ap (λ (shadowed : Bool). dram_area (row_of bytes addr) answers shadowed hole addr) is_open' in
+    either_answers setup bytes addr kind smm (line_where open' (Shadow row)) beside dram is_beside
+
+pub no_row_answers : (setup : Setup) (bytes : Bytes) (addr : ℕ) (kind : Kind) (smm : Bool) (beside : Area) → None ≡ row_of bytes addr →
+    beside ≡ beside_dram setup bytes addr → beside ≡ area_of setup bytes addr kind smm
+no_row_answers setup bytes addr kind smm beside is_row is_beside =
+    either_answers setup bytes addr kind smm None beside
+    (ap (λ (found : Option ℕ). dram_area found (smram_answers (bytes smram_register) kind smm) (is_shadowed bytes addr kind)
+    (is_in (hole_of (bytes hole_register)) addr) addr) is_row)
+    is_beside

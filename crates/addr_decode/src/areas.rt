@@ -1,12 +1,12 @@
 //! The six areas of an address: what every kind of access there reaches.
-ghost use Rattle.std.specs.Prelude.{◌≡◌, ◌+◌, false};
+ghost use Rattle.std.specs.Prelude.{◌≡◌, ◌+◌, true, false};
 ghost use Rattle.board_spec.specs.Setup.{Setup};
-ghost use Rattle.board_spec.specs.Decode.{Bytes, is_smram_range};
+ghost use Rattle.board_spec.specs.Decode.{Bytes, is_smram_range, is_shadow_range};
 ghost use Rattle.board_spec.specs.FlatMap.{six_areas};
 ghost use Rattle.pci_bars.specs.Cards.{AreFitted};
 ghost use Rattle.addr_decode.specs.MapRegs.{StandsFor, map_bytes};
 
-use crate::memory::{area_beside_dram, area_of, area_or};
+use crate::memory::{area_beside_dram, area_of, area_or, shadow_areas};
 use crate::regs::MapRegs;
 use board_base::{Area, Kind, Steps};
 use board_spec::range::{SHADOW_RANGE, SMRAM_RANGE};
@@ -88,12 +88,12 @@ fn areas_beside_smram(regs: &MapRegs, addr: u32) -> SixAreas
 fn areas_in_shadow(regs: &MapRegs, addr: u32) -> SixAreas
     requires cards { AreFitted regs.now.cards.items }
     requires beside { is_smram_range addr ≡ false }
+    requires window { is_shadow_range addr ≡ true }
     ensures areas { (setup : Setup) (bytes : Bytes) → StandsFor setup bytes (map_bytes regs.now)
         → result.areas ≡ six_areas setup bytes addr }
 {
     let beside = area_beside_dram(regs, addr);
-    let read = area_or(regs, addr, Kind::Read, false, beside);
-    let write = area_or(regs, addr, Kind::Write, false, beside);
+    let (read, write) = shadow_areas(regs, addr, beside);
     SixAreas {
         areas: [read, read, write, read, read, write],
     }

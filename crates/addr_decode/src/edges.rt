@@ -218,7 +218,10 @@ impl Nearest {
         ensures nearest { self.new.edge ≡ nearest self.old.addr self.old.edge (first ∷ (first + size) ∷ []) }
         ensures same { self.new.addr ≡ self.old.addr }
     {
-        self.see(first);
+        if self.addr < first {
+            self.see(first);
+            return;
+        }
         match first.checked_add(size) {
             Some(end) => self.see(end),
             None => {}

@@ -1,7 +1,9 @@
 //! The memory map of the 82441FX and the 82371SB: which area an access reaches, and what denies it.
-ghost use Rattle.std.specs.Prelude.{◌≡◌, Some};
+ghost use Rattle.std.specs.Prelude.{◌≡◌, true, false, Some, unwrap_or};
+ghost use Rattle.board_base.specs.declared.access.Kind.TheVariants.{Read, Write};
+ghost use Rattle.board_base.specs.declared.target.Area.TheVariants.{Shadow};
 ghost use Rattle.board_spec.specs.Setup.{Setup};
-ghost use Rattle.board_spec.specs.Decode.{Bytes, is_in, hole_of as hole_by, row_of as row_by, is_shadowed, smram_answers, area_of, denial_of};
+ghost use Rattle.board_spec.specs.Decode.{Bytes, line_where, is_in, hole_of as hole_by, row_of as row_by, is_shadow_range, is_shadowed, smram_answers, area_of, denial_of};
 ghost use Rattle.board_spec.specs.RegisterNames.{fdhc, smram};
 ghost use Rattle.pam_windows.specs.Pam.{IsPamOf};
 ghost use Rattle.pci_bars.specs.Cards.{AreFitted};
@@ -94,6 +96,52 @@ fn row_area(regs: &MapRegs, row: u8, addr: u32, kind: Kind, smm: bool) -> Option
         return is_shadowed(&regs.pam, addr, kind).then_some(Area::Shadow(row));
     }
     (!is_in_hole(regs.fdhc, addr)).then_some(Area::Dram(row))
+}
+
+/// What a read and a write reach at an address of a shadow window, where what answers beside DRAM is known.
+pub(crate) fn shadow_areas(regs: &MapRegs, addr: u32, beside: Area) -> (Area, Area)
+    requires window { is_shadow_range addr ≡ true }
+    requires beside { (setup : Setup) (bytes : Bytes) → StandsFor setup bytes (map_bytes regs.now)
+        → beside ≡ beside_dram setup bytes addr }
+    ensures read { (setup : Setup) (bytes : Bytes) → StandsFor setup bytes (map_bytes regs.now)
+        → result.0 ≡ area_of setup bytes addr Read false }
+    ensures write { (setup : Setup) (bytes : Bytes) → StandsFor setup bytes (map_bytes regs.now)
+        → result.1 ≡ area_of setup bytes addr Write false }
+{
+    match row_of(&regs.drb, addr) {
+        Some(row) => {
+            let (reads, writes) = shadows(&regs.pam, addr);
+            (
+                shadow_or(reads, row, beside),
+                shadow_or(writes, row, beside),
+            )
+        }
+        None => (beside, beside),
+    }
+}
+
+/// A row behind a shadow window, where it is open.
+fn shadow_or(opened: bool, row: u8, beside: Area) -> Area
+    ensures area { result ≡ unwrap_or (line_where opened (Shadow row)) beside }
+{
+    if opened { Area::Shadow(row) } else { beside }
+}
+
+/// Whether a shadow window is open for reads at an address, and whether for writes.
+fn shadows(pam: &[u8; 7], addr: u32) -> (bool, bool)
+    ensures reads { (bytes : Bytes) → IsPamOf bytes pam.now → result.0 ≡ is_shadowed bytes addr Read }
+    ensures writes { (bytes : Bytes) → IsPamOf bytes pam.now → result.1 ≡ is_shadowed bytes addr Write }
+{
+    match window_of(addr) {
+        Some(window) => {
+            let byte = pam[usize::from(window.off - PAM0)];
+            (
+                window.is_opened_by(byte, Kind::Read),
+                window.is_opened_by(byte, Kind::Write),
+            )
+        }
+        None => (false, false),
+    }
 }
 
 /// Whether a shadow window is open at an address.
