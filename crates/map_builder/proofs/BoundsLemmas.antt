@@ -1,9 +1,10 @@
 -- Each window that a change may change ends where it begins or above.
-use Rattle.std.proofs.Common.{ℕ, ◌-◌, ◌/◌, ◌≤◌, inl, inr, List, [], ◌∷◌, ◌++◌, map, take, Option, Some, None, arith}
-use Rattle.std.specs.Prelude.{◌==◌, ◌&&◌, flat_map, filter}
+use Rattle.std.proofs.Common.{◌≡◌, ℕ, ◌-◌, ◌/◌, ◌≤◌, inl, inr, List, [], ◌∷◌, ◌++◌, map, take, Option, Some, None, refl, ◌∙◌, ap, arith}
+use Rattle.std.specs.Prelude.{◌==◌, ◌&&◌, flat_map, filter, min, max}
 use Rattle.std.specs.List.{AllByRecursion}
 use Rattle.std.specs.Option.{option_map_or}
 use Rattle.std.proofs.lemmas.Bool.{cases_Bool}
+use Rattle.std.proofs.lemmas.Bool.Decides.{nat_tests}
 use Rattle.board_base.specs.declared.target.Reg.{Reg}
 use Rattle.board_base.specs.Access.{bytes_of}
 use Rattle.board_spec.specs.declared.map_change.MapChange.{MapChange}
@@ -13,7 +14,7 @@ use Rattle.board_spec.specs.Bits.{is_within}
 use Rattle.board_spec.specs.Decode.{Bytes, Window, rom_window, vga_window}
 use Rattle.board_spec.specs.MapWrites.{reg_after}
 use Rattle.map_builder.specs.declared.range.Changed.{Changed}
-use Rattle.map_builder.specs.Changed.{decoded, base_windows, bridge_windows, isa_windows, card_windows, windows_of, windows_covered, after, changed_windows}
+use Rattle.map_builder.specs.Changed.{decoded, base_windows, bridge_windows, isa_windows, card_windows, windows_of, windows_covered, after, changed_windows, both, joined, bounds}
 use Rattle.map_builder.proofs.WindowLemmas.{offsets}
 
 abbrev pub IsOrdered : Changed → Type 0
@@ -102,3 +103,36 @@ pub changed_ordered : (setup : Setup) (bytes : Bytes) (change : MapChange) → O
 changed_ordered setup bytes change =
     let new : Bytes = after setup change bytes in
     ordered_append (windows_covered setup bytes change) (windows_covered setup new change) (covered_ordered setup bytes change) (covered_ordered setup new change)
+
+-- ---- the bounds of two lists
+
+abbrev joined_maybe : Option Changed → Option Changed → Option Changed
+joined_maybe None there = there
+joined_maybe (Some here) there = Some (joined here there)
+
+both_on : (a b c : Changed) → both a (both b c) ≡ both (both a b) c
+both_on a b c =
+    let lows : min a.lo (min b.lo c.lo) ≡ min (min a.lo b.lo) c.lo = grind (arith, nat_tests) in
+    let highs : max a.hi (max b.hi c.hi) ≡ max (max a.hi b.hi) c.hi = grind (arith, nat_tests) in
+    rw (lows, highs) refl
+
+joined_on : (window : Changed) (here there : Option Changed) → joined window (joined_maybe here there) ≡ joined (joined window here) there
+joined_on window None there = refl
+joined_on window (Some here) None = refl
+joined_on window (Some here) (Some there) = both_on window here there
+
+bounds_two : (xs ys : List Changed) → bounds (xs ++ ys) ≡ joined_maybe (bounds xs) (bounds ys)
+unfolding bounds
+bounds_two [] ys = refl
+bounds_two (window ∷ xs) ys =
+    ap (λ (rest : Option Changed). Some (joined window rest)) (bounds_two xs ys) ∙ ap Some (joined_on window (bounds xs) (bounds ys))
+
+joined_same : (it : Option Changed) → joined_maybe it it ≡ it
+joined_same None = refl
+joined_same (Some window) =
+    let low : min window.lo window.lo ≡ window.lo = grind (arith, nat_tests) in
+    let high : max window.hi window.hi ≡ window.hi = grind (arith, nat_tests) in
+    ap Some (rw (low, high) refl)
+
+pub bounds_twice : (xs : List Changed) → bounds (xs ++ xs) ≡ bounds xs
+bounds_twice xs = bounds_two xs xs ∙ joined_same (bounds xs)

@@ -1,5 +1,5 @@
 -- After a change the ranges of a map are right again for each address outside the bounds of the changed windows.
-use Rattle.std.proofs.Common.{◌≡◌, ℕ, zero, suc, ◌+◌, ◌<◌, ◌≤◌, Bool, true, false, inl, inr, List, [], ◌∷◌, length, get_or, Option, refl, sym, ◌∙◌, ap, subst, arith}
+use Rattle.std.proofs.Common.{◌≡◌, ℕ, zero, suc, ◌+◌, ◌<◌, ◌≤◌, Bool, true, false, inl, inr, List, [], ◌∷◌, ◌++◌, length, get_or, Option, refl, sym, ◌∙◌, ap, subst, arith}
 use Rattle.std.proofs.lemmas.Bool.{cases_Bool}
 use Rattle.std.specs.Prelude.{IfSome}
 use Rattle.board_base.specs.declared.access.Width.{Width}
@@ -17,14 +17,14 @@ use Rattle.map_builder.specs.declared.range.Changed.{Changed}
 use Rattle.map_builder.specs.Map.{HasBoard, IsMapOf}
 use Rattle.map_builder.specs.Build.{IsMapWhere, IsBeside}
 use Rattle.map_builder.specs.Sorted.{sorted, Rise, rows_in}
-use Rattle.map_builder.specs.Changed.{after, changed_windows, most_rows}
+use Rattle.map_builder.specs.Changed.{after, bounds, windows_covered, changed_windows, most_rows}
 use Rattle.map_builder.specs.Rows.{stores_rows, AreMoved}
 use Rattle.map_builder.specs.Unchanged.{IsHeldAt, IsSameByte}
 use Rattle.map_builder.proofs.OutsideLemmas.{Outside}
-use Rattle.map_builder.proofs.BoundsLemmas.{changed_ordered}
+use Rattle.map_builder.proofs.BoundsLemmas.{changed_ordered, bounds_twice}
 use Rattle.map_builder.proofs.SortedLemmas.{rise_sorted, outside_sorted, rows_few}
 use Rattle.map_builder.proofs.MovedRows.{rows_keep, moved_rise, moved_few}
-use Rattle.map_builder.proofs.UnchangedLemmas.{unchanged_keep}
+use Rattle.map_builder.proofs.UnchangedLemmas.{same_bytes, unchanged_keep}
 use Rattle.map_builder.proofs.KeptStores.{top_after, changes_keep}
 use Rattle.map_builder.proofs.SameBoards.{boards_same, untouched_areas}
 
@@ -91,18 +91,18 @@ module _ (old new : MapBytes) (change : MapChange) (ranges : List MapRange) (is_
 -- ---- the windows that are built anew: those that changed, or where rows alone are stored what moves of them
 
 pub build_rise : (setup : Setup) (bytes : Bytes) (change : MapChange) (all windows : List Changed) (old_rows new_rows : List ℕ) (kept : Bool) →
-    all ≡ changed_windows setup bytes change → (kept ≡ true → windows ≡ []) →
+    (kept ≡ false → all ≡ changed_windows setup bytes change) → (kept ≡ true → windows ≡ []) →
     (kept ≡ false → stores_rows change ≡ false → windows ≡ sorted all) → (kept ≡ false → stores_rows change ≡ true → AreMoved old_rows new_rows windows) → Rise windows
 build_rise setup bytes change all windows old_rows new_rows true all_is none others rows = rw (none refl) tt
 build_rise setup bytes change all windows old_rows new_rows false all_is none others rows =
     elim (cases_Bool (stores_rows change)) [
       | inl is ↦ moved_rise old_rows new_rows windows (rows refl is)
       | inr not ↦
-          subst Rise (sym (others refl not ∙ ap sorted all_is)) (rise_sorted (changed_windows setup bytes change) (changed_ordered setup bytes change))
+          subst Rise (sym (others refl not ∙ ap sorted (all_is refl))) (rise_sorted (changed_windows setup bytes change) (changed_ordered setup bytes change))
     ]
 
 pub build_few : (setup : Setup) (bytes : Bytes) (change : MapChange) (all windows : List Changed) (old_rows new_rows : List ℕ) (kept : Bool) →
-    all ≡ changed_windows setup bytes change → (kept ≡ true → windows ≡ []) →
+    (kept ≡ false → all ≡ changed_windows setup bytes change) → (kept ≡ true → windows ≡ []) →
     (kept ≡ false → stores_rows change ≡ false → windows ≡ sorted all) → (kept ≡ false → stores_rows change ≡ true → AreMoved old_rows new_rows windows) →
     rows_in (edges_after setup (after setup change bytes)) windows ≤ most_rows setup bytes change
 build_few setup bytes change all windows old_rows new_rows true all_is none others rows = rw (none refl) (omega arith)
@@ -111,7 +111,7 @@ build_few setup bytes change all windows old_rows new_rows false all_is none oth
     elim (cases_Bool (stores_rows change)) [
       | inl is ↦ moved_few setup bytes new change old_rows new_rows windows is (rows refl is)
       | inr not ↦
-          rw (others refl not ∙ ap sorted all_is) (rows_few setup new (changed_windows setup bytes change) (changed_ordered setup bytes change))
+          rw (others refl not ∙ ap sorted (all_is refl)) (rows_few setup new (changed_windows setup bytes change) (changed_ordered setup bytes change))
     ]
 
 -- a register keeps its byte, on each board that has the registers before, and on each that has those after
@@ -129,10 +129,27 @@ keeps_byte old new change before later same held held' = record {
   later = λ setup bytes stands. subst (λ (it : Option ℕ). IfSome it (IsHeldAt change bytes)) same.later_is (held' setup bytes stands);
 }
 
+-- then the windows that its change covers are the same, and twice the same have the same bounds
+pub bounds_kept : (old new : MapBytes) (setup : Setup) (bytes : Bytes) (change : MapChange) (all : List Changed) (kept : Bool) →
+    StandsFor setup bytes old → StandsFor setup (after setup change bytes) new → (kept ≡ true → KeepsByte old new change) →
+    (kept ≡ true → all ≡ windows_covered setup bytes change) → (kept ≡ false → all ≡ changed_windows setup bytes change) →
+    bounds all ≡ bounds (changed_windows setup bytes change)
+bounds_kept old new setup bytes change all true stands now same once twice =
+    let byte = same refl in
+    let each : (reg : Reg) → after setup change bytes reg ≡ bytes reg =
+    same_bytes setup bytes change byte.byte (byte.before setup bytes stands) (byte.later setup (after setup change bytes) now) in
+    let bytes_same : after setup change bytes ≡ bytes = λ i reg. each reg i in
+    let windows_same : windows_covered setup (after setup change bytes) change ≡ windows_covered setup bytes change =
+    ap (λ (it : Bytes). windows_covered setup it change) bytes_same in
+    ap bounds (once refl)
+    ∙ sym (bounds_twice (windows_covered setup bytes change))
+    ∙ ap (λ (again : List Changed). bounds (windows_covered setup bytes change ++ again)) (sym windows_same)
+bounds_kept old new setup bytes change all false stands now same once twice = ap bounds (twice refl)
+
 -- beside them the ranges are a map of the new registers
 pub build_beside : (old new : MapBytes) (change : MapChange) (ranges : List MapRange) (is_map : IsMapOf old ranges) →
     StandsFor is_map.board.setup (after is_map.board.setup change is_map.board.bytes) new → (all windows : List Changed) (kept : Bool) →
-    all ≡ changed_windows is_map.board.setup is_map.board.bytes change → (kept ≡ true → KeepsByte old new change) →
+    (kept ≡ false → all ≡ changed_windows is_map.board.setup is_map.board.bytes change) → (kept ≡ true → KeepsByte old new change) →
     (kept ≡ false → stores_rows change ≡ false → windows ≡ sorted all) → (kept ≡ false → stores_rows change ≡ true → AreMoved old.drb new.drb windows) → IsMapWhere new (IsBeside windows) ranges
 build_beside old new change ranges is_map stands all windows kept all_is same others rows = record {
   tiles = is_map.tiles;
@@ -159,7 +176,7 @@ build_beside old new change ranges is_map stands all windows kept all_is same ot
                 | inr not ↦
                     changes_keep is_map.board.setup is_map.board.bytes change addr is_map.board.cards is_map.board.top address
                     (outside_sorted addr (changed_windows is_map.board.setup is_map.board.bytes change)
-                    (subst (Outside addr) (others not_kept not ∙ ap sorted all_is) out))
+                    (subst (Outside addr) (others not_kept not ∙ ap sorted (all_is not_kept)) out))
               ]
         ]
 

@@ -1,5 +1,5 @@
 //! The windows of the address map that a change of the registers may change.
-ghost use Rattle.std.specs.Prelude.{◌≡◌, ◌≤◌, ◌<◌, ◌+◌, ◌-◌, ◌*◌, ◌++◌, [], ◌∷◌, All, length, map};
+ghost use Rattle.std.specs.Prelude.{true, false, ◌≡◌, ◌≤◌, ◌<◌, ◌+◌, ◌-◌, ◌*◌, ◌++◌, [], ◌∷◌, All, length, map};
 ghost use Rattle.board_spec.specs.declared.map_change.MapChange.TheVariants.{Store};
 ghost use Rattle.board_spec.specs.Setup.{Setup, IsBase, IsCard, IsExpansionRom};
 ghost use Rattle.board_spec.specs.Decode.{Bytes};
@@ -51,6 +51,20 @@ pub fn push_covered(windows: &mut Windows, regs: &MapRegs, change: &MapChange)
     match change {
         MapChange::Store { reg, width, .. } => push_of_store(windows, regs, *reg, *width),
         MapChange::Reset => windows.push(EVERYTHING),
+    }
+}
+
+/// Adds them by what the registers hold after the change, unless they are known to keep what they held.
+pub fn push_again(windows: &mut Windows, kept: bool, regs: &MapRegs, change: &MapChange)
+    requires cards { AreFitted regs.now.cards.items }
+    requires room { length windows.old.items ≤ 32 }
+    ensures few { length windows.new.items ≤ length windows.old.items + 32 }
+    ensures kept { kept ≡ true → windows.new.items ≡ windows.old.items }
+    ensures windows { kept ≡ false → (setup : Setup) (bytes : Bytes) → StandsFor setup bytes (map_bytes regs.now)
+        → windows.new.items ≡ windows.old.items ++ windows_covered setup bytes change.now }
+{
+    if !kept {
+        push_covered(windows, regs, change);
     }
 }
 

@@ -13,7 +13,7 @@ ghost use Rattle.map_builder.specs.Map.{range_of, HasBoard, IsMapOf};
 ghost use Rattle.map_builder.specs.Changed.{after, changed_windows, bounds_or_zero, most_rows, IsOutside};
 
 use crate::build::{ranges_of, rebuild};
-use crate::changed::push_covered;
+use crate::changed::{push_again, push_covered};
 use crate::find::span_of;
 use crate::range::{Changed, Range, Span};
 use crate::ranges::{CAPACITY, Ranges};
@@ -218,7 +218,7 @@ impl FlatMap {
         let before = held_at(&self.regs, change);
         self.regs.apply(change);
         let kept = is_same_byte(before, held_at(&self.regs, change));
-        push_covered(&mut self.windows, &self.regs, change);
+        push_again(&mut self.windows, kept, &self.regs, change);
         choose_windows(
             &mut self.chosen,
             kept,

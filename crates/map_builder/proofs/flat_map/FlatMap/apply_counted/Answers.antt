@@ -1,4 +1,4 @@
-use Rattle.std.proofs.Common.{◌≡◌, ◌++◌, ◌∙◌, [], ap, arith, subst, sym, List, Option}
+use Rattle.std.proofs.Common.{◌≡◌, ◌++◌, ◌∙◌, [], ap, arith, subst, sym, false, List, Option}
 use Rattle.std.specs.Prelude.{map, unwrap_or}
 use Rattle.std.proofs.lemmas.List.Elements.{recursion_from_All}
 use Rattle.board_spec.specs.declared.map_change.MapChange.{MapChange}
@@ -14,7 +14,7 @@ use Rattle.map_builder.specs.Build.{IsMapWhere, IsBeside}
 use Rattle.map_builder.specs.Sorted.{rows_in, Rise}
 use Rattle.map_builder.proofs.KeptStores.{beside_keeps}
 use Rattle.map_builder.proofs.OutsideLemmas.{outside_bounds}
-use Rattle.map_builder.proofs.ChangeLemmas.{board_after, build_rise, build_few, keeps_byte, build_beside}
+use Rattle.map_builder.proofs.ChangeLemmas.{board_after, build_rise, build_few, keeps_byte, bounds_kept, build_beside}
 use Rattle.map_builder.proofs.flat_map.FlatMap.apply_counted.Goals as goal
 
 -- the registers inside a map are those that it is seen to have
@@ -30,6 +30,11 @@ found setup bytes change none first both none_is first_is both_is =
     ∙ ap (λ (windows : List Changed). windows ++ windows_covered setup (after setup change bytes) change)
     (first_is ∙ ap (λ (windows : List Changed). windows ++ windows_covered setup bytes change) none_is)
 
+once : (setup : Setup) (bytes : Bytes) (change : MapChange) (none first all : List Changed) → none ≡ [] →
+    first ≡ none ++ windows_covered setup bytes change → all ≡ first → all ≡ windows_covered setup bytes change
+once setup bytes change none first all none_is first_is all_is =
+    all_is ∙ first_is ∙ ap (λ (windows : List Changed). windows ++ windows_covered setup bytes change) none_is
+
 pub rebuild-requires-clause-board : goal.rebuild-requires-clause-board
 rebuild-requires-clause-board g c =
     let board = c.self.invariant.board in
@@ -38,23 +43,23 @@ rebuild-requires-clause-board g c =
 pub rebuild-requires-clause-rise : goal.rebuild-requires-clause-rise
 rebuild-requires-clause-rise g c =
     let board = c.self.invariant.board in
-    let windows = found board.setup board.bytes c.args.change.now c.clear.new.self.items c.push_covered.new.windows.items c.push_covered-2.new.windows.items
+    let windows = λ (not : c.is_same_byte-kept.result ≡ false). found board.setup board.bytes c.args.change.now c.clear.new.self.items c.push_covered.new.windows.items c.push_again.new.windows.items
     c.clear.ensures (c.push_covered.ensures.windows board.setup board.bytes board.stands)
-    (c.push_covered-2.ensures.windows board.setup (after board.setup c.args.change.now board.bytes) (c.apply.ensures.stands board.setup board.bytes board.stands)) in
+    (c.push_again.ensures.windows not board.setup (after board.setup c.args.change.now board.bytes) (c.apply.ensures.stands board.setup board.bytes board.stands)) in
     subst Rise (sym c.deref-2.ensures.0)
     (build_rise board.setup board.bytes c.args.change.now c.deref.result.now c.choose_windows.new.chosen.items
-    (map_bytes c.self.inside.regs).drb (map_bytes c.apply.new.self).drb c.is_same_byte-kept.result (c.deref.ensures.0 ∙ windows) c.choose_windows.ensures.none
+    (map_bytes c.self.inside.regs).drb (map_bytes c.apply.new.self).drb c.is_same_byte-kept.result (λ not. c.deref.ensures.0 ∙ windows not) c.choose_windows.ensures.none
     c.choose_windows.ensures.others c.choose_windows.ensures.rows)
 
 pub rebuild-requires-clause-beside : goal.rebuild-requires-clause-beside
 rebuild-requires-clause-beside g c =
     let board = c.self.invariant.board in
-    let windows = found board.setup board.bytes c.args.change.now c.clear.new.self.items c.push_covered.new.windows.items c.push_covered-2.new.windows.items
+    let windows = λ (not : c.is_same_byte-kept.result ≡ false). found board.setup board.bytes c.args.change.now c.clear.new.self.items c.push_covered.new.windows.items c.push_again.new.windows.items
     c.clear.ensures (c.push_covered.ensures.windows board.setup board.bytes board.stands)
-    (c.push_covered-2.ensures.windows board.setup (after board.setup c.args.change.now board.bytes) (c.apply.ensures.stands board.setup board.bytes board.stands)) in
+    (c.push_again.ensures.windows not board.setup (after board.setup c.args.change.now board.bytes) (c.apply.ensures.stands board.setup board.bytes board.stands)) in
     subst (λ (all : List Changed). IsMapWhere (map_bytes c.apply.new.self) (IsBeside all) (map range_of c.self.inside.ranges.items)) (sym c.deref-2.ensures.0)
     (build_beside (map_bytes c.self.inside.regs) (map_bytes c.apply.new.self) c.args.change.now (map range_of c.self.inside.ranges.items) c.self.invariant
-    (c.apply.ensures.stands board.setup board.bytes board.stands) c.deref.result.now c.choose_windows.new.chosen.items c.is_same_byte-kept.result (c.deref.ensures.0 ∙ windows)
+    (c.apply.ensures.stands board.setup board.bytes board.stands) c.deref.result.now c.choose_windows.new.chosen.items c.is_same_byte-kept.result (λ not. c.deref.ensures.0 ∙ windows not)
     (λ same.
     keeps_byte (map_bytes c.self.inside.regs) (map_bytes c.apply.new.self) c.args.change.now c.held_at-before.result c.held_at.result
     (c.is_same_byte-kept.ensures.same same) c.held_at-before.ensures.held c.held_at.ensures.held)
@@ -79,16 +84,29 @@ pub returns-clause-cards : goal.returns-clause-cards
 returns-clause-cards g c = λ setup bytes are.
     c.apply.ensures.cards setup bytes (subst (λ (flat : Mapped). AreCardsOf setup bytes flat.regs.cards) (sym c.self.view_is) are)
 
+pub returns-clause-changed : goal.returns-clause-changed
+returns-clause-changed g c = λ setup bytes stands.
+    let here = stood _ c.args.self.now setup bytes c.self.view_is stands in
+    let first = c.push_covered.ensures.windows setup bytes here in
+    let now = c.apply.ensures.stands setup bytes here in
+    let same : bounds c.push_again.new.windows.items ≡ bounds (changed_windows setup bytes c.args.change.now) =
+    bounds_kept (map_bytes c.self.inside.regs) (map_bytes c.apply.new.self) setup bytes c.args.change.now c.push_again.new.windows.items c.is_same_byte-kept.result here now
+    (λ same.
+    keeps_byte (map_bytes c.self.inside.regs) (map_bytes c.apply.new.self) c.args.change.now c.held_at-before.result c.held_at.result
+    (c.is_same_byte-kept.ensures.same same) c.held_at-before.ensures.held c.held_at.ensures.held)
+    (λ is.
+    once setup bytes c.args.change.now c.clear.new.self.items c.push_covered.new.windows.items c.push_again.new.windows.items c.clear.ensures first
+    (c.push_again.ensures.kept is))
+    (λ not.
+    found setup bytes c.args.change.now c.clear.new.self.items c.push_covered.new.windows.items c.push_again.new.windows.items c.clear.ensures first
+    (c.push_again.ensures.windows not setup (after setup c.args.change.now bytes) now)) in
+    c.unwrap_or.ensures ∙ ap (λ (it : Option Changed). unwrap_or it (from_to 0 0)) (c.bounds_of.ensures.bounds ∙ ap bounds c.deref-3.ensures.0 ∙ same)
+
 pub returns-clause-kept : goal.returns-clause-kept
 returns-clause-kept g c = λ setup bytes stands addr address out.
-    let here = stood _ c.args.self.now setup bytes c.self.view_is stands in
-    let windows = found setup bytes c.args.change.now c.clear.new.self.items c.push_covered.new.windows.items c.push_covered-2.new.windows.items
-    c.clear.ensures (c.push_covered.ensures.windows setup bytes here)
-    (c.push_covered-2.ensures.windows setup (after setup c.args.change.now bytes) (c.apply.ensures.stands setup bytes here)) in
-    let result : c.unwrap_or.result ≡ bounds_or_zero (changed_windows setup bytes c.args.change.now) =
-    c.unwrap_or.ensures ∙ ap (λ (it : Option Changed). unwrap_or it (from_to 0 0)) (c.bounds_of.ensures.bounds ∙ ap bounds (c.deref-3.ensures.0 ∙ windows)) in
-    beside_keeps (map_bytes c.self.inside.regs) setup bytes c.self.invariant.board c.args.change.now addr here address
-    (outside_bounds addr (changed_windows setup bytes c.args.change.now) (subst (IsOutside addr) result out))
+    beside_keeps (map_bytes c.self.inside.regs) setup bytes c.self.invariant.board c.args.change.now addr
+    (stood _ c.args.self.now setup bytes c.self.view_is stands) address
+    (outside_bounds addr (changed_windows setup bytes c.args.change.now) (subst (IsOutside addr) (returns-clause-changed g c setup bytes stands) out))
 
 pub returns-clause-beside : goal.returns-clause-beside
 returns-clause-beside g c = λ setup bytes stands addr address out.
@@ -100,13 +118,13 @@ pub returns-clause-rows : goal.returns-clause-rows
 returns-clause-rows g c = λ setup bytes stands.
     let here = stood _ c.args.self.now setup bytes c.self.view_is stands in
     let new : Bytes = after setup c.args.change.now bytes in
-    let windows = found setup bytes c.args.change.now c.clear.new.self.items c.push_covered.new.windows.items c.push_covered-2.new.windows.items
+    let windows = λ (not : c.is_same_byte-kept.result ≡ false). found setup bytes c.args.change.now c.clear.new.self.items c.push_covered.new.windows.items c.push_again.new.windows.items
     c.clear.ensures (c.push_covered.ensures.windows setup bytes here)
-    (c.push_covered-2.ensures.windows setup new (c.apply.ensures.stands setup bytes here)) in
+    (c.push_again.ensures.windows not setup new (c.apply.ensures.stands setup bytes here)) in
     omega (
       arith,
       c.rebuild.ensures.rows setup new (c.apply.ensures.stands setup bytes here),
       ap (λ (all : List Changed). rows_in (edges_after setup new) all) c.deref-2.ensures.0,
       build_few setup bytes c.args.change.now c.deref.result.now c.choose_windows.new.chosen.items (map_bytes c.self.inside.regs).drb
-          (map_bytes c.apply.new.self).drb c.is_same_byte-kept.result (c.deref.ensures.0 ∙ windows) c.choose_windows.ensures.none c.choose_windows.ensures.others c.choose_windows.ensures.rows,
+          (map_bytes c.apply.new.self).drb c.is_same_byte-kept.result (λ not. c.deref.ensures.0 ∙ windows not) c.choose_windows.ensures.none c.choose_windows.ensures.others c.choose_windows.ensures.rows,
     )
