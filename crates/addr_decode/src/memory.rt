@@ -57,6 +57,7 @@ pub(crate) fn area_or(regs: &MapRegs, addr: u32, kind: Kind, smm: bool, beside: 
 }
 
 /// What answers at an address where DRAM does not: the ROM, a card or nothing, whatever the kind of access.
+#[inline(always)]
 pub(crate) fn area_beside_dram(regs: &MapRegs, addr: u32) -> Area
     requires cards { AreFitted regs.now.cards.items }
     ensures area { (setup : Setup) (bytes : Bytes) → StandsFor setup bytes (map_bytes regs.now)
@@ -72,6 +73,7 @@ pub(crate) fn area_beside_dram(regs: &MapRegs, addr: u32) -> Area
 }
 
 /// Where an access reaches DRAM: in SMRAM, through a shadow window or directly. None where it does not.
+#[inline(always)]
 fn dram_area(regs: &MapRegs, addr: u32, kind: Kind, smm: bool) -> Option<Area>
     ensures dram { (setup : Setup) (bytes : Bytes) → StandsFor setup bytes (map_bytes regs.now)
         → result ≡ dram_area (row_by bytes addr) (smram_answers (bytes smram) kind smm)

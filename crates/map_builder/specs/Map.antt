@@ -16,10 +16,6 @@ pub record Mapped : Type 0 where
 abbrev pub range_of : Range → MapRange
 range_of range = record { lo = range.lo; hi = range.hi; areas = range.row.areas }
 
--- the ranges that a list of them holds
-pub record RangeList : Type 0 where
-  pub items : List Range
-
 -- some board has these registers. The last boundary register is a byte, so that its DRAM ends at most at 255 times 8 MiB
 pub record HasBoard (regs : MapBytes) : Type 0 where
   pub setup : Setup

@@ -14,12 +14,16 @@ ghost use Rattle.map_builder.specs.Sorted.{Rise, rows_in as rows_of};
 
 use crate::changed::EVERYTHING;
 use crate::find::index_of;
+use crate::list::FixedList;
 use crate::range::{Changed, Range};
-use crate::ranges::{CAPACITY, Ranges};
 use addr_decode::{MapRegs, SixAreas, next_edge, row};
 use board_base::Steps;
 use std::sync::ledger::Ledger;
 
+/// The most ranges that a map can keep. A board's map has at most 142.
+pub const CAPACITY: usize = 160;
+/// The ranges of a map in rising order of address.
+pub type Ranges = FixedList<Range, CAPACITY>;
 /// The last address.
 const LAST_ADDRESS: u32 = 0xFFFF_FFFF;
 
@@ -33,7 +37,7 @@ pub fn ranges_of<L: Ledger>(regs: &MapRegs, steps: &mut Steps<L>) -> Ranges
         → IsFlatMapOf setup bytes (map range_of result.items) }
     ensures few { length result.items ≤ 142 }
 {
-    let mut ranges = Ranges::new();
+    let mut ranges = FixedList::new();
     let first = first_range(regs, steps);
     let last = rows_in(&mut ranges, first, regs, EVERYTHING, steps);
     ranges.push(last);
@@ -238,6 +242,7 @@ fn index_from(ranges: &[Range], from: usize, addr: u32) -> usize
 }
 
 /// Builds the ranges on from the first to the last address of an interval, and gives the last of them.
+#[inline(always)]
 fn rows_in<L: Ledger>(
     ranges: &mut Ranges,
     first: Range,
@@ -264,6 +269,7 @@ fn rows_in<L: Ledger>(
 }
 
 /// The least edge above an address and at most at another.
+#[inline(always)]
 fn edge_up_to(regs: &MapRegs, addr: u32, hi: u32) -> Option<u32>
     requires cards { AreFitted regs.now.cards.items }
     ensures above { IfSome result (λ edge. addr < edge) }

@@ -10,8 +10,8 @@ ghost use Rattle.addr_decode.specs.MapRegs.{StandsFor, map_bytes};
 ghost use Rattle.map_builder.specs.Changed.{bridge_windows as windows_of_bridge, isa_windows as windows_of_isa, windows_of as windows_by, windows_covered, from_to};
 ghost use Rattle.map_builder.specs.Held.{block, held_by, held_from, held_at, rom_held, vga_held, card_held, device_held};
 
+use crate::list::FixedList;
 use crate::range::Changed;
-use crate::windows::Windows;
 use addr_decode::{MapChange, MapRegs};
 use board_base::{Reg, Width};
 use board_spec::offset::{
@@ -39,9 +39,12 @@ const ROWS: Changed = Changed {
 /// How many addresses the two windows of a PAM register have.
 const PAM_SIZE: u32 = 0x8000;
 
+/// The windows that a change covers: as many as four register bytes can govern, before a change and after it.
+pub type Covered = FixedList<Changed, 64>;
+
 /// Adds the windows that the registers govern which a change covers, by what they hold now.
 #[tactic(auto, unfolding(crate::specs::Changed::windows_covered))]
-pub fn push_covered(windows: &mut Windows, regs: &MapRegs, change: &MapChange)
+pub fn push_covered(windows: &mut Covered, regs: &MapRegs, change: &MapChange)
     requires cards { AreFitted regs.now.cards.items }
     requires room { length windows.old.items ≤ 32 }
     ensures few { length windows.new.items ≤ length windows.old.items + 32 }
@@ -55,7 +58,7 @@ pub fn push_covered(windows: &mut Windows, regs: &MapRegs, change: &MapChange)
 }
 
 /// Adds them by what the registers hold after the change, unless they are known to keep what they held.
-pub fn push_again(windows: &mut Windows, kept: bool, regs: &MapRegs, change: &MapChange)
+pub fn push_again(windows: &mut Covered, kept: bool, regs: &MapRegs, change: &MapChange)
     requires cards { AreFitted regs.now.cards.items }
     requires room { length windows.old.items ≤ 32 }
     ensures few { length windows.new.items ≤ length windows.old.items + 32 }
@@ -69,7 +72,7 @@ pub fn push_again(windows: &mut Windows, kept: bool, regs: &MapRegs, change: &Ma
 }
 
 /// Adds the windows of the registers that a store covers.
-fn push_of_store(windows: &mut Windows, regs: &MapRegs, reg: Reg, width: Width)
+fn push_of_store(windows: &mut Covered, regs: &MapRegs, reg: Reg, width: Width)
     requires cards { AreFitted regs.now.cards.items }
     requires room { length windows.old.items ≤ 32 }
     ensures few { length windows.new.items ≤ length windows.old.items + 32 }
@@ -83,7 +86,7 @@ fn push_of_store(windows: &mut Windows, regs: &MapRegs, reg: Reg, width: Width)
 }
 
 /// Adds the windows of the registers that a store covers, one after another.
-fn push_of_wide_store(windows: &mut Windows, regs: &MapRegs, reg: Reg, width: Width)
+fn push_of_wide_store(windows: &mut Covered, regs: &MapRegs, reg: Reg, width: Width)
     requires cards { AreFitted regs.now.cards.items }
     requires room { length windows.old.items ≤ 32 }
     ensures few { length windows.new.items ≤ length windows.old.items + 32 }
@@ -96,7 +99,7 @@ fn push_of_wide_store(windows: &mut Windows, regs: &MapRegs, reg: Reg, width: Wi
 }
 
 /// Adds the windows of the register `k` offsets after another. None past offset FFh.
-fn push_after(windows: &mut Windows, regs: &MapRegs, reg: Reg, k: u8)
+fn push_after(windows: &mut Covered, regs: &MapRegs, reg: Reg, k: u8)
     requires cards { AreFitted regs.now.cards.items }
     requires room { length windows.old.items ≤ 56 }
     ensures few { length windows.new.items ≤ length windows.old.items + 8 }
@@ -110,7 +113,7 @@ fn push_after(windows: &mut Windows, regs: &MapRegs, reg: Reg, k: u8)
 }
 
 /// Adds the windows that a register governs.
-fn push_of_register(windows: &mut Windows, regs: &MapRegs, reg: Reg)
+fn push_of_register(windows: &mut Covered, regs: &MapRegs, reg: Reg)
     requires cards { AreFitted regs.now.cards.items }
     requires room { length windows.old.items ≤ 56 }
     ensures few { length windows.new.items ≤ length windows.old.items + 8 }
@@ -128,7 +131,7 @@ fn push_of_register(windows: &mut Windows, regs: &MapRegs, reg: Reg)
 }
 
 /// Adds a range as a window.
-fn push_range(windows: &mut Windows, range: AddressRange)
+fn push_range(windows: &mut Covered, range: AddressRange)
     requires room { length windows.old.items ≤ 63 }
     ensures windows { windows.new.items ≡ windows.old.items ++ from_to range.first range.last ∷ [] }
 {
@@ -139,7 +142,7 @@ fn push_range(windows: &mut Windows, range: AddressRange)
 }
 
 /// Adds the windows of a register of the host bridge.
-fn push_of_bridge(windows: &mut Windows, off: u8)
+fn push_of_bridge(windows: &mut Covered, off: u8)
     requires room { length windows.old.items ≤ 56 }
     ensures few { length windows.new.items ≤ length windows.old.items + 8 }
     ensures windows { windows.new.items ≡ windows.old.items ++ windows_of_bridge off }
@@ -155,7 +158,7 @@ fn push_of_bridge(windows: &mut Windows, off: u8)
 }
 
 /// Adds two ranges as windows.
-fn push_two(windows: &mut Windows, first: AddressRange, second: AddressRange)
+fn push_two(windows: &mut Covered, first: AddressRange, second: AddressRange)
     requires room { length windows.old.items ≤ 62 }
     ensures windows { windows.new.items
         ≡ windows.old.items ++ from_to first.first first.last ∷ from_to second.first second.last ∷ [] }
@@ -178,7 +181,7 @@ fn windows_of_pam(off: u8) -> Changed
 }
 
 /// Adds the windows of a register of the ISA bridge.
-fn push_of_isa(windows: &mut Windows, off: u8)
+fn push_of_isa(windows: &mut Covered, off: u8)
     requires room { length windows.old.items ≤ 56 }
     ensures few { length windows.new.items ≤ length windows.old.items + 8 }
     ensures windows { windows.new.items ≡ windows.old.items ++ windows_of_isa off }
@@ -189,7 +192,7 @@ fn push_of_isa(windows: &mut Windows, off: u8)
 }
 
 /// Adds the windows of a register of the card at a device number. None where there is no such card.
-fn push_of_device(windows: &mut Windows, cards: &[CardRegs], dev: u8, off: u8)
+fn push_of_device(windows: &mut Covered, cards: &[CardRegs], dev: u8, off: u8)
     requires cards { AreCards cards.now }
     requires room { length windows.old.items ≤ 56 }
     ensures few { length windows.new.items ≤ length windows.old.items + 8 }
@@ -204,7 +207,7 @@ fn push_of_device(windows: &mut Windows, cards: &[CardRegs], dev: u8, off: u8)
 }
 
 /// Adds the windows of a register of a card.
-fn push_of_card(windows: &mut Windows, card: &CardRegs, off: u8)
+fn push_of_card(windows: &mut Covered, card: &CardRegs, off: u8)
     requires card { IsCard card.now.card }
     requires room { length windows.old.items ≤ 56 }
     ensures few { length windows.new.items ≤ length windows.old.items + 8 }
@@ -219,7 +222,7 @@ fn push_of_card(windows: &mut Windows, card: &CardRegs, off: u8)
 }
 
 /// Adds the memory bases of a card, its expansion ROM and its VGA window.
-fn push_of_command(windows: &mut Windows, card: &CardRegs)
+fn push_of_command(windows: &mut Covered, card: &CardRegs)
     requires card { IsCard card.now.card }
     requires room { length windows.old.items ≤ 56 }
     ensures few { length windows.new.items ≤ length windows.old.items + 8 }
@@ -234,7 +237,7 @@ fn push_of_command(windows: &mut Windows, card: &CardRegs)
 }
 
 /// Adds the expansion ROM of a card. None where it has none.
-fn push_rom_of(windows: &mut Windows, card: &CardRegs)
+fn push_rom_of(windows: &mut Covered, card: &CardRegs)
     requires card { IsCard card.now.card }
     requires room { length windows.old.items ≤ 63 }
     ensures few { length windows.new.items ≤ length windows.old.items + 1 }
@@ -244,7 +247,7 @@ fn push_rom_of(windows: &mut Windows, card: &CardRegs)
 }
 
 /// Adds the addresses that an expansion ROM with this register covers.
-fn push_rom(windows: &mut Windows, rom: Option<u8>, register: u32)
+fn push_rom(windows: &mut Covered, rom: Option<u8>, register: u32)
     requires rom { IsExpansionRom rom }
     requires room { length windows.old.items ≤ 63 }
     ensures few { length windows.new.items ≤ length windows.old.items + 1 }
@@ -257,7 +260,7 @@ fn push_rom(windows: &mut Windows, rom: Option<u8>, register: u32)
 }
 
 /// Adds the memory bases among these that hold these values.
-fn push_bases(windows: &mut Windows, bases: &[BaseSpec], values: &[u32; 6])
+fn push_bases(windows: &mut Covered, bases: &[BaseSpec], values: &[u32; 6])
     requires bases { All IsBase (map base_of bases.now) }
     requires count { length bases.now ≤ 6 }
     requires room { length windows.old.items ≤ 56 }
@@ -270,7 +273,7 @@ fn push_bases(windows: &mut Windows, bases: &[BaseSpec], values: &[u32; 6])
 }
 
 /// Adds a base of a card, 0 to 5. None where it does not exist, or is for I/O ports.
-fn push_base_of(windows: &mut Windows, card: &CardRegs, index: usize)
+fn push_base_of(windows: &mut Covered, card: &CardRegs, index: usize)
     requires card { IsCard card.now.card }
     requires index { index < 6 }
     requires room { length windows.old.items ≤ 56 }
@@ -281,7 +284,7 @@ fn push_base_of(windows: &mut Windows, card: &CardRegs, index: usize)
 }
 
 /// Adds one of these bases that hold these values. None where it does not exist, or is for I/O ports.
-fn push_base_at(windows: &mut Windows, bases: &[BaseSpec], values: &[u32; 6], index: usize)
+fn push_base_at(windows: &mut Covered, bases: &[BaseSpec], values: &[u32; 6], index: usize)
     requires bases { All IsBase (map base_of bases.now) }
     requires index { index < 6 }
     requires room { length windows.old.items ≤ 56 }
@@ -295,7 +298,7 @@ fn push_base_at(windows: &mut Windows, bases: &[BaseSpec], values: &[u32; 6], in
 }
 
 /// Adds the addresses that a base decodes where it holds this value. None where it is for I/O ports.
-fn push_base(windows: &mut Windows, base: BaseSpec, value: u32)
+fn push_base(windows: &mut Covered, base: BaseSpec, value: u32)
     requires base { IsBase (base_of base) }
     requires room { length windows.old.items ≤ 63 }
     ensures few { length windows.new.items ≤ length windows.old.items + 1 }

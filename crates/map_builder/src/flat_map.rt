@@ -12,11 +12,11 @@ ghost use Rattle.addr_decode.specs.MapRegs.{StandsFor, map_bytes};
 ghost use Rattle.map_builder.specs.Map.{range_of, HasBoard, IsMapOf};
 ghost use Rattle.map_builder.specs.Changed.{after, changed_windows, bounds_or_zero, most_rows, IsOutside};
 
-use crate::build::{ranges_of, rebuild};
-use crate::changed::{push_again, push_covered};
+use crate::build::{CAPACITY, Ranges, ranges_of, rebuild};
+use crate::changed::{Covered, push_again, push_covered};
 use crate::find::span_of;
+use crate::list::FixedList;
 use crate::range::{Changed, Range, Span};
-use crate::ranges::{CAPACITY, Ranges};
 use crate::rows::choose_windows;
 use crate::unchanged::{held_at, is_same_byte};
 use crate::widths::hold_widths;
@@ -39,7 +39,7 @@ pub struct FlatMap {
     /// Room for the ranges as they were, while those that changed are built anew.
     before: [Range; CAPACITY],
     /// Room for the windows of a change.
-    windows: Windows,
+    windows: Covered,
     /// Room for those in which the ranges are built anew.
     chosen: Windows,
     version: u32,
@@ -72,7 +72,7 @@ impl FlatMap {
             regs,
             ranges,
             before: [Range::default(); CAPACITY],
-            windows: ArrayVec::new(),
+            windows: FixedList::new(),
             chosen: ArrayVec::new(),
             version: 0,
         }
@@ -82,13 +82,13 @@ impl FlatMap {
     pub fn copy(&self) -> FlatMap
         ensures equal { result ≡ self.now }
     {
-        let mut ranges = Ranges::new();
+        let mut ranges = FixedList::new();
         ranges.extend(self.ranges.as_slice());
         FlatMap {
             regs: self.regs.copy(),
             ranges,
             before: [Range::default(); CAPACITY],
-            windows: ArrayVec::new(),
+            windows: FixedList::new(),
             chosen: ArrayVec::new(),
             version: self.version,
         }
@@ -212,7 +212,7 @@ impl FlatMap {
         ensures rows { (setup : Setup) (bytes : Bytes) → StandsFor setup bytes self.old.regs
             → steps.new ≤ steps.old + most_rows setup bytes change.now }
     {
-        self.windows.clear();
+        self.windows.truncate(0);
         push_covered(&mut self.windows, &self.regs, change);
         let boundaries = self.regs.drb;
         let before = held_at(&self.regs, change);
@@ -223,7 +223,7 @@ impl FlatMap {
             &mut self.chosen,
             kept,
             change,
-            &self.windows,
+            self.windows.as_slice(),
             &boundaries,
             &self.regs.drb,
         );
@@ -235,7 +235,7 @@ impl FlatMap {
             steps,
         );
         self.version += 1;
-        bounds_of(&self.windows).unwrap_or(NOTHING)
+        bounds_of(self.windows.as_slice()).unwrap_or(NOTHING)
     }
 
     /// Stores the bytes of a value in rising offset. Where they cover a byte that the map depends on, this is a change

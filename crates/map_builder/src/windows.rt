@@ -7,7 +7,7 @@ ghost use Rattle.map_builder.specs.Sorted.{with_window as with_one, sorted as so
 use crate::range::Changed;
 use arrayvec::ArrayVec;
 
-/// As many windows as four register bytes can govern, before a change and after it.
+/// Windows that rise and do not overlap, of as many as a change can cover.
 pub type Windows = ArrayVec<Changed, 64>;
 
 /// The least first and the greatest last address of some windows. None where there is no window.

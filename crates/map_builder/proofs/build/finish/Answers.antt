@@ -1,4 +1,4 @@
-use Rattle.std.proofs.Common.{◌≡◌, ℕ, ◌+◌, length, List, ◌++◌, map, drop, sym, ◌∙◌, ap, subst, arith}
+use Rattle.std.proofs.Common.{◌≡◌, ℕ, ◌+◌, length, List, ◌++◌, map, drop, sym, ◌∙◌, ap, subst, arith, lit<}
 use Rattle.std.proofs.lemmas.List.{length-map, length_push}
 use Rattle.map_builder.specs.declared.range.Range.{Range}
 use Rattle.map_builder.specs.Map.{range_of}
@@ -10,7 +10,7 @@ use Rattle.map_builder.proofs.TailLemmas.{whole_from, whole_ranges, few_from, re
 use Rattle.map_builder.proofs.build.finish.Goals as goal
 
 pub push-requires : goal.push-requires
-push-requires c = record { room = omega (arith, c.requires.kept.built.few c.requires.kept.board, length-map c.args.ranges.now.items range_of) }
+push-requires c = (lit< tt, omega (arith, c.requires.kept.built.few c.requires.kept.board, length-map c.args.ranges.now.items range_of))
 
 pub returns-then-after-eq-LAST_ADDRESS : goal.returns-then-after-eq-LAST_ADDRESS
 returns-then-after-eq-LAST_ADDRESS c =
@@ -31,7 +31,7 @@ push-requires-2 c =
     let whole = whole_from kept.regs kept.board (map range_of c.args.ranges.now.items) (map range_of c.range_at-last.new.ranges.items) (range_of c.args.last)
     (range_of c.range_at-last.result) c.args.before.now c.index_from-index.result c.args.after kept.agrees c.index_from-index.ensures.holds (omega arith)
     c.range_at-last.ensures.goes_on kept.built in
-    record { room = omega (arith, few_from kept.regs c.range_at-last.new.ranges.items _ c.args.before.now c.index_from-index.result whole) }
+    (lit< tt, omega (arith, few_from kept.regs c.range_at-last.new.ranges.items _ c.args.before.now c.index_from-index.result whole))
 
 pub index_from-index-requires-clause-from : goal.index_from-index-requires-clause-from
 index_from-index-requires-clause-from c = begins_later c.args.before.now c.args.from c.args.after (c.args.after + 1) c.requires.from (omega arith)
@@ -43,17 +43,14 @@ extend-requires c =
     (range_of c.range_at-last.result) c.args.before.now c.index_from-index.result c.args.after kept.agrees c.index_from-index.ensures.holds (omega arith)
     c.range_at-last.ensures.goes_on kept.built in
     let few = few_from kept.regs c.range_at-last.new.ranges.items _ c.args.before.now c.index_from-index.result whole in
-    record {
-      room =
-          omega (
-            arith,
-            few,
-            ap (λ (all : List Range). length all) c.push-2.ensures.items,
-            length_push c.range_at-last.new.ranges.items
-                (record { lo = c.range_at-last.result.lo; hi = (range_at c.args.before.now c.index_from-index.result).hi; row = c.range_at-last.result.row }),
-            ap (λ (all : List Range). length all) (rest_of c.args.before.now (c.index_from-index.result + 1)),
-          );
-    }
+    (lit< tt, omega (
+      arith,
+      few,
+      ap (λ (all : List Range). length all) c.push-2.ensures.items,
+      length_push c.range_at-last.new.ranges.items
+          (record { lo = c.range_at-last.result.lo; hi = (range_at c.args.before.now c.index_from-index.result).hi; row = c.range_at-last.result.row }),
+      ap (λ (all : List Range). length all) (rest_of c.args.before.now (c.index_from-index.result + 1)),
+    ))
 
 pub returns : goal.returns
 returns c =

@@ -1,4 +1,4 @@
-use Rattle.std.proofs.Common.{◌≡◌, ◌≤◌, ◌+◌, ◌-◌, ◌++◌, ℕ, List, map, min, take, drop, ◌∙◌, ap, subst, arith}
+use Rattle.std.proofs.Common.{◌≡◌, ◌≤◌, ◌+◌, ◌-◌, ◌++◌, ℕ, List, map, min, take, drop, ◌∙◌, ap, subst, arith, lit<}
 use Rattle.std.proofs.lemmas.List.{length-map, length-append}
 use Rattle.map_builder.specs.declared.range.Range.{Range}
 use Rattle.map_builder.specs.Map.{range_of}
@@ -40,7 +40,7 @@ push-requires c =
     let built = kept_first kept.regs c.args.after c.args.until c.index_from-index.result c.args.ranges.now.items c.range_at-last.new.ranges.items c.args.before.now
     c.args.last c.range_at-last.result (omega arith) (omega (arith, c.requires.order)) kept.agrees c.index_from-index.ensures.holds c.range_at-last.ensures.goes_on
     kept.built in
-    record { room = omega (arith, built.few kept.board, length-map c.range_at-last.new.ranges.items range_of) }
+    (lit< tt, omega (arith, built.few kept.board, length-map c.range_at-last.new.ranges.items range_of))
 
 pub index_from-end-requires-clause-from : goal.index_from-end-requires-clause-from
 index_from-end-requires-clause-from c =
@@ -56,7 +56,7 @@ extend-requires c =
     c.args.last c.range_at-last.result (omega arith) (omega (arith, c.requires.order)) kept.agrees c.index_from-index.ensures.holds c.range_at-last.ensures.goes_on
     kept.built c.index_from-end.result (c.push.new.self.items ++ more) (omega arith) c.index_from-end.ensures.from c.index_from-end.ensures.holds
     (ap (λ (front : List Range). front ++ more) c.push.ensures.items) in
-    record { room = omega (arith, built.few kept.board, length-map (c.push.new.self.items ++ more) range_of, length-append c.push.new.self.items more) }
+    (lit< tt, omega (arith, built.few kept.board, length-map (c.push.new.self.items ++ more) range_of, length-append c.push.new.self.items more))
 
 pub returns : goal.returns
 returns c =

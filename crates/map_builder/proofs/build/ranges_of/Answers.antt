@@ -1,4 +1,4 @@
-use Rattle.std.proofs.Common.{arith, sym, subst}
+use Rattle.std.proofs.Common.{arith, sym, subst, lit<}
 use Rattle.std.proofs.lemmas.List.{length-map}
 use Rattle.addr_decode.specs.MapRegs.{map_bytes}
 use Rattle.map_builder.specs.Map.{range_of}
@@ -8,7 +8,7 @@ use Rattle.map_builder.proofs.build.ranges_of.Goals as goal
 
 pub push-requires : goal.push-requires
 push-requires g c =
-    record { room = omega (arith, c.rows_in-last.ensures.built.few c.requires.board, length-map c.rows_in-last.new.ranges.items range_of) }
+    (lit< tt, omega (arith, c.rows_in-last.ensures.built.few c.requires.board, length-map c.rows_in-last.new.ranges.items range_of))
 
 pub returns : goal.returns
 returns g c =

@@ -43,23 +43,23 @@ rebuild-requires-clause-board g c =
 pub rebuild-requires-clause-rise : goal.rebuild-requires-clause-rise
 rebuild-requires-clause-rise g c =
     let board = c.self.invariant.board in
-    let windows = λ (not : c.is_same_byte-kept.result ≡ false). found board.setup board.bytes c.args.change.now c.clear.new.self.items c.push_covered.new.windows.items c.push_again.new.windows.items
-    c.clear.ensures (c.push_covered.ensures.windows board.setup board.bytes board.stands)
+    let windows = λ (not : c.is_same_byte-kept.result ≡ false). found board.setup board.bytes c.args.change.now c.truncate.new.self.items c.push_covered.new.windows.items c.push_again.new.windows.items
+    c.truncate.ensures.items (c.push_covered.ensures.windows board.setup board.bytes board.stands)
     (c.push_again.ensures.windows not board.setup (after board.setup c.args.change.now board.bytes) (c.apply.ensures.stands board.setup board.bytes board.stands)) in
-    subst Rise (sym c.deref-2.ensures.0)
-    (build_rise board.setup board.bytes c.args.change.now c.deref.result.now c.choose_windows.new.chosen.items
-    (map_bytes c.self.inside.regs).drb (map_bytes c.apply.new.self).drb c.is_same_byte-kept.result (λ not. c.deref.ensures.0 ∙ windows not) c.choose_windows.ensures.none
+    subst Rise (sym c.deref.ensures.0)
+    (build_rise board.setup board.bytes c.args.change.now c.as_slice.result.now c.choose_windows.new.chosen.items
+    (map_bytes c.self.inside.regs).drb (map_bytes c.apply.new.self).drb c.is_same_byte-kept.result (λ not. c.as_slice.ensures.items ∙ windows not) c.choose_windows.ensures.none
     c.choose_windows.ensures.others c.choose_windows.ensures.rows)
 
 pub rebuild-requires-clause-beside : goal.rebuild-requires-clause-beside
 rebuild-requires-clause-beside g c =
     let board = c.self.invariant.board in
-    let windows = λ (not : c.is_same_byte-kept.result ≡ false). found board.setup board.bytes c.args.change.now c.clear.new.self.items c.push_covered.new.windows.items c.push_again.new.windows.items
-    c.clear.ensures (c.push_covered.ensures.windows board.setup board.bytes board.stands)
+    let windows = λ (not : c.is_same_byte-kept.result ≡ false). found board.setup board.bytes c.args.change.now c.truncate.new.self.items c.push_covered.new.windows.items c.push_again.new.windows.items
+    c.truncate.ensures.items (c.push_covered.ensures.windows board.setup board.bytes board.stands)
     (c.push_again.ensures.windows not board.setup (after board.setup c.args.change.now board.bytes) (c.apply.ensures.stands board.setup board.bytes board.stands)) in
-    subst (λ (all : List Changed). IsMapWhere (map_bytes c.apply.new.self) (IsBeside all) (map range_of c.self.inside.ranges.items)) (sym c.deref-2.ensures.0)
+    subst (λ (all : List Changed). IsMapWhere (map_bytes c.apply.new.self) (IsBeside all) (map range_of c.self.inside.ranges.items)) (sym c.deref.ensures.0)
     (build_beside (map_bytes c.self.inside.regs) (map_bytes c.apply.new.self) c.args.change.now (map range_of c.self.inside.ranges.items) c.self.invariant
-    (c.apply.ensures.stands board.setup board.bytes board.stands) c.deref.result.now c.choose_windows.new.chosen.items c.is_same_byte-kept.result (λ not. c.deref.ensures.0 ∙ windows not)
+    (c.apply.ensures.stands board.setup board.bytes board.stands) c.as_slice.result.now c.choose_windows.new.chosen.items c.is_same_byte-kept.result (λ not. c.as_slice.ensures.items ∙ windows not)
     (λ same.
     keeps_byte (map_bytes c.self.inside.regs) (map_bytes c.apply.new.self) c.args.change.now c.held_at-before.result c.held_at.result
     (c.is_same_byte-kept.ensures.same same) c.held_at-before.ensures.held c.held_at.ensures.held)
@@ -95,12 +95,12 @@ returns-clause-changed g c = λ setup bytes stands.
     keeps_byte (map_bytes c.self.inside.regs) (map_bytes c.apply.new.self) c.args.change.now c.held_at-before.result c.held_at.result
     (c.is_same_byte-kept.ensures.same same) c.held_at-before.ensures.held c.held_at.ensures.held)
     (λ is.
-    once setup bytes c.args.change.now c.clear.new.self.items c.push_covered.new.windows.items c.push_again.new.windows.items c.clear.ensures first
+    once setup bytes c.args.change.now c.truncate.new.self.items c.push_covered.new.windows.items c.push_again.new.windows.items c.truncate.ensures.items first
     (c.push_again.ensures.kept is))
     (λ not.
-    found setup bytes c.args.change.now c.clear.new.self.items c.push_covered.new.windows.items c.push_again.new.windows.items c.clear.ensures first
+    found setup bytes c.args.change.now c.truncate.new.self.items c.push_covered.new.windows.items c.push_again.new.windows.items c.truncate.ensures.items first
     (c.push_again.ensures.windows not setup (after setup c.args.change.now bytes) now)) in
-    c.unwrap_or.ensures ∙ ap (λ (it : Option Changed). unwrap_or it (from_to 0 0)) (c.bounds_of.ensures.bounds ∙ ap bounds c.deref-3.ensures.0 ∙ same)
+    c.unwrap_or.ensures ∙ ap (λ (it : Option Changed). unwrap_or it (from_to 0 0)) (c.bounds_of.ensures.bounds ∙ ap bounds c.as_slice-2.ensures.items ∙ same)
 
 pub returns-clause-kept : goal.returns-clause-kept
 returns-clause-kept g c = λ setup bytes stands addr address out.
@@ -118,13 +118,13 @@ pub returns-clause-rows : goal.returns-clause-rows
 returns-clause-rows g c = λ setup bytes stands.
     let here = stood _ c.args.self.now setup bytes c.self.view_is stands in
     let new : Bytes = after setup c.args.change.now bytes in
-    let windows = λ (not : c.is_same_byte-kept.result ≡ false). found setup bytes c.args.change.now c.clear.new.self.items c.push_covered.new.windows.items c.push_again.new.windows.items
-    c.clear.ensures (c.push_covered.ensures.windows setup bytes here)
+    let windows = λ (not : c.is_same_byte-kept.result ≡ false). found setup bytes c.args.change.now c.truncate.new.self.items c.push_covered.new.windows.items c.push_again.new.windows.items
+    c.truncate.ensures.items (c.push_covered.ensures.windows setup bytes here)
     (c.push_again.ensures.windows not setup new (c.apply.ensures.stands setup bytes here)) in
     omega (
       arith,
       c.rebuild.ensures.rows setup new (c.apply.ensures.stands setup bytes here),
-      ap (λ (all : List Changed). rows_in (edges_after setup new) all) c.deref-2.ensures.0,
-      build_few setup bytes c.args.change.now c.deref.result.now c.choose_windows.new.chosen.items (map_bytes c.self.inside.regs).drb
-          (map_bytes c.apply.new.self).drb c.is_same_byte-kept.result (λ not. c.deref.ensures.0 ∙ windows not) c.choose_windows.ensures.none c.choose_windows.ensures.others c.choose_windows.ensures.rows,
+      ap (λ (all : List Changed). rows_in (edges_after setup new) all) c.deref.ensures.0,
+      build_few setup bytes c.args.change.now c.as_slice.result.now c.choose_windows.new.chosen.items (map_bytes c.self.inside.regs).drb
+          (map_bytes c.apply.new.self).drb c.is_same_byte-kept.result (λ not. c.as_slice.ensures.items ∙ windows not) c.choose_windows.ensures.none c.choose_windows.ensures.others c.choose_windows.ensures.rows,
     )
