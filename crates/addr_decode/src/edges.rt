@@ -118,8 +118,8 @@ impl Nearest {
 
     /// Whether the ends of rows are known to be no nearer: they are multiples of 8 MiB, at most 7F800000h.
     fn is_before_rows(&self, drb: &[u8; 8]) -> bool
-        ensures rows { result ≡ true → nearest self.now.addr self.now.edge (map (λ boundary. boundary * boundary_unit) drb.now)
-            ≡ self.now.edge }
+        ensures rows { result ≡ true
+            → nearest self.now.addr self.now.edge (map (λ boundary. boundary * boundary_unit) drb.now) ≡ self.now.edge }
     {
         are_bytes(drb);
         if self.addr >= LARGEST_TOP {

@@ -205,7 +205,8 @@ fn keep(
     }
 }
 
-/// Ends the ranges with those of a map after an address. The range at the index `from` begins at the address or below it.
+/// Ends the ranges with those of a map after an address. The range at the index `from` begins at the address or below
+/// it.
 fn finish(ranges: &mut Ranges, last: Range, before: &[Range], from: usize, after: u32)
     requires tiles { Tiles 0 (map range_of before.now) }
     requires from { Begins before.now from after }

@@ -42,15 +42,17 @@ extend-requires c =
     let whole = whole_from kept.regs kept.board (map range_of c.args.ranges.now.items) (map range_of c.range_at-last.new.ranges.items) (range_of c.args.last)
     (range_of c.range_at-last.result) c.args.before.now c.index_from-index.result c.args.after kept.agrees c.index_from-index.ensures.holds (omega arith)
     c.range_at-last.ensures.goes_on kept.built in
-    let few = few_from kept.regs c.range_at-last.new.ranges.items _ c.args.before.now c.index_from-index.result whole in
-    (lit< tt, omega (
-      arith,
-      few,
-      ap (λ (all : List Range). length all) c.push-2.ensures.items,
-      length_push c.range_at-last.new.ranges.items
-          (record { lo = c.range_at-last.result.lo; hi = (range_at c.args.before.now c.index_from-index.result).hi; row = c.range_at-last.result.row }),
-      ap (λ (all : List Range). length all) (rest_of c.args.before.now (c.index_from-index.result + 1)),
-    ))
+    let few = few_from kept.regs c.range_at-last.new.ranges.items _ c.args.before.now c.index_from-index.result whole in (
+      lit< tt,
+      omega (
+        arith,
+        few,
+        ap (λ (all : List Range). length all) c.push-2.ensures.items,
+        length_push c.range_at-last.new.ranges.items
+            (record { lo = c.range_at-last.result.lo; hi = (range_at c.args.before.now c.index_from-index.result).hi; row = c.range_at-last.result.row }),
+        ap (λ (all : List Range). length all) (rest_of c.args.before.now (c.index_from-index.result + 1)),
+      ),
+    )
 
 pub returns : goal.returns
 returns c =

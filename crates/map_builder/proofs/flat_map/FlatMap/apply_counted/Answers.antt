@@ -9,7 +9,7 @@ use Rattle.addr_decode.specs.MapRegs.{StandsFor, map_bytes}
 use Rattle.addr_decode.specs.Edges.{edges_after}
 use Rattle.map_builder.specs.declared.range.Changed.{Changed}
 use Rattle.map_builder.specs.Map.{Mapped, range_of}
-use Rattle.map_builder.specs.Changed.{after, windows_covered, bounds, bounds_or_zero, changed_windows, from_to, IsOutside}
+use Rattle.map_builder.specs.Changed.{after, windows_covered, bounds, changed_windows, from_to, IsOutside}
 use Rattle.map_builder.specs.Build.{IsMapWhere, IsBeside}
 use Rattle.map_builder.specs.Sorted.{rows_in, Rise}
 use Rattle.map_builder.proofs.KeptStores.{beside_keeps}
