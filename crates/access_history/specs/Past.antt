@@ -6,7 +6,3 @@ use Rattle.board_spec.specs.declared.event.Entry.{Entry}
 pub record Past : Type 0 where
   pub entries : List Entry
   pub spare : ℕ
-
--- entries and room stay below this
-abbrev pub most : ℕ
-most = 4_000_000

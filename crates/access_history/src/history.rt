@@ -16,18 +16,20 @@ pub struct History {
 
 impl Model for History {
     ghost use Rattle.std.specs.Prelude.{◌+◌, ◌<◌, ◌≤◌, reverse, vec_capacity, vec_len};
-    ghost use Rattle.access_history.specs.Past.{Past, most};
+    ghost use Rattle.board_spec.specs.Limits.{entry_limit};
+    ghost use Rattle.access_history.specs.Past.{Past};
 
     ghost Value = { Past };
 
     ghost view = { λ history. record { entries = reverse history.entries.items; spare = history.spare } };
 
     ghost invariant = { λ history. (vec_len history.entries + history.spare ≤ vec_capacity history.entries)
-        × (vec_len history.entries + history.spare < most) };
+        × (vec_len history.entries + history.spare < entry_limit) };
 }
 
 impl History {
-    ghost use Rattle.access_history.specs.Past.{Past, most};
+    ghost use Rattle.board_spec.specs.Limits.{entry_limit};
+    ghost use Rattle.access_history.specs.Past.{Past};
 
     /// A history without entries, and without room for any.
     pub fn new(alloc: Global) -> History
@@ -42,7 +44,7 @@ impl History {
     /// Makes room for at least `n` more entries, where the history with them stays below 4,000,000. Refused for want of
     /// memory; then it is as before.
     pub fn reserve(&mut self, n: u32) -> Result<(), NoMemory>
-        requires { length self.old.entries + n < most }
+        requires { length self.old.entries + n < entry_limit }
         ensures ok { OnOk result (self.new ≡ record self.old { spare = max self.old.spare n }) }
         ensures err { OnErr result (self.new ≡ self.old) }
     {
@@ -65,7 +67,7 @@ impl History {
     /// How many entries there are. With the room for more they stay below 4,000,000.
     pub fn len(&self) -> u32
         ensures length { result ≡ length self.now.entries }
-        ensures room { length self.now.entries + self.now.spare < most }
+        ensures room { length self.now.entries + self.now.spare < entry_limit }
     {
         self.entries.len() as u32
     }

@@ -11,7 +11,7 @@ use Rattle.board_spec.specs.Setup.{Setup}
 use Rattle.board_spec.specs.RegisterTable.{reset_byte}
 use Rattle.board_spec.specs.Registers.{control_after, resets_hard, kept_address, reset_control, config_address, register_change, byte_with, byte_of}
 use Rattle.board_spec.specs.MapWrites.{map_writes_of}
-use Rattle.access_history.specs.Past.{most}
+use Rattle.board_spec.specs.Limits.{entry_limit}
 use Rattle.config_regs.specs.Config.{AreKeptOf}
 use Rattle.board_core.specs.declared.registers.Registers.{Registers}
 use Rattle.board_core.specs.Kept.{IsFlat, HasRegisters}
@@ -80,5 +80,5 @@ registers_at_reset setup registers address control kept version flat =
 -- the map has had fewer changes than a history has room for entries
 pub few_changes : (setup : Setup) (history : List Entry) (registers : Registers) →
     HasRegisters setup history registers →
-    length history < most → registers.map.version < most
+    length history < entry_limit → registers.map.version < entry_limit
 few_changes setup history registers has few = rw (has.version) (omega (arith, few_writes setup history))

@@ -11,7 +11,7 @@ use Rattle.board_spec.specs.Decode.{Bytes}
 use Rattle.board_spec.specs.FlatMap.{IsFlatMapOf}
 use Rattle.addr_decode.specs.MapRegs.{StandsFor}
 use Rattle.map_builder.specs.Map.{Mapped}
-use Rattle.access_history.specs.Past.{most}
+use Rattle.board_spec.specs.Limits.{entry_limit}
 use Rattle.config_regs.specs.Config.{AreKeptOf}
 use Rattle.board_stores.specs.Puts.{HasStores}
 use Rattle.board_devices.specs.Devices.{AreDevicesOf}
@@ -41,7 +41,7 @@ pub record IsChipsetOf (setup : Setup) (history : List Entry) (chipset : Chipset
 pub record IsChipset (chipset : Chipset) (rom : List ℕ) : Type 0 where
   pub setup : Setup
   pub history : List Entry
-  pub few : length history < most
+  pub few : length history < entry_limit
   pub of : IsChipsetOf setup history chipset
   pub image : setup.rom ≡ rom
 
@@ -53,7 +53,7 @@ pub record CanDo (chipset : Chipset) (rom : List ℕ) (event : Event) : Type 0 w
 -- and with the number of each processor's entries, and room for more
 pub record IsKept (setup : Setup) (history : List Entry) (spare : ℕ) (chipset : Chipset)
     (counts : List ℕ) : Type 0 where
-  pub room : length history + spare < most
+  pub room : length history + spare < entry_limit
   pub legal : IsLegal setup history
   pub board : IsChipsetOf setup history chipset
   pub counted : (actor : ℕ) → actor < 256 → slice_index counts actor ≡ length (entries_by actor history)

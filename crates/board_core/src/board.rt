@@ -2,6 +2,7 @@
 
 ghost use Rattle.std.specs.Prelude.{◌≡◌, ◌-◌, ◌+◌, ◌++◌, ◌<◌, ◌≤◌, ◌↔◌, ℕ, List, [], ◌∷◌, length, max, slice_index, Err, IsTrue, IfOk, OnOk, OnErr};
 ghost use Rattle.board_spec.specs.declared.event.Entry.{Entry};
+ghost use Rattle.board_spec.specs.Limits.{most_card_memory, entry_limit};
 ghost use Rattle.board_spec.specs.Setup.{IsCardList, IsDisk, IsRomSize, memory_of_cards};
 ghost use Rattle.board_spec.specs.InRange.{IsInRange};
 ghost use Rattle.board_spec.specs.Answer.{IsAnswer};
@@ -11,7 +12,6 @@ ghost use Rattle.board_spec.specs.Registers.{byte_of};
 ghost use Rattle.board_spec.specs.MapWrites.{map_change_of, version_of};
 ghost use Rattle.board_spec.specs.FlatMap.{IsFlatMapOf};
 ghost use Rattle.addr_decode.specs.MapRegs.{StandsFor};
-ghost use Rattle.access_history.specs.Past.{most};
 ghost use Rattle.board_core.specs.Kept.{CanDo, IsChipsetOf};
 ghost use Rattle.board_core.specs.Steps.{AreInRange};
 
@@ -23,14 +23,12 @@ use access_history::History;
 use addr_decode::MapChange;
 use board_base::NoMemory;
 use board_devices::Devices;
+use board_spec::limits::ACTORS;
 use board_spec::{Entry, Event, Reply, Statement};
 use board_stores::Stores;
 use map_builder::FlatMap;
 use std::alloc::Global;
 use std::marker::Model;
-
-/// How many numbers processors can have.
-const ACTORS: usize = 256;
 
 /// The sizes in bytes that a BIOS ROM can have.
 const ROM_SIZES: [usize; 4] = [0x1_0000, 0x2_0000, 0x4_0000, 0x8_0000];
@@ -101,7 +99,7 @@ impl Board {
         requires low { 1 ≤ setup.mib }
         requires high { setup.mib ≤ 64 }
         requires cards { IsCardList setup.cards }
-        requires windows { memory_of_cards setup.cards ≤ 0x400_0000 }
+        requires windows { memory_of_cards setup.cards ≤ most_card_memory }
         ensures fresh { IfOk result (λ board. board ≡ record { setup = setup; entries = []; spare = 0 }) }
         ensures bad_rom { (result ≡ Err BoardOpen.BadRom) ↔ ¬ IsRomSize (length setup.rom) }
         ensures bad_disk { (result ≡ Err BoardOpen.BadDisk) ↔ IsRomSize (length setup.rom) × ¬ IsDisk setup.disk }
@@ -127,7 +125,7 @@ impl Board {
     /// Makes room for at least `n` more entries, where the history with them stays below 4,000,000. Refused for want of
     /// memory; then the board is as before.
     pub fn reserve(&mut self, n: u32) -> Result<(), NoMemory>
-        requires { length self.old.entries + n < most }
+        requires { length self.old.entries + n < entry_limit }
         ensures ok { OnOk result (self.new ≡ record self.old { spare = max self.old.spare n }) }
         ensures err { OnErr result (self.new ≡ self.old) }
     {

@@ -16,7 +16,7 @@ ghost use Rattle.board_spec.specs.Ports.{port_target_of};
 ghost use Rattle.pci_bars.specs.Cards.{AreFitted};
 ghost use Rattle.addr_decode.specs.MapRegs.{StandsFor, map_bytes};
 ghost use Rattle.addr_decode.specs.Ports.{as_decoded};
-ghost use Rattle.access_history.specs.Past.{most};
+ghost use Rattle.board_spec.specs.Limits.{entry_limit};
 ghost use Rattle.config_regs.specs.Config.{AreKeptOf};
 ghost use Rattle.board_core.specs.Kept.{HasRegisters, IsFlat};
 ghost use Rattle.board_core.specs.Ports.{Writes};
@@ -99,7 +99,7 @@ impl Registers {
     /// Stores the bytes of a value in configuration space, the low one first, in rising offset.
     pub fn store(&mut self, reg: Reg, width: Width, value: u32)
         requires within { reg.off + bytes_of width ≤ 0x100 }
-        requires version { self.old.map.version < most }
+        requires version { self.old.map.version < entry_limit }
         ensures registers { (setup : Setup) (history : List Entry) (entry : Entry) → HasRegisters setup history self.old
             → Writes setup history entry.event None None (Some (Store reg width value))
             → HasRegisters setup (entry ∷ history) self.new }
@@ -111,7 +111,7 @@ impl Registers {
 
     /// Writes reset control, and tells whether that is a hard reset, which gives each register its value after a reset.
     pub fn write_control(&mut self, byte: u8) -> bool
-        requires version { self.old.map.version < most }
+        requires version { self.old.map.version < entry_limit }
         ensures hard { result ≡ is_hard_value self.old.control byte }
         ensures registers { (setup : Setup) (history : List Entry) (entry : Entry)
             → Writes setup history entry.event (Some byte) None None
@@ -127,7 +127,7 @@ impl Registers {
 
     /// Gives each register but reset control its value after a reset.
     fn reset(&mut self)
-        requires version { self.old.map.version < most }
+        requires version { self.old.map.version < entry_limit }
         ensures address { self.new.address ≡ 0 }
         ensures control { self.new.control ≡ self.old.control }
         ensures kept { (setup : Setup) (bytes : Bytes) → AreKeptOf setup bytes self.old.map.regs self.old.south

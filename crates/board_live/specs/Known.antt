@@ -2,6 +2,7 @@
 use Rattle.std.specs.Prelude.{ℕ, ◌≡◌, ◌-◌, ◌<◌, ◌≤◌, List, ◌++◌, length, drop, All}
 use Rattle.board_spec.specs.declared.event.Entry.{Entry}
 use Rattle.board_spec.specs.declared.map_change.MapChange.{MapChange}
+use Rattle.board_spec.specs.Limits.{most_statements}
 use Rattle.board_spec.specs.Setup.{Setup}
 use Rattle.board_spec.specs.Legal.{entries_by}
 use Rattle.board_spec.specs.MapWrites.{map_writes_of}
@@ -32,7 +33,7 @@ Opens setup opened map = IsMapOfWrites setup (map_writes_of setup opened) map
 
 -- the most entries of a caller
 abbrev pub most_each : ℕ
-most_each = 250_000
+most_each = most_statements
 
 -- the entries are those of so many callers, 1 to 8, and of none too many
 pub record AreFew (callers : ℕ) (history : List Entry) : Type 0 where

@@ -4,7 +4,7 @@ ghost use mathlib.Core.List.{IsPrefix};
 ghost use Rattle.board_spec.specs.InRange.{IsInRange};
 ghost use Rattle.board_spec.specs.Legal.{entries_by};
 ghost use Rattle.std.specs.Option.{option_to_list};
-ghost use Rattle.access_history.specs.Past.{most};
+ghost use Rattle.board_spec.specs.Limits.{entry_limit};
 ghost use Rattle.map_publish.specs.Lists.{opened_of, changes_of, version_after};
 ghost use Rattle.board_live.specs.Known.{oldest, ArePublished, Opens, most_each, AreFew};
 ghost use Rattle.board_live.specs.Props.{Opens-prop, AreFew-prop};
@@ -75,7 +75,7 @@ fn publish<R: Wait>(
     rt: &R,
     change: Option<MapChange>,
 ) -> Result<(), NoMemory>
-    requires room { version_after publisher.old.front.seen.log < most }
+    requires room { version_after publisher.old.front.seen.log < entry_limit }
     ensures own { publisher.new.front.seen.book ≡ publisher.old.front.seen.book }
     ensures opened { opened_of publisher.new.front.seen.log ≡ opened_of publisher.old.front.seen.log }
     ensures ok { OnOk result (changes_of publisher.new.front.seen.log

@@ -1,3 +1,4 @@
+pub mod Limits
 pub mod Setup
 pub mod Bits
 pub mod Ranges

@@ -1,6 +1,7 @@
 //! The walk over a log, line by line, phase by phase.
 
 ghost use Rattle.std.specs.Prelude.{◌≡◌, ◌+◌, ◌<◌, ◌≤◌, ◌++◌, ◌∷◌, ◌⊎◌, ℕ, [], List, All, length, Ok, Err, IfOk, IfErr, OnOk, MatchResult};
+ghost use Rattle.board_spec.specs.Limits.{most_statements};
 ghost use Rattle.board_spec.specs.Legal.{IsLegal};
 ghost use Rattle.board_spec.specs.LogText.{log_text};
 ghost use Rattle.board_spec.specs.Orders.{IsBegunFor, IsCompleteFor};
@@ -153,7 +154,7 @@ pub fn check_log(
 ) -> Result<u32, CheckFault>
     requires fresh { board.old.entries ≡ [] }
     requires in_range { AreInRange board.old.setup (in_file_order (listed phases.now)) }
-    requires few { length (in_file_order (listed phases.now)) ≤ 250_000 }
+    requires few { length (in_file_order (listed phases.now)) ≤ most_statements }
     ensures log { IfOk result (λ count.
         IsCheckedLog board.old.setup version (listed phases.now) bytes.now board.new.entries count) }
     ensures differs { (line : ℕ) → result ≡ Err (CheckFault.Differs line)

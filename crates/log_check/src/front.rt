@@ -7,9 +7,7 @@ ghost use Rattle.board_core.specs.Steps.{AreInRange};
 ghost use Rattle.log_check.specs.Fronts.{left_of, IsNextOf};
 
 use board_spec::Statement;
-
-/// How many numbers processors can have.
-const ACTORS: usize = 256;
+use board_spec::limits::ACTORS;
 
 /// A phase, and for each processor the place from which its next statement is sought.
 #[derive(Drop)]

@@ -1,6 +1,7 @@
 //! The numbers of statements are in the range of their types.
 
 ghost use Rattle.std.specs.Prelude.{◌≡◌, ◌≤◌, All, length};
+ghost use Rattle.board_spec.specs.Limits.{most_statements};
 ghost use Rattle.board_spec.specs.OrderLaws.{in_file_order};
 ghost use Rattle.log_check.specs.Phases.{IsTyped, listed};
 
@@ -36,7 +37,7 @@ pub(crate) fn phases_fit(phases: &[Vec<Statement>])
 
 /// How many statements the phases have.
 pub fn statement_count(phases: &[Vec<Statement>]) -> u32
-    requires few { length (in_file_order (listed phases.now)) ≤ 250_000 }
+    requires few { length (in_file_order (listed phases.now)) ≤ most_statements }
     ensures count { result ≡ length (in_file_order (listed phases.now)) }
 {
     let mut count = 0;

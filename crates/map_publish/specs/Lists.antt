@@ -3,6 +3,7 @@ use Rattle.std.specs.Prelude.{ℕ, ◌≡◌, ◌+◌, nat_lt, Bool, if◌then�
 use Rattle.board_base.specs.declared.access.Kind.{Kind}
 use Rattle.board_spec.specs.declared.event.Look.{Look}
 use Rattle.board_spec.specs.declared.map_change.MapChange.{MapChange}
+use Rattle.board_spec.specs.Limits.{entry_limit}
 use Rattle.board_spec.specs.Setup.{Setup}
 use Rattle.board_spec.specs.Decode.{Bytes}
 use Rattle.board_spec.specs.FlatMap.{IsSpan}
@@ -47,7 +48,7 @@ version_after log = (opened_of log).version + length (changes_of log)
 
 -- the list with a change at its end, as long as the version of its map can rise
 abbrev pub with_change : List Mark → MapChange → List Mark
-with_change log change = if nat_lt (version_after log) 4_000_000 then log ++ Changed change ∷ [] else log
+with_change log change = if nat_lt (version_after log) entry_limit then log ++ Changed change ∷ [] else log
 
 -- a look shows the opened map after the changes: its version, and the span of the registers
 pub record IsLookIn (log : List Mark) (addr : ℕ) (kind : Kind) (smm : Bool) (look : Look) : Type 0 where

@@ -1,6 +1,7 @@
 //! What was seen of a publisher's list: the map that it opened with, and the changes since.
 ghost use Rattle.std.specs.Prelude.{◌≡◌, ◌≤◌, ◌<◌, ◌+◌, ◌++◌, ◌∷◌, [], length, None, IfSome, IsTrue, IsFalse};
 ghost use mathlib.Core.List.{IsPrefix};
+ghost use Rattle.board_spec.specs.Limits.{entry_limit};
 ghost use Rattle.map_publish.specs.Fronts.{head_of};
 ghost use Rattle.map_publish.specs.Lists.{changes_of};
 ghost use Rattle.map_publish.specs.declared.mark.Mark.TheVariants.{Opened, Changed};
@@ -148,7 +149,7 @@ impl Front {
     /// This beginning with a change added to the list. None where more stands in the list.
     pub(crate) fn add(&self, head: &Head, change: &MapChange) -> Option<Front>
         requires head { head.now ≡ head_of self.now.seen.book }
-        requires room { length self.now.seen.log ≤ 4_000_000 }
+        requires room { length self.now.seen.log ≤ entry_limit }
         ensures own { IfSome result (λ front. front.seen.book ≡ self.now.seen.book) }
         ensures added { IfSome result (λ front. front.seen.log ≡ self.now.seen.log ++ Changed change.now ∷ []) }
     {

@@ -1,5 +1,6 @@
 //! The one who publishes.
 ghost use Rattle.std.specs.Prelude.{◌≡◌, ◌≤◌, ◌<◌, ◌++◌, ◌∷◌, [], All, drop, length, IfSome, IfOk, OnOk, MatchResult};
+ghost use Rattle.board_spec.specs.Limits.{entry_limit};
 ghost use Rattle.left_right.specs.Sides.{view};
 ghost use Rattle.map_publish.specs.Lists.{opened_of, version_after, IsMapOfLog};
 ghost use Rattle.map_publish.specs.Fronts.{head_of};
@@ -63,7 +64,7 @@ fn published<R: Wait>(
 ) -> (Copies, Result<(), NoMemory>)
     requires quiet { drop writer.behind writer.log.items ≡ [] }
     requires listed { writer.desk.shown.value.list.log ≡ writer.desk.shown.value.front.seen.log }
-    requires room { version_after writer.desk.shown.value.front.seen.log < 4_000_000 }
+    requires room { version_after writer.desk.shown.value.front.seen.log < entry_limit }
     requires own { what.2.seen.book ≡ writer.desk.shown.value.front.seen.book }
     requires added { what.2.seen.log ≡ writer.desk.shown.value.front.seen.log ++ Changed what.1 ∷ [] }
     ensures list { MatchResult result.1 (λ _. result.0.desk.shown.value.list.log ≡ what.entry.2.seen.log) (λ _. result.0.desk.shown.value.list.log ≡ writer.desk.shown.value.list.log) }
@@ -88,7 +89,7 @@ impl Publisher {
     /// of memory; then what is published is as before.
     #[inline(never)]
     pub fn change<R: Wait>(&mut self, rt: &R, change: &MapChange) -> Result<(), NoMemory>
-        requires room { version_after self.old.front.seen.log < 4_000_000 }
+        requires room { version_after self.old.front.seen.log < entry_limit }
         ensures own { self.new.front.seen.book ≡ self.old.front.seen.book }
         ensures opened { opened_of self.new.front.seen.log ≡ opened_of self.old.front.seen.log }
         ensures list { MatchResult result (λ _. self.new.front.seen.log ≡ self.old.front.seen.log ++ Changed change.now ∷ []) (λ _. self.new.front.seen.log ≡ self.old.front.seen.log) }

@@ -1,5 +1,6 @@
 //! What is published, and how a copy takes in what is published next.
 ghost use Rattle.std.specs.Prelude.{◌≡◌, ◌<◌, ◌++◌, ◌∷◌, []};
+ghost use Rattle.board_spec.specs.Limits.{entry_limit};
 ghost use Rattle.map_publish.specs.Lists.{opened_of, changes_of, version_after, with_change, IsMapOfLog};
 ghost use Rattle.map_publish.specs.Props.{IsMapAfter-prop};
 ghost use Rattle.map_publish.specs.declared.mark.Mark.TheVariants.{Opened, Changed};
@@ -8,6 +9,7 @@ use crate::front::Front;
 use crate::list::{Marks, grown, opened};
 use crate::mark::Mark;
 use board_spec::MapChange;
+use board_spec::limits::ENTRY_LIMIT;
 use left_right::Absorb;
 use map_builder::FlatMap;
 use std::alloc::AllocError;
@@ -70,7 +72,7 @@ impl Shown {
         ensures list { self.new.list.log ≡ with_change self.old.list.log change.now }
         ensures front { self.new.front ≡ front }
     {
-        if self.map.version() < 4_000_000 {
+        if self.map.version() < ENTRY_LIMIT {
             self.grow(change);
         }
         self.front = front;
@@ -78,7 +80,7 @@ impl Shown {
 
     /// Makes a change in the map.
     fn grow(&mut self, change: &MapChange)
-        requires room { version_after self.old.list.log < 4_000_000 }
+        requires room { version_after self.old.list.log < entry_limit }
         ensures list { self.new.list.log ≡ self.old.list.log ++ Changed change.now ∷ [] }
         ensures front { self.new.front ≡ self.old.front }
     {

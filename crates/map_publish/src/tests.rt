@@ -47,7 +47,7 @@ fn reset_map() -> FlatMap {
 fn publish<R: Wait>(rt: &R, publisher: &mut Publisher, change: &MapChange) -> bool
     ensures own { publisher.new.front.seen.book ≡ publisher.old.front.seen.book }
 {
-    publisher.count() < 4_000_000 && publisher.change(rt, change).is_ok()
+    publisher.count() < ENTRY_LIMIT && publisher.change(rt, change).is_ok()
 }
 
 fn two(mut viewers: Vec<Viewer>) -> Result<(Viewer, Viewer), Fail> {

@@ -6,6 +6,7 @@ use Rattle.board_base.specs.Access.{bytes_of}
 use Rattle.board_base.specs.Calendar.{days_in_month}
 use Rattle.board_spec.specs.declared.event.Event.{Event}
 use Rattle.board_spec.specs.declared.event.Event.TheVariants.{Memory, Wide, Port, Pulses, Time, Wire, Line, BadSector}
+use Rattle.board_spec.specs.Limits.{most_statements, most_phases, most_pulses, most_card_memory}
 use Rattle.board_spec.specs.Setup.{Base, MemoryBase, IoBase, FittedCard, memory_of_cards}
 use Rattle.board_spec.specs.Bits.{is_within}
 use Rattle.board_spec.specs.InRange.{is_free_line}
@@ -148,10 +149,10 @@ pulses_of _ = 0
 
 abbrev pub passes_limits : List Item → Bool
 passes_limits items =
-    nat_lt 250_000 (length (filter is_statement items))
-    || nat_lt 1_000 (length (filter is_phase items))
-    || nat_lt 100_000_000 (sum_by pulses_of items)
-    || nat_lt 0x400_0000 (memory_of_cards (cards_of items))
+    nat_lt most_statements (length (filter is_statement items))
+    || nat_lt most_phases (length (filter is_phase items))
+    || nat_lt most_pulses (sum_by pulses_of items)
+    || nat_lt most_card_memory (memory_of_cards (cards_of items))
 
 -- ---- the least reason
 

@@ -1,6 +1,7 @@
 -- What can be relied on in a script that a text says.
 use Rattle.std.specs.Prelude.{ℕ, ◌≡◌, ◌≤◌, List, length, All, flat_map, sum_by, Option, Some, None}
 use Rattle.board_spec.specs.declared.event.Statement.{Statement}
+use Rattle.board_spec.specs.Limits.{most_statements, most_phases, most_pulses, most_card_memory}
 use Rattle.board_spec.specs.Setup.{Setup, IsCardList, memory_of_cards}
 use Rattle.board_spec.specs.InRange.{IsScripted}
 use Rattle.script_spec.specs.Grammar.{IsName}
@@ -25,10 +26,10 @@ pub record IsInRangeScript (script : Script) : Type 0 where
   pub rom : IsName script.rom
   pub disk : IsDiskName script.disk
   pub cards : IsCardList script.cards
-  pub windows : memory_of_cards script.cards ≤ 0x400_0000
+  pub windows : memory_of_cards script.cards ≤ most_card_memory
   pub each :
       (setup : Setup) → setup.cards ≡ script.cards →
       All (IsScripted setup script.version script.cpus) (statements_in script)
-  pub statements : length (statements_in script) ≤ 250_000
-  pub phases : length script.phases ≤ 1_000
-  pub pulses : sum_by (λ statement. pulses_of_event statement.event) (statements_in script) ≤ 100_000_000
+  pub statements : length (statements_in script) ≤ most_statements
+  pub phases : length script.phases ≤ most_phases
+  pub pulses : sum_by (λ statement. pulses_of_event statement.event) (statements_in script) ≤ most_pulses

@@ -4,6 +4,7 @@ use Rattle.std.specs.Option.{option_map}
 use Rattle.std.specs.List.{list_any, find}
 use Rattle.std.specs.List.Sorted.{IsPermutation}
 use Rattle.board_spec.specs.declared.event.Statement.{Statement}
+use Rattle.board_spec.specs.Limits.{most_statements, most_phases, most_pulses, most_card_memory}
 use Rattle.board_spec.specs.Setup.{Rises, memory_of_cards}
 use Rattle.script_spec.specs.Grammar.{Item, SetCpus, SetMemory, SetRom, SetDisk}
 use Rattle.script_spec.specs.Reasons.{is_phase, is_statement, is_setup, is_cpus, is_memory, is_rom, is_disk, is_cpus_above, cards_of, has_setup, pulses_of, is_misplaced, is_repeated, least_reason}
@@ -14,10 +15,10 @@ use Rattle.script_text.specs.Faults.{number_of}
 
 -- no limit is passed
 pub record IsWithinLimits (reading : Reading) : Type 0 where
-  pub statements : reading.statements ≤ 250_000
-  pub phases : length reading.phases.items ≤ 1_000
-  pub pulses : reading.pulses ≤ 100_000_000
-  pub memory : reading.memory ≤ 0x400_0000
+  pub statements : reading.statements ≤ most_statements
+  pub phases : length reading.phases.items ≤ most_phases
+  pub pulses : reading.pulses ≤ most_pulses
+  pub memory : reading.memory ≤ most_card_memory
 
 -- vectors as the lists of their items
 abbrev pub lists_of : {Z : Type 0} → List (Vec Statement Z) → List (List Statement)

@@ -2,6 +2,7 @@
 
 ghost use Rattle.std.specs.Prelude.{◌≡◌, ◌≤◌, ◌<◌, ◌+◌, ◌&&◌, ◌||◌, nat_lt, true, is_some, ℕ, List, length, sum_by, IfOk, IsTrue};
 ghost use Rattle.std.specs.List.{list_any};
+ghost use Rattle.board_spec.specs.Limits.{most_statements, most_pulses};
 ghost use Rattle.board_spec.specs.Setup.{IsBase, IsCard, memory_size};
 ghost use Rattle.pci_bars.specs.Bases.{base_of};
 ghost use Rattle.script_spec.specs.Grammar.{Item as Said, SetCpus, SetMemory, SetRom, SetDisk, FitCard, BeginPhase, Ask, IsForm};
@@ -188,8 +189,8 @@ impl Reading {
     fn is_past_limit(&self, event: &Event) -> bool
         requires limits { IsWithinLimits self.now }
         requires few { pulses_of_event event.now ≤ 1_000_000 }
-        ensures past { result ≡ (nat_lt 250_000 (self.now.statements + 1)
-            || nat_lt 100_000_000 (pulses_of_event event.now + self.now.pulses)) }
+        ensures past { result ≡ (nat_lt most_statements (self.now.statements + 1)
+            || nat_lt most_pulses (pulses_of_event event.now + self.now.pulses)) }
     {
         self.statements == MOST_STATEMENTS as u32 || self.pulses + pulses_of(event) > MOST_PULSES
     }

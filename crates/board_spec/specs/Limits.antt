@@ -1,0 +1,20 @@
+-- How much a script may ask of a board, and how much a board keeps.
+use Rattle.std.specs.Prelude.{ℕ}
+
+-- the most statements, phases and pulses of a script
+abbrev pub most_statements : ℕ
+most_statements = 250_000
+
+abbrev pub most_phases : ℕ
+most_phases = 1_000
+
+abbrev pub most_pulses : ℕ
+most_pulses = 100_000_000
+
+-- the most bytes behind the memory bases of all cards
+abbrev pub most_card_memory : ℕ
+most_card_memory = 0x400_0000
+
+-- a history has fewer entries than this, and so fewer map writes
+abbrev pub entry_limit : ℕ
+entry_limit = 4_000_000
