@@ -1,3 +1,4 @@
+pub mod Over
 pub mod PhaseRun
 pub mod Places
 pub mod Placing

@@ -5,11 +5,13 @@
 #![tactic(auto)]
 
 mod done;
+mod entry;
 mod history;
 pub mod laws;
 mod next;
 
 pub use done::Done;
+pub use entry::RunEntry;
 pub use history::{MOST_PROCESSORS, RunHistory, Works, has_looks};
 
 #[cfg(test)]

@@ -1,0 +1,59 @@
+//! An entry of the history of a run, in few bytes.
+
+ghost use Rattle.std.specs.Prelude.{◌≡◌, length};
+ghost use Rattle.run_order.specs.Over.{IsWithin, entry_of};
+
+use board_base::Kind;
+use board_spec::{Entry, Event, Look, Reply};
+
+/// An entry of the history of a run, in few bytes.
+#[derive(Clone, Copy, PartialEq, Eq, Debug)]
+pub enum RunEntry {
+    /// It went through the bus turn: the bus's history has its event and its reply, at this place, counted from 0.
+    Bus {
+        actor: u8,
+        seq: u32,
+        place: u32,
+    },
+    /// A look at the published map.
+    Look {
+        actor: u8,
+        seq: u32,
+        kind: Kind,
+        smm: bool,
+        addr: u32,
+        look: Look,
+    },
+}
+
+impl RunEntry {
+    /// The whole entry, over the bus's history with the oldest entry first.
+    pub fn over(&self, bus: &[Entry]) -> Entry
+        requires within { IsWithin (length bus.now) self.now }
+        ensures entry { result ≡ entry_of bus.now self.now }
+    {
+        match *self {
+            RunEntry::Bus { actor, seq, place } => {
+                let entry = bus[place as usize];
+                Entry {
+                    actor,
+                    seq,
+                    ..entry
+                }
+            }
+            RunEntry::Look {
+                actor,
+                seq,
+                kind,
+                smm,
+                addr,
+                look,
+            } => Entry {
+                actor,
+                seq,
+                event: Event::Look { kind, addr, smm },
+                reply: Reply::Saw(look),
+            },
+        }
+    }
+}
