@@ -1,13 +1,19 @@
 -- How many looks there are, and how many entries each has.
-use Rattle.std.proofs.Common.{◌≡◌, ℕ, zero, suc, ◌+◌, ◌^◌, ◌<◌, ◌≤◌, ◌==◌, List, [], ◌∷◌, ◌++◌, length, map, take, get_or, set, Any, refl, ◌∙◌, ap, arith, inl, inr}
-use Rattle.std.specs.Prelude.{slice_index}
-use Rattle.std.proofs.lemmas.Bool.{cases_Bool, cases_lt}
-use Rattle.std.proofs.lemmas.List.{take_more, map-append}
+use Rattle.std.proofs.Common.{◌≡◌, ℕ, zero, suc, ◌+◌, ◌-◌, ◌^◌, ◌<◌, ◌≤◌, ◌==◌, true, false, List, [], ◌∷◌, ◌++◌, length, map, take, get_or, set, Any, refl, sym, ◌∙◌, ap, subst, arith, inl, inr}
+use Rattle.std.specs.Prelude.{slice_index, reverse}
+use Rattle.std.proofs.lemmas.Bool.{cases_Bool, cases_lt, cases_eq}
+use Rattle.std.proofs.lemmas.Bool.Decides.{nat_tests}
+use Rattle.std.proofs.lemmas.List.{take_more, map-append, length-map, get_or-set_other, reverse-append, length-reverse}
+use Rattle.std.proofs.lemmas.Grind.{get_or-set_at}
+use Rattle.std.proofs.lemmas.List.Elements.{All-cons}
 use Rattle.board_spec.specs.declared.event.Entry.{Entry}
 use Rattle.board_spec.specs.Legal.{entries_by}
 use Rattle.run_order.specs.declared.done.Done.{Done}
 use Rattle.run_order.specs.declared.done.Done.TheVariants.{Went, Looked}
-use Rattle.run_order.specs.Room.{IsCounted, looks_in, all_looks_in, IsLook, HaveLooked}
+use Rattle.run_order.specs.declared.entry.RunEntry.{RunEntry}
+use Rattle.run_order.specs.Over.{IsWithin, entry_of, over}
+use Rattle.run_order.proofs.Over.{within_more}
+use Rattle.run_order.specs.Room.{Order, IsOrder, looks_in, all_looks_in, IsLook, HaveLooked}
 
 looks_append : (xs ys : List Done) → looks_in (xs ++ ys) ≡ looks_in xs + looks_in ys
 looks_append [] ys = omega arith
@@ -52,13 +58,63 @@ no_more_by (entry ∷ before) actor =
     let below : length (entries_by actor before) ≤ length before = no_more_by before actor in
     elim (cases_Bool (entry.actor == actor)) [ inl same ↦ rw same (omega arith) | inr other ↦ rw other (omega arith) ]
 
--- a processor's next number is small
-pub count_fits : (entries : List Entry) (spare capacity : ℕ) (counts : List ℕ) (actor place : ℕ) → place ≡ actor → actor < 8 → 1 ≤ spare →
-    IsCounted entries spare capacity counts → slice_index counts place + 1 < 2 ^ 32
-count_fits entries spare capacity counts actor place same below some kept =
-    let count : slice_index counts actor ≡ length (entries_by actor entries) = kept.counted actor below in
-    let few : length (entries_by actor entries) ≤ length entries = no_more_by entries actor in
-    rw same (omega (arith, kept.few))
+-- a processor's next number is small, and so is the next place
+pub number_fits : (order : Order) (capacity : ℕ) (counts : List ℕ) (actor place : ℕ) → place ≡ actor → actor < 8 → 1 ≤ order.spare →
+    IsOrder order capacity counts → slice_index counts place + 1 < 2 ^ 32
+number_fits order capacity counts actor place same below some kept =
+    let count : slice_index counts actor ≡ length (entries_by actor (over [] order.entries)) = kept.counted [] actor below in
+    let few : length (entries_by actor (over [] order.entries)) ≤ length (over [] order.entries) = no_more_by (over [] order.entries) actor in
+    let size : length (over [] order.entries) ≡ length order.entries = length-map order.entries (entry_of []) in
+    rw same (omega (arith, count, few, size, kept.few, some))
+
+pub place_fits : (order : Order) (capacity : ℕ) (counts : List ℕ) → 1 ≤ order.spare → IsOrder order capacity counts → order.bus + 1 < 2 ^ 32
+place_fits order capacity counts some kept = omega (arith, kept.fewer, kept.few, some)
+
+counts_more : (counts : List ℕ) (actor other : ℕ) (entry : Entry) (before : List Entry) → length counts ≡ 8 → other < 8 → entry.actor ≡ actor
+    → slice_index counts other ≡ length (entries_by other before)
+    → slice_index (set counts actor (slice_index counts actor + 1)) other ≡ length (entries_by other (entry ∷ before))
+counts_more counts actor other entry before eight small own was = elim (cases_eq other actor) [
+  | inl same ↦
+      let is : (entry.actor == other) ≡ true = grind (arith, nat_tests) in
+      let new = get_or-set_at counts actor other (get_or counts actor 0 + 1) 0 same (omega (arith, eight, small, same)) in
+      let old = ap (slice_index counts) same in
+      rw is (omega (arith, new, old, was))
+  | inr not ↦
+      let isnt : (entry.actor == other) ≡ false = grind (arith, nat_tests) in
+      rw isnt (get_or-set_other counts actor other (get_or counts actor 0 + 1) 0 not ∙ was)
+]
+
+-- an entry more
+pub order_more : (items items' : List RunEntry) (spare bus capacity capacity' : ℕ) (counts : List ℕ) (actor place : ℕ) (entry : RunEntry) (bus' : ℕ)
+    → IsOrder (record { entries = reverse items; spare = spare; bus = bus }) capacity counts → items' ≡ items ++ entry ∷ [] → capacity ≤ capacity' → length counts ≡ 8
+    → place ≡ actor → actor < 8 → ((of_bus : List Entry) → (entry_of of_bus entry).actor ≡ actor) → IsWithin bus' entry → bus ≤ bus' → bus' ≤ bus + 1 → 1 ≤ spare
+    → IsOrder (record { entries = reverse items'; spare = spare - 1; bus = bus' }) capacity' (set counts place (slice_index counts place + 1))
+order_more items items' spare bus capacity capacity' counts actor place entry bus' kept more wider eight same below own within least next some =
+    let old : List RunEntry = reverse items in
+    let is : reverse items' ≡ entry ∷ old = ap reverse more ∙ reverse-append items (entry ∷ []) in
+    subst (λ (z : List RunEntry × ℕ). IsOrder (record { entries = z.0; spare = spare - 1; bus = bus' }) capacity' (set counts z.1 (slice_index counts z.1 + 1))) (λ t. (sym is t, sym same t))
+    (record {
+      room = omega (arith, kept.room, some, wider);
+      few = omega (arith, kept.few, some);
+      fewer = omega (arith, kept.fewer, next);
+      within = All-cons (IsWithin bus') entry old within (λ k d less. within_more bus bus' least (get_or old k d) (kept.within k d less));
+      counted = λ of_bus other small. counts_more counts actor other (entry_of of_bus entry) (over of_bus old) eight small (own of_bus) (kept.counted of_bus other small);
+    })
+
+-- room for more
+pub order_reserved : (items items' : List RunEntry) (spare bus capacity capacity' : ℕ) (counts : List ℕ) (n : ℕ)
+    → IsOrder (record { entries = reverse items; spare = spare; bus = bus }) capacity counts → items' ≡ items → length items + n ≤ capacity' → length items + n < 2 ^ 32
+    → IsOrder (record { entries = reverse items'; spare = n; bus = bus }) capacity' counts
+order_reserved items items' spare bus capacity capacity' counts n kept same room few =
+    let size : length (reverse items) ≡ length items = length-reverse items in
+    subst (λ (all : List RunEntry). IsOrder (record { entries = reverse all; spare = n; bus = bus }) capacity' counts) (sym same)
+    (record {
+      room = omega (arith, size, room);
+      few = omega (arith, size, few);
+      fewer = kept.fewer;
+      within = kept.within;
+      counted = kept.counted;
+    })
 
 -- ---- who looked
 

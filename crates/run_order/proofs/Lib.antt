@@ -6,6 +6,7 @@ pub mod Following
 pub mod Histories
 pub mod Legality
 pub mod Looked
+pub mod Over
 pub mod Phases
 pub mod Runs
 pub mod Settled

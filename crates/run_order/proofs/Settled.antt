@@ -8,7 +8,7 @@ use Rattle.board_spec.specs.Legal.{next_entry}
 use Rattle.run_order.specs.declared.done.Done.{Done}
 use Rattle.run_order.specs.declared.done.Done.TheVariants.{Went, Looked}
 use Rattle.run_order.specs.Placing.{with_looks, left_after, with_all_looks, all_left, done_by, without_first, passed, noted, placed}
-use Rattle.run_order.specs.Room.{Entries, looks_in, all_looks_in}
+use Rattle.run_order.specs.Room.{looks_in, all_looks_in}
 use Rattle.run_order.specs.Settled.{IsNotDue, IsSettled, IsSettledBut}
 use Rattle.run_order.proofs.Counts.{count_set}
 use Rattle.run_order.proofs.Steps.{ArePlaced, placed_step}
@@ -143,10 +143,10 @@ looked_again later i start version old rests left before now looked spare spare'
 -- no look was due before the entry
 pub next_placed : (later : List Entry) (i start version : ℕ) (old rests : List (List Done)) (before now : List Entry) (spare : ℕ)
     → ArePlaced later i start version old rests before now spare → IsSettled version rests
-    → i < length later → All (λ e. e.actor < length old) later → (d : Entry) (next : Entries)
-    → next ≡ record { entries = next_entry now (get_or later i d).actor (get_or later i d).event (get_or later i d).reply ∷ now; spare = spare - 1 }
+    → i < length later → All (λ e. e.actor < length old) later → (d : Entry) (next : List Entry)
+    → next ≡ next_entry now (get_or later i d).actor (get_or later i d).event (get_or later i d).reply ∷ now
     → (place version' : ℕ) (rest : List Done) → place ≡ (get_or later i d).actor → version' ≡ noted version (get_or rests place []) → rest ≡ without_first (get_or rests place [])
-    → ArePlaced later (i + 1) start version' old (set rests place rest) before next.entries next.spare
+    → ArePlaced later (i + 1) start version' old (set rests place rest) before next (spare - 1)
 next_placed later i start version old rests before now spare so settled less callers d next next_is place version' rest place_is version_is rest_is =
     placed_step later i start version old rests before now spare so less callers d next rests now spare next_is (sym (settled_left version rests settled))
     (sym (settled_placed version 0 rests now settled)) refl place version' rest place_is version_is rest_is

@@ -1,14 +1,15 @@
 -- One entry of the bus after another.
 use Rattle.std.proofs.Common.{◌≡◌, ℕ, zero, suc, ◌+◌, ◌-◌, ◌<◌, ◌≤◌, ◌==◌, true, false, List, [], ◌∷◌, length, All, drop, get_or, set, refl, sym, ◌∙◌, ap, subst, arith}
 use Rattle.std.proofs.lemmas.Bool.Decides.{nat_tests}
-use Rattle.std.proofs.lemmas.List.{drop_more, drop_all, length-map, length-set}
+use Rattle.std.proofs.lemmas.List.{drop_more, drop_all, length-map, length-set, get_or-drop, get_or_default}
 use Rattle.std.proofs.lemmas.List.Elements.{All-get_or}
 use Rattle.board_spec.specs.declared.event.Entry.{Entry}
 use Rattle.run_order.specs.declared.done.Done.{Done}
 use Rattle.run_order.specs.declared.done.Done.TheVariants.{Went, Looked}
 use Rattle.board_spec.specs.Legal.{next_entry}
+use Rattle.run_order.specs.Over.{nowhere}
 use Rattle.run_order.specs.Placing.{left_after, with_all_looks, all_left, done_by, without_first, passed, noted, placed}
-use Rattle.run_order.specs.Room.{Entries, looks_in, all_looks_in}
+use Rattle.run_order.specs.Room.{looks_in, all_looks_in}
 use Rattle.run_order.proofs.Counts.{count_set}
 
 pub done_at : (rests : List (List Done)) (first k : ℕ) → done_by first (first + k) rests ≡ get_or rests k []
@@ -88,19 +89,28 @@ placed_last later i start version old rests before now spare so past =
 
 -- the same, as the loop has it
 pub placed_step : (later : List Entry) (i start version : ℕ) (old rests : List (List Done)) (before now : List Entry) (spare : ℕ) → ArePlaced later i start version old rests before now spare →
-    i < length later → All (λ e. e.actor < length old) later → (d : Entry) (next : Entries) (left : List (List Done)) (looked : List Entry) (spare' : ℕ) →
-    next ≡ record { entries = next_entry looked (get_or later i d).actor (get_or later i d).event (get_or later i d).reply ∷ looked; spare = spare' - 1 } →
+    i < length later → All (λ e. e.actor < length old) later → (d : Entry) (next : List Entry) (left : List (List Done)) (looked : List Entry) (spare' : ℕ) →
+    next ≡ next_entry looked (get_or later i d).actor (get_or later i d).event (get_or later i d).reply ∷ looked →
     left ≡ all_left version rests → looked ≡ with_all_looks version 0 rests now → spare' + all_looks_in rests ≡ spare + all_looks_in left →
     (place version' : ℕ) (rest : List Done) → place ≡ (get_or later i d).actor → version' ≡ noted version (get_or left place []) → rest ≡ without_first (get_or left place []) →
-    ArePlaced later (i + 1) start version' old (set left place rest) before next.entries next.spare
+    ArePlaced later (i + 1) start version' old (set left place rest) before next (spare' - 1)
 placed_step later i start version old rests before now spare so less callers d next left looked spare' next_is left_is looked_is spare_is place version' rest place_is version_is rest_is =
     let entry : Entry = get_or later i d in
     let own : entry.actor < length old = All-get_or (λ (e : Entry). e.actor < length old) later i d less callers in
     let new = placed_next later i start version old rests before now spare so less entry d refl (omega (arith, own, so.same)) left looked spare' left_is looked_is spare_is in
-    let there : ArePlaced later (i + 1) start (noted version (get_or left place [])) old (set left place (without_first (get_or left place []))) before next.entries next.spare =
-    subst (λ (z : ℕ × Entries). ArePlaced later (i + 1) start (noted version (get_or left z.0 [])) old (set left z.0 (without_first (get_or left z.0 []))) before z.1.entries z.1.spare)
+    let there : ArePlaced later (i + 1) start (noted version (get_or left place [])) old (set left place (without_first (get_or left place []))) before next (spare' - 1) =
+    subst (λ (z : ℕ × List Entry). ArePlaced later (i + 1) start (noted version (get_or left z.0 [])) old (set left z.0 (without_first (get_or left z.0 []))) before z.1 (spare' - 1))
     (λ t. (sym place_is t, sym next_is t)) new in
-    subst (λ (z : ℕ × List Done). ArePlaced later (i + 1) start z.0 old (set left place z.1) before next.entries next.spare) (λ t. (sym version_is t, sym rest_is t)) there
+    subst (λ (z : ℕ × List Done). ArePlaced later (i + 1) start z.0 old (set left place z.1) before next (spare' - 1)) (λ t. (sym version_is t, sym rest_is t)) there
+
+-- the next entry of the bus's history is that of the phase
+pub next_of_later : (bus later now next : List Entry) (start i place : ℕ) (d : Entry) → later ≡ drop start bus → place ≡ start + i → i < length later
+    → next ≡ next_entry now (get_or later i d).actor (get_or bus place nowhere).event (get_or bus place nowhere).reply ∷ now
+    → next ≡ next_entry now (get_or later i d).actor (get_or later i d).event (get_or later i d).reply ∷ now
+next_of_later bus later now next start i place d is place_is less pushed =
+    let at : get_or bus place nowhere ≡ get_or later i d =
+    ap (λ (n : ℕ). get_or bus n nowhere) place_is ∙ (sym (get_or-drop start bus i nowhere) ∙ (ap (λ (l : List Entry). get_or l i nowhere) (sym is) ∙ get_or_default later i nowhere d less)) in
+    pushed ∙ (λ t. next_entry now (get_or later i d).actor (at t).event (at t).reply ∷ now)
 
 pub own_place : (later : List Entry) (i n : ℕ) (d : Entry) (place : ℕ) → place ≡ (get_or later i d).actor → i < length later → All (λ e. e.actor < n) later → place < n
 own_place later i n d place is less callers = let own = All-get_or (λ (e : Entry). e.actor < n) later i d less callers in omega (arith, is, own)

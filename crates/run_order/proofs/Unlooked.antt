@@ -1,5 +1,5 @@
 -- Where nobody looked, the placed history is that of the bus.
-use Rattle.std.proofs.Common.{◌≡◌, ℕ, ◌+◌, ◌-◌, ◌<◌, ◌==◌, List, [], ◌∷◌, ◌++◌, length, take, drop, get_or, refl, sym, ◌∙◌, ap, subst, arith, inl, inr}
+use Rattle.std.proofs.Common.{◌≡◌, ℕ, ◌+◌, ◌<◌, ◌==◌, List, [], ◌∷◌, ◌++◌, length, take, drop, get_or, refl, sym, ◌∙◌, ap, subst, arith, inl, inr}
 use Rattle.std.specs.Prelude.{reverse}
 use Rattle.std.proofs.lemmas.Bool.{cases_Bool}
 use Rattle.std.proofs.lemmas.List.{take_more, drop_more, reverse-append, take-append-drop}
@@ -9,7 +9,7 @@ use Rattle.board_spec.specs.Legal.{IsLegal, IsNext, next_entry}
 use Rattle.run_order.specs.declared.done.Done.{Done}
 use Rattle.run_order.specs.declared.done.Done.TheVariants.{Went, Looked}
 use Rattle.run_order.specs.Placing.{with_looks, left_after, with_all_looks, all_left, without_first, passed, done_by, noted, placed}
-use Rattle.run_order.specs.Room.{Entries, looks_in, all_looks_in}
+use Rattle.run_order.specs.Room.{looks_in, all_looks_in}
 use Rattle.run_order.proofs.Histories.{onto, onto_is}
 
 -- ---- entries of a legal history
@@ -102,13 +102,9 @@ next_of_bus setup entries i d legal less =
 
 -- the same, as the loop has it
 pub begin_step : (setup : Setup) (entries : List Entry) (i : ℕ) (d : Entry) → IsLegal setup (reverse entries) → i < length entries
-    → (history : List Entry) (spare : ℕ) → history ≡ reverse (take i entries) → (next : Entries)
-    → next ≡ record {
-      entries = next_entry history (get_or entries i d).actor (get_or entries i d).event (get_or entries i d).reply ∷ history;
-      spare = spare - 1;
-    }
-    → next.entries ≡ reverse (take (i + 1) entries)
-begin_step setup entries i d legal less history spare is next pushed =
+    → (history : List Entry) → history ≡ reverse (take i entries) → (next : List Entry)
+    → next ≡ next_entry history (get_or entries i d).actor (get_or entries i d).event (get_or entries i d).reply ∷ history
+    → next ≡ reverse (take (i + 1) entries)
+begin_step setup entries i d legal less history is next pushed =
     let entry : Entry = get_or entries i d in
-    ap (λ (e : Entries). e.entries) pushed
-    ∙ (ap (λ (h : List Entry). next_entry h entry.actor entry.event entry.reply ∷ h) is ∙ next_of_bus setup entries i d legal less)
+    pushed ∙ (ap (λ (h : List Entry). next_entry h entry.actor entry.event entry.reply ∷ h) is ∙ next_of_bus setup entries i d legal less)

@@ -6,13 +6,13 @@
 
 mod done;
 mod entry;
-mod history;
 pub mod laws;
 mod next;
+mod order;
 
 pub use done::Done;
 pub use entry::RunEntry;
-pub use history::{MOST_PROCESSORS, RunHistory, Works, has_looks};
+pub use order::{MOST_PROCESSORS, RunOrder, Works, has_looks};
 
 #[cfg(test)]
 mod tests;

@@ -2,18 +2,22 @@
 
 ghost use Rattle.std.specs.Prelude.{◌≡◌, [], ◌∷◌, ◌+◌, ◌<◌, ◌≤◌, ℕ, List, length, IfSome, MatchOption};
 ghost use Rattle.board_spec.specs.declared.event.Entry.{Entry};
+ghost use Rattle.board_spec.specs.declared.event.Event.TheVariants.{Look as LookAt};
 ghost use Rattle.board_spec.specs.declared.event.Reply.TheVariants.{Saw};
 ghost use Rattle.board_spec.specs.Legal.{next_entry};
 ghost use Rattle.run_order.specs.Placing.{with_looks, left_after, without_first, noted};
 ghost use Rattle.run_order.specs.Room.{looks_in};
 
 use crate::done::Done;
-use board_spec::{Event, Look};
+use board_base::Kind;
+use board_spec::Look;
 
 /// A look that is due, and what its processor did after it.
 #[derive(Clone, Copy)]
 pub(crate) struct NextLook<'a> {
-    pub event: Event,
+    pub kind: Kind,
+    pub addr: u32,
+    pub smm: bool,
     pub look: Look,
     pub after: &'a [Done],
 }
@@ -24,7 +28,8 @@ pub(crate) fn due_look(version: u32, done: &[Done]) -> Option<NextLook<'_>>
     ensures places { (actor : ℕ) (history : List Entry) → MatchOption result
         (with_looks version actor done.now history ≡ history)
         (λ next. with_looks version actor done.now history
-        ≡ with_looks version actor next.after.now (next_entry history actor next.event (Saw next.look) ∷ history)) }
+        ≡ with_looks version actor next.after.now
+        (next_entry history actor (LookAt next.kind next.addr next.smm) (Saw next.look) ∷ history)) }
     ensures left { MatchOption result (left_after version done.now ≡ done.now)
         (λ next. left_after version done.now ≡ left_after version next.after.now) }
     ensures shorter { IfSome result (λ next. length next.after.now + 1 ≡ length done.now) }
@@ -40,24 +45,26 @@ pub(crate) fn due_look(version: u32, done: &[Done]) -> Option<NextLook<'_>>
             },
             after @ ..,
         ] => {
-            let event = Event::Look {
+            let next = NextLook {
                 kind: *kind,
                 addr: *addr,
                 smm: *smm,
+                look: *look,
+                after,
             };
-            if_due(version, event, *look, after)
+            if_due(version, next)
         }
         _ => None,
     }
 }
 
 /// A look, where it is of this version of the map or of one before.
-fn if_due(version: u32, event: Event, look: Look, after: &[Done]) -> Option<NextLook<'_>>
-    ensures due { MatchOption result (version < look.version) (λ next. (look.version ≤ version)
-        × (next.event ≡ event) × (next.look ≡ look) × (next.after.now ≡ after.now)) }
+fn if_due(version: u32, next: NextLook<'_>) -> Option<NextLook<'_>>
+    ensures due { MatchOption result (version < next.entry.look.version)
+        (λ due. (next.entry.look.version ≤ version) × (due ≡ next.entry)) }
 {
-    if look.version <= version {
-        Some(NextLook { event, look, after })
+    if next.look.version <= version {
+        Some(next)
     } else {
         None
     }

@@ -1,8 +1,9 @@
 //! The places of looks, by hand.
 
-ghost use Rattle.std.specs.Prelude.{◌<◌, length, All, IsTrue};
+ghost use Rattle.std.specs.Prelude.{◌<◌, ◌≤◌, length, All, IsTrue, OnOk};
+ghost use Rattle.run_order.specs.Over.{IsWithin};
 
-use crate::{Done, RunHistory, Works};
+use crate::{Done, RunEntry, RunOrder, Works};
 use arrayvec::ArrayVec;
 use board_base::{Area, Dev, Kind, PortAccess, Reg, Target, Width};
 use board_spec::{Entry, Event, Look, Reply};
@@ -103,12 +104,13 @@ fn entry_of(actor: u8, seq: u32, call: Call) -> Entry {
     }
 }
 
-fn later_of(alloc: Global, calls: &[(u8, Call)]) -> Result<Vec<Entry>, Fail> {
-    let mut later = Vec::new(alloc);
+fn add_calls(bus: &mut Vec<Entry>, calls: &[(u8, Call)]) -> Result<(), Fail>
+    ensures longer { OnOk result (length bus.old.items ≤ length bus.new.items) }
+{
     for (actor, call) in calls {
-        later.push(entry_of(*actor, 1, *call))?;
+        bus.push(entry_of(*actor, 1, *call))?;
     }
-    Ok(later)
+    Ok(())
 }
 
 fn works_of(rt: &impl Abort, lists: &[&'static [Done]]) -> Works<'static> {
@@ -122,11 +124,11 @@ fn works_of(rt: &impl Abort, lists: &[&'static [Done]]) -> Works<'static> {
     works
 }
 
-fn have_callers(later: &[Entry], works: &Works) -> bool
-    ensures callers { IsTrue result → All (λ entry. entry.actor < length works.now.items) later.now }
+fn have_callers(bus: &[Entry], works: &Works) -> bool
+    ensures callers { IsTrue result → All (λ entry. entry.actor < length works.now.items) bus.now }
 {
     let count = works.len();
-    later.iter().all(|entry| usize::from(entry.actor) < count)
+    bus.iter().all(|entry| usize::from(entry.actor) < count)
 }
 
 fn told(entry: &Entry) -> (u8, u32, Option<u32>) {
@@ -137,19 +139,39 @@ fn told(entry: &Entry) -> (u8, u32, Option<u32>) {
     (entry.actor, entry.seq, version)
 }
 
+/// Whether the entries of an order from a place on are these.
+fn are_placed(
+    bus: &[Entry],
+    entries: &[RunEntry],
+    from: usize,
+    placed: &[(u8, u32, Option<u32>)],
+) -> bool
+    requires within { All (IsWithin (length bus.now)) entries.now }
+{
+    if entries.len() != from.saturating_add(placed.len()) {
+        return false;
+    }
+    for (i, expected) in placed.iter().enumerate() {
+        if told(&entries[from + i].over(bus)) != *expected {
+            return false;
+        }
+    }
+    true
+}
+
 /// Runs phases one after another, and compares what each added.
 fn run(rt: &impl Abort, alloc: Global, phases: &[Phase]) -> Result<(), Fail> {
-    let mut history = RunHistory::new(alloc);
+    let mut order = RunOrder::new(alloc);
+    let mut bus = Vec::new(alloc);
     for phase in phases {
-        let before = history.entries().len();
-        let later = later_of(alloc, phase.calls)?;
+        let before = order.entries().len();
+        add_calls(&mut bus, phase.calls)?;
         let works = works_of(rt, phase.works);
-        if !have_callers(&later, &works) {
+        if !have_callers(&bus, &works) {
             panic!(rt; "a call of no processor");
         }
-        history.place(phase.version, &later, works)?;
-        let placed = history.entries().iter().skip(before).map(told);
-        assert!(rt; placed.eq(phase.placed.iter().copied()));
+        order.place(phase.version, &bus, works)?;
+        assert!(rt; are_placed(&bus, order.entries(), before, phase.placed));
     }
     Ok(())
 }

@@ -1,7 +1,7 @@
 use Rattle.std.proofs.Common.{◌≡◌, ◌+◌, ◌<◌, ◌≤◌, length, map}
 use Rattle.std.specs.Prelude.{take}
 use Rattle.run_order.specs.Room.{most, all_looks_in}
-use Rattle.run_order.proofs.history.entries_in.Given as goal
+use Rattle.run_order.proofs.order.entries_in.Given as goal
 
 abbrev pub invariant-loop-done : goal.invariant-loop-done
 invariant-loop-done l = record {

@@ -1,6 +1,6 @@
 use Rattle.std.proofs.Common.{[], arith}
 use Rattle.run_order.proofs.Counts.{count_next}
-use Rattle.run_order.proofs.history.entries_in.Goals as goal
+use Rattle.run_order.proofs.order.entries_in.Goals as goal
 
 pub loop-done-init : goal.loop-done-init
 loop-done-init c = record { count = λ few. omega arith; small = omega arith }
