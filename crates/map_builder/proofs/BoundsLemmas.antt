@@ -93,7 +93,7 @@ windows_ordered setup bytes reg =
           ])
     ]
 
-covered_ordered : (setup : Setup) (bytes : Bytes) (change : MapChange) → Ordered (windows_covered setup bytes change)
+pub covered_ordered : (setup : Setup) (bytes : Bytes) (change : MapChange) → Ordered (windows_covered setup bytes change)
 unfolding windows_covered
 covered_ordered setup bytes Reset = (omega arith, tt)
 covered_ordered setup bytes (Store reg width value) =

@@ -1,13 +1,15 @@
 -- After a change the ranges of a map are right again for each address outside the bounds of the changed windows.
-use Rattle.std.proofs.Common.{◌≡◌, ℕ, zero, suc, ◌+◌, ◌<◌, ◌≤◌, Bool, true, false, inl, inr, List, [], ◌∷◌, ◌++◌, length, get_or, Option, refl, sym, ◌∙◌, ap, subst, arith}
+use Rattle.std.proofs.Common.{◌≡◌, ℕ, zero, suc, ◌+◌, ◌<◌, ◌≤◌, Bool, true, false, inl, inr, List, [], ◌∷◌, ◌++◌, length, get_or, take, Option, refl, sym, ◌∙◌, ap, subst, arith}
 use Rattle.std.proofs.lemmas.Bool.{cases_Bool}
-use Rattle.std.specs.Prelude.{IfSome}
+use Rattle.std.specs.Prelude.{IfSome, ◌==◌, ◌||◌, nat_le, flat_map}
+use Rattle.std.proofs.lemmas.Bool.Decides.{nat_tests}
 use Rattle.board_base.specs.declared.access.Width.{Width}
 use Rattle.board_base.specs.declared.target.Reg.{Reg}
 use Rattle.board_spec.specs.declared.map_change.MapChange.{MapChange}
-use Rattle.board_spec.specs.declared.map_change.MapChange.TheVariants.{Store}
+use Rattle.board_spec.specs.declared.map_change.MapChange.TheVariants.{Store, Reset}
 use Rattle.board_spec.specs.Setup.{Setup}
-use Rattle.board_spec.specs.MapWrites.{touches_map}
+use Rattle.board_spec.specs.MapWrites.{touches_map, reg_after}
+use Rattle.board_base.specs.Access.{bytes_of}
 use Rattle.board_spec.specs.Decode.{Bytes}
 use Rattle.board_spec.specs.FlatMap.{address_count, six_areas, MapRange, Tiles, IsFlatMapOf}
 use Rattle.pci_bars.specs.Cards.{AreFitted, cards_of}
@@ -17,12 +19,12 @@ use Rattle.map_builder.specs.declared.range.Changed.{Changed}
 use Rattle.map_builder.specs.Map.{HasBoard, IsMapOf}
 use Rattle.map_builder.specs.Build.{IsMapWhere, IsBeside}
 use Rattle.map_builder.specs.Sorted.{sorted, Rise, rows_in}
-use Rattle.map_builder.specs.Changed.{after, bounds, windows_covered, changed_windows, most_rows}
+use Rattle.map_builder.specs.Changed.{after, bounds, is_fixed, windows_of, windows_covered, changed_windows, most_rows}
 use Rattle.map_builder.specs.Rows.{stores_rows, AreMoved}
 use Rattle.map_builder.specs.Unchanged.{IsHeldAt, IsSameByte}
-use Rattle.map_builder.proofs.OutsideLemmas.{Outside}
-use Rattle.map_builder.proofs.BoundsLemmas.{changed_ordered, bounds_twice}
-use Rattle.map_builder.proofs.SortedLemmas.{rise_sorted, outside_sorted, rows_few}
+use Rattle.map_builder.proofs.OutsideLemmas.{Outside, and_no}
+use Rattle.map_builder.proofs.BoundsLemmas.{covered_ordered, changed_ordered, bounds_twice}
+use Rattle.map_builder.proofs.SortedLemmas.{rise_sorted, outside_sorted, rows_few, sorted_twice}
 use Rattle.map_builder.proofs.MovedRows.{rows_keep, moved_rise, moved_few}
 use Rattle.map_builder.proofs.UnchangedLemmas.{same_bytes, unchanged_keep}
 use Rattle.map_builder.proofs.KeptStores.{top_after, changes_keep}
@@ -88,32 +90,6 @@ module _ (old new : MapBytes) (change : MapChange) (ranges : List MapRange) (is_
     };
   }
 
--- ---- the windows that are built anew: those that changed, or where rows alone are stored what moves of them
-
-pub build_rise : (setup : Setup) (bytes : Bytes) (change : MapChange) (all windows : List Changed) (old_rows new_rows : List ℕ) (kept : Bool) →
-    (kept ≡ false → all ≡ changed_windows setup bytes change) → (kept ≡ true → windows ≡ []) →
-    (kept ≡ false → stores_rows change ≡ false → windows ≡ sorted all) → (kept ≡ false → stores_rows change ≡ true → AreMoved old_rows new_rows windows) → Rise windows
-build_rise setup bytes change all windows old_rows new_rows true all_is none others rows = rw (none refl) tt
-build_rise setup bytes change all windows old_rows new_rows false all_is none others rows =
-    elim (cases_Bool (stores_rows change)) [
-      | inl is ↦ moved_rise old_rows new_rows windows (rows refl is)
-      | inr not ↦
-          subst Rise (sym (others refl not ∙ ap sorted (all_is refl))) (rise_sorted (changed_windows setup bytes change) (changed_ordered setup bytes change))
-    ]
-
-pub build_few : (setup : Setup) (bytes : Bytes) (change : MapChange) (all windows : List Changed) (old_rows new_rows : List ℕ) (kept : Bool) →
-    (kept ≡ false → all ≡ changed_windows setup bytes change) → (kept ≡ true → windows ≡ []) →
-    (kept ≡ false → stores_rows change ≡ false → windows ≡ sorted all) → (kept ≡ false → stores_rows change ≡ true → AreMoved old_rows new_rows windows) →
-    rows_in (edges_after setup (after setup change bytes)) windows ≤ most_rows setup bytes change
-build_few setup bytes change all windows old_rows new_rows true all_is none others rows = rw (none refl) (omega arith)
-build_few setup bytes change all windows old_rows new_rows false all_is none others rows =
-    let new : Bytes = after setup change bytes in
-    elim (cases_Bool (stores_rows change)) [
-      | inl is ↦ moved_few setup bytes new change old_rows new_rows windows is (rows refl is)
-      | inr not ↦
-          rw (others refl not ∙ ap sorted (all_is refl)) (rows_few setup new (changed_windows setup bytes change) (changed_ordered setup bytes change))
-    ]
-
 -- a register keeps its byte, on each board that has the registers before, and on each that has those after
 pub record KeepsByte (old new : MapBytes) (change : MapChange) : Type 0 where
   pub byte : ℕ
@@ -129,27 +105,100 @@ keeps_byte old new change before later same held held' = record {
   later = λ setup bytes stands. subst (λ (it : Option ℕ). IfSome it (IsHeldAt change bytes)) same.later_is (held' setup bytes stands);
 }
 
--- then the windows that its change covers are the same, and twice the same have the same bounds
-pub bounds_kept : (old new : MapBytes) (setup : Setup) (bytes : Bytes) (change : MapChange) (all : List Changed) (kept : Bool) →
-    StandsFor setup bytes old → StandsFor setup (after setup change bytes) new → (kept ≡ true → KeepsByte old new change) →
-    (kept ≡ true → all ≡ windows_covered setup bytes change) → (kept ≡ false → all ≡ changed_windows setup bytes change) →
-    bounds all ≡ bounds (changed_windows setup bytes change)
-bounds_kept old new setup bytes change all true stands now same once twice =
-    let byte = same refl in
+-- ---- the windows that were found
+
+-- they have the bounds of those that change, and are the same when sorted
+pub record AreFound (setup : Setup) (bytes : Bytes) (change : MapChange) (all : List Changed) : Type 0 where
+  pub bounds_same : bounds all ≡ bounds (changed_windows setup bytes change)
+  pub sorted_same : sorted all ≡ sorted (changed_windows setup bytes change)
+
+-- those of a bridge do not rest on what the registers hold
+bridges_same : (setup : Setup) (bytes bytes' : Bytes) (reg : Reg) → nat_le reg.dev 1 ≡ true → windows_of setup bytes reg ≡ windows_of setup bytes' reg
+bridges_same setup bytes bytes' reg fixed =
+    elim (cases_Bool (reg.fun == 0)) [
+      | inr other ↦ rw (other, and_no (reg.dev == 0), and_no (reg.dev == 1)) refl
+      | inl first ↦
+          elim (cases_Bool (reg.dev == 0)) [
+            | inl host ↦ rw (first, host) refl
+            | inr not_host ↦
+                let south : (reg.dev == 1) ≡ true = grind (arith, nat_tests) in
+                rw (first, not_host, south) refl
+          ]
+    ]
+
+fixed_same : (setup : Setup) (bytes bytes' : Bytes) (change : MapChange) → is_fixed change ≡ true → windows_covered setup bytes change ≡ windows_covered setup bytes' change
+unfolding windows_covered
+fixed_same setup bytes bytes' Reset fixed = refl
+fixed_same setup bytes bytes' (Store reg width value) fixed =
+    ap (λ (windows : ℕ → List Changed). flat_map windows (take (bytes_of width) (0 ∷ 1 ∷ 2 ∷ 3 ∷ [])))
+    (λ i k. bridges_same setup bytes bytes' (reg_after reg k) fixed i)
+
+kept_same : (old new : MapBytes) (setup : Setup) (bytes : Bytes) (change : MapChange) → StandsFor setup bytes old →
+    StandsFor setup (after setup change bytes) new → KeepsByte old new change →
+    windows_covered setup (after setup change bytes) change ≡ windows_covered setup bytes change
+kept_same old new setup bytes change stands now byte =
     let each : (reg : Reg) → after setup change bytes reg ≡ bytes reg =
     same_bytes setup bytes change byte.byte (byte.before setup bytes stands) (byte.later setup (after setup change bytes) now) in
     let bytes_same : after setup change bytes ≡ bytes = λ i reg. each reg i in
-    let windows_same : windows_covered setup (after setup change bytes) change ≡ windows_covered setup bytes change =
-    ap (λ (it : Bytes). windows_covered setup it change) bytes_same in
-    ap bounds (once refl)
-    ∙ sym (bounds_twice (windows_covered setup bytes change))
-    ∙ ap (λ (again : List Changed). bounds (windows_covered setup bytes change ++ again)) (sym windows_same)
-bounds_kept old new setup bytes change all false stands now same once twice = ap bounds (twice refl)
+    ap (λ (it : Bytes). windows_covered setup it change) bytes_same
+
+-- where they are the same after the change, once is as good as twice
+found_once : (setup : Setup) (bytes : Bytes) (change : MapChange) (all : List Changed) → all ≡ windows_covered setup bytes change →
+    windows_covered setup (after setup change bytes) change ≡ windows_covered setup bytes change → AreFound setup bytes change all
+found_once setup bytes change all once same =
+    let covered : List Changed = windows_covered setup bytes change in
+    let twice : changed_windows setup bytes change ≡ covered ++ covered = ap (λ (again : List Changed). covered ++ again) same in
+    record {
+      bounds_same = ap bounds once ∙ sym (bounds_twice covered) ∙ sym (ap bounds twice);
+      sorted_same = ap sorted once ∙ sym (sorted_twice covered (covered_ordered setup bytes change)) ∙ sym (ap sorted twice);
+    }
+
+pub are_found : (old new : MapBytes) (setup : Setup) (bytes : Bytes) (change : MapChange) (all : List Changed) (kept same : Bool) →
+    StandsFor setup bytes old → StandsFor setup (after setup change bytes) new → (kept ≡ true → KeepsByte old new change) →
+    same ≡ (kept || is_fixed change) → (same ≡ true → all ≡ windows_covered setup bytes change) →
+    (same ≡ false → all ≡ changed_windows setup bytes change) → AreFound setup bytes change all
+are_found old new setup bytes change all kept same stands now keeps same_is once twice =
+    elim (cases_Bool same) [
+      | inr move ↦ record { bounds_same = ap bounds (twice move); sorted_same = ap sorted (twice move) }
+      | inl stay ↦
+          elim (cases_Bool kept) [
+            | inl is ↦ found_once setup bytes change all (once stay) (kept_same old new setup bytes change stands now (keeps is))
+            | inr not ↦
+                let fixed : is_fixed change ≡ true = rw not at (sym same_is ∙ stay) in
+                found_once setup bytes change all (once stay) (fixed_same setup (after setup change bytes) bytes change fixed)
+          ]
+    ]
+
+-- ---- the windows that are built anew: those that changed, or where rows alone are stored what moves of them
+
+pub build_rise : (setup : Setup) (bytes : Bytes) (change : MapChange) (all windows : List Changed) (old_rows new_rows : List ℕ) (kept : Bool) →
+    sorted all ≡ sorted (changed_windows setup bytes change) → (kept ≡ true → windows ≡ []) →
+    (kept ≡ false → stores_rows change ≡ false → windows ≡ sorted all) → (kept ≡ false → stores_rows change ≡ true → AreMoved old_rows new_rows windows) → Rise windows
+build_rise setup bytes change all windows old_rows new_rows true all_is none others rows = rw (none refl) tt
+build_rise setup bytes change all windows old_rows new_rows false all_is none others rows =
+    elim (cases_Bool (stores_rows change)) [
+      | inl is ↦ moved_rise old_rows new_rows windows (rows refl is)
+      | inr not ↦
+          subst Rise (sym (others refl not ∙ all_is)) (rise_sorted (changed_windows setup bytes change) (changed_ordered setup bytes change))
+    ]
+
+pub build_few : (setup : Setup) (bytes : Bytes) (change : MapChange) (all windows : List Changed) (old_rows new_rows : List ℕ) (kept : Bool) →
+    sorted all ≡ sorted (changed_windows setup bytes change) → (kept ≡ true → windows ≡ []) →
+    (kept ≡ false → stores_rows change ≡ false → windows ≡ sorted all) → (kept ≡ false → stores_rows change ≡ true → AreMoved old_rows new_rows windows) →
+    rows_in (edges_after setup (after setup change bytes)) windows ≤ most_rows setup bytes change
+build_few setup bytes change all windows old_rows new_rows true all_is none others rows = rw (none refl) (omega arith)
+build_few setup bytes change all windows old_rows new_rows false all_is none others rows =
+    let new : Bytes = after setup change bytes in
+    elim (cases_Bool (stores_rows change)) [
+      | inl is ↦ moved_few setup bytes new change old_rows new_rows windows is (rows refl is)
+      | inr not ↦
+          rw (others refl not ∙ all_is) (rows_few setup new (changed_windows setup bytes change) (changed_ordered setup bytes change))
+    ]
 
 -- beside them the ranges are a map of the new registers
 pub build_beside : (old new : MapBytes) (change : MapChange) (ranges : List MapRange) (is_map : IsMapOf old ranges) →
     StandsFor is_map.board.setup (after is_map.board.setup change is_map.board.bytes) new → (all windows : List Changed) (kept : Bool) →
-    (kept ≡ false → all ≡ changed_windows is_map.board.setup is_map.board.bytes change) → (kept ≡ true → KeepsByte old new change) →
+    sorted all ≡ sorted (changed_windows is_map.board.setup is_map.board.bytes change) → (kept ≡ true → KeepsByte old new change) →
     (kept ≡ false → stores_rows change ≡ false → windows ≡ sorted all) → (kept ≡ false → stores_rows change ≡ true → AreMoved old.drb new.drb windows) → IsMapWhere new (IsBeside windows) ranges
 build_beside old new change ranges is_map stands all windows kept all_is same others rows = record {
   tiles = is_map.tiles;
@@ -176,7 +225,7 @@ build_beside old new change ranges is_map stands all windows kept all_is same ot
                 | inr not ↦
                     changes_keep is_map.board.setup is_map.board.bytes change addr is_map.board.cards is_map.board.top address
                     (outside_sorted addr (changed_windows is_map.board.setup is_map.board.bytes change)
-                    (subst (Outside addr) (others not_kept not ∙ ap sorted (all_is not_kept)) out))
+                    (subst (Outside addr) (others not_kept not ∙ all_is) out))
               ]
         ]
 

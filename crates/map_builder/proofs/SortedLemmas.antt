@@ -1,5 +1,5 @@
 -- Windows in rising order hold the addresses of those that were sorted, and are no more than there are different ones.
-use Rattle.std.proofs.Common.{◌≡◌, ℕ, ◌+◌, ◌<◌, ◌≤◌, ◌⊎◌, inl, inr, Bool, true, false, List, [], ◌∷◌, ◌++◌, length, refl, arith, append_assoc}
+use Rattle.std.proofs.Common.{◌≡◌, ℕ, ◌+◌, ◌<◌, ◌≤◌, ◌⊎◌, inl, inr, Bool, true, false, List, [], ◌∷◌, ◌++◌, length, refl, ap, arith, append_assoc}
 use Rattle.std.specs.Prelude.{◌||◌, nat_lt, nat_le, min, max, filter}
 use Rattle.std.specs.List.{list_any}
 use Rattle.std.proofs.lemmas.Bool.{cases_Bool, cases_lt, false≢true}
@@ -266,6 +266,55 @@ length_sorted (window ∷ later) ordered =
           (omega (arith, length_covered window (sorted later) ordered.0 (rise_sorted later ordered.1) (covers_sorted window later again), length_sorted later ordered.1))
       | inr once ↦ rw once (omega (arith, length_with window (sorted later), length_sorted later ordered.1))
     ]
+
+-- ---- windows that were sorted before
+
+with_first : (window : Changed) (windows : List Changed) → window.lo ≤ window.hi → AreAbove window.hi windows → Rise windows →
+    with_window window windows ≡ window ∷ windows
+unfolding with_window
+with_first window [] order above rise = refl
+with_first window (other ∷ later) order above rise =
+    let first : window.hi < other.lo = above.0 in
+    let not_before : nat_lt other.hi window.lo ≡ false = let last = rise.0 in grind (arith, nat_tests) in
+    let behind : nat_lt window.hi other.lo ≡ true = grind (arith, nat_tests) in
+    rw (not_before, behind) (ap (λ (rest : List Changed). window ∷ rest) (with_first other later rise.0 rise.1 rise.2))
+
+-- one that lies in another changes nothing
+with_covered : (window : Changed) (windows : List Changed) → window.lo ≤ window.hi → Rise windows → Covers window windows → with_window window windows ≡ windows
+unfolding with_window
+with_covered window [] order rise covers = absurd covers
+with_covered window (other ∷ later) order rise (inl here) =
+    let not_before : nat_lt other.hi window.lo ≡ false = let high = here.1 in grind (arith, nat_tests) in
+    let not_behind : nat_lt window.hi other.lo ≡ false = let low = here.0 in grind (arith, nat_tests) in
+    let low : min other.lo window.lo ≡ other.lo = omega (arith, here.0) in
+    let high : max other.hi window.hi ≡ other.hi = omega (arith, here.1) in
+    rw (not_before, not_behind, low, high) (with_first other later rise.0 rise.1 rise.2)
+with_covered window (other ∷ later) order rise (inr rest) =
+    let above : other.hi < window.lo = covers_above other.hi window later rise.1 rest in
+    let before : nat_lt other.hi window.lo ≡ true = grind (arith, nat_tests) in
+    rw before (ap (λ (all : List Changed). other ∷ all) (with_covered window later order rise.2 rest))
+
+abbrev AllCovered : (windows rising : List Changed) → Type 0
+AllCovered [] rising = Unit {0}
+AllCovered (window ∷ later) rising = Covers window rising × AllCovered later rising
+
+covered_with : (windows : List Changed) (window : Changed) (rising : List Changed) → AllCovered windows rising → AllCovered windows (with_window window rising)
+covered_with [] window rising covered = tt
+covered_with (other ∷ later) window rising covered = (covers_old other window rising covered.0, covered_with later window rising covered.1)
+
+all_covered : (windows : List Changed) → AllCovered windows (sorted windows)
+unfolding sorted
+all_covered [] = tt
+all_covered (window ∷ later) = (covers_new window (sorted later), covered_with later window (sorted later) (all_covered later))
+
+sorted_again : (again windows : List Changed) → Ordered again → Rise (sorted windows) → AllCovered again (sorted windows) → sorted (again ++ windows) ≡ sorted windows
+unfolding sorted
+sorted_again [] windows ordered rise covered = refl
+sorted_again (window ∷ later) windows ordered rise covered =
+    rw (sorted_again later windows ordered.1 rise covered.1) (with_covered window (sorted windows) ordered.0 rise covered.0)
+
+pub sorted_twice : (windows : List Changed) → Ordered windows → sorted (windows ++ windows) ≡ sorted windows
+sorted_twice windows ordered = sorted_again windows windows ordered (rise_sorted windows ordered) (all_covered windows)
 
 -- ---- how many rows are looked up in them
 

@@ -1,5 +1,5 @@
 -- The windows of the address map that each register byte governs, and the bounds of those that a change may change.
-use Rattle.std.specs.Prelude.{ℕ, ◌+◌, ◌-◌, ◌*◌, ◌/◌, ◌^◌, ◌<◌, ◌⊎◌, ◌==◌, nat_lt, nat_le, min, max, Bool, ◌&&◌, length, if◌then◌else◌, List, [], ◌∷◌, ◌++◌, take, map, filter, flat_map, Option, Some, None, unwrap_or}
+use Rattle.std.specs.Prelude.{ℕ, ◌+◌, ◌-◌, ◌*◌, ◌/◌, ◌^◌, ◌<◌, ◌⊎◌, ◌==◌, nat_lt, nat_le, min, max, Bool, true, ◌&&◌, length, if◌then◌else◌, List, [], ◌∷◌, ◌++◌, take, map, filter, flat_map, Option, Some, None, unwrap_or}
 use Rattle.std.specs.Option.{option_map_or}
 use Rattle.std.specs.List.{enumerate_from, list_any}
 use Rattle.board_base.specs.declared.target.Reg.{Reg}
@@ -76,6 +76,11 @@ after setup change bytes = λ reg. changed_byte setup change reg (bytes reg)
 -- by what the registers held before the whole change, and by what they hold after it: a base may have moved
 abbrev pub changed_windows : Setup → Bytes → MapChange → List Changed
 changed_windows setup bytes change = windows_covered setup bytes change ++ windows_covered setup (after setup change bytes) change
+
+-- no window that a change covers rests on what the registers hold: a hard reset, and a store to a bridge
+abbrev pub is_fixed : MapChange → Bool
+is_fixed Reset = true
+is_fixed (Store reg width value) = nat_le reg.dev 1
 
 -- ---- their bounds
 

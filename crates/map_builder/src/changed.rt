@@ -1,5 +1,5 @@
 //! The windows of the address map that a change of the registers may change.
-ghost use Rattle.std.specs.Prelude.{true, false, ◌≡◌, ◌≤◌, ◌<◌, ◌+◌, ◌-◌, ◌*◌, ◌++◌, [], ◌∷◌, All, length, map};
+ghost use Rattle.std.specs.Prelude.{true, false, ◌||◌, ◌≡◌, ◌≤◌, ◌<◌, ◌+◌, ◌-◌, ◌*◌, ◌++◌, [], ◌∷◌, All, length, map};
 ghost use Rattle.board_spec.specs.declared.map_change.MapChange.TheVariants.{Store};
 ghost use Rattle.board_spec.specs.Setup.{Setup, IsBase, IsCard, IsExpansionRom};
 ghost use Rattle.board_spec.specs.Decode.{Bytes};
@@ -7,7 +7,7 @@ ghost use Rattle.board_spec.specs.MapWrites.{reg_after};
 ghost use Rattle.pci_bars.specs.Bases.{base_of};
 ghost use Rattle.pci_bars.specs.Cards.{AreCards, AreFitted};
 ghost use Rattle.addr_decode.specs.MapRegs.{StandsFor, map_bytes};
-ghost use Rattle.map_builder.specs.Changed.{bridge_windows as windows_of_bridge, isa_windows as windows_of_isa, windows_of as windows_by, windows_covered, from_to};
+ghost use Rattle.map_builder.specs.Changed.{bridge_windows as windows_of_bridge, isa_windows as windows_of_isa, windows_of as windows_by, windows_covered, from_to, is_fixed};
 ghost use Rattle.map_builder.specs.Held.{block, held_by, held_from, held_at, rom_held, vga_held, card_held, device_held};
 
 use crate::list::FixedList;
@@ -57,17 +57,36 @@ pub fn push_covered(windows: &mut Covered, regs: &MapRegs, change: &MapChange)
     }
 }
 
-/// Adds them by what the registers hold after the change, unless they are known to keep what they held.
-pub fn push_again(windows: &mut Covered, kept: bool, regs: &MapRegs, change: &MapChange)
+/// Adds them by what the registers hold after the change, unless they are known to be the same.
+pub fn push_again(windows: &mut Covered, same: bool, regs: &MapRegs, change: &MapChange)
     requires cards { AreFitted regs.now.cards.items }
     requires room { length windows.old.items ≤ 32 }
     ensures few { length windows.new.items ≤ length windows.old.items + 32 }
-    ensures kept { kept ≡ true → windows.new.items ≡ windows.old.items }
-    ensures windows { kept ≡ false → (setup : Setup) (bytes : Bytes) → StandsFor setup bytes (map_bytes regs.now)
+    ensures same { same ≡ true → windows.new.items ≡ windows.old.items }
+    ensures windows { same ≡ false → (setup : Setup) (bytes : Bytes) → StandsFor setup bytes (map_bytes regs.now)
         → windows.new.items ≡ windows.old.items ++ windows_covered setup bytes change.now }
 {
-    if !kept {
+    if !same {
         push_covered(windows, regs, change);
+    }
+}
+
+/// Whether the windows that a change covers are the same after it as before: where the register keeps its byte, and where
+/// no window of the change rests on what the registers hold.
+pub fn keeps_windows(kept: bool, change: &MapChange) -> bool
+    ensures keeps { result ≡ (kept || is_fixed change.now) }
+{
+    kept || is_fixed(change)
+}
+
+/// Whether the windows that a change covers do not rest on what the registers hold: every address, or those of the
+/// bridges.
+fn is_fixed(change: &MapChange) -> bool
+    ensures fixed { result ≡ is_fixed change.now }
+{
+    match change {
+        MapChange::Store { reg, .. } => reg.dev <= SOUTH_BRIDGE,
+        MapChange::Reset => true,
     }
 }
 

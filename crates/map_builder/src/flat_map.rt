@@ -13,7 +13,7 @@ ghost use Rattle.map_builder.specs.Map.{range_of, HasBoard, IsMapOf};
 ghost use Rattle.map_builder.specs.Changed.{after, changed_windows, bounds_or_zero, most_rows, IsOutside};
 
 use crate::build::{CAPACITY, Ranges, ranges_of, rebuild};
-use crate::changed::{Covered, push_again, push_covered};
+use crate::changed::{Covered, keeps_windows, push_again, push_covered};
 use crate::find::span_of;
 use crate::list::FixedList;
 use crate::range::{Changed, Range, Span};
@@ -22,7 +22,6 @@ use crate::unchanged::{held_at, is_same_byte};
 use crate::widths::hold_widths;
 use crate::windows::{Windows, bounds_of};
 use addr_decode::{MapChange, MapRegs, touches};
-use arrayvec::ArrayVec;
 use board_base::{Kind, Reg, Steps, Width};
 use std::marker::{Brand, Model};
 use std::sync::ledger::{Blank, Ledger};
@@ -73,7 +72,7 @@ impl FlatMap {
             ranges,
             before: [Range::default(); CAPACITY],
             windows: FixedList::new(),
-            chosen: ArrayVec::new(),
+            chosen: FixedList::new(),
             version: 0,
         }
     }
@@ -89,7 +88,7 @@ impl FlatMap {
             ranges,
             before: [Range::default(); CAPACITY],
             windows: FixedList::new(),
-            chosen: ArrayVec::new(),
+            chosen: FixedList::new(),
             version: self.version,
         }
     }
@@ -218,7 +217,8 @@ impl FlatMap {
         let before = held_at(&self.regs, change);
         self.regs.apply(change);
         let kept = is_same_byte(before, held_at(&self.regs, change));
-        push_again(&mut self.windows, kept, &self.regs, change);
+        let same = keeps_windows(kept, change);
+        push_again(&mut self.windows, same, &self.regs, change);
         choose_windows(
             &mut self.chosen,
             kept,
@@ -231,7 +231,7 @@ impl FlatMap {
             &mut self.ranges,
             &mut self.before,
             &self.regs,
-            &self.chosen,
+            self.chosen.as_slice(),
             steps,
         );
         self.version += 1;

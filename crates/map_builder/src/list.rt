@@ -1,5 +1,5 @@
 //! A list with room for so many elements, which is shortened without writing anything.
-ghost use Rattle.std.specs.Prelude.{◌≡◌, ◌+◌, ◌<◌, ◌≤◌, ◌++◌, [], ◌∷◌, length, take};
+ghost use Rattle.std.specs.Prelude.{◌≡◌, ◌+◌, ◌<◌, ◌≤◌, ◌++◌, [], ◌∷◌, length, take, slice_set};
 
 use std::marker::Model;
 
@@ -50,6 +50,15 @@ impl<T: Copy + Default + Drop, const CAP: usize> FixedList<T, CAP> {
         let len = self.len;
         self.cells[len] = element;
         self.len = len + 1;
+    }
+
+    /// Puts an element in the place of another.
+    pub fn set(&mut self, index: usize, element: T)
+        requires within { index < length self.old.items }
+        ensures items { self.new.items ≡ slice_set self.old.items index element }
+    {
+        let cells = &mut self.cells[..self.len];
+        cells[index] = element;
     }
 
     /// Adds some elements.

@@ -28,7 +28,7 @@ pub fn choose_windows(
     ensures rows { kept ≡ false → stores_rows_by change.now ≡ true → AreMoved old.now new.now chosen.new.items }
 {
     if kept {
-        chosen.clear();
+        chosen.truncate(0);
     } else if stores_rows(change) {
         choose_moved(chosen, old, new);
     } else {
@@ -55,7 +55,7 @@ fn stores_rows(change: &MapChange) -> bool
 fn choose_moved(chosen: &mut Windows, old: &[u8; 8], new: &[u8; 8])
     ensures moved { AreMoved old.now new.now chosen.new.items }
 {
-    chosen.clear();
+    chosen.truncate(0);
     if let Some(window) = moved(old, new) {
         chosen.push(window);
     }

@@ -18,6 +18,7 @@ use pci_bars::{CardRegs, card_at};
 
 /// The byte of the register to which a change stores one byte alone. None for any other change, and for a register that
 /// is not compared.
+#[inline(always)]
 pub fn held_at(regs: &MapRegs, change: &MapChange) -> Option<u8>
     ensures compared { is_some result ≡ is_compared regs.now.cards.items change.now }
     ensures held { (setup : Setup) (bytes : Bytes) → StandsFor setup bytes (map_bytes regs.now)
@@ -41,6 +42,7 @@ pub fn is_same_byte(before: Option<u8>, later: Option<u8>) -> bool
 }
 
 /// The byte of a register to which a store of one byte goes. None for a wider store.
+#[inline(always)]
 fn held_alone(regs: &MapRegs, reg: Reg, width: Width) -> Option<u8>
     ensures compared { (value : ℕ) → is_some result ≡ is_compared regs.now.cards.items (Store reg width value) }
     ensures held { (setup : Setup) (bytes : Bytes) → StandsFor setup bytes (map_bytes regs.now)
@@ -53,6 +55,7 @@ fn held_alone(regs: &MapRegs, reg: Reg, width: Width) -> Option<u8>
 }
 
 /// The byte of a register that is compared.
+#[inline(always)]
 fn held(regs: &MapRegs, reg: Reg) -> Option<u8>
     ensures compared { is_some result ≡ is_compared_register regs.now.cards.items reg }
     ensures held { (setup : Setup) (bytes : Bytes) → StandsFor setup bytes (map_bytes regs.now)
@@ -69,6 +72,7 @@ fn held(regs: &MapRegs, reg: Reg) -> Option<u8>
 }
 
 /// The byte of PAM, FDHC or SMRAM.
+#[inline(always)]
 fn held_by_bridge(regs: &MapRegs, off: u8) -> Option<u8>
     ensures compared { is_some result ≡ is_compared_in_bridge off }
     ensures held { (setup : Setup) (bytes : Bytes) → StandsFor setup bytes (map_bytes regs.now)
@@ -83,6 +87,7 @@ fn held_by_bridge(regs: &MapRegs, off: u8) -> Option<u8>
 }
 
 /// The byte of XBCS.
+#[inline(always)]
 fn held_by_isa(regs: &MapRegs, off: u8) -> Option<u8>
     ensures compared { is_some result ≡ (off == xbcs.off) }
     ensures held { (setup : Setup) (bytes : Bytes) → StandsFor setup bytes (map_bytes regs.now)
@@ -95,6 +100,7 @@ fn held_by_isa(regs: &MapRegs, off: u8) -> Option<u8>
 }
 
 /// The byte of a command or a base of the card at a device number.
+#[inline(always)]
 fn held_by_cards(cards: &[CardRegs], dev: u8, off: u8) -> Option<u8>
     ensures compared { is_some result ≡ (is_card cards.now dev && is_compared_in_card off) }
     ensures held { (setup : Setup) (bytes : Bytes) → AreDecoded setup bytes cards.now
@@ -107,6 +113,7 @@ fn held_by_cards(cards: &[CardRegs], dev: u8, off: u8) -> Option<u8>
 }
 
 /// The byte of a command or a base of a card.
+#[inline(always)]
 fn held_by_card(card: &CardRegs, off: u8) -> Option<u8>
     ensures compared { is_some result ≡ is_compared_in_card off }
     ensures held { (setup : Setup) (bytes : Bytes) → DecodesAs setup bytes card.now
@@ -120,6 +127,7 @@ fn held_by_card(card: &CardRegs, off: u8) -> Option<u8>
 }
 
 /// One of the 24 bytes of bases.
+#[inline(always)]
 fn byte_of_base(bases: &[u32; 6], index: u8) -> u8
     requires index { index < 24 }
     ensures byte { result ≡ byte (slice_index bases.now (index / 4)) (index % 4) }

@@ -4,11 +4,11 @@ ghost use Rattle.map_builder.specs.declared.range.Changed.{Changed};
 ghost use Rattle.map_builder.specs.Changed.{bounds, both as both_of, joined as joined_by};
 ghost use Rattle.map_builder.specs.Sorted.{with_window as with_one, sorted as sorted_by};
 
+use crate::list::FixedList;
 use crate::range::Changed;
-use arrayvec::ArrayVec;
 
 /// Windows that rise and do not overlap, of as many as a change can cover.
-pub type Windows = ArrayVec<Changed, 64>;
+pub type Windows = FixedList<Changed, 64>;
 
 /// The least first and the greatest last address of some windows. None where there is no window.
 #[tactic(auto, unfolding(crate::specs::Changed::bounds))]
@@ -49,7 +49,7 @@ pub fn sort_into(rising: &mut Windows, windows: &[Changed])
     requires count { length windows.now ≤ 64 }
     ensures sorted { rising.new.items ≡ sorted_by windows.now }
 {
-    rising.clear();
+    rising.truncate(0);
     for index in (0..windows.len()).rev() {
         add_window(rising, windows[index]);
     }
@@ -63,11 +63,11 @@ fn add_window(rising: &mut Windows, window: Changed)
 {
     let mut window = window;
     let mut kept = 0;
-    for index in 0..rising.len() {
-        let other = rising[index];
+    for index in 0..rising.as_slice().len() {
+        let other = rising.as_slice()[index];
         match in_order(window, other) {
             Some((lower, higher)) => {
-                rising[kept] = lower;
+                rising.set(kept, lower);
                 kept += 1;
                 window = higher;
             }

@@ -1,4 +1,4 @@
-use Rattle.std.proofs.Common.{◌≡◌, List, [], ◌∷◌, ◌++◌, take, drop, sym, ◌∙◌, ap, arith}
+use Rattle.std.proofs.Common.{◌≡◌, List, [], ◌∷◌, ◌++◌, length, take, drop, sym, ◌∙◌, ap, arith}
 use Rattle.std.proofs.lemmas.List.{drop_all}
 use Rattle.map_builder.specs.declared.range.Changed.{Changed}
 use Rattle.map_builder.specs.Sorted.{with_window}
@@ -8,7 +8,8 @@ use Rattle.map_builder.proofs.windows.add_window.Goals as goal
 pub returns-clause-windows : goal.returns-clause-windows
 returns-clause-windows c =
     let rising : List Changed = c.loop-index.rising.items in
-    let none : drop c.loop-index.index rising ≡ [] = drop_all c.loop-index.index rising (omega (arith, c.loop-index.invariant.long)) in
+    let none : drop c.loop-index.index rising ≡ [] = drop_all c.loop-index.index rising
+    (omega (arith, c.loop-index.invariant.long, ap (λ (all : List Changed). length all) c.as_slice-index-end.ensures.items)) in
     c.push.ensures.items
     ∙ ap (λ (below : List Changed). below ++ c.loop-index.window ∷ []) c.truncate.ensures.items
     ∙ sym (step_last (take c.loop-index.kept rising) c.loop-index.window)

@@ -11,10 +11,10 @@ use Rattle.map_builder.specs.declared.range.Changed.{Changed}
 use Rattle.map_builder.specs.Map.{Mapped, range_of}
 use Rattle.map_builder.specs.Changed.{after, windows_covered, bounds, changed_windows, from_to, IsOutside}
 use Rattle.map_builder.specs.Build.{IsMapWhere, IsBeside}
-use Rattle.map_builder.specs.Sorted.{rows_in, Rise}
+use Rattle.map_builder.specs.Sorted.{rows_in, sorted, Rise}
 use Rattle.map_builder.proofs.KeptStores.{beside_keeps}
 use Rattle.map_builder.proofs.OutsideLemmas.{outside_bounds}
-use Rattle.map_builder.proofs.ChangeLemmas.{board_after, build_rise, build_few, keeps_byte, bounds_kept, build_beside}
+use Rattle.map_builder.proofs.ChangeLemmas.{board_after, build_rise, build_few, keeps_byte, build_beside, are_found, AreFound}
 use Rattle.map_builder.proofs.flat_map.FlatMap.apply_counted.Goals as goal
 
 -- the registers inside a map are those that it is seen to have
@@ -43,23 +43,45 @@ rebuild-requires-clause-board g c =
 pub rebuild-requires-clause-rise : goal.rebuild-requires-clause-rise
 rebuild-requires-clause-rise g c =
     let board = c.self.invariant.board in
-    let windows = λ (not : c.is_same_byte-kept.result ≡ false). found board.setup board.bytes c.args.change.now c.truncate.new.self.items c.push_covered.new.windows.items c.push_again.new.windows.items
-    c.truncate.ensures.items (c.push_covered.ensures.windows board.setup board.bytes board.stands)
-    (c.push_again.ensures.windows not board.setup (after board.setup c.args.change.now board.bytes) (c.apply.ensures.stands board.setup board.bytes board.stands)) in
-    subst Rise (sym c.deref.ensures.0)
+    let windows : AreFound board.setup board.bytes c.args.change.now c.push_again.new.windows.items =
+    are_found (map_bytes c.self.inside.regs) (map_bytes c.apply.new.self) board.setup board.bytes c.args.change.now c.push_again.new.windows.items
+    c.is_same_byte-kept.result c.keeps_windows-same.result board.stands (c.apply.ensures.stands board.setup board.bytes board.stands)
+    (λ kept.
+    keeps_byte (map_bytes c.self.inside.regs) (map_bytes c.apply.new.self) c.args.change.now c.held_at-before.result c.held_at.result
+    (c.is_same_byte-kept.ensures.same kept) c.held_at-before.ensures.held c.held_at.ensures.held)
+    c.keeps_windows-same.ensures.keeps
+    (λ stay.
+    once board.setup board.bytes c.args.change.now c.truncate.new.self.items c.push_covered.new.windows.items c.push_again.new.windows.items c.truncate.ensures.items
+    (c.push_covered.ensures.windows board.setup board.bytes board.stands) (c.push_again.ensures.same stay))
+    (λ move.
+    found board.setup board.bytes c.args.change.now c.truncate.new.self.items c.push_covered.new.windows.items c.push_again.new.windows.items c.truncate.ensures.items
+    (c.push_covered.ensures.windows board.setup board.bytes board.stands)
+    (c.push_again.ensures.windows move board.setup (after board.setup c.args.change.now board.bytes) (c.apply.ensures.stands board.setup board.bytes board.stands))) in
+    subst Rise (sym c.as_slice-2.ensures.items)
     (build_rise board.setup board.bytes c.args.change.now c.as_slice.result.now c.choose_windows.new.chosen.items
-    (map_bytes c.self.inside.regs).drb (map_bytes c.apply.new.self).drb c.is_same_byte-kept.result (λ not. c.as_slice.ensures.items ∙ windows not) c.choose_windows.ensures.none
+    (map_bytes c.self.inside.regs).drb (map_bytes c.apply.new.self).drb c.is_same_byte-kept.result (ap sorted c.as_slice.ensures.items ∙ windows.sorted_same) c.choose_windows.ensures.none
     c.choose_windows.ensures.others c.choose_windows.ensures.rows)
 
 pub rebuild-requires-clause-beside : goal.rebuild-requires-clause-beside
 rebuild-requires-clause-beside g c =
     let board = c.self.invariant.board in
-    let windows = λ (not : c.is_same_byte-kept.result ≡ false). found board.setup board.bytes c.args.change.now c.truncate.new.self.items c.push_covered.new.windows.items c.push_again.new.windows.items
-    c.truncate.ensures.items (c.push_covered.ensures.windows board.setup board.bytes board.stands)
-    (c.push_again.ensures.windows not board.setup (after board.setup c.args.change.now board.bytes) (c.apply.ensures.stands board.setup board.bytes board.stands)) in
-    subst (λ (all : List Changed). IsMapWhere (map_bytes c.apply.new.self) (IsBeside all) (map range_of c.self.inside.ranges.items)) (sym c.deref.ensures.0)
+    let windows : AreFound board.setup board.bytes c.args.change.now c.push_again.new.windows.items =
+    are_found (map_bytes c.self.inside.regs) (map_bytes c.apply.new.self) board.setup board.bytes c.args.change.now c.push_again.new.windows.items
+    c.is_same_byte-kept.result c.keeps_windows-same.result board.stands (c.apply.ensures.stands board.setup board.bytes board.stands)
+    (λ kept.
+    keeps_byte (map_bytes c.self.inside.regs) (map_bytes c.apply.new.self) c.args.change.now c.held_at-before.result c.held_at.result
+    (c.is_same_byte-kept.ensures.same kept) c.held_at-before.ensures.held c.held_at.ensures.held)
+    c.keeps_windows-same.ensures.keeps
+    (λ stay.
+    once board.setup board.bytes c.args.change.now c.truncate.new.self.items c.push_covered.new.windows.items c.push_again.new.windows.items c.truncate.ensures.items
+    (c.push_covered.ensures.windows board.setup board.bytes board.stands) (c.push_again.ensures.same stay))
+    (λ move.
+    found board.setup board.bytes c.args.change.now c.truncate.new.self.items c.push_covered.new.windows.items c.push_again.new.windows.items c.truncate.ensures.items
+    (c.push_covered.ensures.windows board.setup board.bytes board.stands)
+    (c.push_again.ensures.windows move board.setup (after board.setup c.args.change.now board.bytes) (c.apply.ensures.stands board.setup board.bytes board.stands))) in
+    subst (λ (all : List Changed). IsMapWhere (map_bytes c.apply.new.self) (IsBeside all) (map range_of c.self.inside.ranges.items)) (sym c.as_slice-2.ensures.items)
     (build_beside (map_bytes c.self.inside.regs) (map_bytes c.apply.new.self) c.args.change.now (map range_of c.self.inside.ranges.items) c.self.invariant
-    (c.apply.ensures.stands board.setup board.bytes board.stands) c.as_slice.result.now c.choose_windows.new.chosen.items c.is_same_byte-kept.result (λ not. c.as_slice.ensures.items ∙ windows not)
+    (c.apply.ensures.stands board.setup board.bytes board.stands) c.as_slice.result.now c.choose_windows.new.chosen.items c.is_same_byte-kept.result (ap sorted c.as_slice.ensures.items ∙ windows.sorted_same)
     (λ same.
     keeps_byte (map_bytes c.self.inside.regs) (map_bytes c.apply.new.self) c.args.change.now c.held_at-before.result c.held_at.result
     (c.is_same_byte-kept.ensures.same same) c.held_at-before.ensures.held c.held_at.ensures.held)
@@ -87,20 +109,22 @@ returns-clause-cards g c = λ setup bytes are.
 pub returns-clause-changed : goal.returns-clause-changed
 returns-clause-changed g c = λ setup bytes stands.
     let here = stood _ c.args.self.now setup bytes c.self.view_is stands in
-    let first = c.push_covered.ensures.windows setup bytes here in
     let now = c.apply.ensures.stands setup bytes here in
-    let same : bounds c.push_again.new.windows.items ≡ bounds (changed_windows setup bytes c.args.change.now) =
-    bounds_kept (map_bytes c.self.inside.regs) (map_bytes c.apply.new.self) setup bytes c.args.change.now c.push_again.new.windows.items c.is_same_byte-kept.result here now
-    (λ same.
+    let windows : AreFound setup bytes c.args.change.now c.push_again.new.windows.items =
+    are_found (map_bytes c.self.inside.regs) (map_bytes c.apply.new.self) setup bytes c.args.change.now c.push_again.new.windows.items
+    c.is_same_byte-kept.result c.keeps_windows-same.result here now
+    (λ kept.
     keeps_byte (map_bytes c.self.inside.regs) (map_bytes c.apply.new.self) c.args.change.now c.held_at-before.result c.held_at.result
-    (c.is_same_byte-kept.ensures.same same) c.held_at-before.ensures.held c.held_at.ensures.held)
-    (λ is.
-    once setup bytes c.args.change.now c.truncate.new.self.items c.push_covered.new.windows.items c.push_again.new.windows.items c.truncate.ensures.items first
-    (c.push_again.ensures.kept is))
-    (λ not.
-    found setup bytes c.args.change.now c.truncate.new.self.items c.push_covered.new.windows.items c.push_again.new.windows.items c.truncate.ensures.items first
-    (c.push_again.ensures.windows not setup (after setup c.args.change.now bytes) now)) in
-    c.unwrap_or.ensures ∙ ap (λ (it : Option Changed). unwrap_or it (from_to 0 0)) (c.bounds_of.ensures.bounds ∙ ap bounds c.as_slice-2.ensures.items ∙ same)
+    (c.is_same_byte-kept.ensures.same kept) c.held_at-before.ensures.held c.held_at.ensures.held)
+    c.keeps_windows-same.ensures.keeps
+    (λ stay.
+    once setup bytes c.args.change.now c.truncate.new.self.items c.push_covered.new.windows.items c.push_again.new.windows.items c.truncate.ensures.items
+    (c.push_covered.ensures.windows setup bytes here) (c.push_again.ensures.same stay))
+    (λ move.
+    found setup bytes c.args.change.now c.truncate.new.self.items c.push_covered.new.windows.items c.push_again.new.windows.items c.truncate.ensures.items
+    (c.push_covered.ensures.windows setup bytes here)
+    (c.push_again.ensures.windows move setup (after setup c.args.change.now bytes) now)) in
+    c.unwrap_or.ensures ∙ ap (λ (it : Option Changed). unwrap_or it (from_to 0 0)) (c.bounds_of.ensures.bounds ∙ ap bounds c.as_slice-3.ensures.items ∙ windows.bounds_same)
 
 pub returns-clause-kept : goal.returns-clause-kept
 returns-clause-kept g c = λ setup bytes stands addr address out.
@@ -118,13 +142,25 @@ pub returns-clause-rows : goal.returns-clause-rows
 returns-clause-rows g c = λ setup bytes stands.
     let here = stood _ c.args.self.now setup bytes c.self.view_is stands in
     let new : Bytes = after setup c.args.change.now bytes in
-    let windows = λ (not : c.is_same_byte-kept.result ≡ false). found setup bytes c.args.change.now c.truncate.new.self.items c.push_covered.new.windows.items c.push_again.new.windows.items
-    c.truncate.ensures.items (c.push_covered.ensures.windows setup bytes here)
-    (c.push_again.ensures.windows not setup new (c.apply.ensures.stands setup bytes here)) in
+    let now = c.apply.ensures.stands setup bytes here in
+    let windows : AreFound setup bytes c.args.change.now c.push_again.new.windows.items =
+    are_found (map_bytes c.self.inside.regs) (map_bytes c.apply.new.self) setup bytes c.args.change.now c.push_again.new.windows.items
+    c.is_same_byte-kept.result c.keeps_windows-same.result here now
+    (λ kept.
+    keeps_byte (map_bytes c.self.inside.regs) (map_bytes c.apply.new.self) c.args.change.now c.held_at-before.result c.held_at.result
+    (c.is_same_byte-kept.ensures.same kept) c.held_at-before.ensures.held c.held_at.ensures.held)
+    c.keeps_windows-same.ensures.keeps
+    (λ stay.
+    once setup bytes c.args.change.now c.truncate.new.self.items c.push_covered.new.windows.items c.push_again.new.windows.items c.truncate.ensures.items
+    (c.push_covered.ensures.windows setup bytes here) (c.push_again.ensures.same stay))
+    (λ move.
+    found setup bytes c.args.change.now c.truncate.new.self.items c.push_covered.new.windows.items c.push_again.new.windows.items c.truncate.ensures.items
+    (c.push_covered.ensures.windows setup bytes here)
+    (c.push_again.ensures.windows move setup (after setup c.args.change.now bytes) now)) in
     omega (
       arith,
       c.rebuild.ensures.rows setup new (c.apply.ensures.stands setup bytes here),
-      ap (λ (all : List Changed). rows_in (edges_after setup new) all) c.deref.ensures.0,
+      ap (λ (all : List Changed). rows_in (edges_after setup new) all) c.as_slice-2.ensures.items,
       build_few setup bytes c.args.change.now c.as_slice.result.now c.choose_windows.new.chosen.items (map_bytes c.self.inside.regs).drb
-          (map_bytes c.apply.new.self).drb c.is_same_byte-kept.result (λ not. c.as_slice.ensures.items ∙ windows not) c.choose_windows.ensures.none c.choose_windows.ensures.others c.choose_windows.ensures.rows,
+          (map_bytes c.apply.new.self).drb c.is_same_byte-kept.result (ap sorted c.as_slice.ensures.items ∙ windows.sorted_same) c.choose_windows.ensures.none c.choose_windows.ensures.others c.choose_windows.ensures.rows,
     )
