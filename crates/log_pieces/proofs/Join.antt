@@ -1,14 +1,15 @@
 -- Pieces that are joined in their order.
-use Rattle.std.proofs.Common.{◌≡◌, ℕ, ◌+◌, ◌*◌, ◌<◌, ◌++◌, List, [], ◌∷◌, length, take, drop, refl, sym, ap, ◌∙◌, subst, append_assoc, append-nil, arith, inl, inr, Ok, string_bytes}
-use Rattle.std.specs.Prelude.{String}
+use Rattle.std.proofs.Common.{◌≡◌, ℕ, ◌+◌, ◌*◌, ◌<◌, ◌++◌, List, [], ◌∷◌, length, get_or, take, drop, map, refl, sym, ap, ◌∙◌, subst, append_assoc, append-nil, arith, inl, inr, Result, Ok, Err, IfOk, string_bytes}
+use Rattle.std.specs.Prelude.{String, reverse}
 use Rattle.std.specs.Global.{Global}
 use Rattle.std.proofs.lemmas.Bool.{cases_lt}
-use Rattle.std.proofs.lemmas.List.{drop_all, take_all, length-take-le, length-append}
+use Rattle.std.proofs.lemmas.List.{drop_all, take_all, length-take-le, length-append, length-map, get_or-map, take-map, drop-map}
 use Rattle.std.proofs.Math.Seq.{take-add, get_or-append_seam}
 use Rattle.board_spec.specs.declared.event.Entry.{Entry}
-use Rattle.board_script.specs.Adds.{IsFront}
+use Rattle.board_spec.specs.Text.{line_feed}
+use Rattle.board_spec.specs.LogText.{line_text, log_text}
 use Rattle.board_script.specs.LinesFrom.{lines_from}
-use Rattle.board_script.proofs.Parts.{lines_of_parts}
+use Rattle.board_script.proofs.Parts.{lines_of_parts, log_text-lines, appended_line}
 use Rattle.log_pieces.specs.Pieces.{Piece, IsPiece, ArePieces}
 
 -- the lines that follow `n` entries are numbered on, and where there are no more entries there are no lines
@@ -65,9 +66,47 @@ piece_added size entries done rest lines piece old text new are is so_far added 
     ∙ ap (λ (t : List ℕ). old ++ t) (sym (lines_more (length done * size) size entries))
     ∙ ap (λ (n : ℕ). old ++ lines_from 1 (take n entries)) count
 
-pub front_kept : (old text new more : List ℕ) → IsFront old text → new ≡ text ++ more → IsFront old new
-front_kept old text new more front added =
-    record {
-      rest = front.rest ++ more;
-      joined = added ∙ ap (λ (t : List ℕ). t ++ more) front.joined ∙ append_assoc old front.rest more;
-    }
+-- a piece of elements has the lines of the entries for which they stand
+pub piece_of :
+    {X : Type 0} (entry : X → Entry) (size n : ℕ) (elements own : List X) (piece : Piece)
+    → own ≡ take size (drop (n * size) elements)
+    → IfOk piece (λ text. string_bytes text ≡ lines_from (n * size + 1) (map entry own))
+    → IsPiece size n (map entry elements) piece
+piece_of {X = X} entry size n elements own piece is lines =
+    let same : map entry own ≡ take size (drop (n * size) (map entry elements)) =
+    ap (map entry) is
+    ∙ sym (take-map entry size (drop (n * size) elements))
+    ∙ sym (ap (take size) (drop-map entry (n * size) elements)) in
+    subst (λ (es : List Entry). IfOk piece (λ text. string_bytes text ≡ lines_from (n * size + 1) es)) same lines
+
+-- a heading, and the lines of all entries
+pub log_of_lines :
+    (version : ℕ) (entries : List Entry) (before heading text : List ℕ)
+    → before ≡ [] → heading ≡ before ++ log_text version [] → text ≡ heading ++ lines_from 1 entries
+    → text ≡ log_text version (reverse entries)
+log_of_lines version entries before heading text none first lines =
+    lines
+    ∙ ap (λ (t : List ℕ). t ++ lines_from 1 entries) (first ∙ ap (λ (t : List ℕ). t ++ log_text version []) none)
+    ∙ sym (log_text-lines version entries)
+
+pub whole_log :
+    {E : Type 0} (version : ℕ) (entries : List Entry) (before heading text : List ℕ) (result : Result (List ℕ) E)
+    → before ≡ [] → heading ≡ before ++ log_text version [] → text ≡ heading ++ lines_from 1 entries
+    → IfOk result (λ whole. whole ≡ text) → IfOk result (λ whole. whole ≡ log_text version (reverse entries))
+whole_log version entries before heading text (Ok whole) none first lines is =
+    is ∙ log_of_lines version entries before heading text none first lines
+whole_log version entries before heading text (Err fault) none first lines is = tt
+
+-- the line of the entry for which the element at i stands makes the lines one entry longer
+pub line_added :
+    {X : Type 0} (entry : X → Entry) (first : ℕ) (elements : List X) (i : ℕ) (default : X) → i < length elements
+    → (line : Entry) → line ≡ entry (get_or elements i default) → (old lines new : List ℕ)
+    → lines ≡ old ++ lines_from first (take i (map entry elements))
+    → new ≡ lines ++ (line_text (first + i) line ++ line_feed ∷ [])
+    → new ≡ old ++ lines_from first (take (i + 1) (map entry elements))
+line_added entry first elements i default inside line is old lines new so_far added =
+    let within : i < length (map entry elements) = subst (λ (n : ℕ). i < n) (sym (length-map elements entry)) inside in
+    appended_line first (map entry elements) i (entry default) within old lines new so_far
+    (added
+    ∙ ap (λ (e : Entry). lines ++ (line_text (first + i) e ++ line_feed ∷ []))
+    (is ∙ sym (get_or-map entry elements i default (entry default) inside)))

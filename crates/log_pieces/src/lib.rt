@@ -2,8 +2,11 @@
 #![tactic(auto)]
 
 mod pieces;
+mod text;
+mod writer;
 
-pub use pieces::push_log_by;
+pub use pieces::{log_by, run_log_by};
+pub use text::Text;
 
 #[cfg(test)]
 mod tests;

@@ -1,15 +1,18 @@
-//! The history is cut into pieces of as many entries each, and the texts of the pieces are joined in their order.
+//! The history is cut into pieces of as many entries each, and the texts of the pieces stand in their order.
 
-ghost use Rattle.std.specs.Prelude.{◌≡◌, ℕ, List, ◌+◌, ◌*◌, ◌^◌, ◌<◌, ◌≤◌, [], length, take, reverse, string_bytes, OnOk, OnErr, IfOk};
+ghost use Rattle.std.specs.Prelude.{◌≡◌, ◌++◌, ℕ, List, All, ◌+◌, ◌*◌, ◌^◌, ◌<◌, ◌≤◌, [], length, map, take, reverse, string_bytes, OnOk, IfOk};
 ghost use Rattle.board_spec.specs.declared.event.Entry.{Entry};
 ghost use Rattle.board_spec.specs.LogText.{log_text};
-ghost use Rattle.board_script.specs.Adds.{Adds, KeepsFront};
 ghost use Rattle.board_script.specs.LinesFrom.{lines_from};
+ghost use Rattle.run_order.specs.Over.{over, IsWithin};
 ghost use Rattle.log_pieces.specs.Pieces.{ArePieces};
 
+use crate::text::Text;
+use crate::writer::{EntryWriter, LineWriter, RunWriter};
 use board_base::NoMemory;
-use board_script::{push_heading, push_lines, push_log};
+use board_script::push_heading;
 use board_spec::Entry;
+use run_order::RunEntry;
 use std::alloc::Global;
 use std::thread::{Threads, map_chunks};
 
@@ -19,77 +22,116 @@ const FEW: usize = 8192;
 /// The room for a line. Most have fewer bytes.
 const LINE_ROOM: usize = 64;
 
-/// The room for the lines of so many entries.
-fn room_for(count: usize) -> usize {
-    count.saturating_mul(LINE_ROOM)
-}
-
 /// The lines of a piece of a history, which has so many entries before it.
-fn lines_of_piece(alloc: Global, before: usize, entries: &[Entry]) -> Result<String, NoMemory>
-    requires some { 0 < length entries.now }
-    requires fits { before + length entries.now < 2 ^ 64 }
-    ensures lines { IfOk result (λ text. string_bytes text ≡ lines_from (before + 1) entries.now) }
+fn lines_of_piece<W: LineWriter>(
+    alloc: Global,
+    writer: &W,
+    before: usize,
+    elements: &[W::Element],
+) -> Result<String, NoMemory>
+    requires some { 0 < length elements.now }
+    requires fits { before + length elements.now < 2 ^ 64 }
+    requires known { All (W.is_known writer.now) elements.now }
+    ensures lines { IfOk result (λ text. string_bytes text
+        ≡ lines_from (before + 1) (map (W.entry writer.now) elements.now)) }
 {
-    let mut text = String::with_capacity(alloc, room_for(entries.len()))?;
-    push_lines(&mut text, before as u64 + 1, entries)?;
+    let room = elements.len().saturating_mul(LINE_ROOM);
+    let mut text = String::with_capacity(alloc, room)?;
+    writer.push(&mut text, before as u64 + 1, elements)?;
     Ok(text)
 }
 
 /// The lines of all pieces of a history. Each piece is `size` entries long, and the last may be shorter.
-fn pieces_of<R: Threads + Sync>(
+fn pieces_of<R: Threads + Sync, W: LineWriter>(
     rt: &R,
     alloc: Global,
     size: usize,
-    entries: &[Entry],
+    writer: &W,
+    elements: &[W::Element],
 ) -> Result<Vec<Result<String, NoMemory>>, NoMemory>
     requires size { 0 < size }
-    ensures pieces { IfOk result (λ pieces. ArePieces size entries.now pieces.items) }
-    ensures all { IfOk result (λ pieces. length entries.now ≤ length pieces.items * size) }
+    requires known { All (W.is_known writer.now) elements.now }
+    ensures pieces { IfOk result (λ pieces. ArePieces size (map (W.entry writer.now) elements.now) pieces.items) }
+    ensures all { IfOk result (λ pieces. length elements.now ≤ length pieces.items * size) }
 {
     let pieces = map_chunks(
         rt,
         alloc,
-        entries,
+        elements,
         size,
-        &|before: usize, piece: &[Entry]| -> Result<String, NoMemory>
-            requires { (0 < length piece.now) × (before + length piece.now < 2 ^ 64) }
-            ensures { IfOk result (λ text. string_bytes text ≡ lines_from (before + 1) piece.now) }
-        { lines_of_piece(alloc, before, piece) },
+        &|before: usize, piece: &[W::Element]| -> Result<String, NoMemory>
+            requires { (0 < length piece.now) × (before + length piece.now < 2 ^ 64)
+                × All (W.is_known writer.now) piece.now }
+            ensures { IfOk result (λ text. string_bytes text
+                ≡ lines_from (before + 1) (map (W.entry writer.entry.now) piece.now)) }
+        { lines_of_piece(alloc, writer, before, piece) },
     )?;
     Ok(pieces)
 }
 
-/// Appends the lines of pieces, one piece after the other.
-fn push_pieces(text: &mut String, pieces: Vec<Result<String, NoMemory>>) -> Result<(), NoMemory>
-    ensures appended { (size : ℕ) (entries : List Entry) → ArePieces size entries pieces.items
-        → OnOk result (Adds text.old text.new (lines_from 1 (take (length pieces.items * size) entries))) }
-    ensures front { OnErr result (KeepsFront text.old text.new) }
+/// Adds the lines of pieces, one piece after the other.
+fn push_pieces(text: &mut Text, pieces: Vec<Result<String, NoMemory>>) -> Result<(), NoMemory>
+    ensures added { (size : ℕ) (entries : List Entry) → ArePieces size entries pieces.items
+        → OnOk result (text.new ≡ text.old ++ lines_from 1 (take (length pieces.items * size) entries)) }
 {
     for piece in pieces {
         let lines = piece?;
-        text.push_str(lines.as_str())?;
+        text.push(lines)?;
     }
     Ok(())
 }
 
-/// Appends what `push_log` does. Of a long history as many threads write the lines as there are workers.
-pub fn push_log_by<R: Threads + Sync>(
+/// The log of a history whose elements are given, the oldest first.
+fn log_of<R: Threads + Sync, W: LineWriter>(
     rt: &R,
     alloc: Global,
     workers: u8,
-    text: &mut String,
+    version: u8,
+    writer: &W,
+    elements: &[W::Element],
+) -> Result<Text, NoMemory>
+    requires known { All (W.is_known writer.now) elements.now }
+    ensures text { IfOk result (λ text. text
+        ≡ log_text version (reverse (map (W.entry writer.now) elements.now))) }
+{
+    let mut first = String::new(alloc);
+    push_heading(&mut first, version)?;
+    if workers < 2 || elements.len() < FEW {
+        writer.push(&mut first, 1, elements)?;
+        return Text::whole(alloc, first);
+    }
+    let size = elements.len().div_ceil(usize::from(workers));
+    let pieces = pieces_of(rt, alloc, size, writer, elements)?;
+    let mut text = Text::whole(alloc, first)?;
+    push_pieces(&mut text, pieces)?;
+    Ok(text)
+}
+
+/// The log of a history whose oldest entry comes first. Of a long one as many threads write the lines as there are
+/// workers, a piece each.
+pub fn log_by<R: Threads + Sync>(
+    rt: &R,
+    alloc: Global,
+    workers: u8,
     version: u8,
     entries: &[Entry],
-) -> Result<(), NoMemory>
-    ensures appended { OnOk result (Adds text.old text.new (log_text version (reverse entries.now))) }
-    ensures front { OnErr result (KeepsFront text.old text.new) }
+) -> Result<Text, NoMemory>
+    ensures text { IfOk result (λ text. text ≡ log_text version (reverse entries.now)) }
 {
-    if workers < 2 || entries.len() < FEW {
-        return push_log(text, version, entries);
-    }
-    text.reserve(room_for(entries.len()))?;
-    push_heading(text, version)?;
-    let size = entries.len().div_ceil(usize::from(workers));
-    let pieces = pieces_of(rt, alloc, size, entries)?;
-    push_pieces(text, pieces)
+    log_of(rt, alloc, workers, version, &EntryWriter, entries)
+}
+
+/// The same of the history of a run, whose entries that went through the turn stand in the bus's history.
+pub fn run_log_by<R: Threads + Sync>(
+    rt: &R,
+    alloc: Global,
+    workers: u8,
+    version: u8,
+    bus: &[Entry],
+    order: &[RunEntry],
+) -> Result<Text, NoMemory>
+    requires within { All (IsWithin (length bus.now)) order.now }
+    ensures text { IfOk result (λ text. text ≡ log_text version (reverse (over bus.now order.now))) }
+{
+    log_of(rt, alloc, workers, version, &RunWriter { bus }, order)
 }

@@ -1,7 +1,7 @@
-use Rattle.std.proofs.Common.{rules, ◌≡◌, ◌∷◌, ◌++◌, [], List, ℕ, length, string_bytes, sym, ap, subst, ◌∙◌, append_assoc, append-nil, arith}
+use Rattle.std.proofs.Common.{rules, ◌≡◌, ◌∷◌, ◌++◌, [], List, sym, ap, subst, ◌∙◌, append_assoc, length, arith}
 use Rattle.std.specs.Vec.Iter.{into_iter_items}
 use Rattle.log_pieces.specs.Pieces.{ArePieces, Piece}
-use Rattle.log_pieces.proofs.Join.{no_lines, piece_added, front_kept}
+use Rattle.log_pieces.proofs.Join.{no_lines, piece_added}
 use Rattle.log_pieces.proofs.pieces.push_pieces.Goals as goal
 
 pub loop-piece-init : goal.loop-piece-init
@@ -9,8 +9,7 @@ loop-piece-init c =
     record {
       left = c.into_iter-piece-iterator.ensures.into_iter_gives.0;
       len = search rules;
-      added = λ size entries are. no_lines (string_bytes c.args.text.now) size entries;
-      front = record { rest = []; joined = sym (append-nil (string_bytes c.args.text.now)) };
+      added = λ size entries are. no_lines c.args.text.now size entries;
     }
 
 pub loop-piece-preserved : goal.loop-piece-preserved
@@ -21,8 +20,6 @@ loop-piece-preserved c =
     let steps : into_iter_items at.piece-iterator ≡ piece ∷ rest = c.in-Some.ensures.steps.0 in
     let whole : at.yielded ++ piece ∷ rest ≡ c.args.pieces.items =
     ap (λ (pieces : List Piece). at.yielded ++ pieces) (sym steps) ∙ at.invariant.left in
-    let appended : string_bytes c.push_str.new.self ≡ string_bytes at.text ++ string_bytes c.in_ok-lines.lines =
-    c.in_ok-push_str.ensures.bytes ∙ ap (λ (lines : List ℕ). string_bytes at.text ++ lines) c.as_str.ensures.value in
     record {
       left = append_assoc at.yielded (piece ∷ []) rest ∙ whole;
       len =
@@ -32,6 +29,5 @@ loop-piece-preserved c =
           omega arith;
       added = λ size entries are.
           piece_added size entries at.yielded rest c.in_ok-lines.lines piece _ _ _
-          (subst (ArePieces size entries) (sym whole) are) c.in_ok-lines.was (at.invariant.added size entries are) appended;
-      front = front_kept _ _ _ _ at.invariant.front appended;
+          (subst (ArePieces size entries) (sym whole) are) c.in_ok-lines.was (at.invariant.added size entries are) c.in_ok-push.ensures.added;
     }

@@ -1,7 +1,6 @@
 use Rattle.std.proofs.Common.{◌≡◌, ℕ, ◌*◌, ◌++◌, List, length, take}
 use Rattle.std.specs.Vec.Iter.{into_iter_items, into_iter_len}
 use Rattle.board_spec.specs.declared.event.Entry.{Entry}
-use Rattle.board_script.specs.Adds.{Adds, KeepsFront}
 use Rattle.board_script.specs.LinesFrom.{lines_from}
 use Rattle.log_pieces.specs.Pieces.{ArePieces}
 use Rattle.log_pieces.proofs.pieces.push_pieces.Given as goal
@@ -13,6 +12,5 @@ invariant-loop-piece l = record {
   len : into_iter_len l.piece-iterator ≡ length (into_iter_items l.piece-iterator);
   added :
       (size : ℕ) (entries : List Entry) → ArePieces size entries l.fn.pieces.items →
-      Adds l.fn.text l.text (lines_from 1 (take (length l.yielded * size) entries));
-  front : KeepsFront l.fn.text l.text;
+      l.text ≡ l.fn.text ++ lines_from 1 (take (length l.yielded * size) entries);
 }
