@@ -1,14 +1,41 @@
--- A run that has no history of its own yet.
-use Rattle.std.proofs.Common.{◌≡◌, ◌≢◌, List, [], ◌∷◌, ◌++◌, Option, None, Some, refl}
+-- A phase that an order takes in, and an order that begins.
+use Rattle.std.proofs.Common.{◌≡◌, ℕ, ◌≤◌, List, [], ◌∷◌, ◌++◌, length, take, drop, All, Some, Result, Ok, Err, OnOk, sym, ◌∙◌, ap, subst}
+use Rattle.std.specs.Prelude.{reverse}
+use Rattle.std.proofs.lemmas.List.{reverse-append, reverse-reverse, take-append-drop, length-reverse, length-take-le}
 use Rattle.board_spec.specs.declared.event.Entry.{Entry}
 use Rattle.board_spec.specs.Setup.{Setup}
 use Rattle.board_spec.specs.Legal.{IsLegal}
-use Rattle.run_order.specs.Room.{Entries}
+use Rattle.run_order.specs.declared.done.Done.{Done}
+use Rattle.run_order.specs.Over.{IsWithin, over}
+use Rattle.run_order.specs.Placing.{placed}
+use Rattle.run_order.specs.Room.{Order}
+use Rattle.run_order.proofs.Over.{over_front}
+use Rattle.phase_run.specs.Placed.{entries_of}
 
-pub legal_end : (setup : Setup) (later before : List Entry) → IsLegal setup (later ++ before) → IsLegal setup before
+legal_end : (setup : Setup) (later before : List Entry) → IsLegal setup (later ++ before) → IsLegal setup before
 legal_end setup [] before legal = legal
 legal_end setup (entry ∷ later) before legal = legal_end setup later before legal.1
 
-pub no_history : (history : Option Entries) → ((some : Entries) → history ≢ Some some) → history ≡ None
-no_history None not = refl
-no_history (Some some) not = absurd (not some refl)
+-- the bus's history, in two parts
+pub cut_is : (n : ℕ) (bus : List Entry) → reverse bus ≡ reverse (drop n bus) ++ reverse (take n bus)
+cut_is n bus = ap reverse (sym (take-append-drop n bus)) ∙ reverse-append (take n bus) (drop n bus)
+
+pub legal_front : (setup : Setup) (n : ℕ) (bus : List Entry) → IsLegal setup (reverse bus) → IsLegal setup (reverse (take n bus))
+legal_front setup n bus legal = legal_end setup (reverse (drop n bus)) (reverse (take n bus)) (subst (IsLegal setup) (cut_is n bus) legal)
+
+-- what an order takes in over the whole of the bus's history, it takes in over what it was before
+pub taken_in : (bus : List Entry) (opened version : ℕ) (works : List (List Done)) (old new : Order) → opened ≤ length bus → old.bus ≡ opened → All (IsWithin old.bus) old.entries
+    → over bus new.entries ≡ placed version (drop old.bus bus) works (over bus old.entries)
+    → entries_of (Some new) (reverse bus) ≡ placed version (drop opened bus) works (entries_of (Some old) (reverse (take opened bus)))
+taken_in bus opened version works old new fits size within is =
+    let front : over (reverse (reverse (take opened bus))) old.entries ≡ over bus old.entries =
+    ap (λ (b : List Entry). over b old.entries) (reverse-reverse (take opened bus))
+    ∙ over_front opened bus old.entries (subst (λ (n : ℕ). All (IsWithin n) old.entries) size within) in
+    ap (λ (b : List Entry). over b new.entries) (reverse-reverse bus) ∙ (is ∙ (λ t. placed version (drop (size t) bus) works (sym front t)))
+
+pub front_length : (bus : List Entry) (opened : ℕ) → opened ≤ length bus → length (reverse (take opened bus)) ≡ opened
+front_length bus opened fits = length-reverse (take opened bus) ∙ length-take-le opened bus fits
+
+pub on_ok : {T E : Type 0} {P Q : Type 0} (result : Result T E) → (P → Q) → OnOk result P → OnOk result Q
+on_ok (Ok value) more is = more is
+on_ok (Err error) more is = is

@@ -4,9 +4,9 @@ use Rattle.std.specs.Prelude.{reverse, slice_index_or}
 use Rattle.std.specs.List.{Any, range_with_len}
 use Rattle.std.proofs.lemmas.Bool.{cases_Bool}
 use Rattle.std.proofs.lemmas.Bool.Decides.{nat_tests}
-use Rattle.std.proofs.lemmas.List.{get_or-map, get_or_default, reverse-reverse, reverse-append, append-nil, take_all, drop_all, map-append, length-map, length-reverse}
+use Rattle.std.proofs.lemmas.List.{get_or-map, get_or_default, reverse-append, append-nil, take_all, drop_all, map-append, length-map, length-reverse}
 use Rattle.std.proofs.lemmas.List.FromFn.{get_or-range_with_len, length-range_with_len}
-use Rattle.std.proofs.lemmas.List.Elements.{All-head, All-tail, All-nil, All-map, All-push}
+use Rattle.std.proofs.lemmas.List.Elements.{All-head, All-tail, All-map}
 use Rattle.run_order.specs.declared.done.Done.{Done}
 use Rattle.run_order.specs.Placing.{done_by}
 use Rattle.phase_run.specs.declared.jobs.Job.{Job}
@@ -17,14 +17,6 @@ pub map_reverse : {X Y : Type 0} (f : X → Y) (xs : List X) → map f (reverse 
 map_reverse f [] = refl
 map_reverse {X} {Y} f (x ∷ xs) =
     ap (map f) (reverse-append (x ∷ []) xs) ∙ (map-append f (reverse xs) (x ∷ []) ∙ (ap (λ (ys : List Y). ys ++ f x ∷ []) (map_reverse f xs) ∙ sym (reverse-append (f x ∷ []) (map f xs))))
-
-pub all_reverse : {X : Type 0} (P : X → Type 0) (xs : List X) → All P xs → All P (reverse xs)
-all_reverse P [] all = All-nil P
-all_reverse P (x ∷ xs) all =
-    subst (All P) (sym (reverse-append (x ∷ []) xs)) (All-push P (reverse xs) x (all_reverse P xs (All-tail P x xs all)) (All-head P x xs all))
-
-pub all_turned : {X : Type 0} (P : X → Type 0) (xs : List X) → All P (reverse xs) → All P xs
-all_turned P xs all = subst (All P) (reverse-reverse xs) (all_reverse P (reverse xs) all)
 
 pub map_twice : {X Y Z : Type 0} (f : X → Y) (g : Y → Z) (xs : List X) → map g (map f xs) ≡ map (λ x. g (f x)) xs
 map_twice f g [] = refl

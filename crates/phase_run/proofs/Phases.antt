@@ -1,10 +1,10 @@
 -- A phase, as the history of the run takes it in.
-use Rattle.std.proofs.Common.{◌≡◌, ℕ, ◌+◌, ◌-◌, ◌<◌, ◌≤◌, List, [], ◌∷◌, ◌++◌, map, length, take, drop, flat_map, All, Option, Vec, Global, sym, ◌∙◌, ap, subst, arith}
+use Rattle.std.proofs.Common.{◌≡◌, ℕ, ◌+◌, ◌<◌, ◌≤◌, List, [], ◌∷◌, ◌++◌, map, length, take, drop, flat_map, All, Option, Vec, Global, sym, ◌∙◌, ap, subst, arith}
 use Rattle.std.specs.Prelude.{reverse}
-use Rattle.std.proofs.lemmas.List.{reverse-append, reverse-reverse, length-append, length-map, map-append, append-nil, take_all}
+use Rattle.std.proofs.lemmas.List.{reverse-append, reverse-reverse, length-append, length-map, length-reverse, map-append, append-nil}
 use Rattle.std.proofs.lemmas.Grind.{flat_map-append}
 use Rattle.std.proofs.Math.Seq.{drop-append_seam, take-append_seam}
-use Rattle.std.proofs.lemmas.List.Elements.{All-take, All-drop}
+use Rattle.std.proofs.lemmas.List.Elements.{All-drop}
 use Rattle.board_spec.specs.declared.event.Entry.{Entry}
 use Rattle.board_spec.specs.declared.event.Statement.{Statement}
 use Rattle.board_spec.specs.Setup.{Setup, IsCardList}
@@ -13,26 +13,23 @@ use Rattle.board_spec.specs.Legal.{IsLegal}
 use Rattle.board_core.specs.Kept.{Standing}
 use Rattle.run_order.specs.declared.done.Done.{Done}
 use Rattle.run_order.specs.Placing.{done_by, placed}
-use Rattle.run_order.specs.Room.{Entries}
+use Rattle.run_order.specs.Room.{Order}
 use Rattle.run_order.specs.PhaseRun.{bare, IsWork, IsPhaseRun, IsPlaced, PhaseRuns}
 use Rattle.run_order.specs.Trace.{Begins}
 use Rattle.phase_run.specs.declared.worker.Work.{Work}
 use Rattle.phase_run.specs.Jobs.{IsStatement, HasRun, TakesIn, done_in}
 use Rattle.phase_run.specs.Placed.{entries_of}
-use Rattle.phase_run.proofs.Numbers.{all_reverse}
+use Rattle.run_order.proofs.Over.{all_reverse}
 
 -- what a history gained, the oldest first
 abbrev pub gained : (opened entries : List Entry) → List Entry
-gained opened entries = take (length entries - length opened) (drop (length opened) entries)
+gained opened entries = drop (length opened) entries
 
 later_is : (before now opened entries : List Entry) (b : Begins before now) → opened ≡ reverse before → entries ≡ reverse now → gained opened entries ≡ reverse b.0
 later_is before now opened entries b old is =
     let cut : entries ≡ reverse before ++ reverse b.0 = is ∙ (ap reverse b.1 ∙ reverse-append b.0 before) in
     let size : length opened ≡ length (reverse before) = ap length old in
-    let rest : drop (length opened) entries ≡ reverse b.0 =
-    ap (drop (length opened)) cut ∙ (ap (λ (n : ℕ). drop n (reverse before ++ reverse b.0)) size ∙ drop-append_seam (reverse before) (reverse b.0)) in
-    let total : length entries ≡ length (reverse before) + length (reverse b.0) = ap length cut ∙ length-append (reverse before) (reverse b.0) in
-    ap (take (length entries - length opened)) rest ∙ take_all (length entries - length opened) (reverse b.0) (omega (arith, total, size))
+    ap (drop (length opened)) cut ∙ (ap (λ (n : ℕ). drop n (reverse before ++ reverse b.0)) size ∙ drop-append_seam (reverse before) (reverse b.0))
 
 pub whole_is : (before now opened entries : List Entry) → Begins before now → opened ≡ reverse before → entries ≡ reverse now
     → reverse (gained opened entries) ++ before ≡ now
@@ -42,7 +39,12 @@ whole_is before now opened entries b old is =
 
 pub gained_all : (P : Entry → Type 0) (now opened entries : List Entry) → entries ≡ reverse now → All P now → All P (gained opened entries)
 gained_all P now opened entries is all =
-    All-take P (length entries - length opened) (drop (length opened) entries) (All-drop P (length opened) entries (subst (All P) (sym is) (all_reverse P now all)))
+    All-drop P (length opened) entries (subst (All P) (sym is) (all_reverse P now all))
+
+pub gained_within : (before now opened entries : List Entry) → Begins before now → opened ≡ reverse before → entries ≡ reverse now → length opened ≤ length entries
+gained_within before now opened entries b old is =
+    let all : length now ≡ length b.0 + length before = ap length b.1 ∙ length-append b.0 before in
+    omega (arith, all, ap length old, ap length is, length-reverse before, length-reverse now)
 
 pub phase_is_run : (before now : Standing) (opened entries : List Entry) (phase : List Statement) (works : List Work) (lists : List (List Done))
     → HasRun before now phase works → opened ≡ reverse before.entries → entries ≡ reverse now.entries → lists ≡ done_in works → IsCardList before.setup.cards
@@ -74,11 +76,8 @@ front_is before now opened entries b old is =
     ap (take (length opened)) cut ∙ (ap (λ (n : ℕ). take n (reverse before ++ reverse b.0)) size ∙ take-append_seam (reverse before) (reverse b.0)) in
     ap reverse front ∙ reverse-reverse before
 
--- the board's own history, in two parts
-pub parts_are : (before now opened entries : List Entry) → Begins before now → opened ≡ reverse before → entries ≡ reverse now
-    → reverse (gained opened entries) ++ reverse (take (length opened) entries) ≡ now
-parts_are before now opened entries b old is =
-    ap (λ (h : List Entry). reverse (gained opened entries) ++ h) (front_is before now opened entries b old is) ∙ whole_is before now opened entries b old is
+pub back_is : (now entries : List Entry) → entries ≡ reverse now → reverse entries ≡ now
+back_is now entries is = ap reverse is ∙ reverse-reverse now
 
 pub front_all : (n : ℕ) (before now opened entries : List Entry) → Begins before now → opened ≡ reverse before → entries ≡ reverse now
     → n ≤ 8 → All (λ entry. entry.actor < n) before → All (λ entry. entry.actor < 8) (take (length opened) entries)
@@ -87,11 +86,11 @@ front_all n before now opened entries b old is few all =
     subst (All (λ (entry : Entry). entry.actor < 8)) (sym back)
     (all_reverse (λ (entry : Entry). entry.actor < 8) before (λ k d less. let one = all k d less in omega (arith, one, few)))
 
-pub takes_in : (before now : Standing) (opened entries : List Entry) (phase : List Statement) (lists : List (List Done)) (old new : Option Entries) (version : ℕ)
+pub takes_in : (before now : Standing) (opened entries : List Entry) (phase : List Statement) (lists : List (List Done)) (old new : Option Order) (version : ℕ)
     → PhaseRuns → IsPhaseRun before.setup before.entries (gained opened entries) phase lists → Begins before.entries now.entries
     → opened ≡ reverse before.entries → entries ≡ reverse now.entries → version ≡ version_of before.setup before.entries
     → IsLegal before.setup (entries_of old before.entries) → bare (entries_of old before.entries) ≡ bare before.entries
-    → entries_of new (reverse (gained opened entries) ++ reverse (take (length opened) entries))
+    → entries_of new (reverse entries)
     ≡ placed version (gained opened entries) lists (entries_of old (reverse (take (length opened) entries)))
     → TakesIn phase before now (entries_of old before.entries) (entries_of new now.entries)
 takes_in before now opened entries phase lists old new version law run b is_old is version_is legal same placed_is =
@@ -99,7 +98,7 @@ takes_in before now opened entries phase lists old new version law run b is_old 
     let history : List Entry = entries_of old before.entries in
     let front = front_is before.entries now.entries opened entries b is_old is in
     let all : entries_of new now.entries ≡ placed (version_of before.setup before.entries) later lists history =
-    ap (entries_of new) (sym (parts_are before.entries now.entries opened entries b is_old is))
+    ap (entries_of new) (sym (back_is now.entries entries is))
     ∙ (placed_is ∙ (λ t. placed (version_is t) later lists (entries_of old (front t)))) in
     let there = subst (IsPlaced before.setup before.entries later phase history) (sym all)
     (law before.setup before.entries later phase lists history run legal same) in

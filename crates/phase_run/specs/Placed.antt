@@ -1,14 +1,20 @@
--- The history of a run beside that of its board. Histories have the newest entry first.
-use Rattle.std.specs.Prelude.{◌≡◌, false, List, All, Option, None, Some}
+-- The order of a run beside the history of its board. Histories have the newest entry first.
+use Rattle.std.specs.Prelude.{◌≡◌, false, List, length, reverse, All, Option, None, Some}
 use Rattle.board_spec.specs.declared.event.Entry.{Entry}
 use Rattle.board_spec.specs.declared.event.Statement.{Statement}
+use Rattle.run_order.specs.Over.{over}
 use Rattle.run_order.specs.Placing.{is_look}
-use Rattle.run_order.specs.Room.{Entries}
+use Rattle.run_order.specs.Room.{Order}
 
--- the board's own, where the run has none
-abbrev pub entries_of : Option Entries → List Entry → List Entry
+-- the entries of a run: the board's own, where the run has no order of its own
+abbrev pub entries_of : Option Order → List Entry → List Entry
 entries_of None own = own
-entries_of (Some history) own = history.entries
+entries_of (Some order) own = over (reverse own) order.entries
+
+-- an order has all entries of the board's own history
+abbrev pub IsUpTo : Option Order → List Entry → Type 0
+IsUpTo None own = Unit {0}
+IsUpTo (Some order) own = order.bus ≡ length own
 
 -- no statement is a look
 abbrev pub HasNoLook : List Statement → Type 0

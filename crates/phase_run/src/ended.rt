@@ -1,59 +1,66 @@
 //! A run that has ended.
 
-ghost use Rattle.std.specs.Prelude.{◌≡◌, reverse, is_none};
-ghost use Rattle.phase_run.specs.Placed.{entries_of};
+ghost use Rattle.std.specs.Prelude.{◌≡◌, length, reverse, is_none, All, IfSome, MatchOption};
+ghost use Rattle.run_order.specs.Over.{IsWithin, over};
+ghost use Rattle.phase_run.specs.Placed.{entries_of, IsUpTo};
 
 use board_core::Board;
 use board_spec::Entry;
-use run_order::RunHistory;
+use run_order::{RunEntry, RunOrder};
 use std::marker::Model;
 
-/// Where the history of a run is.
-#[derive(Drop)]
-pub(crate) enum Kept {
-    /// Nobody looked, so it is the board's own.
-    Own(Board),
-    /// It has the looks in their places.
-    Placed(RunHistory),
-}
-
-/// A run that has ended. Contracts see the entries of its history, the newest first, and whether it is the board's own.
+/// A run that has ended. Contracts see the entries of its history, the newest first, whether it is the board's own, and
+/// the board's own, the oldest first.
 #[derive(Drop)]
 pub struct EndedRun {
-    kept: Kept,
+    board: Board,
+    order: Option<RunOrder>,
 }
 
 impl Model for EndedRun {
-    ghost use Rattle.phase_run.specs.Ended.{Ended, entries_in, is_own};
+    ghost use Rattle.std.specs.Prelude.{reverse, is_none};
+    ghost use Rattle.phase_run.specs.Ended.{Ended};
+    ghost use Rattle.phase_run.specs.Placed.{entries_of, IsUpTo};
 
     ghost Value = { Ended };
 
-    ghost view = { λ run. record { entries = entries_in run.kept; own = is_own run.kept } };
+    ghost view = { λ run. record {
+      entries = entries_of run.order run.board.entries;
+      own = is_none run.order;
+      bus = reverse run.board.entries;
+    } };
+
+    ghost invariant = { λ run. IsUpTo run.order run.board.entries };
 }
 
 impl EndedRun {
-    /// The end of a run that led to this board. Its history is the board's, where it has none of its own.
-    pub(crate) fn new(board: Board, history: Option<RunHistory>) -> EndedRun
-        ensures entries { result.entries ≡ entries_of history board.entries }
-        ensures own { result.own ≡ is_none history }
+    /// The end of a run that led to this board. Its history is the board's, where it has no order of its own.
+    pub(crate) fn new(board: Board, order: Option<RunOrder>) -> EndedRun
+        requires up_to { IsUpTo order board.entries }
+        ensures entries { result.entries ≡ entries_of order board.entries }
+        ensures own { result.own ≡ is_none order }
+        ensures bus { result.bus ≡ reverse board.entries }
     {
-        match history {
-            Some(history) => EndedRun {
-                kept: Kept::Placed(history),
-            },
-            None => EndedRun {
-                kept: Kept::Own(board),
-            },
-        }
+        EndedRun { board, order }
     }
 
-    /// All entries, the oldest first.
-    pub fn entries(&self) -> &[Entry]
-        ensures entries { result.now ≡ reverse self.now.entries }
+    /// The entries that went through the bus turn, the oldest first.
+    pub fn bus(&self) -> &[Entry]
+        ensures bus { result.now ≡ self.now.bus }
     {
-        match &self.kept {
-            Kept::Own(board) => board.history().entries(),
-            Kept::Placed(history) => history.entries(),
+        self.board.history().entries()
+    }
+
+    /// The order of all entries, where somebody looked. Else they are those of the bus.
+    pub fn order(&self) -> Option<&[RunEntry]>
+        ensures own { is_none result ≡ self.now.own }
+        ensures entries { MatchOption result (self.now.bus ≡ reverse self.now.entries)
+            (λ order. over self.now.bus order.now ≡ reverse self.now.entries) }
+        ensures within { IfSome result (λ order. All (IsWithin (length self.now.bus)) order.now) }
+    {
+        match &self.order {
+            Some(order) => Some(order.entries()),
+            None => None,
         }
     }
 }

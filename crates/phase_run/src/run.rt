@@ -5,7 +5,7 @@ ghost use Rattle.board_spec.specs.Setup.{IsCardList};
 ghost use Rattle.board_spec.specs.Legal.{IsLegal};
 ghost use Rattle.board_spec.specs.Orders.{IsCompleteFor};
 ghost use Rattle.run_order.specs.PhaseRun.{bare};
-ghost use Rattle.phase_run.specs.Placed.{entries_of, HasNoLook};
+ghost use Rattle.phase_run.specs.Placed.{entries_of, HasNoLook, IsUpTo};
 ghost use Rattle.phase_run.specs.Works.{most_statements};
 ghost use Rattle.phase_run.specs.Jobs.{IsStatement, CanDo, GoesOn, HasRun, TakesIn};
 
@@ -60,7 +60,7 @@ fn run_workers<R: Threads + Wait + Sync, G: Gate>(
     Ok(Run { board, works })
 }
 
-/// Runs a phase, and adds what it did to the history of the run. The memory of its statements is given back before.
+/// Runs a phase, and adds what it did to the order of the run. The memory of its statements is given back before.
 fn run_phase<R: Threads + Wait + Sync, G: Gate>(
     rt: &R,
     alloc: Global,
@@ -71,22 +71,22 @@ fn run_phase<R: Threads + Wait + Sync, G: Gate>(
 ) -> Result<Run, NoMemory>
     requires cards { IsCardList run.board.setup.cards }
     requires can { CanDo run phase.items }
-    requires legal { IsLegal run.board.setup (entries_of placing.old.history run.board.entries) }
-    requires same { bare (entries_of placing.old.history run.board.entries) ≡ bare run.board.entries }
+    requires legal { IsLegal run.board.setup (entries_of placing.old.order run.board.entries) }
+    requires same { bare (entries_of placing.old.order run.board.entries) ≡ bare run.board.entries }
+    requires up_to { IsUpTo placing.old.order run.board.entries }
     ensures setup { IfOk result (λ next. next.board.setup ≡ run.board.setup) }
     ensures goes_on { IfOk result (GoesOn phase.items run) }
     ensures takes_in { IfOk result (λ next. TakesIn phase.items run.board next.board
-        (entries_of placing.old.history run.board.entries) (entries_of placing.new.history next.board.entries)) }
-    ensures own { OnOk result (HasNoLook phase.items → placing.old.history ≡ None → placing.new.history ≡ None) }
+        (entries_of placing.old.order run.board.entries) (entries_of placing.new.order next.board.entries)) }
+    ensures up_to { IfOk result (λ next. IsUpTo placing.new.order next.board.entries) }
+    ensures own { OnOk result (HasNoLook phase.items → placing.old.order ≡ None → placing.new.order ≡ None) }
 {
     let version = run.board.map().version();
     let opened = run.board.history().entries().len();
     let run = run_workers(rt, alloc, run, &phase, gate)?;
     drop(phase);
     let entries = run.board.history().entries();
-    let before = &entries[..opened];
-    let later = &entries[opened..];
-    placing.add(alloc, version, before, later, works_of(&run.works))?;
+    placing.add(alloc, version, opened, entries, works_of(&run.works))?;
     law_phase_runs();
     Ok(run)
 }
@@ -127,10 +127,7 @@ pub fn run_phases<R: Threads + Wait + Sync, G: Gate>(
     board.reserve(most as u32)?;
     let works = first_works(alloc, cpus)?;
     let mut run = Run { board, works };
-    let mut placing = Placing {
-        most,
-        history: None,
-    };
+    let mut placing = Placing { most, order: None };
     for phase in phases {
         run = run_phase(rt, alloc, run, phase, gate, &mut placing)?;
     }
@@ -138,5 +135,5 @@ pub fn run_phases<R: Threads + Wait + Sync, G: Gate>(
         board,
         works: _works,
     } = run;
-    Ok(EndedRun::new(board, placing.history))
+    Ok(EndedRun::new(board, placing.order))
 }

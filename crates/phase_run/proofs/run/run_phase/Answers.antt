@@ -8,8 +8,9 @@ use Rattle.board_spec.specs.Legal.{IsLegal}
 use Rattle.run_order.specs.declared.done.Done.{Done}
 use Rattle.phase_run.specs.declared.worker.Work.{Work}
 use Rattle.phase_run.specs.Jobs.{IsStatement, GoesOn, HasRun, done_in}
+use Rattle.phase_run.specs.Placed.{IsUpTo}
 use Rattle.phase_run.proofs.Looks.{nobody_looks}
-use Rattle.phase_run.proofs.Phases.{gained, gained_all, front_all, parts_are, phase_is_run, takes_in}
+use Rattle.phase_run.proofs.Phases.{gained, gained_all, gained_within, front_is, front_all, back_is, phase_is_run, takes_in}
 use Rattle.phase_run.proofs.run.run_phase.Goals as goal
 use Rattle.std.proofs.lemmas.List.{length-map}
 
@@ -29,7 +30,9 @@ add-requires g c =
     sym (length-map c.works_of.result.items (λ (done : Bor (List Done)). done.now)) ∙ (ap length are ∙ length-map works (λ (work : Work). work.done.items)) in
     let begins = c.in_ok-run.ensures.run.begins in
     record {
-      legal = (now.setup, subst (IsLegal now.setup) (sym (parts_are before.entries now.entries opened entries begins old is)) c.history-2.ensures.legal);
+      legal = (now.setup, subst (IsLegal now.setup) (sym (back_is now.entries entries is)) c.history-2.ensures.legal);
+      gained = gained_within before.entries now.entries opened entries begins old is;
+      up_to = subst (IsUpTo c.args.placing.now.order) (sym (front_is before.entries now.entries opened entries begins old is)) c.requires.up_to;
       earlier = front_all (length c.args.run.works.items) before.entries now.entries opened entries begins old is c.requires.can.few c.requires.can.asked.actors;
       callers = subst (λ (n : ℕ). All (λ (entry : Entry). entry.actor < n) (gained opened entries)) (sym count)
           (gained_all (λ (entry : Entry). entry.actor < length works) now.entries opened entries is asked.actors);
@@ -56,7 +59,7 @@ returns-clause-takes_in g c =
     let speakers = subst (λ (n : ℕ). All (IsStatement before.setup n) c.args.phase.items) count c.requires.can.in_range in
     let run = phase_is_run before now opened entries c.args.phase.items works lists ran old is are c.requires.cards c.history-2.ensures.legal asked.actors speakers in
     let version : c.version-version.result ≡ version_of before.setup before.entries = c.version-version.ensures.version ∙ c.map.ensures.version in
-    takes_in before now opened entries c.args.phase.items lists c.args.placing.now.history c.add.new.self.history c.version-version.result
+    takes_in before now opened entries c.args.phase.items lists c.args.placing.now.order c.add.new.self.order c.version-version.result
     c.law_phase_runs.ensures.runs run c.in_ok-run.ensures.run.begins old is version c.requires.legal c.requires.same c.in_ok-add.ensures.placed
 
 pub returns-clause-own : goal.returns-clause-own
@@ -66,3 +69,10 @@ returns-clause-own g c = λ none was.
     let are : lists ≡ done_in works = c.works_of.ensures.done ∙ ap done_in c.deref-2.ensures.value in
     let ran = subst (λ (phase : List Statement). HasRun c.args.run.board c.in_ok-run.run'.board phase works) c.deref.ensures.value c.in_ok-run.ensures.run in
     c.in_ok-add.ensures.own (nobody_looks c.args.run.board c.in_ok-run.run'.board c.args.phase.items works lists ran are none) was
+
+pub returns-clause-up_to : goal.returns-clause-up_to
+returns-clause-up_to g c =
+    let now = c.in_ok-run.run'.board in
+    let entries : List Entry = c.entries-entries.result.now in
+    let is : entries ≡ reverse now.entries = c.entries-entries.ensures.entries ∙ ap (λ (past : Past). reverse past.entries) c.history-2.ensures.history in
+    subst (IsUpTo c.add.new.self.order) (back_is now.entries entries is) c.in_ok-add.ensures.up_to

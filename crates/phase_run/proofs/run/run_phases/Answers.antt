@@ -73,9 +73,10 @@ loop-phase-preserved g c =
           omega arith;
       setup = c.in_ok-run.ensures.setup ∙ l.invariant.setup;
       count = c.in_ok-run.ensures.goes_on.count ∙ l.invariant.count;
-      legal = subst (λ (setup : Setup). IsLegal setup (entries_of c.run_phase.new.placing.history next.board.entries)) l.invariant.setup c.in_ok-run.ensures.takes_in.legal;
+      legal = subst (λ (setup : Setup). IsLegal setup (entries_of c.run_phase.new.placing.order next.board.entries)) l.invariant.setup c.in_ok-run.ensures.takes_in.legal;
       same = c.in_ok-run.ensures.takes_in.same;
-      phases = subst (λ (ps : List (List Statement)). HasPhases ps (statements_of (entries_of c.run_phase.new.placing.history next.board.entries)))
+      up_to = c.in_ok-run.ensures.up_to;
+      phases = subst (λ (ps : List (List Statement)). HasPhases ps (statements_of (entries_of c.run_phase.new.placing.order next.board.entries)))
           (sym (phases_more l.yielded phase)) (c.in_ok-run.ensures.takes_in.phases _ l.invariant.phases);
       own = λ all. c.in_ok-run.ensures.own
           (of_one (λ (one : Phase). HasNoLook one.items) l.yielded phase rest (subst (All (λ (one : Phase). HasNoLook one.items)) (sym whole) all))

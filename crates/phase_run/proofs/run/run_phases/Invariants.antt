@@ -4,7 +4,7 @@ use Rattle.board_spec.specs.Legal.{IsLegal}
 use Rattle.board_spec.specs.Orders.{statements_of, HasPhases}
 use Rattle.run_order.specs.PhaseRun.{bare}
 use Rattle.phase_run.specs.Jobs.{AreAsked}
-use Rattle.phase_run.specs.Placed.{entries_of, HasNoLook}
+use Rattle.phase_run.specs.Placed.{entries_of, HasNoLook, IsUpTo}
 use Rattle.phase_run.proofs.run.run_phases.Given as goal
 
 abbrev pub invariant-loop-phase : goal.invariant-loop-phase
@@ -13,9 +13,10 @@ invariant-loop-phase g l = record {
   len : into_iter_len l.phase-iterator ≡ length (into_iter_items l.phase-iterator);
   setup : l.run.board.setup ≡ l.fn.board.setup;
   count : length l.run.works.items ≡ l.fn.cpus;
-  legal : IsLegal l.fn.board.setup (entries_of l.placing.history l.run.board.entries);
-  same : bare (entries_of l.placing.history l.run.board.entries) ≡ bare l.run.board.entries;
-  phases : HasPhases (map (λ phase. phase.items) l.yielded) (statements_of (entries_of l.placing.history l.run.board.entries));
-  own : All (λ phase. HasNoLook phase.items) l.fn.phases.items → l.placing.history ≡ None;
+  legal : IsLegal l.fn.board.setup (entries_of l.placing.order l.run.board.entries);
+  same : bare (entries_of l.placing.order l.run.board.entries) ≡ bare l.run.board.entries;
+  up_to : IsUpTo l.placing.order l.run.board.entries;
+  phases : HasPhases (map (λ phase. phase.items) l.yielded) (statements_of (entries_of l.placing.order l.run.board.entries));
+  own : All (λ phase. HasNoLook phase.items) l.fn.phases.items → l.placing.order ≡ None;
   asked : AreAsked (length (flat_map (λ phase. phase.items) l.yielded)) l.run.board.entries l.run.works.items;
 }

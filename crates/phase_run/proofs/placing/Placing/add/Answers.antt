@@ -1,24 +1,51 @@
-use Rattle.std.proofs.Common.{rules, ◌≡◌, ◌++◌, List, map, reverse, Option, None, sym, subst}
+use Rattle.std.proofs.Common.{rules, ◌≡◌, List, map, take, drop, reverse, Option, None, Some, sym, ◌∙◌, ap, subst}
+use Rattle.std.proofs.lemmas.List.{reverse-reverse, length-take-le}
+use Rattle.board_spec.specs.declared.event.Entry.{Entry}
+use Rattle.board_spec.specs.Legal.{IsLegal}
 use Rattle.run_order.specs.declared.done.Done.{Done}
+use Rattle.run_order.specs.Over.{over}
 use Rattle.run_order.specs.Placing.{placed}
-use Rattle.run_order.specs.Room.{Entries, all_looks_in}
+use Rattle.run_order.specs.Room.{Order, all_looks_in}
 use Rattle.run_order.proofs.Unlooked.{unlooked}
-use Rattle.phase_run.specs.Placed.{entries_of}
-use Rattle.phase_run.proofs.Beginnings.{legal_end}
+use Rattle.phase_run.specs.Placed.{entries_of, IsUpTo}
+use Rattle.phase_run.proofs.Beginnings.{cut_is, legal_front, front_length, taken_in, on_ok}
 use Rattle.phase_run.proofs.placing.Placing.add.Goals as goal
 
-pub returns-then-not-has_looks : goal.returns-then-not-has_looks
-returns-then-not-has_looks c =
-    let none : c.args.self.now.history ≡ None = search rules in
+pub returns-in-Some-clause-placed : goal.returns-in-Some-clause-placed
+returns-in-Some-clause-placed c =
+    let bus : List Entry = c.args.bus.now in
+    let before : List Entry = reverse (take c.args.opened bus) in
     let lists : List (List Done) = map (λ done. done.now) c.args.works.items in
-    let later = c.args.later.now in
-    let before = reverse c.args.before.now in
+    let some : c.args.self.now.order ≡ Some c.in-Some.order = search rules in
+    let size : c.in-Some.order.bus ≡ c.args.opened =
+    subst (λ (order : Option Order). IsUpTo order before) some c.requires.up_to ∙ front_length bus c.args.opened c.requires.gained in
+    on_ok c.place.result (λ is. taken_in bus c.args.opened c.args.version lists c.in-Some.order c.place.new.self c.requires.gained size c.place.ensures.within is
+    ∙ ap (λ (order : Option Order). placed c.args.version (drop c.args.opened bus) lists (entries_of order before)) (sym some)) c.place.ensures.placed
+
+pub returns-then-not-has_looks-clause-placed : goal.returns-then-not-has_looks-clause-placed
+returns-then-not-has_looks-clause-placed c =
+    let bus : List Entry = c.args.bus.now in
+    let later : List Entry = drop c.args.opened bus in
+    let before : List Entry = reverse (take c.args.opened bus) in
+    let lists : List (List Done) = map (λ done. done.now) c.args.works.items in
+    let none : c.args.self.now.order ≡ None = search rules in
     let looks : all_looks_in lists ≡ 0 = c.if-not-has_looks.ensures.none (search rules) in
-    record {
-      placed = subst (λ (history : Option Entries). entries_of history (reverse later ++ before) ≡ placed c.args.version later lists (entries_of history before)) (sym none)
-          (sym (unlooked c.requires.legal.0 c.args.version later lists before looks c.requires.legal.1));
-      own = λ nobody was. was;
-    }
+    let cut = cut_is c.args.opened bus in
+    let same = unlooked c.requires.legal.0 c.args.version later lists before looks (subst (IsLegal c.requires.legal.0) cut c.requires.legal.1) in
+    subst (λ (order : Option Order). entries_of order (reverse bus) ≡ placed c.args.version later lists (entries_of order before)) (sym none) (cut ∙ sym same)
 
 pub begin-requires-clause-legal : goal.begin-requires-clause-legal
-begin-requires-clause-legal c = (c.requires.legal.0, legal_end c.requires.legal.0 (reverse c.args.later.now) (reverse c.args.before.now) c.requires.legal.1)
+begin-requires-clause-legal c = (c.requires.legal.0, legal_front c.requires.legal.0 c.args.opened c.args.bus.now c.requires.legal.1)
+
+pub returns-clause-placed : goal.returns-clause-placed
+returns-clause-placed c =
+    let bus : List Entry = c.args.bus.now in
+    let before : List Entry = reverse (take c.args.opened bus) in
+    let lists : List (List Done) = map (λ done. done.now) c.args.works.items in
+    let none : c.args.self.now.order ≡ None = search rules in
+    let begun : Order = c.in_ok-order.order in
+    let size : begun.bus ≡ c.args.opened = c.in_ok-order.ensures.bus ∙ length-take-le c.args.opened bus c.requires.gained in
+    let same : entries_of (Some begun) before ≡ before =
+    ap (λ (b : List Entry). over b begun.entries) (reverse-reverse (take c.args.opened bus)) ∙ c.in_ok-order.ensures.same in
+    taken_in bus c.args.opened c.args.version lists begun c.place-2.new.self c.requires.gained size c.place-2.ensures.within c.in_ok-place.ensures.placed
+    ∙ ap (placed c.args.version (drop c.args.opened bus) lists) (same ∙ ap (λ (order : Option Order). entries_of order before) (sym none))
