@@ -27,7 +27,7 @@ use Rattle.run_order.specs.Trace.{Begins, Extends, IsDone}
 use Rattle.run_order.proofs.Histories.{begins_trans}
 use Rattle.phase_run.specs.declared.worker.Work.{Work}
 use Rattle.phase_run.specs.declared.jobs.Job.{Job}
-use Rattle.phase_run.specs.Works.{most_statements}
+use Rattle.board_spec.specs.Limits.{most_statements}
 use Rattle.phase_run.specs.Jobs.{IsReady, IsRun, AreAsked, HasRun, done_in}
 use Rattle.run_order.proofs.Over.{all_reverse, all_turned}
 use Rattle.phase_run.proofs.Numbers.{map_reverse, all_mapped, map_twice, same_lengths, numbered_length, numbers_below, same_numbers, by_number}

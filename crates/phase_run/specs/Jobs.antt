@@ -18,7 +18,8 @@ use Rattle.run_order.specs.Trace.{Begins}
 use Rattle.phase_run.specs.declared.worker.Work.{Work}
 use Rattle.phase_run.specs.declared.jobs.Job.{Job}
 use Rattle.phase_run.specs.declared.run.Run.{Run}
-use Rattle.phase_run.specs.Works.{most_statements, HasDone}
+use Rattle.board_spec.specs.Limits.{most_statements}
+use Rattle.phase_run.specs.Works.{HasDone}
 
 -- a statement of a processor below `cpus`, with an event in range for this setup
 pub record IsStatement (setup : Setup) (cpus : ℕ) (statement : Statement) : Type 0 where

@@ -9,10 +9,6 @@ use Rattle.run_order.specs.declared.done.Done.{Done}
 use Rattle.run_order.specs.Placing.{event_of}
 use Rattle.run_order.specs.Trace.{IsDone}
 
--- the most statements of a run
-abbrev pub most_statements : ℕ
-most_statements = 250_000
-
 -- these are the processor's statements of a phase, as they were done: they led from the history `opened` to having seen
 -- `seen` and knowing `known`
 pub record HasDone (setup : Setup) (actor : ℕ) (opened : List Entry) (phase : List Statement) (done : List Done)

@@ -8,7 +8,7 @@ ghost use Rattle.board_spec.specs.InRange.{IsInRange};
 ghost use Rattle.board_spec.specs.Legal.{entries_by};
 ghost use Rattle.run_order.specs.Placing.{is_look};
 ghost use Rattle.run_order.specs.Trace.{IsGone, IsLooked};
-ghost use Rattle.phase_run.specs.Works.{most_statements};
+ghost use Rattle.board_spec.specs.Limits.{most_statements};
 
 use board_base::{Kind, NoMemory};
 use board_spec::{Event, Look};

@@ -9,13 +9,11 @@ use crate::worker::Work;
 use board_base::{Gate, NoMemory};
 use board_live::{Cpu, Live};
 use board_spec::Statement;
+use board_spec::limits::ACTORS;
 use run_order::Works;
 use std::alloc::Global;
 use std::sync::Wait;
 use std::thread::{Threads, for_each_mut};
-
-/// How many numbers processors can have.
-const ACTORS: usize = 256;
 
 /// A worker, with the caller that it has in a phase.
 pub(crate) struct Job {

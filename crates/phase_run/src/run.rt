@@ -6,7 +6,7 @@ ghost use Rattle.board_spec.specs.Legal.{IsLegal};
 ghost use Rattle.board_spec.specs.Orders.{IsCompleteFor};
 ghost use Rattle.run_order.specs.PhaseRun.{bare};
 ghost use Rattle.phase_run.specs.Placed.{entries_of, HasNoLook, IsUpTo};
-ghost use Rattle.phase_run.specs.Works.{most_statements};
+ghost use Rattle.board_spec.specs.Limits.{most_statements};
 ghost use Rattle.phase_run.specs.Jobs.{IsStatement, CanDo, GoesOn, HasRun, TakesIn};
 
 use crate::ended::EndedRun;

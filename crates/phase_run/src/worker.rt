@@ -8,7 +8,8 @@ ghost use Rattle.board_spec.specs.MapWrites.{map_writes_of};
 ghost use Rattle.run_order.specs.declared.done.Done.{Done};
 ghost use Rattle.run_order.specs.Placing.{event_of};
 ghost use Rattle.run_order.specs.Trace.{IsDone};
-ghost use Rattle.phase_run.specs.Works.{most_statements, HasDone};
+ghost use Rattle.board_spec.specs.Limits.{most_statements};
+ghost use Rattle.phase_run.specs.Works.{HasDone};
 
 use crate::caller::Caller;
 use board_base::{Gate, NoMemory};

@@ -6,7 +6,7 @@ use Rattle.board_spec.specs.declared.event.Statement.{Statement}
 use Rattle.board_spec.specs.Setup.{Setup}
 use Rattle.board_spec.specs.Legal.{IsLegal}
 use Rattle.board_spec.specs.Orders.{statements_of, HasPhases}
-use Rattle.phase_run.specs.Works.{most_statements}
+use Rattle.board_spec.specs.Limits.{most_statements}
 use Rattle.phase_run.specs.Jobs.{AreAsked, IsStatement}
 use Rattle.phase_run.specs.Placed.{entries_of, HasNoLook}
 use Rattle.phase_run.proofs.Phases.{phases_more, statements_more, statements_within}
