@@ -1,8 +1,8 @@
 -- What a store to the boundaries of the rows of DRAM moves, and that no more rows are looked up for it than the bound says.
-use Rattle.std.proofs.Common.{◌≡◌, ℕ, ◌+◌, ◌-◌, ◌*◌, ◌<◌, ◌≤◌, inl, inr, true, false, List, [], ◌∷◌, ◌++◌, take, refl, sym, ◌∙◌, ap, subst, arith, lit<}
-use Rattle.std.specs.Prelude.{◌==◌, nat_lt, flat_map}
+use Rattle.std.proofs.Common.{◌≡◌, ℕ, zero, suc, ◌⊎◌, Bool, ◌+◌, ◌-◌, ◌*◌, ◌<◌, ◌≤◌, inl, inr, true, false, List, [], ◌∷◌, ◌++◌, take, refl, sym, ◌∙◌, ap, subst, arith, lit<}
+use Rattle.std.specs.Prelude.{◌==◌, nat_lt, if◌then◌else◌, Option, None, min, max, slice_index, find, flat_map}
 use Rattle.std.specs.List.{list_any}
-use Rattle.std.proofs.lemmas.Bool.{cases_Bool, false≢true}
+use Rattle.std.proofs.lemmas.Bool.{cases_Bool, cases_lt, false≢true}
 use Rattle.std.proofs.lemmas.Bool.Decides.{nat_tests}
 use Rattle.board_base.specs.declared.access.Width.{Width}
 use Rattle.board_base.specs.declared.access.Width.TheVariants.{One, Two, Four}
@@ -20,7 +20,7 @@ use Rattle.addr_decode.specs.MapRegs.{MapBytes, StandsFor}
 use Rattle.addr_decode.specs.Edges.{edges_of, edges_after}
 use Rattle.map_builder.specs.declared.range.Changed.{Changed}
 use Rattle.map_builder.specs.Changed.{from_to, windows_of, windows_covered, bridge_windows, after, changed_windows, is_above_first, is_inside, edges_inside, is_window, count_of}
-use Rattle.map_builder.specs.Rows.{stores_rows, is_below, StaySides, IsInRows, AreMoved}
+use Rattle.map_builder.specs.Rows.{stores_rows, is_below, IsHidden, StaysOrHidden, RowStays, IsInRows, AreMoved}
 use Rattle.map_builder.specs.Sorted.{Rise, rows_in}
 use Rattle.map_builder.proofs.KeptLemmas.{is_boundary, areas_same, row_window}
 use Rattle.map_builder.proofs.SortedLemmas.{filter_more, one_window}
@@ -49,20 +49,92 @@ unfolding row_of
 row_stays bytes new addr same =
     rw (same 0 (lit< tt), same 1 (lit< tt), same 2 (lit< tt), same 3 (lit< tt), same 4 (lit< tt), same 5 (lit< tt), same 6 (lit< tt), same 7 (lit< tt)) refl
 
+-- so many rows, from one on
+abbrev rows_from : (first count : ℕ) → List ℕ
+rows_from first zero = []
+rows_from first (suc count) = first ∷ rows_from (first + 1) count
+
+-- a row before this one, from the first on, is found by both tests
+record IsFound (p q : ℕ → Bool) (first row : ℕ) : Type 0 where
+  pub earlier : ℕ
+  pub from : first ≤ earlier
+  pub before : earlier < row
+  pub here : p earlier ≡ true
+  pub there : q earlier ≡ true
+
+-- two tests of rows, of which the one fails where the other does, find the same row first
+same_first : (p q : ℕ → Bool) (first count : ℕ) →
+    ((row : ℕ) → first ≤ row → row < first + count → (q row ≡ p row) ⊎ IsFound p q first row) →
+    find q (rows_from first count) ≡ find p (rows_from first count)
+same_first p q first zero alike = refl
+same_first p q first (suc count) alike =
+    elim (alike first (omega arith) (omega arith)) [
+      | inr found ↦ absurd (let low = found.from in let high = found.before in omega arith)
+      | inl same ↦
+          elim (cases_Bool (p first)) [
+            | inl is ↦ rw (same, is) refl
+            | inr not ↦
+                rw (same, not)
+                (same_first p q (first + 1) count
+                (λ row low high.
+                elim (alike row (omega arith) (omega arith)) [
+                  | inl stays ↦ inl stays
+                  | inr found ↦
+                      elim (cases_lt first found.earlier) [
+                        | inl later ↦ inr (record { earlier = found.earlier; from = omega arith; before = found.before; here = found.here; there = found.there })
+                        | inr at_first ↦
+                            let is : found.earlier ≡ first = let low = found.from in omega arith in
+                            absurd (false≢true (sym not ∙ ap p (sym is) ∙ found.here))
+                      ]
+                ]))
+          ]
+    ]
+
+where_same : (a b : Bool) (x y : Option ℕ) → b ≡ a → (a ≡ true → y ≡ x) → (if b then y else None) ≡ (if a then x else None)
+where_same true b x y is same = rw is (same refl)
+where_same false b x y is same = rw is refl
+
 -- the boundaries in the registers are those of the board
 side_at : (regs : MapBytes) (setup : Setup) (bytes : Bytes) (addr row : ℕ) → StandsFor setup bytes regs → row < 8 →
     is_below regs.drb addr row ≡ nat_lt addr (boundary bytes row)
 side_at regs setup bytes addr row stands below = ap (λ (byte : ℕ). nat_lt addr (byte * 0x80_0000)) (stands.rows row below)
 
+row_kept : (old new : MapBytes) (setup : Setup) (bytes later : Bytes) (addr : ℕ) → StandsFor setup bytes old → StandsFor setup later new →
+    RowStays old.drb new.drb addr → row_of later addr ≡ row_of bytes addr
+unfolding row_of
+row_kept old new setup bytes later addr stands stands' stays =
+    let top : nat_lt addr (boundary later 7) ≡ nat_lt addr (boundary bytes 7) =
+    sym (side_at new setup later addr 7 stands' (lit< tt)) ∙ stays.top ∙ side_at old setup bytes addr 7 stands (lit< tt) in
+    where_same (nat_lt addr (boundary bytes 7)) (nat_lt addr (boundary later 7)) (find (λ row. nat_lt addr (boundary bytes row)) (rows_from 0 8))
+    (find (λ row. nat_lt addr (boundary later row)) (rows_from 0 8)) top
+    (λ below.
+          same_first (λ row. nat_lt addr (boundary bytes row)) (λ row. nat_lt addr (boundary later row)) 0 8
+          (λ row low high.
+          elim (cases_lt row 7) [
+            | inr last ↦ inl (let is : row ≡ 7 = omega arith in rw is top)
+            | inl within ↦
+                elim (stays.each (side_at old setup bytes addr 7 stands (lit< tt) ∙ below) row within) [
+                  | inl same ↦ inl (sym (side_at new setup later addr row stands' high) ∙ same ∙ side_at old setup bytes addr row stands high)
+                  | inr hidden ↦
+                      let early : hidden.earlier < 8 = let before = hidden.before in omega arith in
+                      inr (record {
+                        earlier = hidden.earlier;
+                        from = omega arith;
+                        before = hidden.before;
+                        here = sym (side_at old setup bytes addr hidden.earlier stands early) ∙ hidden.old_below;
+                        there = sym (side_at new setup later addr hidden.earlier stands' early) ∙ hidden.new_below;
+                      })
+                ]
+          ]))
+
 pub rows_keep : (old new : MapBytes) (setup : Setup) (bytes : Bytes) (change : MapChange) (addr : ℕ) → stores_rows change ≡ true → IsCardList setup.cards →
-    StandsFor setup bytes old → StandsFor setup (after setup change bytes) new → StaySides old.drb new.drb addr 8 →
+    StandsFor setup bytes old → StandsFor setup (after setup change bytes) new → RowStays old.drb new.drb addr →
     six_areas setup (after setup change bytes) addr ≡ six_areas setup bytes addr
-rows_keep old new setup bytes Reset addr rows list stands stands' sides = absurd (false≢true rows)
-rows_keep old new setup bytes (Store at width value) addr rows list stands stands' sides =
+rows_keep old new setup bytes Reset addr rows list stands stands' stays = absurd (false≢true rows)
+rows_keep old new setup bytes (Store at width value) addr rows list stands stands' stays =
     let later : Bytes = after setup (Store at width value) bytes in
     areas_same setup bytes later addr (λ reg other. inl (rw (beside at width value reg rows other) refl))
-    (row_stays bytes later addr
-    (λ row below. sym (side_at new setup later addr row stands' below) ∙ sides row below ∙ side_at old setup bytes addr row stands below))
+    (row_kept old new setup bytes later addr stands stands' stays)
     list
 
 -- ---- how many rows are looked up
@@ -135,3 +207,36 @@ moved_few setup bytes new change old_rows new_rows [] rows moved = omega arith
 moved_few setup bytes new change old_rows new_rows (window ∷ []) rows moved =
     omega (arith, few_in_rows setup new window (changed_windows setup bytes change) moved.each.0 (begins setup bytes change rows))
 moved_few setup bytes new change old_rows new_rows (window ∷ other ∷ later) rows moved = absurd (omega (arith, moved.one))
+
+-- ---- one row after the other, as the code takes them
+
+-- an address outside of what lies between the boundaries of a row, which no earlier row hides and which lies below the top
+pub stays_on : (old new : List ℕ) (addr row first hidden end top : ℕ) → first ≡ min (slice_index old row) (slice_index new row) →
+    end ≡ max (slice_index old row) (slice_index new row) → slice_index old 7 ≤ top → is_below old addr 7 ≡ true →
+    ((addr < max first hidden * 0x80_0000) ⊎ (min end top * 0x80_0000 ≤ addr)) → (addr < hidden * 0x80_0000 → IsHidden old new addr row) →
+    StaysOrHidden old new addr row
+stays_on old new addr row first hidden end top first_is end_is high below (inl low) hides =
+    elim (cases_lt addr (hidden * 0x80_0000)) [
+      | inl is ↦ inr (hides is)
+      | inr not ↦
+          let old_below : is_below old addr row ≡ true = grind (arith, nat_tests) in
+          let new_below : is_below new addr row ≡ true = grind (arith, nat_tests) in
+          inl (new_below ∙ sym old_below)
+    ]
+stays_on old new addr row first hidden end top first_is end_is high below (inr past) hides =
+    let under : addr < slice_index old 7 * 0x80_0000 = grind (arith, nat_tests) in
+    let old_above : is_below old addr row ≡ false = grind (arith, nat_tests) in
+    let new_above : is_below new addr row ≡ false = grind (arith, nat_tests) in
+    inl (new_above ∙ sym old_above)
+
+-- the addresses that the rows so far hide, and those that one more hides
+pub hides_on : (old new : List ℕ) (addr row first hidden : ℕ) → first ≡ min (slice_index old row) (slice_index new row) →
+    (addr < hidden * 0x80_0000 → IsHidden old new addr row) → addr < max hidden first * 0x80_0000 → IsHidden old new addr (row + 1)
+hides_on old new addr row first hidden first_is hides low =
+    elim (cases_lt addr (hidden * 0x80_0000)) [
+      | inl is ↦
+          let found = hides is in
+          record { earlier = found.earlier; before = (let before = found.before in omega arith); old_below = found.old_below; new_below = found.new_below }
+      | inr not ↦
+          record { earlier = row; before = omega arith; old_below = grind (arith, nat_tests); new_below = grind (arith, nat_tests) }
+    ]

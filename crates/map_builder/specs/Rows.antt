@@ -1,5 +1,5 @@
--- What a store to the boundaries of the rows of DRAM moves: the addresses between an old boundary and a new one.
-use Rattle.std.specs.Prelude.{ℕ, ◌≡◌, ◌+◌, ◌*◌, ◌<◌, ◌≤◌, ◌==◌, nat_le, nat_lt, Bool, false, ◌&&◌, List, length, slice_index}
+-- What a store to the boundaries of the rows of DRAM moves: addresses between an old boundary and a new one.
+use Rattle.std.specs.Prelude.{ℕ, ◌≡◌, ◌+◌, ◌*◌, ◌<◌, ◌≤◌, ◌⊎◌, ◌==◌, nat_le, nat_lt, Bool, true, false, ◌&&◌, List, length, slice_index}
 use Rattle.std.specs.List.{AllByRecursion}
 use Rattle.board_base.specs.Access.{bytes_of}
 use Rattle.board_spec.specs.declared.map_change.MapChange.{MapChange}
@@ -18,16 +18,28 @@ stores_rows (Store reg width value) =
 abbrev pub is_below : (boundaries : List ℕ) → (addr row : ℕ) → Bool
 is_below boundaries addr row = nat_lt addr (slice_index boundaries row * boundary_unit)
 
--- at an address each of some rows stays on its side of the boundary
-abbrev pub StaySides : (old new : List ℕ) → (addr count : ℕ) → Type 0
-StaySides old new addr count = (row : ℕ) → row < count → is_below new addr row ≡ is_below old addr row
+-- an address lies below the boundary of an earlier row, by the old boundaries and by the new ones
+pub record IsHidden (old new : List ℕ) (addr row : ℕ) : Type 0 where
+  pub earlier : ℕ
+  pub before : earlier < row
+  pub old_below : is_below old addr earlier ≡ true
+  pub new_below : is_below new addr earlier ≡ true
+
+-- it stays on its side of the boundary of a row, or the row does not count there
+abbrev pub StaysOrHidden : (old new : List ℕ) → (addr row : ℕ) → Type 0
+StaysOrHidden old new addr row = (is_below new addr row ≡ is_below old addr row) ⊎ IsHidden old new addr row
+
+-- below the top of DRAM, which is the boundary of the last row, this holds for each row, and the top stays on its side
+pub record RowStays (old new : List ℕ) (addr : ℕ) : Type 0 where
+  pub top : is_below new addr 7 ≡ is_below old addr 7
+  pub each : is_below old addr 7 ≡ true → (row : ℕ) → row < 7 → StaysOrHidden old new addr row
 
 -- a window that a row can have
 abbrev pub IsInRows : Changed → Type 0
 IsInRows window = (window.lo ≤ window.hi) × (window.hi ≤ 0x7F7F_FFFF)
 
--- at most one window, outside of which all eight rows stay as they are
+-- at most one window, outside of which each address keeps its row
 pub record AreMoved (old new : List ℕ) (windows : List Changed) : Type 0 where
   pub one : length windows ≤ 1
   pub each : AllByRecursion IsInRows windows
-  pub beside : (addr : ℕ) → AllByRecursion (IsOutside addr) windows → StaySides old new addr 8
+  pub beside : (addr : ℕ) → AllByRecursion (IsOutside addr) windows → RowStays old new addr
