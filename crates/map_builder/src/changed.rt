@@ -71,16 +71,15 @@ pub fn push_again(windows: &mut Covered, same: bool, regs: &MapRegs, change: &Ma
     }
 }
 
-/// Whether the windows that a change covers are the same after it as before: where the register keeps its byte, and where
-/// no window of the change rests on what the registers hold.
+/// Whether the windows that a change covers are known to be the same after it as before: where the register keeps its
+/// byte, and where none of them rests on what the registers hold.
 pub fn keeps_windows(kept: bool, change: &MapChange) -> bool
     ensures keeps { result ≡ (kept || is_fixed change.now) }
 {
     kept || is_fixed(change)
 }
 
-/// Whether the windows that a change covers do not rest on what the registers hold: every address, or those of the
-/// bridges.
+/// Whether no window that a change covers rests on what the registers hold: a hard reset, and a store to a bridge.
 fn is_fixed(change: &MapChange) -> bool
     ensures fixed { result ≡ is_fixed change.now }
 {

@@ -64,8 +64,9 @@ fn choose_moved(chosen: &mut Windows, old: &[u8; 8], new: &[u8; 8])
     }
 }
 
-/// The least interval that holds the addresses whose row may change: those between the two boundaries of a row, which
-/// no earlier row holds before and after, and which do not lie above the top of DRAM both times. None where there are none.
+/// The least interval that holds the addresses whose row may change: those between the old boundary of a row and the
+/// new one, unless they belong to an earlier row both times, or lie above the top of DRAM both times. None where there
+/// are none.
 fn moved(old: &[u8; 8], new: &[u8; 8]) -> Option<Changed>
     ensures within { IfSome result IsInRows }
     ensures beside { (addr : ℕ) → IfSome result (IsOutside addr) → RowStays old.now new.now addr }
