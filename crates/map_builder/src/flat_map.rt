@@ -1,6 +1,7 @@
 //! The memory map as one list of ranges.
 ghost use Rattle.std.specs.Prelude.{◌≡◌, ◌≤◌, ◌<◌, ◌+◌, ℕ, All, false, if◌then◌else◌, length, map};
 ghost use Rattle.board_base.specs.declared.access.Kind.{Kind};
+ghost use Rattle.board_spec.specs.Limits.{entry_limit};
 ghost use Rattle.board_spec.specs.Setup.{Setup};
 ghost use Rattle.board_spec.specs.declared.map_change.MapChange.TheVariants.{Store};
 ghost use Rattle.board_spec.specs.MapWrites.{touches_map};
@@ -140,7 +141,7 @@ impl FlatMap {
     /// areas it may change: the least first and the greatest last address of the windows that the registers govern
     /// which it covers. Both are 0 where there is no such window, and then no area changes.
     pub fn apply(&mut self, change: &MapChange) -> Changed
-        requires version { self.old.version < 4_000_000 }
+        requires version { self.old.version < entry_limit }
         ensures stands { (setup : Setup) (bytes : Bytes) → StandsFor setup bytes self.old.regs
             → StandsFor setup (λ reg. changed_byte setup change.now reg (bytes reg)) self.new.regs }
         ensures cards { (setup : Setup) (bytes : Bytes) → AreCardsOf setup bytes self.old.regs.cards
@@ -166,7 +167,7 @@ impl FlatMap {
         requires name { blank.name ≡ L.name }
         requires parts { blank.parts ≡ L.parts }
         requires some_part { 0 < L.parts }
-        requires version { self.old.version < 4_000_000 }
+        requires version { self.old.version < entry_limit }
         ensures stands { (setup : Setup) (bytes : Bytes) → StandsFor setup bytes self.old.regs
             → StandsFor setup (λ reg. changed_byte setup change.now reg (bytes reg)) self.new.regs }
         ensures cards { (setup : Setup) (bytes : Bytes) → AreCardsOf setup bytes self.old.regs.cards
@@ -191,7 +192,7 @@ impl FlatMap {
     /// Makes a change as `apply` does, and counts each row that is looked up as a step: at most one for each window, and one
     /// for each edge that lies inside the windows after the change.
     pub fn apply_counted<L: Ledger>(&mut self, change: &MapChange, steps: &mut Steps<L>) -> Changed
-        requires version { self.old.version < 4_000_000 }
+        requires version { self.old.version < entry_limit }
         ensures stands { (setup : Setup) (bytes : Bytes) → StandsFor setup bytes self.old.regs
             → StandsFor setup (λ reg. changed_byte setup change.now reg (bytes reg)) self.new.regs }
         ensures cards { (setup : Setup) (bytes : Bytes) → AreCardsOf setup bytes self.old.regs.cards
@@ -241,7 +242,7 @@ impl FlatMap {
     /// Stores the bytes of a value in rising offset. Where they cover a byte that the map depends on, this is a change
     /// as `apply` makes it. Else only registers of a card change, and neither the ranges nor the version.
     pub fn store(&mut self, reg: Reg, width: Width, value: u32)
-        requires version { self.old.version < 4_000_000 }
+        requires version { self.old.version < entry_limit }
         ensures stands { (setup : Setup) (bytes : Bytes) → StandsFor setup bytes self.old.regs
             → StandsFor setup (λ r. changed_byte setup (Store reg width value) r (bytes r)) self.new.regs }
         ensures cards { (setup : Setup) (bytes : Bytes) → AreCardsOf setup bytes self.old.regs.cards

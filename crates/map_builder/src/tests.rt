@@ -1,4 +1,5 @@
 ghost use Rattle.std.specs.Prelude.{◌≡◌, ◌<◌, ◌+◌};
+ghost use Rattle.board_spec.specs.Limits.{entry_limit};
 ghost use Rattle.board_spec.specs.Setup.{IsCard};
 ghost use Rattle.pci_bars.specs.Cards.{AreFitted};
 
@@ -39,7 +40,7 @@ fn counted<L: Ledger>(map: &mut FlatMap, change: &MapChange, blank: Blank) -> Ch
     requires name { blank.name ≡ L.name }
     requires parts { blank.parts ≡ L.parts }
     requires some_part { 0 < L.parts }
-    requires version { map.old.version < 4_000_000 }
+    requires version { map.old.version < entry_limit }
     ensures version { map.new.version ≡ map.old.version + 1 }
 {
     let mut steps = Steps::<L>::new(blank);
