@@ -108,24 +108,24 @@ row_kept old new setup bytes later addr stands stands' stays =
     where_same (nat_lt addr (boundary bytes 7)) (nat_lt addr (boundary later 7)) (find (λ row. nat_lt addr (boundary bytes row)) (rows_from 0 8))
     (find (λ row. nat_lt addr (boundary later row)) (rows_from 0 8)) top
     (λ below.
-          same_first (λ row. nat_lt addr (boundary bytes row)) (λ row. nat_lt addr (boundary later row)) 0 8
-          (λ row low high.
-          elim (cases_lt row 7) [
-            | inr last ↦ inl (let is : row ≡ 7 = omega arith in rw is top)
-            | inl within ↦
-                elim (stays.each (side_at old setup bytes addr 7 stands (lit< tt) ∙ below) row within) [
-                  | inl same ↦ inl (sym (side_at new setup later addr row stands' high) ∙ same ∙ side_at old setup bytes addr row stands high)
-                  | inr hidden ↦
-                      let early : hidden.earlier < 8 = let before = hidden.before in omega arith in
-                      inr (record {
-                        earlier = hidden.earlier;
-                        from = omega arith;
-                        before = hidden.before;
-                        here = sym (side_at old setup bytes addr hidden.earlier stands early) ∙ hidden.old_below;
-                        there = sym (side_at new setup later addr hidden.earlier stands' early) ∙ hidden.new_below;
-                      })
-                ]
-          ]))
+    same_first (λ row. nat_lt addr (boundary bytes row)) (λ row. nat_lt addr (boundary later row)) 0 8
+    (λ row low high.
+    elim (cases_lt row 7) [
+      | inr last ↦ inl (let is : row ≡ 7 = omega arith in rw is top)
+      | inl within ↦
+          elim (stays.each (side_at old setup bytes addr 7 stands (lit< tt) ∙ below) row within) [
+            | inl same ↦ inl (sym (side_at new setup later addr row stands' high) ∙ same ∙ side_at old setup bytes addr row stands high)
+            | inr hidden ↦
+                let early : hidden.earlier < 8 = let before = hidden.before in omega arith in
+                inr (record {
+                  earlier = hidden.earlier;
+                  from = omega arith;
+                  before = hidden.before;
+                  here = sym (side_at old setup bytes addr hidden.earlier stands early) ∙ hidden.old_below;
+                  there = sym (side_at new setup later addr hidden.earlier stands' early) ∙ hidden.new_below;
+                })
+          ]
+    ]))
 
 pub rows_keep : (old new : MapBytes) (setup : Setup) (bytes : Bytes) (change : MapChange) (addr : ℕ) → stores_rows change ≡ true → IsCardList setup.cards →
     StandsFor setup bytes old → StandsFor setup (after setup change bytes) new → RowStays old.drb new.drb addr →

@@ -1,4 +1,4 @@
-use Rattle.std.proofs.Common.{ℕ, ◌≡◌, ◌*◌, ◌<◌, ◌≤◌, true, IfSome}
+use Rattle.std.proofs.Common.{ℕ, ◌≡◌, ◌*◌, ◌<◌, true, IfSome}
 use Rattle.board_spec.specs.Ranges.{boundary_unit}
 use Rattle.map_builder.specs.Changed.{IsOutside}
 use Rattle.map_builder.specs.Rows.{is_below, IsHidden, IsInRows, StaysOrHidden}
