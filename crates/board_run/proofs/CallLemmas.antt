@@ -383,6 +383,31 @@ pub puts_failed :
 puts_failed before now (Ok value) is refused = absurd cc
 puts_failed before now (Err error) is refused = refused
 
+all_took : (later before : List Put) → AllTook later → AllTook before → AllTook (later ++ before)
+all_took [] before one two = two
+all_took (latest ∷ later) before one two = (one.0, all_took later before one.1 two)
+
+latest_refused : (later before : List Put) → LatestRefused later → AllTook before → LatestRefused (later ++ before)
+latest_refused [] before one two = absurd one
+latest_refused (latest ∷ later) before one two = (one.0, all_took later before one.1 two)
+
+-- the puts of a piece, after those of the pieces before it
+pub piece_put :
+    (before between now : Option (List Put)) → OfCalls before between AllTook → OfCalls between now AllTook →
+    OfCalls before now AllTook
+piece_put before between now so_far made =
+    calls_hold before now (Both AllTook AllTook) AllTook
+    (λ puts both. subst AllTook (sym both.parts) (all_took both.second both.first both.two both.one))
+    (calls_both before between now AllTook AllTook so_far made)
+
+pub piece_not_put :
+    (before between now : Option (List Put)) → OfCalls before between AllTook → OfCalls between now LatestRefused →
+    OfCalls before now LatestRefused
+piece_not_put before between now so_far made =
+    calls_hold before now (Both AllTook LatestRefused) LatestRefused
+    (λ puts both. subst LatestRefused (sym both.parts) (latest_refused both.second both.first both.two both.one))
+    (calls_both before between now AllTook LatestRefused so_far made)
+
 pub nothing_put : (command : Command) (shelf : ShelfCall) (status : Status) → IsRefused command shelf status → ArePutsOf status []
 nothing_put command shelf Done refused = absurd refused
 nothing_put command shelf Usage refused = absurd refused

@@ -1,7 +1,6 @@
 -- The script that is made, and its images.
 use Rattle.std.proofs.Common.{◌≡◌, ℕ, zero, suc, ◌+◌, ◌*◌, ◌<◌, ◌≤◌, List, [], ◌∷◌, ◌++◌, length, refl, sym, ap, ◌∙◌, subst, length-append, arith}
-use Rattle.std.specs.Prelude.{Some, String, string_bytes, Result, Ok, Err, IfOk}
-use Rattle.std.specs.Global.{Global}
+use Rattle.std.specs.Prelude.{Some, Result, Ok, Err, IfOk}
 use Rattle.board_spec.specs.declared.event.Entry.{Entry}
 use Rattle.board_spec.specs.Orders.{IsReplayOf}
 use Rattle.script_spec.specs.ScriptRange.{statements_in}
@@ -104,9 +103,9 @@ made_text rounds script setup history text says same replay summary = record {
 }
 
 pub made_result :
-    {E : Type 0} (rounds : ℕ) (script : Said) (setup : Setup) (history : List Entry) (result : Result (String Global) E) →
+    {E : Type 0} (rounds : ℕ) (script : Said) (setup : Setup) (history : List Entry) (result : Result (List ℕ) E) →
     IsScriptText (make_text rounds) script → setup ≡ made_setup_of script → IsReplayOf setup (statements_in script) history →
-    IfOk result (λ text. HasSummary setup history (string_bytes text)) → IfOk result (λ text. IsMakeText rounds (string_bytes text))
+    IfOk result (λ text. HasSummary setup history text) → IfOk result (λ text. IsMakeText rounds text)
 made_result rounds script setup history (Ok text) says same replay summary =
-    made_text rounds script setup history (string_bytes text) says same replay summary
+    made_text rounds script setup history text says same replay summary
 made_result rounds script setup history (Err fault) says same replay summary = tt

@@ -1,7 +1,6 @@
 -- Why a command ended before it had its text.
 use Rattle.std.proofs.Common.{◌≡◌, ◌≢◌, ℕ, ◌<◌, ◌≤◌, List, length, take, Option, Some, None, refl, sym, ap, ◌∙◌, subst}
-use Rattle.std.specs.Prelude.{option_map, IsSome, IfErr, Result, Ok, Err, String, string_bytes}
-use Rattle.std.specs.Global.{Global}
+use Rattle.std.specs.Prelude.{option_map, IsSome, IfErr, Result, Ok, Err}
 use Rattle.board_base.specs.Outside.{Rose, OfFile}
 use Rattle.board_spec.specs.Setup.{Setup, IsRomSize, IsDiskSize, IsDisk}
 use Rattle.script_spec.specs.ScriptText.{Script as Said, IsScriptText, IsScriptBad}
@@ -303,7 +302,7 @@ module _ (told : Option Files) (name log : List ℕ) (script : Said) (setup : Se
 -- ---- what a command answers
 
 pub refused_answer :
-    (command : Command) (shelf : ShelfCall) (result : Result (String Global) Status) (status : Status) → result ≡ Err status →
+    (command : Command) (shelf : ShelfCall) (result : Result (List ℕ) Status) (status : Status) → result ≡ Err status →
     IsRefused command shelf status → (((which : Which) → status ≢ ReadFault which) → shelf.faults_now ≡ shelf.faults_before) →
     IsAnswered command shelf result
 refused_answer command shelf result status is refused quiet =
@@ -311,8 +310,8 @@ refused_answer command shelf result status is refused quiet =
     (record { text = tt; refused = refused; quiet = tt; no_fault_hidden = quiet })
 
 pub text_answer :
-    (command : Command) (shelf : ShelfCall) (text : String Global) →
-    OfFiles shelf.files (λ files. IsCommandText command files (string_bytes text)) → shelf.faults_now ≡ shelf.faults_before →
+    (command : Command) (shelf : ShelfCall) (text : List ℕ) →
+    OfFiles shelf.files (λ files. IsCommandText command files text) → shelf.faults_now ≡ shelf.faults_before →
     IsAnswered command shelf (Ok text)
 text_answer command shelf text says quiet = record { text = says; refused = tt; quiet = quiet; no_fault_hidden = tt }
 

@@ -1,6 +1,9 @@
 -- What a sink took of a text, piece after piece.
-use Rattle.std.proofs.Common.{◌≡◌, ℕ, List, [], ◌++◌, Option, Some, None, take, drop, sym, ◌∙◌, ap, refl, append_assoc, append-nil}
-use Rattle.std.proofs.lemmas.List.{take-append-drop}
+use Rattle.std.proofs.Common.{◌≡◌, ℕ, ◌+◌, ◌<◌, List, [], ◌++◌, Option, Some, None, length, get_or, take, drop, flat_map, string_bytes, sym, ◌∙◌, ap, subst, refl, append_assoc, append-nil}
+use Rattle.std.specs.Prelude.{String, Result, Ok, Err, OnErr}
+use Rattle.std.specs.Global.{Global}
+use Rattle.std.proofs.lemmas.List.{take-append-drop, at_drop_more}
+use Rattle.std.proofs.lemmas.List.Concat.{flat_map-cons}
 use Rattle.std.specs.Io.KnownBytes.{Appends, Keeps}
 use Rattle.board_run.specs.Output.{Sent, AppendsFront}
 
@@ -57,3 +60,55 @@ pub all_sent : (before now : Option (List ℕ)) (text rest : List ℕ) → Sent 
 all_sent before now text rest sent empty =
     let whole : text ≡ sent.front = sent.whole ∙ ap (λ (bytes : List ℕ). sent.front ++ bytes) empty ∙ append-nil sent.front in
     rw whole sent.taken
+
+-- with all of the next piece
+piece_sent :
+    (before now later : Option (List ℕ)) (text piece more : List ℕ) → Sent before now text (piece ++ more) →
+    Appends now later piece → Sent before later text more
+piece_sent before now later text piece more sent taken = record {
+  front = sent.front ++ piece;
+  whole = sent.whole ∙ sym (append_assoc sent.front piece more);
+  taken = more_taken before now later sent.front piece sent.taken taken;
+}
+
+-- with a front of it
+piece_refused :
+    (before now later : Option (List ℕ)) (text piece more : List ℕ) → Sent before now text (piece ++ more) →
+    AppendsFront now later piece → AppendsFront before later text
+piece_refused before now later text piece more sent refused =
+    let front : List ℕ = refused.sent.front in
+    record {
+      rest = refused.rest ++ more;
+      sent = record {
+        front = sent.front ++ front;
+        whole =
+            sent.whole
+            ∙ ap (λ (bytes : List ℕ). sent.front ++ (bytes ++ more)) refused.sent.whole
+            ∙ ap (λ (bytes : List ℕ). sent.front ++ bytes) (append_assoc front refused.rest more)
+            ∙ sym (append_assoc sent.front front (refused.rest ++ more));
+        taken = more_taken before now later sent.front front sent.taken refused.sent.taken;
+      };
+    }
+
+-- the pieces from one on, whose next has these bytes
+module _ (before now later : Option (List ℕ)) (text : List ℕ) (pieces : List (String Global)) (i : ℕ)
+    (piece : String Global) (bytes : List ℕ) (inside : i < length pieces)
+    (is : piece ≡ get_or pieces i piece) (same : bytes ≡ string_bytes piece)
+    (sent : Sent before now text (flat_map string_bytes (drop i pieces))) where
+  abbrev more : List ℕ
+  more = flat_map string_bytes (drop (i + 1) pieces)
+
+  next_piece : flat_map string_bytes (drop i pieces) ≡ bytes ++ more
+  next_piece =
+      at_drop_more (flat_map string_bytes) pieces i piece inside
+      ∙ flat_map-cons string_bytes (get_or pieces i piece) (drop (i + 1) pieces)
+      ∙ ap (λ (front : List ℕ). front ++ more) (ap string_bytes (sym is) ∙ sym same)
+
+  pub then_piece_sent : Appends now later bytes → Sent before later text more
+  then_piece_sent taken =
+      piece_sent before now later text bytes more (subst (Sent before now text) next_piece sent) taken
+
+  pub then_piece_refused : {T E : Type 0} (result : Result T E) → AppendsFront now later bytes → OnErr result (AppendsFront before later text)
+  then_piece_refused (Ok value) refused = tt
+  then_piece_refused (Err error) refused =
+      piece_refused before now later text bytes more (subst (Sent before now text) next_piece sent) refused

@@ -1,6 +1,5 @@
 -- How a fault of a part becomes the status of a command, and what a command that stops early says.
-use Rattle.std.specs.Prelude.{ℕ, ◌≡◌, ◌≢◌, ◌<◌, ◌≤◌, List, length, take, Result, Ok, Err, IfOk, IfErr, OnOk, Option, Some, None, String, string_bytes}
-use Rattle.std.specs.Global.{Global}
+use Rattle.std.specs.Prelude.{ℕ, ◌≡◌, ◌≢◌, ◌<◌, ◌≤◌, List, length, take, Result, Ok, Err, IfOk, IfErr, OnOk, Option, Some, None}
 use Rattle.board_base.specs.Outside.{Rose, OfFile}
 use Rattle.board_base.specs.declared.fault.PutFault.{PutFault}
 use Rattle.board_base.specs.declared.fault.PutFault.TheVariants.{Failed as SinkFailed, NoMemory as NoMemoryForPut}
@@ -72,8 +71,8 @@ IsRefused command shelf NoMemory = Unit {0}
 IsRefused command shelf status = CanEnd command status × OfFiles shelf.files (λ files. AsksFor command files status)
 
 -- what a command answers before anything is put: its text, or why it has none. No fault of the shelf is passed over
-pub record IsAnswered (command : Command) (shelf : ShelfCall) (result : Result (String Global) Status) : Type 0 where
-  pub text : IfOk result (λ text. OfFiles shelf.files (λ files. IsCommandText command files (string_bytes text)))
+pub record IsAnswered (command : Command) (shelf : ShelfCall) (result : Result (List ℕ) Status) : Type 0 where
+  pub text : IfOk result (λ text. OfFiles shelf.files (λ files. IsCommandText command files text))
   pub refused : IfErr result (IsRefused command shelf)
   pub quiet : OnOk result (shelf.faults_now ≡ shelf.faults_before)
   pub no_fault_hidden :

@@ -38,7 +38,7 @@ fn run_command<R: Threads + Wait + Sync, S: Shelf, K: Sink, G: Gate>(
     ensures puts { OfCalls (K.puts out.old) (K.puts out.new) (ArePutsOf (status_of result)) }
 {
     let text = command_text(rt, alloc, command, shelf, gate)?;
-    put_all(out, text.as_bytes())?;
+    put_all(out, &text)?;
     Ok(())
 }
 

@@ -1,6 +1,6 @@
 //! The command `make`: a script of many rounds, replayed and summed up.
 
-ghost use Rattle.std.specs.Prelude.{◌≡◌, ◌≤◌, [], string_bytes, IfOk};
+ghost use Rattle.std.specs.Prelude.{◌≡◌, ◌≤◌, [], IfOk};
 ghost use Rattle.script_spec.specs.ScriptText.{IsScriptText};
 ghost use Rattle.script_spec.specs.ScriptRange.{IsInRangeScript};
 ghost use Rattle.script_text.specs.Script.{said_of};
@@ -11,6 +11,7 @@ use crate::prepare::open;
 use crate::replay::replay_script;
 use board_base::NoMemory;
 use board_core::{Board, BoardOpen};
+use log_pieces::Text;
 use make_script::laws::{law_made_script, law_make_text};
 use make_script::{make_disk, make_rom, make_text, push_summary};
 use script_text::{Script, ScriptFault, read_script};
@@ -53,8 +54,8 @@ pub fn made_board(alloc: Global, script: &Script) -> Result<Board, NoMemory>
 }
 
 /// The summary of what a board was asked, and of its address map.
-fn summary_of(alloc: Global, board: &Board) -> Result<String, NoMemory>
-    ensures summary { IfOk result (λ text. HasSummary board.now.setup board.now.entries (string_bytes text)) }
+fn summary_of(alloc: Global, board: &Board) -> Result<Text, NoMemory>
+    ensures summary { IfOk result (λ text. HasSummary board.now.setup board.now.entries text) }
 {
     let mut text = String::new(alloc);
     let map = board.map();
@@ -64,14 +65,15 @@ fn summary_of(alloc: Global, board: &Board) -> Result<String, NoMemory>
         map.version(),
         map.ranges().len(),
     )?;
+    let text = Text::whole(alloc, text)?;
     Ok(text)
 }
 
 /// The summary of the replay of the script of so many rounds, 1 to 20,000. No file is read.
-pub fn summary_of_made(alloc: Global, rounds: u32) -> Result<String, NoMemory>
+pub fn summary_of_made(alloc: Global, rounds: u32) -> Result<Text, NoMemory>
     requires some { 1 ≤ rounds }
     requires most { rounds ≤ 20_000 }
-    ensures text { IfOk result (λ text. IsMakeText rounds (string_bytes text)) }
+    ensures text { IfOk result (λ text. IsMakeText rounds text) }
 {
     let script = made_script(alloc, rounds)?;
     let mut board = made_board(alloc, &script)?;

@@ -1,4 +1,4 @@
-//! A whole text, put in pieces to a sink.
+//! A whole text, put piece by piece to a sink.
 
 ghost use Rattle.std.specs.Prelude.{◌≡◌, ◌≤◌, drop, length, IfErr, OnOk, OnErr};
 ghost use Rattle.std.specs.Io.KnownBytes.{Appends};
@@ -7,17 +7,37 @@ ghost use Rattle.board_run.specs.Output.{AppendsFront};
 ghost use Rattle.board_run.specs.Calls.{OfCalls, PutsBy};
 
 use board_base::{PutFault, Sink};
+use log_pieces::Text;
 
-/// What is left of a piece after its first bytes.
-fn after(piece: &[u8], count: usize) -> &[u8]
-    requires { count ≤ length piece.now }
-    ensures rest { result.now ≡ drop count piece.now }
+/// What is left of bytes after the first of them.
+fn after(bytes: &[u8], count: usize) -> &[u8]
+    requires { count ≤ length bytes.now }
+    ensures rest { result.now ≡ drop count bytes.now }
 {
-    &piece[count..]
+    &bytes[count..]
+}
+
+/// Puts all of a piece, in as many calls as the sink wants. An empty one takes no call. Where the sink refuses, what it
+/// took before is a front of the piece.
+fn put_piece<K: Sink>(out: &mut K, piece: &[u8]) -> Result<(), PutFault>
+    ensures whole { OnOk result (Appends (K.taken out.old) (K.taken out.new) piece.now) }
+    ensures front { OnErr result (AppendsFront (K.taken out.old) (K.taken out.new) piece.now) }
+    ensures failed { IfErr result (λ fault. fault ≡ PutFault.Failed → Rose (K.faults out.old) (K.faults out.new)) }
+    ensures later { K.faults out.old ≤ K.faults out.new }
+    ensures quiet { OnOk result (K.faults out.new ≡ K.faults out.old) }
+    ensures no_fault { IfErr result (λ fault. fault ≡ PutFault.NoMemory → K.faults out.new ≡ K.faults out.old) }
+    ensures puts { OfCalls (K.puts out.old) (K.puts out.new) (PutsBy result) }
+{
+    let mut rest = piece;
+    while !rest.is_empty() {
+        let taken = out.put(rest)?;
+        rest = after(rest, taken);
+    }
+    Ok(())
 }
 
 /// Puts all of a text. Where the sink refuses a piece, what it took before is a front of the text.
-pub fn put_all<K: Sink>(out: &mut K, text: &[u8]) -> Result<(), PutFault>
+pub fn put_all<K: Sink>(out: &mut K, text: &Text) -> Result<(), PutFault>
     ensures whole { OnOk result (Appends (K.taken out.old) (K.taken out.new) text.now) }
     ensures front { OnErr result (AppendsFront (K.taken out.old) (K.taken out.new) text.now) }
     ensures failed { IfErr result (λ fault. fault ≡ PutFault.Failed → Rose (K.faults out.old) (K.faults out.new)) }
@@ -26,10 +46,8 @@ pub fn put_all<K: Sink>(out: &mut K, text: &[u8]) -> Result<(), PutFault>
     ensures no_fault { IfErr result (λ fault. fault ≡ PutFault.NoMemory → K.faults out.new ≡ K.faults out.old) }
     ensures puts { OfCalls (K.puts out.old) (K.puts out.new) (PutsBy result) }
 {
-    let mut rest = text;
-    while !rest.is_empty() {
-        let taken = out.put(rest)?;
-        rest = after(rest, taken);
+    for piece in text.pieces() {
+        put_piece(out, piece.as_bytes())?;
     }
     Ok(())
 }

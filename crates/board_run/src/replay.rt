@@ -20,6 +20,7 @@ use board_core::Board;
 use board_script::{push_decimal, push_log, push_range, push_words};
 use board_spec::laws::law_lock;
 use log_check::{CheckFault, statement_count};
+use log_pieces::Text;
 use map_builder::Range;
 use script_text::Script;
 use std::alloc::Global;
@@ -68,11 +69,11 @@ pub fn check_log(
 }
 
 /// The log of a script's replay on its board. The memory of the script is given back before the log takes its own.
-pub fn log_of_replay(alloc: Global, board: &mut Board, script: Script) -> Result<String, NoMemory>
+pub fn log_of_replay(alloc: Global, board: &mut Board, script: Script) -> Result<Text, NoMemory>
     requires in_range { IsInRangeScript (said_of script) }
     requires cards { board.old.setup.cards ≡ (said_of script).cards }
     requires fresh { board.old.entries ≡ [] }
-    ensures text { IfOk result (λ text. IsReplayText board.old.setup (said_of script) (string_bytes text)) }
+    ensures text { IfOk result (λ text. IsReplayText board.old.setup (said_of script) text) }
 {
     replay_script(board, &script)?;
     let version = script.version;
@@ -80,7 +81,7 @@ pub fn log_of_replay(alloc: Global, board: &mut Board, script: Script) -> Result
     let mut text = String::new(alloc);
     push_log(&mut text, version, board.history().entries())?;
     law_lock();
-    Ok(text)
+    Text::whole(alloc, text)
 }
 
 /// Appends the lines of the ranges of a map.
@@ -95,31 +96,27 @@ fn push_map(text: &mut String, ranges: &[Range]) -> Result<(), NoMemory>
 }
 
 /// The address map after a script's replay on its board.
-pub fn map_after_replay(
-    alloc: Global,
-    board: &mut Board,
-    script: &Script,
-) -> Result<String, NoMemory>
+pub fn map_after_replay(alloc: Global, board: &mut Board, script: &Script) -> Result<Text, NoMemory>
     requires in_range { IsInRangeScript (said_of script.now) }
     requires cards { board.old.setup.cards ≡ (said_of script.now).cards }
     requires fresh { board.old.entries ≡ [] }
-    ensures text { IfOk result (λ text. IsMapText board.old.setup (said_of script.now) (string_bytes text)) }
+    ensures text { IfOk result (λ text. IsMapText board.old.setup (said_of script.now) text) }
 {
     replay_script(board, script)?;
     let mut text = String::new(alloc);
     push_map(&mut text, board.map().ranges())?;
-    Ok(text)
+    Text::whole(alloc, text)
 }
 
 /// `legal` and a number of entries.
-fn legal_text(alloc: Global, count: u32) -> Result<String, NoMemory>
-    ensures text { IfOk result (λ text. string_bytes text ≡ codes "legal " ++ decimal count ++ line_feed ∷ []) }
+fn legal_text(alloc: Global, count: u32) -> Result<Text, NoMemory>
+    ensures text { IfOk result (λ text. text ≡ codes "legal " ++ decimal count ++ line_feed ∷ []) }
 {
     let mut text = String::new(alloc);
     push_words(&mut text, "legal ")?;
     push_decimal(&mut text, u64::from(count))?;
     push_words(&mut text, "\n")?;
-    Ok(text)
+    Text::whole(alloc, text)
 }
 
 /// `legal` and the number of entries of a log, where it is that of a legal and complete history of a script.
@@ -128,12 +125,12 @@ pub fn verdict_on_log(
     board: &mut Board,
     script: &Script,
     log: &[u8],
-) -> Result<String, CheckFault>
+) -> Result<Text, CheckFault>
     requires in_range { IsInRangeScript (said_of script.now) }
     requires cards { board.old.setup.cards ≡ (said_of script.now).cards }
     requires fresh { board.old.entries ≡ [] }
     requires fits { length log.now ≤ limit_of Which.Log }
-    ensures text { IfOk result (λ text. IsLegalText board.old.setup (said_of script.now) log.now (string_bytes text)) }
+    ensures text { IfOk result (λ text. IsLegalText board.old.setup (said_of script.now) log.now text) }
     ensures differs { (line : ℕ) → result ≡ Err (CheckFault.Differs line)
         → DiffersAt board.old.setup (said_of script.now).version (said_of script.now).phases log.now line }
 {

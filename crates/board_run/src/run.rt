@@ -1,6 +1,6 @@
 //! Runs of scripts on threads.
 
-ghost use Rattle.std.specs.Prelude.{◌≡◌, [], string_bytes, IfOk};
+ghost use Rattle.std.specs.Prelude.{◌≡◌, [], IfOk};
 ghost use Rattle.board_spec.specs.Legal.{IsLegal};
 ghost use Rattle.board_spec.specs.Orders.{IsCompleteFor};
 ghost use Rattle.script_spec.specs.ScriptRange.{IsInRangeScript};
@@ -10,7 +10,7 @@ ghost use Rattle.board_run.specs.Texts.{IsRunText};
 use board_base::{Gate, NoMemory};
 use board_core::Board;
 use board_spec::laws::law_lock;
-use log_pieces::push_log_by;
+use log_pieces::{Text, log_by};
 use phase_run::{EndedRun, run_phases};
 use script_text::Script;
 use std::alloc::Global;
@@ -43,16 +43,15 @@ pub fn log_of_run<R: Threads + Wait + Sync, G: Gate>(
     board: Board,
     script: Script,
     gate: &G,
-) -> Result<String, NoMemory>
+) -> Result<Text, NoMemory>
     requires in_range { IsInRangeScript (said_of script) }
     requires cards { board.setup.cards ≡ (said_of script).cards }
     requires fresh { board.entries ≡ [] }
-    ensures text { IfOk result (λ text. IsRunText board.setup (said_of script) (string_bytes text)) }
+    ensures text { IfOk result (λ text. IsRunText board.setup (said_of script) text) }
 {
     let (version, cpus) = (script.version, script.cpus);
     let history = run_script(rt, alloc, board, script, gate)?;
-    let mut text = String::new(alloc);
-    push_log_by(rt, alloc, cpus, &mut text, version, history.entries())?;
+    let text = log_by(rt, alloc, cpus, version, history.entries())?;
     law_lock();
     Ok(text)
 }

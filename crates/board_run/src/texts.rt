@@ -19,12 +19,13 @@ use crate::run::log_of_run;
 use crate::status::{Status, Which};
 use crate::words::Command;
 use board_base::{Gate, Shelf};
+use log_pieces::Text;
 use std::alloc::Global;
 use std::sync::Wait;
 use std::thread::Threads;
 
 /// The log of the replay of a script.
-fn replay<S: Shelf>(alloc: Global, shelf: &mut S, name: &str) -> Result<String, Status>
+fn replay<S: Shelf>(alloc: Global, shelf: &mut S, name: &str) -> Result<Text, Status>
     ensures answer { IsAnswered (Replay name.now)
         (shelf_call S.files S.faults S.failed_name shelf.old shelf.new) result }
     ensures same_files { S.files shelf.new ≡ S.files shelf.old }
@@ -37,7 +38,7 @@ fn replay<S: Shelf>(alloc: Global, shelf: &mut S, name: &str) -> Result<String, 
 }
 
 /// The address map after the replay of a script.
-fn map<S: Shelf>(alloc: Global, shelf: &mut S, name: &str) -> Result<String, Status>
+fn map<S: Shelf>(alloc: Global, shelf: &mut S, name: &str) -> Result<Text, Status>
     ensures answer { IsAnswered (Map name.now)
         (shelf_call S.files S.faults S.failed_name shelf.old shelf.new) result }
     ensures same_files { S.files shelf.new ≡ S.files shelf.old }
@@ -56,7 +57,7 @@ fn verdict<S: Shelf>(
     shelf: &mut S,
     prepared: &mut Prepared,
     log: &str,
-) -> Result<String, Status>
+) -> Result<Text, Status>
     requires in_range { IsInRangeScript (said_of prepared.old.script) }
     requires cards { prepared.old.board.setup.cards ≡ (said_of prepared.old.script).cards }
     requires fresh { prepared.old.board.entries ≡ [] }
@@ -75,7 +76,7 @@ fn verdict<S: Shelf>(
 
 /// What `check` says of a log: how many entries it has, where it is the log of a legal and complete history of a
 /// script.
-fn check<S: Shelf>(alloc: Global, shelf: &mut S, name: &str, log: &str) -> Result<String, Status>
+fn check<S: Shelf>(alloc: Global, shelf: &mut S, name: &str, log: &str) -> Result<Text, Status>
     ensures answer { IsAnswered (Check name.now log.now)
         (shelf_call S.files S.faults S.failed_name shelf.old shelf.new) result }
     ensures same_files { S.files shelf.new ≡ S.files shelf.old }
@@ -91,7 +92,7 @@ fn text_without_waiting<S: Shelf>(
     alloc: Global,
     command: Command,
     shelf: &mut S,
-) -> Result<String, Status>
+) -> Result<Text, Status>
     requires called { IsCalled command }
     requires alone { WaitsForNobody command }
     ensures answer { IsAnswered (said_by command.entry)
@@ -116,7 +117,7 @@ fn run<R: Threads + Wait + Sync, S: Shelf, G: Gate>(
     shelf: &mut S,
     name: &str,
     gate: &G,
-) -> Result<String, Status>
+) -> Result<Text, Status>
     ensures answer { IsAnswered (Run name.now)
         (shelf_call S.files S.faults S.failed_name shelf.old shelf.new) result }
     ensures same_files { S.files shelf.new ≡ S.files shelf.old }
@@ -135,7 +136,7 @@ pub fn command_text<R: Threads + Wait + Sync, S: Shelf, G: Gate>(
     command: Command,
     shelf: &mut S,
     gate: &G,
-) -> Result<String, Status>
+) -> Result<Text, Status>
     requires called { IsCalled command }
     ensures answer { IsAnswered (said_by command.entry)
         (shelf_call S.files S.faults S.failed_name shelf.old shelf.new) result }

@@ -22,13 +22,12 @@ returns-in_err-put_all-clause-caused g c =
     let is : status_of c.from_residual-in_err-put_all.result ≡ status_of_put_fault c.in_err-put_all.field-0.0 = search rules in
     rw is
     (caused_put_fault _ _ _ _ c.in_ok-text.ensures.answer.text c.in_ok-text.ensures.answer.quiet c.in_err-put_all.field-0.0
-    (rw c.as_bytes.ensures.value at c.in_err-put_all.ensures.front) c.in_err-put_all.ensures.failed
-    c.in_err-put_all.ensures.no_fault)
+    c.in_err-put_all.ensures.front c.in_err-put_all.ensures.failed c.in_err-put_all.ensures.no_fault)
 
 pub returns-clause-caused : goal.returns-clause-caused
 returns-clause-caused g c =
     caused_done _ _ _ _ c.in_ok-text.ensures.answer.text c.in_ok-text.ensures.answer.quiet
-    (rw c.as_bytes.ensures.value at c.in_ok-put_all.ensures.whole) c.in_ok-put_all.ensures.quiet
+    c.in_ok-put_all.ensures.whole c.in_ok-put_all.ensures.quiet
 
 pub returns-in_err-text-clause-puts : goal.returns-in_err-text-clause-puts
 returns-in_err-text-clause-puts g c =

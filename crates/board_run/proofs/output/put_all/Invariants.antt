@@ -1,14 +1,14 @@
-use Rattle.std.proofs.Common.{◌≡◌, length}
+use Rattle.std.proofs.Common.{◌≡◌, drop}
+use Rattle.std.specs.Prelude.{flat_map, string_bytes}
 use Rattle.board_run.specs.Output.{Sent}
 use Rattle.board_run.specs.Calls.{OfCalls, AllTook}
 use Rattle.board_run.proofs.output.put_all.Given as goal
 
-abbrev pub invariant-loop-rest : goal.invariant-loop-rest
-invariant-loop-rest g l = record {
-  sent : Sent (g.K.Sink.taken l.fn.out) (g.K.Sink.taken l.out) l.text l.rest;
+-- the pieces so far were sent
+abbrev pub invariant-loop-piece : goal.invariant-loop-piece
+invariant-loop-piece g l = record {
+  sent :
+      Sent (g.K.Sink.taken l.fn.out) (g.K.Sink.taken l.out) l.text (flat_map string_bytes (drop l.piece-index l.piece-items));
   quiet : g.K.Sink.faults l.out ≡ g.K.Sink.faults l.fn.out;
   puts : OfCalls (g.K.Sink.puts l.fn.out) (g.K.Sink.puts l.out) AllTook;
 }
-
-abbrev pub decreases-loop-rest : goal.decreases-loop-rest
-decreases-loop-rest g l = length l.rest

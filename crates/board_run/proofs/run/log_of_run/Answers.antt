@@ -1,4 +1,4 @@
-use Rattle.std.proofs.Common.{ℕ, ◌++◌, List, ap, ◌∙◌}
+use Rattle.std.proofs.Common.{List, ap, ◌∙◌}
 use Rattle.std.specs.Prelude.{reverse}
 use Rattle.std.proofs.lemmas.List.{reverse-reverse}
 use Rattle.board_spec.specs.declared.event.Entry.{Entry}
@@ -7,7 +7,6 @@ use Rattle.board_run.proofs.run.log_of_run.Goals as goal
 
 pub returns : goal.returns
 returns g c =
-    let version : ℕ = c.args.script.version in
     let history : List Entry = c.in_ok-history.history.entries in
     record {
       text = record {
@@ -16,9 +15,8 @@ returns g c =
         complete = c.in_ok-history.ensures.complete;
         locked = c.law_lock.ensures.kept c.args.board.setup history c.in_ok-history.ensures.legal;
         log =
-            c.in_ok-push_log_by.ensures.appended
-            ∙ ap (λ (front : List ℕ). front ++ log_text version (reverse c.entries.result.now)) c.new-text.ensures.bytes
-            ∙ ap (λ (entries : List Entry). log_text version (reverse entries)) c.entries.ensures.entries
-            ∙ ap (log_text version) (reverse-reverse history);
+            c.in_ok-text.ensures.text
+            ∙ ap (λ (entries : List Entry). log_text c.args.script.version (reverse entries)) c.entries.ensures.entries
+            ∙ ap (log_text c.args.script.version) (reverse-reverse history);
       };
     }
