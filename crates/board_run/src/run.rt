@@ -3,6 +3,7 @@
 ghost use Rattle.std.specs.Prelude.{◌≡◌, [], IfOk};
 ghost use Rattle.board_spec.specs.Legal.{IsLegal};
 ghost use Rattle.board_spec.specs.Orders.{IsCompleteFor};
+ghost use Rattle.board_spec.specs.LogText.{log_text};
 ghost use Rattle.script_spec.specs.ScriptRange.{IsInRangeScript};
 ghost use Rattle.script_text.specs.Script.{said_of};
 ghost use Rattle.board_run.specs.Texts.{IsRunText};
@@ -10,7 +11,7 @@ ghost use Rattle.board_run.specs.Texts.{IsRunText};
 use board_base::{Gate, NoMemory};
 use board_core::Board;
 use board_spec::laws::law_lock;
-use log_pieces::{Text, log_by};
+use log_pieces::{Text, log_by, run_log_by};
 use phase_run::{EndedRun, run_phases};
 use script_text::Script;
 use std::alloc::Global;
@@ -36,6 +37,22 @@ pub fn run_script<R: Threads + Wait + Sync, G: Gate>(
     run_phases(rt, alloc, board, script.cpus, script.phases, gate)
 }
 
+/// The log of a run that has ended, which as many threads write as there are workers.
+fn log_of_ended<R: Threads + Sync>(
+    rt: &R,
+    alloc: Global,
+    workers: u8,
+    version: u8,
+    run: &EndedRun,
+) -> Result<Text, NoMemory>
+    ensures text { IfOk result (λ text. text ≡ log_text version run.now.entries) }
+{
+    match run.order() {
+        None => log_by(rt, alloc, workers, version, run.bus()),
+        Some(order) => run_log_by(rt, alloc, workers, version, run.bus(), order),
+    }
+}
+
 /// The log of a run of a script, which as many threads write as there are processors.
 pub fn log_of_run<R: Threads + Wait + Sync, G: Gate>(
     rt: &R,
@@ -50,8 +67,8 @@ pub fn log_of_run<R: Threads + Wait + Sync, G: Gate>(
     ensures text { IfOk result (λ text. IsRunText board.setup (said_of script) text) }
 {
     let (version, cpus) = (script.version, script.cpus);
-    let history = run_script(rt, alloc, board, script, gate)?;
-    let text = log_by(rt, alloc, cpus, version, history.entries())?;
+    let ended = run_script(rt, alloc, board, script, gate)?;
+    let text = log_of_ended(rt, alloc, cpus, version, &ended)?;
     law_lock();
     Ok(text)
 }
