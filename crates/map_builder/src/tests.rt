@@ -91,6 +91,9 @@ fn changes_move_spans(rt: HostRuntime) {
     let ports = store(2, 0x14, Width::Four, 0x0000_0300);
     let pam = store(0, 0x5A, Width::Two, 0x2000);
     let open = store(0, 0x72, Width::One, 0x08);
+    let hidden = store(0, 0x61, Width::One, 0x02);
+    let top = store(0, 0x67, Width::One, 0x02);
+    let rows = store(0, 0x60, Width::Four, 0x0303_0300);
     let mut map = FlatMap::from_scratch(board());
     let mut version = 0;
     for (change, changed, addr, kind, smm, span) in [
@@ -181,6 +184,30 @@ fn changes_move_spans(rt: HostRuntime) {
             read,
             false,
             (0x0080_0000, 0xFFEF_FFFF, abort),
+        ),
+        (
+            hidden,
+            (0x0000_0000, 0x7F7F_FFFF),
+            0x0080_0000,
+            write,
+            false,
+            (0x0080_0000, 0xFFEF_FFFF, abort),
+        ),
+        (
+            top,
+            (0x0000_0000, 0x7F7F_FFFF),
+            0x0080_0000,
+            write,
+            false,
+            (0x0080_0000, 0x00EF_FFFF, Area::Dram(1)),
+        ),
+        (
+            rows,
+            (0x0000_0000, 0x7F7F_FFFF),
+            0x0010_0000,
+            write,
+            false,
+            (0x0010_0000, 0x00EF_FFFF, Area::Dram(1)),
         ),
         (
             MapChange::Reset,

@@ -3,7 +3,7 @@ use Rattle.map_builder.proofs.tests.changes_move_spans.Given as goal
 
 abbrev pub invariant-loop-change : goal.invariant-loop-change
 invariant-loop-change g l = record {
-  twelve : length l.change-items ≡ 12;
+  fifteen : length l.change-items ≡ 15;
   map : l.map.version ≡ l.change-index;
   count : l.version ≡ l.change-index;
 }
