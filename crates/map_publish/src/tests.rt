@@ -3,6 +3,7 @@ ghost use Rattle.std.specs.Prelude.{◌≡◌, All, IfOk};
 use super::*;
 use addr_decode::MapRegs;
 use board_base::{Area, Reg, Width};
+use board_spec::limits::ENTRY_LIMIT;
 use std::process::Abort;
 use std::sync::Wait;
 use std::test::*;
