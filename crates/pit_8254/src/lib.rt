@@ -209,6 +209,3 @@ impl Default for Pit {
         Pit::new()
     }
 }
-
-#[cfg(test)]
-mod tests;
