@@ -15,6 +15,3 @@ mod wide;
 
 pub use board::{Board, is_rom_size};
 pub use setup::{BoardOpen, Setup};
-
-#[cfg(test)]
-mod tests;

@@ -6,8 +6,6 @@ mod cpu;
 mod live;
 pub mod sends;
 mod shared;
-#[cfg(test)]
-mod tests;
 
 pub use cpu::Cpu;
 pub use live::{Live, LiveOpen};

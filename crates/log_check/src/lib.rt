@@ -12,6 +12,3 @@ mod range;
 pub use check::check_log;
 pub use fault::CheckFault;
 pub use range::statement_count;
-
-#[cfg(test)]
-mod tests;

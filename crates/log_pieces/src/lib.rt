@@ -7,6 +7,3 @@ mod writer;
 
 pub use pieces::{log_by, run_log_by};
 pub use text::Text;
-
-#[cfg(test)]
-mod tests;

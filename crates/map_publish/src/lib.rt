@@ -10,8 +10,6 @@ mod names;
 mod publisher;
 pub mod sends;
 mod shown;
-#[cfg(test)]
-mod tests;
 mod viewer;
 
 pub use board_base::{Kind, NoMemory};

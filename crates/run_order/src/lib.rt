@@ -13,6 +13,3 @@ mod order;
 pub use done::Done;
 pub use entry::RunEntry;
 pub use order::{MOST_PROCESSORS, RunOrder, Works, has_looks};
-
-#[cfg(test)]
-mod tests;

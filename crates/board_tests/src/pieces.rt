@@ -1,0 +1,133 @@
+//! Logs that are written in pieces.
+
+ghost use Rattle.std.specs.Prelude.{All, IfOk, length};
+ghost use Rattle.run_order.specs.Over.{IsWithin};
+
+use board_base::{Access, Area, Kind, Target, Width};
+use board_script::push_log;
+use board_spec::{Entry, Event, Look, Reply};
+use log_pieces::{Text, log_by, run_log_by};
+use run_order::RunEntry;
+use std::alloc::Global;
+use std::process::Abort;
+use std::test::Fail;
+
+/// A history of reads, by three processors in turn.
+fn reads(alloc: Global, count: u32) -> Result<Vec<Entry>, Fail> {
+    let mut entries = Vec::new(alloc);
+    for i in 0..count {
+        let access = Access {
+            kind: Kind::Read,
+            addr: i,
+            width: Width::One,
+            smm: false,
+            value: 0,
+        };
+        let reply = Reply::Bus {
+            value: Some(i % 256),
+            target: Target::Dram(0),
+            denial: None,
+        };
+        entries.push(Entry {
+            actor: (i % 3) as u8,
+            seq: i / 3 + 1,
+            event: Event::Memory(access),
+            reply,
+        })?;
+    }
+    Ok(entries)
+}
+
+/// A look at an address where nobody answers.
+const LOOK: RunEntry = RunEntry::Look {
+    actor: 7,
+    seq: 1,
+    kind: Kind::Fetch,
+    smm: true,
+    addr: 0xFFFF_FFFF,
+    look: Look {
+        version: 5,
+        lo: 0xE000_0000,
+        hi: 0xFFFF_FFFF,
+        area: Area::Abort,
+    },
+};
+
+/// The order of a run in which a look comes after each entry of the bus.
+fn with_looks<R: Abort>(rt: &R, alloc: Global, bus: &[Entry]) -> Result<Vec<RunEntry>, Fail>
+    ensures within { IfOk result (λ order. All (IsWithin (length bus.now)) order.items) }
+{
+    let mut order = Vec::new(alloc);
+    for (place, entry) in bus.iter().enumerate() {
+        order.push(RunEntry::Bus {
+            actor: entry.actor,
+            seq: entry.seq,
+            place: u32::try_from(place).expect(rt, "fewer than 2^32 entries"),
+        })?;
+        order.push(LOOK)?;
+    }
+    Ok(order)
+}
+
+/// The whole entries of that run.
+fn whole_entries(alloc: Global, bus: &[Entry]) -> Result<Vec<Entry>, Fail> {
+    let mut entries = Vec::new(alloc);
+    for entry in bus {
+        entries.push(*entry)?;
+        entries.push(LOOK.over(bus))?;
+    }
+    Ok(entries)
+}
+
+/// Expects the log of entries in so many pieces.
+fn expect_log<R: Abort>(
+    rt: &R,
+    alloc: Global,
+    text: &Text,
+    entries: &[Entry],
+    pieces: usize,
+) -> Result<(), Fail> {
+    let mut whole = String::new(alloc);
+    push_log(&mut whole, 2, entries)?;
+    let mut joined = String::new(alloc);
+    for piece in text.pieces() {
+        joined.push_str(piece.as_str())?;
+    }
+    assert_eq!(rt; joined.as_str(), whole.as_str());
+    assert_eq!(rt; text.pieces().len(), pieces);
+    Ok(())
+}
+
+// Of 10,000 entries 3 workers have pieces of 3,334, 3,334 and 3,332, after the heading. One worker and few entries are
+// not cut.
+#[test]
+fn a_log_in_pieces_is_the_log(rt: HostRuntime) -> Result<(), Fail> {
+    let alloc = rt.alloc();
+    for (count, workers, pieces) in [
+        (10_000, 1, 1),
+        (10_000, 2, 3),
+        (10_000, 3, 4),
+        (10_000, 8, 9),
+        (9_000, 255, 251),
+        (100, 8, 1),
+        (0, 8, 1),
+    ] {
+        let entries = reads(alloc, count)?;
+        let text = log_by(&rt, alloc, workers, 2, &entries)?;
+        expect_log(&rt, alloc, &text, &entries, pieces)?;
+    }
+    Ok(())
+}
+
+// Twice as many entries as the bus has.
+#[test]
+fn the_log_of_a_run_has_the_looks(rt: HostRuntime) -> Result<(), Fail> {
+    let alloc = rt.alloc();
+    for (count, workers, pieces) in [(5_000, 1, 1), (5_000, 3, 4), (4_500, 255, 251), (50, 8, 1)] {
+        let bus = reads(alloc, count)?;
+        let order = with_looks(&rt, alloc, &bus)?;
+        let text = run_log_by(&rt, alloc, workers, 2, &bus, &order)?;
+        expect_log(&rt, alloc, &text, &whole_entries(alloc, &bus)?, pieces)?;
+    }
+    Ok(())
+}

@@ -1,0 +1,210 @@
+//! What viewers of the published map see of each change.
+
+ghost use Rattle.std.specs.Prelude.{◌≡◌, All, IfOk};
+
+use crate::plain::PAM0;
+use addr_decode::MapRegs;
+use board_base::{Area, Kind, Width};
+use board_spec::limits::ENTRY_LIMIT;
+use board_spec::{Look, MapChange};
+use map_builder::FlatMap;
+use map_publish::{Publisher, Viewer, open};
+use std::process::Abort;
+use std::sync::Wait;
+use std::test::Fail;
+use std::thread;
+use std::thread::Threads;
+
+/// A store to PAM0, which governs F0000h to FFFFFh: 10h opens it for reads, 20h for writes.
+fn pam0(value: u32) -> MapChange {
+    MapChange::Store {
+        reg: PAM0,
+        width: Width::One,
+        value,
+    }
+}
+
+/// A look at PAM0's window.
+fn at_pam0(version: u32, area: Area) -> Look {
+    Look {
+        version,
+        lo: 0xF_0000,
+        hi: 0xF_FFFF,
+        area,
+    }
+}
+
+fn read(viewer: &mut Viewer) -> Look
+    ensures own { viewer.new.front.seen.book ≡ viewer.old.front.seen.book }
+{
+    viewer.look(0xF_0000, Kind::Read, false)
+}
+
+/// The map after a reset of a board without cards.
+fn reset_map() -> FlatMap {
+    FlatMap::from_scratch(MapRegs::reset_of(&[]))
+}
+
+/// Publishes a change. It tells whether there was memory for it.
+fn publish<R: Wait>(rt: &R, publisher: &mut Publisher, change: &MapChange) -> bool
+    ensures own { publisher.new.front.seen.book ≡ publisher.old.front.seen.book }
+{
+    publisher.count() < ENTRY_LIMIT && publisher.change(rt, change).is_ok()
+}
+
+fn two(mut viewers: Vec<Viewer>) -> Result<(Viewer, Viewer), Fail> {
+    let second = viewers.pop().ok_or("a second viewer")?;
+    let first = viewers.pop().ok_or("a first viewer")?;
+    Ok((first, second))
+}
+
+fn changes_are_seen<R: Wait + Abort>(
+    rt: &R,
+    publisher: &mut Publisher,
+    viewers: Vec<Viewer>,
+) -> Result<(), Fail> {
+    let (mut first, mut second) = two(viewers)?;
+    assert_eq!(rt; read(&mut first), at_pam0(0, Area::Rom));
+    assert!(rt; publish(rt, publisher, &pam0(0x10)));
+    assert_eq!(rt; read(&mut second), at_pam0(1, Area::Shadow(0)));
+    assert!(rt; publish(rt, publisher, &pam0(0x20)));
+    assert!(rt; publish(rt, publisher, &MapChange::Reset));
+    assert_eq!(rt; read(&mut second), at_pam0(3, Area::Rom));
+    assert_eq!(rt; read(&mut first), at_pam0(3, Area::Rom));
+    assert_eq!(rt; publisher.count(), 3);
+    Ok(())
+}
+
+#[test]
+fn a_viewer_that_learnt_nothing_sees_each_change(rt: HostRuntime) -> Result<(), Fail> {
+    let (mut publisher, viewers) = open(&rt, rt.alloc(), reset_map(), 2).map_err(|_| "open")?;
+    let seen = changes_are_seen(&rt, &mut publisher, viewers);
+    publisher.close(&rt);
+    seen
+}
+
+/// The last viewer of those that were opened with a publisher.
+fn last(publisher: &Publisher, mut viewers: Vec<Viewer>) -> Result<Viewer, Fail>
+    requires own { All (λ viewer. viewer.front ≡ publisher.now.front) viewers.items }
+    ensures own { IfOk result (λ viewer. viewer.front ≡ publisher.now.front) }
+{
+    Ok(viewers.pop().ok_or("a viewer")?)
+}
+
+fn notes_are_met_or_short<R: Wait + Abort>(
+    rt: &R,
+    publisher: &mut Publisher,
+    mut viewer: Viewer,
+) -> Result<(), Fail>
+    requires own { viewer.front.seen.book ≡ publisher.old.front.seen.book }
+{
+    let (first, again) = (publisher.tell(), publisher.tell());
+    assert!(rt; viewer.meets(first));
+    assert!(rt; publish(rt, publisher, &pam0(0x10)));
+    assert_eq!(rt; read(&mut viewer), at_pam0(1, Area::Shadow(0)));
+    assert!(rt; !viewer.meets(again));
+    assert!(rt; viewer.meets(publisher.tell()));
+    Ok(())
+}
+
+#[test]
+fn a_viewer_meets_no_shorter_note(rt: HostRuntime) -> Result<(), Fail> {
+    let (mut publisher, viewers) = open(&rt, rt.alloc(), reset_map(), 1).map_err(|_| "open")?;
+    let seen = match last(&publisher, viewers) {
+        Ok(viewer) => notes_are_met_or_short(&rt, &mut publisher, viewer),
+        Err(fail) => Err(fail),
+    };
+    publisher.close(&rt);
+    seen
+}
+
+fn learns_alone<R: Wait + Abort>(
+    rt: &R,
+    mut publisher: Publisher,
+    mut viewer: Viewer,
+) -> Result<(), Fail>
+    requires own { viewer.front.seen.book ≡ publisher.front.seen.book }
+{
+    let done = publish(rt, &mut publisher, &pam0(0x10));
+    let (first, again) = (publisher.tell(), publisher.tell());
+    let map = publisher.close(rt);
+    assert!(rt; done);
+    assert_eq!(rt; read(&mut viewer), at_pam0(0, Area::Rom));
+    if !viewer.meets(first) {
+        return Err("the note is shorter".into());
+    }
+    viewer.learn(again, &map);
+    assert_eq!(rt; read(&mut viewer), at_pam0(1, Area::Shadow(0)));
+    Ok(())
+}
+
+// Its place goes with the publisher.
+#[test]
+fn a_viewer_without_a_place_sees_what_it_learns(rt: HostRuntime) -> Result<(), Fail> {
+    let (publisher, viewers) = open(&rt, rt.alloc(), reset_map(), 1).map_err(|_| "open")?;
+    match last(&publisher, viewers) {
+        Ok(viewer) => learns_alone(&rt, publisher, viewer),
+        Err(fail) => {
+            publisher.close(&rt);
+            Err(fail)
+        }
+    }
+}
+
+/// How many viewers there are, and the sum of the versions at which they look.
+fn versions_of(viewers: Vec<Viewer>) -> (usize, u32) {
+    let count = viewers.len();
+    let mut sum: u32 = 0;
+    for mut viewer in viewers {
+        sum = sum.wrapping_add(read(&mut viewer).version);
+    }
+    (count, sum)
+}
+
+#[test]
+fn copies_open_again_with_the_map_that_was_closed(rt: HostRuntime) -> Result<(), Fail> {
+    let (mut publisher, viewers) = open(&rt, rt.alloc(), reset_map(), 2).map_err(|_| "open")?;
+    let done = publish(&rt, &mut publisher, &pam0(0x10));
+    let map = publisher.close(&rt);
+    let (mut again, later) = open(&rt, rt.alloc(), map, 8).map_err(|_| "open")?;
+    let versions = versions_of(later);
+    let done_again = publish(&rt, &mut again, &pam0(0x00));
+    let map = again.close(&rt);
+    assert!(rt; done && done_again);
+    assert_eq!(rt; versions, (8, 8));
+    assert_eq!(rt; map.version(), 2);
+    let (mut first, mut second) = two(viewers)?;
+    assert_eq!(rt; read(&mut first), at_pam0(0, Area::Rom));
+    assert_eq!(rt; read(&mut second), at_pam0(0, Area::Rom));
+    Ok(())
+}
+
+/// Looks some times, and gives the last look.
+fn looks(mut viewer: Viewer, times: u32) -> Look {
+    let mut look = read(&mut viewer);
+    for _ in 0..times {
+        look = read(&mut viewer);
+    }
+    look
+}
+
+fn look_by_two<R: Threads + Wait + Abort + Sync>(
+    rt: &R,
+    publisher: &mut Publisher,
+    viewers: Vec<Viewer>,
+) -> Result<(), Fail> {
+    let (first, second) = two(viewers)?;
+    assert!(rt; publish(rt, publisher, &pam0(0x10)));
+    let saw = thread::join(rt, move || looks(first, 1000), move || looks(second, 1000));
+    assert_eq!(rt; saw.0, at_pam0(1, Area::Shadow(0)));
+    assert_eq!(rt; saw.1, at_pam0(1, Area::Shadow(0)));
+    Ok(())
+}
+
+#[test]
+fn viewers_look_in_threads_of_their_own(rt: HostRuntime) -> Result<(), Fail> {
+    let (mut publisher, viewers) = open(&rt, rt.alloc(), reset_map(), 2).map_err(|_| "open")?;
+    let seen = look_by_two(&rt, &mut publisher, viewers);
+    publisher.close(&rt);
+    seen
+}

@@ -1,9 +1,0 @@
-use Rattle.std.proofs.Common.{sym, subst, arith}
-use Rattle.std.proofs.lemmas.List.Elements.{All-nil}
-use Rattle.board_spec.specs.Setup.{IsCard, IsCardList}
-use Rattle.log_check.proofs.tests.board.Goals as goal
-
-pub open-requires-clause-cards : goal.open-requires-clause-cards
-open-requires-clause-cards c =
-    subst IsCardList (sym c.new.ensures.items)
-    (record { count = omega arith; each = All-nil IsCard; rises = tt })
