@@ -153,7 +153,7 @@ found_once setup bytes change all once same =
       sorted_same = ap sorted once ∙ sym (sorted_twice covered (covered_ordered setup bytes change)) ∙ sym (ap sorted twice);
     }
 
-pub are_found : (old new : MapBytes) (setup : Setup) (bytes : Bytes) (change : MapChange) (all : List Changed) (kept same : Bool) →
+are_found : (old new : MapBytes) (setup : Setup) (bytes : Bytes) (change : MapChange) (all : List Changed) (kept same : Bool) →
     StandsFor setup bytes old → StandsFor setup (after setup change bytes) new → (kept ≡ true → KeepsByte old new change) →
     same ≡ (kept || is_fixed change) → (same ≡ true → all ≡ windows_covered setup bytes change) →
     (same ≡ false → all ≡ changed_windows setup bytes change) → AreFound setup bytes change all
@@ -168,6 +168,21 @@ are_found old new setup bytes change all kept same stands now keeps same_is once
                 found_once setup bytes change all (once stay) (fixed_same setup (after setup change bytes) bytes change fixed)
           ]
     ]
+
+-- as they are pushed: by what the registers held, and again by what they hold, unless that is known to be the same
+pub pushed_found : (old new : MapBytes) (change : MapChange) (none first all : List Changed) (kept same : Bool) →
+    (kept ≡ true → KeepsByte old new change) → same ≡ (kept || is_fixed change) → none ≡ [] →
+    ((setup : Setup) (bytes : Bytes) → StandsFor setup bytes old → first ≡ none ++ windows_covered setup bytes change) →
+    (same ≡ true → all ≡ first) →
+    (same ≡ false → (setup : Setup) (bytes : Bytes) → StandsFor setup bytes new → all ≡ first ++ windows_covered setup bytes change) →
+    (setup : Setup) (bytes : Bytes) → StandsFor setup bytes old → StandsFor setup (after setup change bytes) new → AreFound setup bytes change all
+pushed_found old new change none first all kept same keeps same_is none_is first_is once twice setup bytes stands now =
+    let covered : first ≡ windows_covered setup bytes change =
+    first_is setup bytes stands ∙ ap (λ (windows : List Changed). windows ++ windows_covered setup bytes change) none_is in
+    are_found old new setup bytes change all kept same stands now keeps same_is (λ stay. once stay ∙ covered)
+    (λ move.
+    twice move setup (after setup change bytes) now
+    ∙ ap (λ (windows : List Changed). windows ++ windows_covered setup (after setup change bytes) change) covered)
 
 -- ---- the windows that are built anew: those that changed, or where rows alone are stored what moves of them
 
