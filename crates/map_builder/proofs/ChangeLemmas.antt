@@ -88,6 +88,7 @@ module _ (old new : MapBytes) (change : MapChange) (ranges : List MapRange) (is_
       right = λ k d within. record { at_each = λ addr low high. still_right setup bytes now k d within addr low high (all addr) };
       least = was_map.least;
     };
+    few = is_map.few;
   }
 
 -- a register keeps its byte, on each board that has the registers before, and on each that has those after

@@ -8,7 +8,7 @@ use Rattle.addr_decode.specs.MapRegs.{MapBytes, StandsFor}
 use Rattle.addr_decode.specs.Edges.{edges_after}
 use Rattle.map_builder.specs.declared.range.Changed.{Changed}
 use Rattle.map_builder.specs.declared.range.Range.{Range}
-use Rattle.map_builder.specs.Map.{range_of, HasBoard}
+use Rattle.map_builder.specs.Map.{range_of, most_ranges, HasBoard}
 use Rattle.std.specs.List.{AllByRecursion}
 use Rattle.map_builder.specs.Changed.{IsOutside}
 
@@ -37,7 +37,7 @@ pub record BuiltOf (setup : Setup) (bytes : Bytes) (ranges : List MapRange) (las
 pub record IsBuilt (regs : MapBytes) (ranges : List MapRange) (last : MapRange) (addr : ℕ) : Type 0 where
   pub built : Built ranges last addr
   pub of_board : (setup : Setup) (bytes : Bytes) → StandsFor setup bytes regs → BuiltOf setup bytes ranges last addr
-  pub few : (board : HasBoard regs) → length ranges + edges_after board.setup board.bytes addr ≤ 141
+  pub few : (board : HasBoard regs) → length ranges + edges_after board.setup board.bytes addr < most_ranges
 
 -- ---- ranges that were those of a map before a change
 
@@ -73,4 +73,4 @@ pub record IsKept (ranges : List MapRange) (last : MapRange) (before : List MapR
 pub record IsWhole (regs : MapBytes) (ranges : List Range) : Type 0 where
   pub tiles : Tiles 0 (map range_of ranges)
   pub is_map : (setup : Setup) (bytes : Bytes) → StandsFor setup bytes regs → IsFlatMapOf setup bytes (map range_of ranges)
-  pub few : length ranges ≤ 142
+  pub few : length ranges ≤ most_ranges

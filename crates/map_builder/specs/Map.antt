@@ -24,12 +24,17 @@ pub record HasBoard (regs : MapBytes) : Type 0 where
   pub top : top_of bytes ≤ 0x7F80_0000
   pub stands : StandsFor setup bytes regs
 
+-- a range begins at the first address, and one at each of at most 141 edges
+abbrev pub most_ranges : ℕ
+most_ranges = 142
+
 -- the ranges are the flat map of every board that has these registers, and cover all addresses
 pub record IsMapOf (regs : MapBytes) (ranges : List MapRange) : Type 0 where
   pub fitted : AreFitted regs.cards
   pub board : HasBoard regs
   pub tiles : Tiles 0 ranges
   pub map : (setup : Setup) (bytes : Bytes) → StandsFor setup bytes regs → IsFlatMapOf setup bytes ranges
+  pub few : length ranges ≤ most_ranges
 
 -- the base registers of a card and that of its expansion ROM hold doublewords
 pub record HoldsDoublewords (card : CardBytes) : Type 0 where

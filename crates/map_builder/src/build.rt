@@ -7,7 +7,7 @@ ghost use Rattle.board_spec.specs.FlatMap.{address_count, Tiles, IsFlatMapOf};
 ghost use Rattle.pci_bars.specs.Cards.{AreFitted};
 ghost use Rattle.addr_decode.specs.MapRegs.{MapBytes, StandsFor, map_bytes};
 ghost use Rattle.addr_decode.specs.Edges.{SameAreas, edges_after};
-ghost use Rattle.map_builder.specs.Map.{range_of, HasBoard};
+ghost use Rattle.map_builder.specs.Map.{range_of, most_ranges, HasBoard};
 ghost use Rattle.map_builder.specs.Find.{Begins, Holds};
 ghost use Rattle.map_builder.specs.Build.{GoesOn, IsBuilt, IsMapWhere, IsBelow, IsBetween, IsBeside, IsKept, IsWhole};
 ghost use Rattle.map_builder.specs.Sorted.{Rise, rows_in as rows_of};
@@ -20,7 +20,7 @@ use addr_decode::{MapRegs, SixAreas, next_edge, row};
 use board_base::Steps;
 use std::sync::ledger::Ledger;
 
-/// The most ranges that a map can keep. A board's map has at most 142.
+/// The most ranges that a map can keep, which is more than a board's map has.
 pub const CAPACITY: usize = 160;
 /// The ranges of a map in rising order of address.
 pub type Ranges = FixedList<Range, CAPACITY>;
@@ -35,7 +35,7 @@ pub fn ranges_of<L: Ledger>(regs: &MapRegs, steps: &mut Steps<L>) -> Ranges
     ensures tiles { Tiles 0 (map range_of result.items) }
     ensures map { (setup : Setup) (bytes : Bytes) → StandsFor setup bytes (map_bytes regs.now)
         → IsFlatMapOf setup bytes (map range_of result.items) }
-    ensures few { length result.items ≤ 142 }
+    ensures few { length result.items ≤ most_ranges }
 {
     let mut ranges = FixedList::new();
     let first = first_range(regs, steps);
@@ -58,9 +58,11 @@ pub fn rebuild<L: Ledger>(
     requires board { HasBoard (map_bytes regs.now) }
     requires rise { Rise windows.now }
     requires beside { IsMapWhere (map_bytes regs.now) (IsBeside windows.now) (map range_of ranges.old.items) }
+    requires few { length ranges.old.items ≤ most_ranges }
     ensures tiles { Tiles 0 (map range_of ranges.new.items) }
     ensures map { (setup : Setup) (bytes : Bytes) → StandsFor setup bytes (map_bytes regs.now)
         → IsFlatMapOf setup bytes (map range_of ranges.new.items) }
+    ensures few { length ranges.new.items ≤ most_ranges }
     ensures rows { (setup : Setup) (bytes : Bytes) → StandsFor setup bytes (map_bytes regs.now)
         → steps.new ≤ steps.old + rows_of (edges_after setup bytes) windows.now }
 {

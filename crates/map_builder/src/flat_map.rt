@@ -10,7 +10,7 @@ ghost use Rattle.board_spec.specs.Decode.{Bytes};
 ghost use Rattle.board_spec.specs.FlatMap.{Tiles, IsFlatMapOf, IsSpan};
 ghost use Rattle.pci_bars.specs.Cards.{AreCardsOf, AreFitted, cards_of};
 ghost use Rattle.addr_decode.specs.MapRegs.{StandsFor, map_bytes};
-ghost use Rattle.map_builder.specs.Map.{range_of, HasBoard, IsMapOf};
+ghost use Rattle.map_builder.specs.Map.{range_of, most_ranges, HasBoard, IsMapOf};
 ghost use Rattle.map_builder.specs.Changed.{most_rows};
 ghost use Rattle.map_builder.specs.Applied.{IsApplied};
 
@@ -65,7 +65,7 @@ impl FlatMap {
         ensures regs { result.regs ≡ map_bytes regs }
         ensures version { result.version ≡ 0 }
         ensures map { (setup : Setup) (bytes : Bytes) → StandsFor setup bytes result.regs → IsFlatMapOf setup bytes result.ranges }
-        ensures few { length result.ranges ≤ 142 }
+        ensures few { length result.ranges ≤ most_ranges }
     {
         hold_widths(&regs);
         let ranges = uncounted_ranges::<Brand>(&regs, Blank::new(1));
@@ -111,6 +111,7 @@ impl FlatMap {
         ensures tiles { Tiles 0 self.now.ranges }
         ensures map { (setup : Setup) (bytes : Bytes) → StandsFor setup bytes self.now.regs
             → IsFlatMapOf setup bytes self.now.ranges }
+        ensures few { length self.now.ranges ≤ most_ranges }
     {
         self.ranges.as_slice()
     }
@@ -243,7 +244,7 @@ fn uncounted_ranges<L: Ledger>(regs: &MapRegs, blank: Blank) -> Ranges
     ensures tiles { Tiles 0 (map range_of result.items) }
     ensures map { (setup : Setup) (bytes : Bytes) → StandsFor setup bytes (map_bytes regs.now)
         → IsFlatMapOf setup bytes (map range_of result.items) }
-    ensures few { length result.items ≤ 142 }
+    ensures few { length result.items ≤ most_ranges }
 {
     let mut steps = Steps::<L>::new(blank);
     ranges_of(regs, &mut steps)

@@ -1,5 +1,6 @@
 use Rattle.std.proofs.Common.{◌≡◌, ◌+◌, ◌∙◌, true, ap, arith, subst, sym, List, Option}
 use Rattle.std.specs.Prelude.{map, unwrap_or}
+use Rattle.std.proofs.lemmas.List.{length-map}
 use Rattle.board_spec.specs.Setup.{Setup}
 use Rattle.board_spec.specs.Decode.{Bytes}
 use Rattle.pci_bars.specs.Cards.{AreCardsOf, cards_of}
@@ -63,6 +64,9 @@ rebuild-requires-clause-beside g c =
     (c.apply.ensures.stands board.setup board.bytes board.stands) c.as_slice.result.now c.choose_windows.new.chosen.items c.is_same_byte-kept.result
     (sorted_found g chosen board.setup board.bytes board.stands) (keeps g chosen) c.choose_windows.ensures.others c.choose_windows.ensures.rows)
 
+pub rebuild-requires-clause-few : goal.rebuild-requires-clause-few
+rebuild-requires-clause-few g c = omega (arith, c.self.invariant.few, length-map c.self.inside.ranges.items range_of)
+
 pub invariant_of-self : goal.invariant_of-self
 invariant_of-self g c =
     let board = c.self.invariant.board in
@@ -73,6 +77,7 @@ invariant_of-self g c =
           (c.apply.ensures.stands board.setup board.bytes board.stands);
       tiles = c.rebuild.ensures.tiles;
       map = c.rebuild.ensures.map;
+      few = omega (arith, c.rebuild.ensures.few, length-map c.rebuild.new.ranges.items range_of);
     }
 
 pub returns-clause-applied : goal.returns-clause-applied
