@@ -3,7 +3,7 @@ use Rattle.std.specs.Prelude.{ℕ, ◌≡◌, ◌≢◌, ◌+◌, ◌-◌, ◌<�
 use Rattle.board_base.specs.declared.target.Area.{Area}
 use Rattle.board_spec.specs.Setup.{Setup}
 use Rattle.board_spec.specs.Decode.{Bytes}
-use Rattle.board_spec.specs.FlatMap.{MapRange, six_areas, Tiles, NeighboursDiffer, IsRight, IsFlatMapOf}
+use Rattle.board_spec.specs.FlatMap.{address_count, MapRange, six_areas, Tiles, NeighboursDiffer, IsRight, IsFlatMapOf}
 use Rattle.addr_decode.specs.MapRegs.{MapBytes, StandsFor}
 use Rattle.addr_decode.specs.Edges.{edges_after}
 use Rattle.map_builder.specs.declared.range.Changed.{Changed}
@@ -18,14 +18,14 @@ GoesOn ranges ranges' last last' addr areas =
     ((areas ≡ last.areas) × (ranges' ≡ ranges) × (last' ≡ last))
     ⊎ ((areas ≢ last.areas)
     × (ranges' ≡ ranges ++ record last { hi = addr - 1 } ∷ [])
-    × (last' ≡ record { lo = addr; hi = 0xFFFF_FFFF; areas = areas }))
+    × (last' ≡ record { lo = addr; hi = address_count - 1; areas = areas }))
 
 -- the ranges cover all addresses as if the last of them went on to the last address
 pub record Built (ranges : List MapRange) (last : MapRange) (addr : ℕ) : Type 0 where
   pub tiles : Tiles 0 (ranges ++ last ∷ [])
   pub least : NeighboursDiffer (ranges ++ last ∷ [])
   pub begun : last.lo ≤ addr
-  pub open_end : last.hi ≡ 0xFFFF_FFFF
+  pub open_end : last.hi ≡ address_count - 1
 
 -- up to this address they are right
 pub record BuiltOf (setup : Setup) (bytes : Bytes) (ranges : List MapRange) (last : MapRange) (addr : ℕ) : Type 0 where

@@ -15,7 +15,7 @@ ghost use Rattle.map_builder.specs.Sorted.{Rise, rows_in as rows_of};
 use crate::changed::EVERYTHING;
 use crate::find::index_of;
 use crate::list::FixedList;
-use crate::range::{Changed, Range};
+use crate::range::{Changed, LAST_ADDRESS, Range};
 use addr_decode::{MapRegs, SixAreas, next_edge, row};
 use board_base::Steps;
 use std::sync::ledger::Ledger;
@@ -24,8 +24,6 @@ use std::sync::ledger::Ledger;
 pub const CAPACITY: usize = 160;
 /// The ranges of a map in rising order of address.
 pub type Ranges = FixedList<Range, CAPACITY>;
-/// The last address.
-const LAST_ADDRESS: u32 = 0xFFFF_FFFF;
 
 /// The flat map of registers: from the first address on, the areas at each edge go on in the range below where it has
 /// the same, and else begin a range.
@@ -212,9 +210,9 @@ fn keep(
 fn finish(ranges: &mut Ranges, last: Range, before: &[Range], from: usize, after: u32)
     requires tiles { Tiles 0 (map range_of before.now) }
     requires from { Begins before.now from after }
-    requires kept { IsKept (map range_of ranges.old.items) (range_of last) (map range_of before.now) after 0xFFFF_FFFF }
+    requires kept { IsKept (map range_of ranges.old.items) (range_of last) (map range_of before.now) after (address_count - 1) }
     ensures whole { (regs : MapBytes) → HasBoard regs → IsBuilt regs (map range_of ranges.old.items) (range_of last) after
-        → IsMapWhere regs (IsBetween after 0xFFFF_FFFF) (map range_of before.now) → IsWhole regs ranges.new.items }
+        → IsMapWhere regs (IsBetween after (address_count - 1)) (map range_of before.now) → IsWhole regs ranges.new.items }
 {
     if after == LAST_ADDRESS {
         ranges.push(last);
