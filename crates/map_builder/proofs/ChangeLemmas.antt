@@ -22,6 +22,7 @@ use Rattle.map_builder.specs.Sorted.{sorted, Rise, rows_in}
 use Rattle.map_builder.specs.Changed.{after, bounds, is_fixed, windows_of, windows_covered, changed_windows, most_rows}
 use Rattle.map_builder.specs.Rows.{stores_rows, AreMoved}
 use Rattle.map_builder.specs.Unchanged.{IsHeldAt, IsSameByte}
+use Rattle.map_builder.proofs.FindLemmas.{tiles_below}
 use Rattle.map_builder.proofs.OutsideLemmas.{Outside, and_no}
 use Rattle.map_builder.proofs.BoundsLemmas.{covered_ordered, changed_ordered, bounds_twice}
 use Rattle.map_builder.proofs.SortedLemmas.{rise_sorted, outside_sorted, rows_few, sorted_twice}
@@ -31,11 +32,6 @@ use Rattle.map_builder.proofs.KeptStores.{top_after, changes_keep}
 use Rattle.map_builder.proofs.SameBoards.{boards_same, untouched_areas}
 
 -- the last address of a range is an address
-tiles_below : (from : ℕ) (ranges : List MapRange) → Tiles from ranges → from ≤ address_count
-tiles_below from [] tiles = omega arith
-tiles_below from (range ∷ later) tiles =
-    let next : range.hi + 1 ≤ address_count = tiles_below (range.hi + 1) later tiles.2 in omega (arith, tiles.0, tiles.1)
-
 range_below : (from : ℕ) (ranges : List MapRange) → Tiles from ranges → (k : ℕ) (d : MapRange) → k < length ranges → (get_or ranges k d).hi < address_count
 range_below from [] tiles k d within = absurd (omega arith)
 range_below from (range ∷ later) tiles zero d within =

@@ -1,5 +1,5 @@
 -- The windows of cards as the code finds them, by what their base registers and that of the expansion ROM hold.
-use Rattle.std.specs.Prelude.{ℕ, ◌+◌, ◌-◌, ◌*◌, ◌/◌, ◌^◌, List, [], ◌∷◌, ◌++◌, Option, Some, None, slice_get, slice_index, ◌==◌, Bool, if◌then◌else◌}
+use Rattle.std.specs.Prelude.{ℕ, ◌+◌, ◌-◌, ◌*◌, ◌/◌, ◌^◌, List, [], ◌∷◌, ◌++◌, Option, Some, None, slice_get, slice_index, find, ◌==◌, Bool, if◌then◌else◌}
 use Rattle.std.specs.Option.{option_map_or}
 use Rattle.board_spec.specs.Setup.{Base, MemoryBase, IoBase}
 use Rattle.board_spec.specs.RegisterNames.{card_command}
@@ -44,5 +44,4 @@ card_held off card =
 
 -- those of a card found by its device number
 abbrev pub device_held : (dev off : ℕ) → List CardBytes → List Changed
-device_held dev off [] = []
-device_held dev off (card ∷ later) = if card.card.dev == dev then card_held off card else device_held dev off later
+device_held dev off cards = option_map_or (card_held off) (find (λ card. card.card.dev == dev) cards) []

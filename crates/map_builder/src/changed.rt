@@ -23,7 +23,7 @@ use board_spec::range::{
     AddressRange, EXPANSION_RANGE, HOLE_AT_15_MIB, HOLE_AT_512_KIB, LARGEST_TOP, LOWER_BIOS,
     SELECTABLE_BIOS, SMRAM_RANGE, SYSTEM_BIOS,
 };
-use pci_bars::{BaseSpec, CardRegs};
+use pci_bars::{BaseSpec, CardRegs, card_at};
 
 /// Every address.
 pub const EVERYTHING: Changed = Changed {
@@ -217,11 +217,9 @@ fn push_of_device(windows: &mut Covered, cards: &[CardRegs], dev: u8, off: u8)
     ensures few { length windows.new.items ≤ length windows.old.items + 8 }
     ensures windows { windows.new.items ≡ windows.old.items ++ device_held dev off cards.now }
 {
-    for card in cards {
-        if card.spec.dev == dev {
-            push_of_card(windows, card, off);
-            return;
-        }
+    match card_at(cards, dev) {
+        Some(card) => push_of_card(windows, card, off),
+        None => {}
     }
 }
 
