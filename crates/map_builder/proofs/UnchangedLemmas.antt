@@ -20,29 +20,6 @@ use Rattle.map_builder.proofs.KeptStores.{same_register}
 use Rattle.map_builder.proofs.KeptLemmas.{areas_same}
 use Rattle.map_builder.proofs.MovedRows.{row_stays}
 
-pub record IsDecoded (setup : Setup) (bytes : Bytes) (dev : ℕ) (card : CardBytes) : Type 0 where
-  pub decodes : DecodesAs setup bytes card
-  pub at : card.card.dev ≡ dev
-
--- the card that is found at a device number
-pub found_decoded : (setup : Setup) (bytes : Bytes) (cards : List CardBytes) (dev : ℕ) (card : CardBytes) → AllByRecursion (DecodesAs setup bytes) cards →
-    find (λ card. card.card.dev == dev) cards ≡ Some card → IsDecoded setup bytes dev card
-found_decoded setup bytes [] dev card each is = absurd (none_some is)
-  where
-    none_some : {card : CardBytes} → None ≡ Some card → ⊥
-    none_some is = absurd (false≢true (ap (λ (it : Option CardBytes). is_some it) is))
-found_decoded setup bytes (first ∷ later) dev card each is =
-    elim (cases_Bool (first.card.dev == dev)) [
-      | inl here ↦
-          let same : first ≡ card = some_same (rw here at is) in
-          let at : first.card.dev ≡ dev = grind (arith, nat_tests) in
-          record { decodes = subst (DecodesAs setup bytes) same each.0; at = subst (λ (it : CardBytes). it.card.dev ≡ dev) same at }
-      | inr not_here ↦ found_decoded setup bytes later dev card each.1 (rw not_here at is)
-    ]
-  where
-    some_same : {first card : CardBytes} → Some first ≡ Some card → first ≡ card
-    some_same {first} {card} is = ap (λ (it : Option CardBytes). unwrap_or it first) is
-
 -- where one byte is stored and the register has the same byte before and after
 pub same_bytes : (setup : Setup) (bytes : Bytes) (change : MapChange) (held : ℕ) → IsHeldAt change bytes held → IsHeldAt change (after setup change bytes) held →
     (reg : Reg) → after setup change bytes reg ≡ bytes reg
