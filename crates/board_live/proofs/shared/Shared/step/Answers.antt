@@ -24,7 +24,7 @@ reserve-requires g c =
 pub publish-requires : goal.publish-requires
 publish-requires g c =
     let shared = c.args.self.now in
-    let log = shared.publisher.front.seen.log in
+    let log = shared.publisher.value.front.seen.log in
     let all : length shared.board.value.entries ≤ 2_000_000 =
     few_entries shared.callers shared.board.value.entries shared.few in
     let writes = writes_few shared.board.value.setup shared.board.value.entries in
@@ -45,7 +45,7 @@ invariant_of-self-2 g c =
     is_stepped board c.deref_mut.result.now c.reserve.new.self c.deref_mut-2.result.now now c.reserve.new.self.spare _
     c.args.number event reply c.deref_mut.ensures.value (search rules) c.deref_mut-2.ensures.value
     c.step-reply.ensures.entry in
-    let log = shared.publisher.front.seen.log in
+    let log = shared.publisher.value.front.seen.log in
     let later = c.publish.new.publisher.front.seen.log in
     let changes : changes_of later ≡ option_to_list c.map_change-change.result ++ changes_of log = search rules in
     let change : c.map_change-change.result ≡ map_change_of board.setup board.entries event =
