@@ -21,6 +21,3 @@ pub use edges::next_edge;
 pub use memory::decode;
 pub use ports::{PortRegs, decode_port};
 pub use regs::MapRegs;
-
-#[cfg(test)]
-mod tests;

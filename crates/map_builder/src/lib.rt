@@ -15,6 +15,3 @@ mod windows;
 
 pub use flat_map::FlatMap;
 pub use range::{Changed, Range, Span};
-
-#[cfg(test)]
-mod tests;

@@ -13,6 +13,3 @@ pub use claims::{claim_io, claim_mem, offset_in, shut_io, shut_mem, unselected_r
 pub use contents::{Contents, expansion_byte};
 pub use regs::CardRegs;
 pub use spec::{BASE_COUNT, BaseSpec, CardSpec, ROM_BASE, VGA_BASE};
-
-#[cfg(test)]
-mod tests;

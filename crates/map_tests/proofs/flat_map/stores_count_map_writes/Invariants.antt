@@ -1,5 +1,5 @@
 use Rattle.std.proofs.Common.{◌≡◌, ◌≤◌, length}
-use Rattle.map_builder.proofs.tests.stores_count_map_writes.Given as goal
+use Rattle.map_tests.proofs.flat_map.stores_count_map_writes.Given as goal
 
 abbrev pub invariant-loop-dev : goal.invariant-loop-dev
 invariant-loop-dev g l = record {

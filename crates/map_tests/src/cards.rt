@@ -1,11 +1,16 @@
+//! The registers of cards, their claims and the bytes behind their bases, a table a test.
+
 ghost use Rattle.std.specs.Prelude.{◌≡◌, ◌≤◌};
 ghost use Rattle.board_spec.specs.Setup.{IsBase, IsCard};
 ghost use Rattle.pci_bars.specs.Bases.{base_of};
 ghost use Rattle.pci_bars.specs.Cards.{AreCards};
 
-use super::*;
-use arrayvec::ArrayVec;
+use crate::made::{rom_card, two_bases};
 use board_base::Width;
+use pci_bars::{
+    BaseSpec, CardRegs, Contents, card_at, claim_io, claim_mem, expansion_byte, offset_in, shut_io,
+    shut_mem, unselected_rom,
+};
 
 /// A card with two bases, just reset.
 fn card(dev: u8, vga: bool, first: BaseSpec, second: BaseSpec) -> CardRegs
@@ -15,26 +20,7 @@ fn card(dev: u8, vga: bool, first: BaseSpec, second: BaseSpec) -> CardRegs
     requires second { IsBase (base_of second) }
     ensures card { IsCard result.card }
 {
-    CardRegs::new(spec(dev, vga, first, second))
-}
-
-fn spec(dev: u8, vga: bool, first: BaseSpec, second: BaseSpec) -> CardSpec
-    requires from { 2 ≤ dev }
-    requires to { dev ≤ 9 }
-    requires first { IsBase (base_of first) }
-    requires second { IsBase (base_of second) }
-    ensures card { IsCard result }
-    ensures dev { result.dev ≡ dev }
-{
-    let mut bases = ArrayVec::new();
-    bases.push(first);
-    bases.push(second);
-    CardSpec {
-        dev,
-        vga,
-        bases,
-        rom: None,
-    }
+    CardRegs::new(two_bases(dev, vga, first, second))
 }
 
 /// Writes a doubleword of the registers, the low byte first.
@@ -212,20 +198,6 @@ fn a_card_answers_where_its_base_was_put(rt: HostRuntime) {
     }
 }
 
-/// A card that has an expansion ROM of 64 KiB alone, just reset.
-fn rom_card(dev: u8) -> CardRegs
-    requires from { 2 ≤ dev }
-    requires to { dev ≤ 9 }
-    ensures card { IsCard result.card }
-{
-    CardRegs::new(CardSpec {
-        dev,
-        vga: false,
-        bases: ArrayVec::new(),
-        rom: Some(16),
-    })
-}
-
 #[test]
 fn an_expansion_rom_keeps_its_base_and_bit_0(rt: HostRuntime) {
     for (written, kept) in [
@@ -234,7 +206,7 @@ fn an_expansion_rom_keeps_its_base_and_bit_0(rt: HostRuntime) {
         (0xD000_FFFE, 0xD000_0000),
         (0xD000_0001, 0xD000_0001),
     ] {
-        let mut card = rom_card(2);
+        let mut card = CardRegs::new(rom_card(2));
         write_long(&mut card, 0x30, written);
         assert_eq!(rt; read_long(&card, 0x30), kept, "after {written}");
         assert_eq!(rt; read_long(&card.copy(), 0x30), kept, "of a copy");
@@ -250,10 +222,10 @@ fn an_expansion_rom_keeps_its_base_and_bit_0(rt: HostRuntime) {
 fn two_rom_cards(register: u32, low: u8, high: u8) -> [CardRegs; 2]
     ensures cards { AreCards result }
 {
-    let mut second = rom_card(2);
+    let mut second = CardRegs::new(rom_card(2));
     write_long(&mut second, 0x30, register);
     second.write(0x04, low);
-    let mut third = rom_card(3);
+    let mut third = CardRegs::new(rom_card(3));
     write_long(&mut third, 0x30, register);
     third.write(0x04, high);
     [second, third]
@@ -321,9 +293,9 @@ fn write_at(contents: &mut Contents, dev: u8, base: u8, off: u32, width: Width, 
 #[test]
 fn contents_give_back_the_last_write(rt: HostRuntime) {
     let specs = [
-        spec(2, true, BaseSpec::Memory(12), BaseSpec::Io(2)),
-        spec(3, false, BaseSpec::Memory(24), BaseSpec::Io(2)),
-        spec(9, false, BaseSpec::Memory(4), BaseSpec::Io(8)),
+        two_bases(2, true, BaseSpec::Memory(12), BaseSpec::Io(2)),
+        two_bases(3, false, BaseSpec::Memory(24), BaseSpec::Io(2)),
+        two_bases(9, false, BaseSpec::Memory(4), BaseSpec::Io(8)),
     ];
     let mut contents = Contents::open(rt.alloc(), &specs).expect(&rt, "there is memory");
     for (dev, base, size) in [

@@ -1,13 +1,15 @@
+//! Maps after a reset and after changes, a table a test.
+
 ghost use Rattle.std.specs.Prelude.{◌≡◌, ◌<◌, ◌+◌};
 ghost use Rattle.board_spec.specs.Limits.{entry_limit};
 ghost use Rattle.board_spec.specs.Setup.{IsCard};
 ghost use Rattle.pci_bars.specs.Cards.{AreFitted};
 
-use crate::{Changed, FlatMap, Span};
+use crate::made;
 use addr_decode::{MapChange, MapRegs};
-use arrayvec::ArrayVec;
 use board_base::{Area, Kind, Reg, Steps, Width};
-use pci_bars::{BaseSpec, CardSpec};
+use map_builder::{Changed, FlatMap, Span};
+use pci_bars::BaseSpec;
 use std::marker::Brand;
 use std::sync::ledger::{Blank, Ledger};
 
@@ -16,22 +18,9 @@ use std::sync::ledger::{Blank, Ledger};
 fn board() -> MapRegs
     ensures fitted { AreFitted result.cards.items }
 {
-    let mut bases = ArrayVec::new();
-    bases.push(BaseSpec::Memory(20));
-    bases.push(BaseSpec::Io(4));
     MapRegs::reset_of(&[
-        CardSpec {
-            dev: 2,
-            vga: true,
-            bases,
-            rom: None,
-        },
-        CardSpec {
-            dev: 3,
-            vga: false,
-            bases: ArrayVec::new(),
-            rom: Some(16),
-        },
+        made::two_bases(2, true, BaseSpec::Memory(20), BaseSpec::Io(4)),
+        made::rom_card(3),
     ])
 }
 
@@ -48,11 +37,7 @@ fn counted<L: Ledger>(map: &mut FlatMap, change: &MapChange, blank: Blank) -> Ch
 }
 
 fn store(dev: u8, off: u8, width: Width, value: u32) -> MapChange {
-    MapChange::Store {
-        reg: Reg { dev, fun: 0, off },
-        width,
-        value,
-    }
+    made::store(Reg { dev, fun: 0, off }, width, value)
 }
 
 #[test]

@@ -1,5 +1,5 @@
 use Rattle.std.proofs.Common.{◌≡◌, length}
-use Rattle.map_builder.proofs.tests.changes_move_spans.Given as goal
+use Rattle.map_tests.proofs.flat_map.changes_move_spans.Given as goal
 
 abbrev pub invariant-loop-change : goal.invariant-loop-change
 invariant-loop-change g l = record {

@@ -1,9 +1,14 @@
+//! Where accesses land and what denies them, a table a test.
+
 ghost use Rattle.std.specs.Prelude.{◌≡◌, ◌≤◌, ◌<◌, []};
 ghost use Rattle.board_spec.specs.Setup.{IsBase, IsCard};
 ghost use Rattle.pci_bars.specs.Bases.{base_of};
 ghost use Rattle.pci_bars.specs.Cards.{AreFitted};
 
-use crate::{MapChange, MapRegs, PortRegs, SixAreas, decode, decode_port, next_edge, row, touches};
+use crate::made::{rom_card, store};
+use addr_decode::{
+    MapChange, MapRegs, PortRegs, SixAreas, decode, decode_port, next_edge, row, touches,
+};
 use arrayvec::ArrayVec;
 use board_base::{Area, Denial, Dev, Kind, Reg, Steps, Target, Width};
 use pci_bars::{BaseSpec, CardSpec};
@@ -47,10 +52,6 @@ fn config(dev: u8, fun: u8, off: u8) -> Target {
 /// A store that changes nothing.
 fn nothing() -> MapChange {
     store(reg(0, 0, 0x00), Width::One, 0)
-}
-
-fn store(reg: Reg, width: Width, value: u32) -> MapChange {
-    MapChange::Store { reg, width, value }
 }
 
 fn by(dev: u8, fun: u8, off: u8) -> Option<Denial> {
@@ -146,21 +147,6 @@ fn memory_of_a_board_with_cards(rt: HostRuntime) {
             (area, denial),
             "at {addr}"
         );
-    }
-}
-
-/// A card with an expansion ROM of 64 KiB alone.
-fn rom_card(dev: u8) -> CardSpec
-    requires from { 2 ≤ dev }
-    requires to { dev ≤ 9 }
-    ensures card { IsCard result }
-    ensures dev { result.dev ≡ dev }
-{
-    CardSpec {
-        dev,
-        vga: false,
-        bases: ArrayVec::new(),
-        rom: Some(16),
     }
 }
 
