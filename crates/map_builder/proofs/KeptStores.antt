@@ -1,5 +1,5 @@
 -- A change keeps each register whose windows lie elsewhere.
-use Rattle.std.proofs.Common.{◌≡◌, ℕ, zero, suc, ◌+◌, ◌-◌, ◌*◌, ◌<◌, ◌≤◌, inl, inr, true, List, [], ◌∷◌, length, get_or, take, refl, sym, ◌∙◌, ap, subst, arith}
+use Rattle.std.proofs.Common.{◌≡◌, ℕ, zero, suc, ◌+◌, ◌-◌, ◌<◌, ◌≤◌, inl, inr, true, List, [], ◌∷◌, length, get_or, take, refl, subst, arith}
 use Rattle.std.specs.Prelude.{flat_map}
 use Rattle.std.proofs.lemmas.Bool.{cases_Bool}
 use Rattle.std.proofs.lemmas.Bool.Decides.{nat_tests}
@@ -14,15 +14,13 @@ use Rattle.board_spec.specs.Setup.{Setup, IsCardList}
 use Rattle.board_spec.specs.Bits.{byte}
 use Rattle.board_spec.specs.RegisterTable.{host_bridge, reset_byte, writable_bits}
 use Rattle.board_spec.specs.Registers.{covers, byte_after}
-use Rattle.board_spec.specs.Decode.{Bytes, boundary, top_of}
+use Rattle.board_spec.specs.Decode.{Bytes, top_of}
 use Rattle.board_spec.specs.RegisterNames.{bridge}
 use Rattle.board_spec.specs.MapWrites.{reg_after}
 use Rattle.board_spec.specs.FlatMap.{address_count, six_areas}
-use Rattle.addr_decode.specs.MapRegs.{MapBytes, StandsFor}
 use Rattle.board_spec.proofs.MergedLemmas.{merged-all}
 use Rattle.map_builder.specs.declared.range.Changed.{Changed}
 use Rattle.map_builder.specs.Changed.{windows_of, windows_covered, after, changed_windows, IsOutside}
-use Rattle.map_builder.specs.Map.{HasBoard}
 use Rattle.map_builder.specs.Laws.{WindowsHoldChanges, BoundsHoldChanges}
 use Rattle.map_builder.proofs.OutsideLemmas.{Outside, outside_bounds, outside_left, outside_right}
 use Rattle.map_builder.proofs.WindowLemmas.{offsets}

@@ -141,7 +141,7 @@ impl FlatMap {
 
     /// Makes a change of the registers, which raises the version by one, and tells the bounds of the addresses whose
     /// areas it may change: the least first and the greatest last address of the windows that the registers govern
-    /// which it covers. Both are 0 where there is no such window, and then no area changes.
+    /// which it covers. Both are 0 where there is no such window, and then no area changes (`law_changed_bounds`).
     pub fn apply(&mut self, change: &MapChange) -> Changed
         requires version { self.old.version < entry_limit }
         ensures applied { IsApplied self.old self.new change.now result }
