@@ -64,8 +64,8 @@ fn enter<R: Wait>(live: &Live, rt: &R, pass: &mut Pass<Shared>, viewer: &mut Vie
     ensures mine { own_by (λ entry. entry.actor) (number_of pass.old)
         (drop (length (opened_by pass.old)) (reverse result.value.board.value.entries)) ≡ mine_in pass.old }
     ensures part { part_of pass.old ≡ Some (opened_with result.value) }
-    ensures copies { result.value.publisher.front.seen.book ≡ viewer.old.front.seen.book }
-    ensures meets { IsPrefix viewer.old.front.seen.log result.value.publisher.front.seen.log }
+    ensures copies { result.value.publisher.value.front.seen.book ≡ viewer.old.front.seen.book }
+    ensures meets { IsPrefix viewer.old.front.seen.log result.value.publisher.value.front.seen.log }
 {
     let mut held = live.turn.take(rt, pass);
     meet(rt, &mut held.value.publisher, viewer);
@@ -78,13 +78,13 @@ fn leave(live: &Live, pass: &mut Pass<Shared>, viewer: &mut Viewer, held: Held<S
     requires holds { IsHolding pass.old }
     requires list { seen_in pass.old ≡ reverse held.value.board.value.entries }
     requires part { part_of pass.old ≡ Some (opened_with held.value) }
-    requires copies { held.value.publisher.front.seen.book ≡ viewer.old.front.seen.book }
-    requires begins { IsPrefix viewer.old.front.seen.log held.value.publisher.front.seen.log }
+    requires copies { held.value.publisher.value.front.seen.book ≡ viewer.old.front.seen.book }
+    requires begins { IsPrefix viewer.old.front.seen.log held.value.publisher.value.front.seen.log }
     ensures own { IsOf live.now.turn pass.new }
     ensures idle { IsIdle pass.new }
     ensures same { IsSamePass pass.old pass.new × HasSameJoined pass.old pass.new }
     ensures seen { (seen_in pass.new ≡ seen_in pass.old) × (mine_in pass.new ≡ mine_in pass.old) }
-    ensures learnt { viewer.new.front ≡ held.value.publisher.front }
+    ensures learnt { viewer.new.front ≡ held.value.publisher.value.front }
     ensures opened { opened_of viewer.new.front.seen.log ≡ opened_of viewer.old.front.seen.log }
 {
     let mut held = held;
