@@ -6,7 +6,7 @@ ghost use Rattle.bus_turn.specs.Passes.{IsIdle, IsHolding, IsSameCaller as IsSam
 ghost use Rattle.bus_turn.specs.Turns.{IsOf};
 ghost use Rattle.bus_turn.specs.Views.{own_by};
 ghost use Rattle.map_publish.specs.Lists.{opened_of};
-ghost use Rattle.board_live.specs.Known.{Opens, most_each};
+ghost use Rattle.board_live.specs.Known.{Opens};
 ghost use Rattle.board_live.specs.Passes.{IsPassOf, IsFresh, IsViewerFor, callers_in, setup_in, opened_in};
 ghost use Rattle.board_live.specs.Origins.{origin};
 ghost use Rattle.board_live.specs.Steps.{opened_with};
@@ -94,7 +94,7 @@ fn leave(live: &Live, pass: &mut Pass<Shared>, viewer: &mut Viewer, held: Held<S
 }
 
 impl Cpu {
-    ghost use Rattle.board_live.specs.Callers.{IsCallerOf, IsNewOf, IsSameCaller, setup_of, seen_of, mine_of, known_of};
+    ghost use Rattle.board_live.specs.Callers.{IsCallerOf, IsNewOf, IsSameCaller, setup_of, mine_of, known_of};
     ghost use Rattle.board_live.specs.Bus.{Adds, AddsNone, IsNoLook};
     ghost use Rattle.map_publish.specs.Laws.{IsLookAfter};
     ghost use Rattle.board_live.specs.Known.{Extends, most_each};
@@ -149,8 +149,6 @@ impl Cpu {
     /// kind of access has one area. It neither waits nor takes memory, and needs no turn.
     pub fn look(&mut self, addr: u32, kind: Kind, smm: bool) -> Look
         ensures pass { (self.new.number ≡ self.old.number) × (self.new.pass ≡ self.old.pass) }
-        ensures same { IsSameCaller self.old self.new }
-        ensures seen { (seen_of self.new ≡ seen_of self.old) × (mine_of self.new ≡ mine_of self.old) }
         ensures later { Extends (known_of self.old) (known_of self.new) }
         ensures look { IsLookAfter (setup_of self.new) (known_of self.new) addr kind smm result }
     {

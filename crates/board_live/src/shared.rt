@@ -77,7 +77,6 @@ fn publish<R: Wait>(
 ) -> Result<(), NoMemory>
     requires room { version_after publisher.old.front.seen.log < entry_limit }
     ensures own { publisher.new.front.seen.book ≡ publisher.old.front.seen.book }
-    ensures opened { opened_of publisher.new.front.seen.log ≡ opened_of publisher.old.front.seen.log }
     ensures ok { OnOk result (changes_of publisher.new.front.seen.log
         ≡ option_to_list change ++ changes_of publisher.old.front.seen.log) }
     ensures refused { OnErr result (publisher.new.front.seen.log ≡ publisher.old.front.seen.log) }

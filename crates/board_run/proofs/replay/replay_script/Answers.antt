@@ -86,7 +86,7 @@ loop-phase-preserved c =
           ∙ ap (λ (statements : List Statement). in_file_order before ++ statements) c.deref-in-loop-phase.ensures.value
           ∙ sym said;
       room = omega (arith, c.loop-phase.invariant.room, c.steps.ensures.spare);
-      legal = c.steps.ensures.legal c.loop-phase.invariant.legal;
+      legal = c.steps.ensures.legal;
     }
 
 pub returns-clause-replay : goal.returns-clause-replay

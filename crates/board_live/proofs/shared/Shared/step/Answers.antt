@@ -7,6 +7,7 @@ use Rattle.board_spec.specs.Legal.{next_entry}
 use Rattle.board_core.specs.Kept.{Standing}
 use Rattle.map_publish.specs.declared.publisher.Publisher.{Publisher}
 use Rattle.map_publish.specs.Lists.{opened_of, changes_of, version_after}
+use Rattle.map_publish.proofs.Changes.{opened_same}
 use Rattle.board_live.specs.Known.{oldest}
 use Rattle.board_live.proofs.Histories.{oldest_added, writes_few}
 use Rattle.board_live.proofs.Limits.{few_entries, few_added}
@@ -56,7 +57,9 @@ invariant_of-self-2 g c =
     ∙ (ap (λ (b : Standing). map_change_of b.setup b.entries event) c.deref-2.ensures
     ∙ λ k. map_change_of (stepped.reserved_setup k) (stepped.reserved_entries k) event) in
     let opened : opened_of later ≡ opened_of log =
-    c.publish.ensures.opened ∙ ap (λ (p : Publisher). opened_of p.front.seen.log) c.deref_mut-2.ensures.value in
+    opened_same c.deref_mut-2.result.now.front.seen.log later (omega (arith, c.deref_mut-2.result.now.front.begun))
+    c.publish.ensures.later
+    ∙ ap (λ (p : Publisher). opened_of p.front.seen.log) c.deref_mut-2.ensures.value in
     rw (stepped.setup, stepped.entries) (record {
       within = let within : shared.opened ≤ length board.entries = shared.within in omega (arith, within);
       few = few_added shared.callers entry board.entries shared.few c.requires.number c.requires.few;
