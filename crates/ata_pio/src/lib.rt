@@ -11,7 +11,5 @@ pub mod laws;
 mod port;
 mod sectors;
 mod task_file;
-#[cfg(test)]
-mod tests;
 
 pub use ata::{Ata, AtaOpen};

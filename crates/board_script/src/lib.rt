@@ -23,8 +23,3 @@ pub use log::{log_line, push_heading, push_line, push_lines, push_log};
 pub use map::push_range;
 pub use read::{Log, read_log};
 pub use words::{push_decimal, push_words};
-
-#[cfg(test)]
-mod read_tests;
-#[cfg(test)]
-mod tests;

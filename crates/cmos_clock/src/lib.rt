@@ -6,6 +6,3 @@ mod control;
 mod register;
 
 pub use cmos::Cmos;
-
-#[cfg(test)]
-mod tests;

@@ -10,6 +10,3 @@ mod wide;
 
 pub use cuts::cut;
 pub use entry::entry_of;
-
-#[cfg(test)]
-mod tests;

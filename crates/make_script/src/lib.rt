@@ -13,6 +13,3 @@ pub use board_script::Line;
 pub use images::{make_disk, make_rom};
 pub use script::make_text;
 pub use summary::push_summary;
-
-#[cfg(test)]
-mod tests;

@@ -199,6 +199,3 @@ impl Pit {
         }
     }
 }
-
-#[cfg(test)]
-mod tests;

@@ -13,6 +13,3 @@ pub use fields::Fields;
 pub use item::{Asked, Item, is_word, item_of};
 pub use moment::MomentFields;
 pub use numbers::{decimal_of, digit_of, hex_of};
-
-#[cfg(test)]
-mod tests;

@@ -16,6 +16,3 @@ pub use fault::ScriptFault;
 pub use name::Name;
 pub use read::read_script;
 pub use script::Script;
-
-#[cfg(test)]
-mod tests;

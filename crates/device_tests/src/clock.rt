@@ -1,5 +1,7 @@
-use crate::Cmos;
+//! What the clock shows and when it interrupts, a table a test.
+
 use board_base::Moment;
+use cmos_clock::Cmos;
 
 const INDEX: u16 = 0x70;
 

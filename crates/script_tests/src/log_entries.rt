@@ -1,6 +1,6 @@
 //! Lines with and without an entry, a table a test.
 
-use super::*;
+use log_lines::entry_of;
 
 /// Lines of entries of version 2.
 const ENTRIES: [&str; 16] = [

@@ -1,16 +1,10 @@
 //! Lines of the script, bytes of the images, and the summary of a history made by hand.
 
-use super::*;
-use crate::script::push_round;
-use board_base::{Area, Denial, Dev, Reg, Target};
+use crate::registers::PAM0;
+use board_base::{Area, Denial, Dev, Target};
 use board_spec::{Entry, Event, Look, Part, Parts, Reply};
+use make_script::{make_disk, make_rom, make_text, push_summary};
 use std::test::Fail;
-
-const PAM0: Reg = Reg {
-    dev: 0,
-    fun: 0,
-    off: 0x59,
-};
 
 #[test]
 fn the_script_has_its_setup_its_opening_and_its_rounds(rt: HostRuntime) -> Result<(), Fail> {
@@ -37,13 +31,8 @@ fn the_script_has_its_setup_its_opening_and_its_rounds(rt: HostRuntime) -> Resul
     Ok(())
 }
 
-#[test]
-fn addresses_come_again_after_4096_and_after_256_rounds(rt: HostRuntime) -> Result<(), Fail> {
-    let mut text = String::new(rt.alloc());
-    push_round(&mut text, 4097)?;
-    assert_eq!(rt;
-        text.as_str(),
-        "\
+/// The round after 4,097 others.
+const ROUND: &str = "\
 0 w d 00100004 00001001
 1 r d 00100004
 1 w d E0000004 00001001
@@ -55,8 +44,16 @@ fn addresses_come_again_after_4096_and_after_256_rounds(rt: HostRuntime) -> Resu
 0 ack
 0 out b 0020 20
 1 r b FFFE0000
-"
-    );
+";
+
+#[test]
+fn addresses_come_again_after_4096_and_after_256_rounds(rt: HostRuntime) -> Result<(), Fail> {
+    let script = make_text(rt.alloc(), 4098)?;
+    let lines: Vec<&str> = script.as_str().lines().collect(rt.alloc())?;
+    assert_eq!(rt; lines.len(), 8 + 47 + 4098 * 11);
+    for (at, line) in ROUND.lines().enumerate() {
+        assert_eq!(rt; lines.get(8 + 47 + 4097 * 11 + at).copied(), Some(line));
+    }
     Ok(())
 }
 

@@ -1,6 +1,6 @@
 //! Lines with and without a form, a table a test.
 
-use super::*;
+use script_lines::item_of;
 
 /// Lines of version 2 that say something, in range or not.
 const FORMS: [&str; 25] = [

@@ -1,9 +1,10 @@
 //! Logs that are read, and texts that are none, a table a test.
 
-use super::*;
-use crate::tests::read_short;
-use board_base::{Area, Dev, Kind, PortAccess, Reg, Target, Width};
-use board_spec::{Event, Look, Reply};
+use crate::log_texts::read_short;
+use crate::registers::PAM0;
+use board_base::{Area, Dev, Kind, PortAccess, Target, Width};
+use board_script::LogFault;
+use board_spec::{Entry, Event, Look, Reply};
 use std::alloc::Global;
 use std::process::Abort;
 use std::test::Fail;
@@ -78,12 +79,6 @@ fn a_log_may_have_no_entries(rt: HostRuntime) -> Result<(), Fail> {
     }
     Ok(())
 }
-
-const PAM0: Reg = Reg {
-    dev: 0,
-    fun: 0,
-    off: 0x59,
-};
 
 /// The log of two phases, by two processors.
 const TWO_PROCESSORS: &str = "\

@@ -1,4 +1,6 @@
-use super::*;
+//! Counters and their modes, a table a test.
+
+use pit_8254::{CONTROL_WORD, COUNTER_0, COUNTER_2, Pit, Rises};
 use std::process::Abort;
 
 /// A row of a script on counter 2: the gate, the control words and counts to write, how many

@@ -1,10 +1,10 @@
 //! Whole lines of logs and maps, a table a test.
 
-use super::*;
 use board_base::{
     Access, Area, Denial, Dev, Kind, Moment, PortAccess, Reg, Target, WideAccess, Width,
 };
-use board_spec::{Event, Look, Part, Parts, Reply};
+use board_script::{Log, LogFault, log_line, push_lines, push_log, push_range, read_log};
+use board_spec::{Entry, Event, Look, Part, Parts, Reply};
 use std::alloc::Global;
 use std::process::Abort;
 use std::test::Fail;

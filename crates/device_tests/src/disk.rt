@@ -3,8 +3,7 @@
 ghost use Rattle.std.specs.Prelude.{◌≡◌};
 ghost use Rattle.device_spec.specs.Ata.Steps.{is_ata_port};
 
-use crate::identify::identify_word;
-use crate::{Ata, AtaOpen};
+use ata_pio::{Ata, AtaOpen};
 use board_base::Width;
 use std::alloc::Global;
 use std::process::Abort;
@@ -395,71 +394,89 @@ fn lengths(rt: HostRuntime) -> Result<(), Fail> {
     Ok(())
 }
 
-/// Words of IDENTIFY DEVICE: sectors, index, word.
-const IDENTIFY_WORDS: [(u32, u8, u16); 40] = [
-    (4, 0, 0x0040),
-    (4, 1, 1),
-    (4, 2, 0),
-    (4, 3, 16),
-    (4, 6, 63),
-    (4, 9, 0),
-    (4, 10, 0x424F),
-    (4, 11, 0x4152),
-    (4, 12, 0x4430),
-    (4, 13, 0x3030),
-    (4, 14, 0x3120),
-    (4, 15, 0x2020),
-    (4, 19, 0x2020),
-    (4, 20, 0),
-    (4, 23, 0x312E),
-    (4, 24, 0x3020),
-    (4, 26, 0x2020),
-    (4, 27, 0x424F),
-    (4, 29, 0x4420),
-    (4, 30, 0x4449),
-    (4, 31, 0x534B),
-    (4, 32, 0x2020),
-    (4, 46, 0x2020),
-    (4, 47, 0),
-    (4, 49, 0x0200),
-    (4, 53, 0x0001),
-    (4, 54, 1),
-    (4, 55, 16),
-    (4, 56, 63),
-    (4, 57, 4),
-    (4, 58, 0),
-    (4, 60, 4),
-    (4, 61, 0),
-    (2020, 1, 2),
-    (2020, 57, 2016),
-    (2020, 60, 2020),
-    (65_536, 54, 65),
-    (65_536, 57, 65_520),
-    (65_536, 60, 0),
-    (65_536, 61, 1),
+/// Words of IDENTIFY DEVICE by their index.
+type Words = &'static [(usize, u32)];
+
+/// The sectors of a disk, and words of its IDENTIFY DEVICE.
+const IDENTIFY_WORDS: [(u32, Words); 3] = [
+    (
+        4,
+        &[
+            (0, 0x0040),
+            (1, 1),
+            (2, 0),
+            (3, 16),
+            (6, 63),
+            (9, 0),
+            (10, 0x424F),
+            (11, 0x4152),
+            (12, 0x4430),
+            (13, 0x3030),
+            (14, 0x3120),
+            (15, 0x2020),
+            (19, 0x2020),
+            (20, 0),
+            (23, 0x312E),
+            (24, 0x3020),
+            (26, 0x2020),
+            (27, 0x424F),
+            (29, 0x4420),
+            (30, 0x4449),
+            (31, 0x534B),
+            (32, 0x2020),
+            (46, 0x2020),
+            (47, 0),
+            (49, 0x0200),
+            (53, 0x0001),
+            (54, 1),
+            (55, 16),
+            (56, 63),
+            (57, 4),
+            (58, 0),
+            (60, 4),
+            (61, 0),
+        ],
+    ),
+    (2020, &[(1, 2), (57, 2016), (60, 2020)]),
+    (65_536, &[(54, 65), (57, 65_520), (60, 0), (61, 1)]),
 ];
 
-#[test]
-fn identify(rt: HostRuntime) -> Result<(), Fail> {
-    for (sectors, index, word) in IDENTIFY_WORDS {
-        if sectors <= 65_536 {
-            assert_eq!(rt;
-                identify_word(sectors, index),
-                word,
-                "word {index} of {sectors}"
-            );
-        }
-    }
-    let mut disk = disk_of(rt.alloc(), 4)?;
+/// The first words of IDENTIFY DEVICE of a disk of four sectors. All that come after them are 0.
+const FOUR_SECTORS: [u32; 64] = [
+    0x0040, 0x0001, 0x0000, 0x0010, 0x0000, 0x0000, 0x003F, 0x0000, 0x0000, 0x0000, 0x424F, 0x4152,
+    0x4430, 0x3030, 0x3120, 0x2020, 0x2020, 0x2020, 0x2020, 0x2020, 0x0000, 0x0000, 0x0000, 0x312E,
+    0x3020, 0x2020, 0x2020, 0x424F, 0x4152, 0x4420, 0x4449, 0x534B, 0x2020, 0x2020, 0x2020, 0x2020,
+    0x2020, 0x2020, 0x2020, 0x2020, 0x2020, 0x2020, 0x2020, 0x2020, 0x2020, 0x2020, 0x2020, 0x0000,
+    0x0000, 0x0200, 0x0000, 0x0000, 0x0000, 0x0001, 0x0001, 0x0010, 0x003F, 0x0004, 0x0000, 0x0000,
+    0x0004, 0x0000, 0x0000, 0x0000,
+];
+
+/// The words that a disk gives when it is asked to identify itself.
+fn identify_words(rt: &impl Abort, disk: &mut Ata) -> [u32; 256] {
     disk.port_write(0x1F7, Width::One, 0xEC);
     assert_eq!(rt; disk.port_read(0x1F7, Width::One), 0x58);
-    for index in 0..=255u8 {
-        assert_eq!(rt;
-            disk.port_read(0x1F0, Width::Two),
-            u32::from(identify_word(4, index))
-        );
+    let mut words = [0; 256];
+    for word in &mut words {
+        *word = disk.port_read(0x1F0, Width::Two);
     }
     assert!(rt; !disk.irq());
     assert_eq!(rt; disk.port_read(0x1F7, Width::One), 0x50);
+    words
+}
+
+#[test]
+fn identify(rt: HostRuntime) -> Result<(), Fail> {
+    for (sectors, expected) in IDENTIFY_WORDS {
+        let bytes = vec![in rt.alloc(); 0u8; sectors as usize * 512]?;
+        let words = identify_words(&rt, &mut Ata::open(rt.alloc(), &bytes)?);
+        for (index, word) in expected {
+            assert_eq!(rt; words.get(*index), Some(word), "word {index} of {sectors}");
+        }
+    }
+    let words = identify_words(&rt, &mut disk_of(rt.alloc(), 4)?);
+    for (index, word) in words.iter().enumerate() {
+        let expected = FOUR_SECTORS.get(index).copied().unwrap_or(0);
+        assert_eq!(rt; *word, expected, "word {index}");
+    }
     Ok(())
 }

@@ -1,9 +1,9 @@
 //! Whole texts and where they are refused, a table a test.
 
-use super::*;
 use board_base::{Access, Kind, Moment, WideAccess, Width};
 use board_spec::{Event, Statement};
 use pci_bars::BaseSpec;
+use script_text::{ScriptFault, read_script};
 use std::alloc::Global;
 use std::test::Fail;
 
