@@ -27,7 +27,7 @@ use Rattle.cfg_ports.specs.Selection.{existing}
 use Rattle.addr_decode.specs.declared.onboard.Onboard.{Onboard}
 use Rattle.addr_decode.specs.declared.onboard.Onboard.TheVariants.{Answers, Absent}
 use Rattle.addr_decode.specs.Onboard.{if_selected, disk_by, byte_port, onboard_at}
-use Rattle.addr_decode.specs.MapRegs.{IsIdeOf}
+use Rattle.addr_decode.specs.MapRegs.{IsChannelOf}
 use Rattle.addr_decode.specs.Ports.{as_decoded, after_onboard, ports_in_order}
 
 disk_in_order : (setup : Setup) (bytes : Bytes) (disk : Bool) (timing port : ℕ) → timing / 0x100 ≡ bytes idetim_high →
@@ -209,7 +209,7 @@ pub onboard_target :
     (setup : Setup) (bytes : Bytes) (address : ℕ) (disk : Bool) (port : ℕ) (width : Width) (xbcs : ℕ)
     (ide_command idetim : ℕ) (at_disk told : Onboard) →
     false ≡ (port == config_address_port && bytes_of width == 4) → false ≡ is_config_port port →
-    xbcs ≡ bytes select_register → IsIdeOf bytes ide_command idetim →
+    xbcs ≡ bytes select_register → IsChannelOf bytes ide_command idetim →
     at_disk ≡ disk_by disk ide_command idetim → told ≡ onboard_at xbcs at_disk port width →
     after_onboard setup bytes port told ≡ port_target_of setup bytes address disk port width
 unfolding ports_in_order

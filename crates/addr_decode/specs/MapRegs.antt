@@ -57,6 +57,6 @@ pub record StandsFor (setup : Setup) (bytes : Bytes) (regs : MapBytes) : Type 0 
   pub cards : AreDecoded setup bytes regs.cards
 
 -- these are the command and the timing of the IDE function. Of the timing the high byte alone decides
-pub record IsIdeOf (bytes : Bytes) (ide_command idetim : ℕ) : Type 0 where
+pub record IsChannelOf (bytes : Bytes) (ide_command idetim : ℕ) : Type 0 where
   pub command : ide_command ≡ bytes command_register
   pub timing : idetim / 0x100 ≡ bytes idetim_high

@@ -26,7 +26,7 @@ impl Default for SixAreas {
     }
 }
 
-/// The six areas of an address, as `areas_at` gives them. It counts as one step.
+/// The six areas of an address: what a fetch, a read and a write reach outside SMM and in SMM. It counts as one step.
 pub fn row<L: Ledger>(regs: &MapRegs, addr: u32, steps: &mut Steps<L>) -> SixAreas
     requires cards { AreFitted regs.now.cards.items }
     ensures areas { (setup : Setup) (bytes : Bytes) → StandsFor setup bytes (map_bytes regs.now)
@@ -37,8 +37,8 @@ pub fn row<L: Ledger>(regs: &MapRegs, addr: u32, steps: &mut Steps<L>) -> SixAre
     areas_at(regs, addr)
 }
 
-/// The six areas of an address: what a fetch, a read and a write reach outside SMM and in SMM.
-pub fn areas_at(regs: &MapRegs, addr: u32) -> SixAreas
+/// The six areas of an address, by whether SMRAM can answer there.
+fn areas_at(regs: &MapRegs, addr: u32) -> SixAreas
     requires cards { AreFitted regs.now.cards.items }
     ensures areas { (setup : Setup) (bytes : Bytes) → StandsFor setup bytes (map_bytes regs.now)
         → result.areas ≡ six_areas setup bytes addr }

@@ -1,8 +1,8 @@
 //! Which register denies a memory access.
-ghost use Rattle.std.specs.Prelude.{◌≡◌, ◌≤◌, Some, None};
+ghost use Rattle.std.specs.Prelude.{◌≡◌, ◌≤◌, false, Some, None};
 ghost use Rattle.board_base.specs.declared.target.Denial.TheVariants.{Register};
 ghost use Rattle.board_spec.specs.Setup.{Setup};
-ghost use Rattle.board_spec.specs.Decode.{Bytes, pam_register, top_of as top_by, memory_shut, rom_unselected, abort_denial, rom_denial, denial_in};
+ghost use Rattle.board_spec.specs.Decode.{Bytes, pam_register, top_of as top_by, memory_shut, rom_unselected, abort_denial, rom_denial, denial_in, is_shadow_range};
 ghost use Rattle.board_spec.specs.Ranges.{shadow_range};
 ghost use Rattle.board_spec.specs.RegisterNames.{xbcs as select_register};
 ghost use Rattle.pci_bars.specs.Cards.{AreFitted};
@@ -106,6 +106,7 @@ fn board_denial(top: u32, addr: u32) -> Option<Denial>
 /// The PAM register of an address. None outside the shadow windows.
 fn pam_denial(addr: u32) -> Option<Denial>
     ensures denial { shadow_range.0 ≤ addr → addr ≤ shadow_range.1 → result ≡ Some (Register (pam_register addr)) }
+    ensures none { is_shadow_range addr ≡ false → result ≡ None }
 {
     match window_of(addr) {
         Some(window) => Some(host_bridge(window.off)),

@@ -14,7 +14,7 @@ mod onboard;
 mod ports;
 mod regs;
 
-pub use areas::{SixAreas, areas_at, row};
+pub use areas::{SixAreas, row};
 pub use board_spec::MapChange;
 pub use change::touches;
 pub use edges::next_edge;

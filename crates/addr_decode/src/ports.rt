@@ -8,7 +8,7 @@ ghost use Rattle.board_spec.specs.Decode.{Bytes, command_of, io_claim, io_shut};
 ghost use Rattle.board_spec.specs.PortNames.{config_address_port};
 ghost use Rattle.board_spec.specs.Ports.{port_target_of, config_port, unselected, other_port};
 ghost use Rattle.pci_bars.specs.Cards.{AreCards, AreDecoded, AreFitted};
-ghost use Rattle.addr_decode.specs.MapRegs.{IsIdeOf, StandsFor, map_bytes};
+ghost use Rattle.addr_decode.specs.MapRegs.{IsChannelOf, StandsFor, map_bytes};
 ghost use Rattle.addr_decode.specs.Ports.{as_decoded, IsDenied};
 
 use crate::cards::is_fitted;
@@ -41,7 +41,7 @@ pub fn decode_port(
 ) -> (Target, Option<Denial>)
     requires cards { AreFitted regs.now.cards.items }
     ensures decoded { (setup : Setup) (bytes : Bytes) → StandsFor setup bytes (map_bytes regs.now)
-        → IsIdeOf bytes ports.now.ide_command ports.now.idetim
+        → IsChannelOf bytes ports.now.ide_command ports.now.idetim
         → as_decoded result ≡ port_target_of setup bytes (kept_address ports.now.confadd) ports.now.disk port width }
     ensures denied { IsDenied result }
 {

@@ -1,7 +1,5 @@
 //! The ports of the disk.
 
-/// Words of sectors and of IDENTIFY DEVICE.
-pub const DATA: u16 = 0x1F0;
 /// Error when read, features when written.
 pub const ERROR: u16 = 0x1F1;
 

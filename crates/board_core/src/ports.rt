@@ -17,7 +17,7 @@ use board_devices::law_left_alone;
 use board_spec::Reply;
 use board_spec::offset::SOUTH_BRIDGE;
 
-/// What every bit of a byte reads at an empty socket.
+/// What a read of the empty socket gives.
 const EMPTY_SOCKET: u32 = 0xFF;
 
 /// Does an access at a port, and tells the reply.

@@ -15,6 +15,7 @@ ghost use Rattle.board_devices.specs.Devices.{AreDevicesOf, AreRoutesOf};
 use crate::system::SystemPort;
 use ata_pio::{Ata, AtaOpen};
 use cmos_clock::Cmos;
+use device_spec::LINE_COUNT;
 use pic_pair::PicPair;
 use pirq_router::{Elcr, Pirq};
 use pit_8254::Pit;
@@ -23,8 +24,6 @@ use std::marker::Model;
 
 /// Device numbers on the bus end below this one: cards have 2 to 9.
 pub(crate) const DEVICE_COUNT: usize = 10;
-/// The lines of the 8259A pair.
-pub(crate) const LINE_COUNT: usize = 16;
 
 /// The devices of the board. Contracts see the state of each machine.
 #[derive(Drop)]

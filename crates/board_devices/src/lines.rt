@@ -12,16 +12,17 @@ ghost use Rattle.board_devices.specs.Devices.{AreWiresOf, AreAfter, AreDevicesOf
 ghost use Rattle.board_devices.specs.Events.{Leaves};
 ghost use Rattle.board_devices.specs.Laws.{LeavesDevices};
 
-use crate::devices::{Devices, LINE_COUNT};
+use crate::devices::Devices;
 use board_spec::laws::devices::law_pair;
+use device_spec::LINE_COUNT;
 use pirq_router::Pirq;
 
 /// The line of the timer, that of the clock, and that of the disk.
 pub(crate) const TIMER_LINE: usize = 0;
 
-pub(crate) const CLOCK_LINE: usize = 8;
+const CLOCK_LINE: usize = 8;
 
-pub(crate) const DISK_LINE: usize = 14;
+const DISK_LINE: usize = 14;
 
 impl Devices {
     /// PIRQA to PIRQD: INTA# of the card at device d goes to number (d - 1) mod 4, and each is the or of its wires.

@@ -15,9 +15,10 @@ ghost use Rattle.board_devices.specs.Devices.{AreDevicesOf, AreRoutesOf};
 ghost use Rattle.board_devices.specs.Events.{Asks};
 ghost use Rattle.board_devices.specs.PulsedPair.{pair_after_run};
 
-use crate::devices::{Devices, LINE_COUNT};
+use crate::devices::Devices;
 use crate::lines::TIMER_LINE;
 use board_base::Moment;
+use device_spec::LINE_COUNT;
 use pic_pair::PicPair;
 use pirq_router::Pirq;
 use pit_8254::Rises;

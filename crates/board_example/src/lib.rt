@@ -1,21 +1,26 @@
 //! The board as a library: one access of a fresh board.
 #![tactic(auto)]
 
-ghost use Rattle.std.specs.Prelude.{[], false, None, IfOk};
+ghost use Rattle.std.specs.Prelude.{◌≡◌, ◌≢◌, ◌↔◌, [], false, None, length, Err, IfOk};
 ghost use Rattle.board_base.specs.declared.access.Kind.{Kind};
 ghost use Rattle.board_base.specs.declared.access.Width.{Width};
 ghost use Rattle.board_spec.specs.declared.event.Event.{Event};
+ghost use Rattle.board_spec.specs.Setup.{IsRomSize};
 ghost use Rattle.board_spec.specs.Answer.{IsAnswer};
+ghost use Rattle.board_core.specs.declared.setup.BoardOpen.{BoardOpen};
 
 use board_base::{Access, Kind, Width};
 use board_core::{Board, BoardOpen, Setup};
 use board_spec::{Event, Reply};
 use std::alloc::Global;
 
-/// What a processor fetches first: the four bytes at FFFFFFF0h of a board with this ROM, 8 MiB and no cards.
+/// What a processor fetches first: the four bytes at FFFFFFF0h of a board with this ROM, 8 MiB and no cards. BadRom
+/// exactly where the ROM is not of 64, 128, 256 or 512 KiB; any other refusal is for want of memory.
 pub fn reset_vector(alloc: Global, rom: Vec<u8>) -> Result<Reply, BoardOpen>
     ensures answer { IfOk result (IsAnswer (record { mib = 8; cards = []; rom = rom.items; disk = None }) []
         (Event.Memory (record { kind = Kind.Fetch; addr = 0xFFFF_FFF0; width = Width.Four; smm = false; value = 0 }))) }
+    ensures bad_rom { (result ≡ Err BoardOpen.BadRom) ↔ ¬ IsRomSize (length rom.items) }
+    ensures no_disk { result ≢ Err BoardOpen.BadDisk }
 {
     let cards = Vec::new(alloc);
     let setup = Setup {
@@ -34,4 +39,30 @@ pub fn reset_vector(alloc: Global, rom: Vec<u8>) -> Result<Reply, BoardOpen>
         value: 0,
     };
     Ok(board.step(0, &Event::Memory(fetch)))
+}
+
+#[cfg(test)]
+mod tests {
+    use super::*;
+    use board_base::Target;
+    use std::test::Fail;
+
+    /// The ROM's byte at offset o is o mod 256; FFFFFFF0h is its offset FFF0h.
+    #[test]
+    fn the_first_fetch_is_from_the_rom(rt: HostRuntime) -> Result<(), Fail> {
+        let mut rom = Vec::new(rt.alloc());
+        for offset in 0..0x1_0000 {
+            rom.push((offset % 0x100) as u8)?;
+        }
+        let reply = reset_vector(rt.alloc(), rom)?;
+        assert_eq!(rt;
+            reply,
+            Reply::Bus {
+                value: Some(0xF3F2_F1F0),
+                target: Target::Rom(0xFFF0),
+                denial: None,
+            }
+        );
+        Ok(())
+    }
 }

@@ -64,8 +64,8 @@ numbers_more cpus all cpu is number before =
 pub opened_viewer :
     (pass : SharedPass) (shared : Shared) (viewer : Viewer) → part_of pass ≡ Some (opened_with shared) →
     opened_by pass ≡ reverse shared.board.value.entries →
-    shared.opened ≡ length shared.board.value.entries → viewer.front ≡ shared.publisher.front →
-    changes_of shared.publisher.front.seen.log ≡ [] → IsViewerFor pass viewer
+    shared.opened ≡ length shared.board.value.entries → viewer.front ≡ shared.publisher.value.front →
+    changes_of shared.publisher.value.front.seen.log ≡ [] → IsViewerFor pass viewer
 opened_viewer pass shared viewer part opened count front none =
     let setup : shared.board.value.setup ≡ setup_in pass = sym (ap (λ (o : Option Origin). (origin_in o).setup) part) in
     let callers : shared.callers ≡ callers_in pass = sym (ap (λ (o : Option Origin). (origin_in o).callers) part) in
@@ -73,7 +73,7 @@ opened_viewer pass shared viewer part opened count front none =
     ap (λ (n : ℕ). oldest n shared.board.value.entries) count
     ∙ (oldest_whole shared.board.value.entries
     ∙ sym (ap reverse opened ∙ reverse-reverse shared.board.value.entries)) in
-    let back : shared.publisher.front ≡ viewer.front = sym front in
+    let back : shared.publisher.value.front ≡ viewer.front = sym front in
     record {
       part = part ∙ λ k. Some (origin (setup k) (callers k) (whole k) (back k).seen.book);
       opens = subst (λ (t : Setup × List Entry × Front). Opens t.0 t.1 (opened_of t.2.seen.log))

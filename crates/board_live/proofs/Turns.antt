@@ -106,10 +106,10 @@ pub record Finds (cpu : Cpu) (held : Shared) : Type 0 where
 known_all :
     (pass : SharedPass) (held : Shared) → setup_in pass ≡ held.board.value.setup →
     opened_in pass ≡ oldest held.opened held.board.value.entries →
-    known_after (setup_in pass) (opened_in pass) held.publisher.front.seen.log
+    known_after (setup_in pass) (opened_in pass) held.publisher.value.front.seen.log
     ≡ map_writes_of (setup_in pass) held.board.value.entries
 known_all pass held setup opened =
-    (λ k. known_after (setup k) (opened k) held.publisher.front.seen.log)
+    (λ k. known_after (setup k) (opened k) held.publisher.value.front.seen.log)
     ∙ (sym held.published ∙ ap (λ (s : Setup). map_writes_of s held.board.value.entries) (sym setup))
 
 pub finds :
@@ -117,7 +117,7 @@ pub finds :
     IsPrefix (opened_by cpu.pass) (reverse held.board.value.entries) →
     own_by by_actor (number_of cpu.pass) (drop (length (opened_by cpu.pass)) (reverse held.board.value.entries))
     ≡ mine_in cpu.pass →
-    part_of cpu.pass ≡ Some (opened_with held) → IsPrefix cpu.viewer.front.seen.log held.publisher.front.seen.log →
+    part_of cpu.pass ≡ Some (opened_with held) → IsPrefix cpu.viewer.front.seen.log held.publisher.value.front.seen.log →
     Finds cpu held
 finds cpu held begins opens own part meets =
     let actor = cpu.number in
@@ -133,8 +133,8 @@ finds cpu held begins opens own part meets =
     own_in actor (opened_by pass) (reverse history) (mine_in pass) opens
     (subst (λ (n : ℕ). own_by by_actor n (drop (length (opened_by pass)) (reverse history)) ≡ mine_in pass)
     cpu.passed.number own) in
-    let known : Extends (known_of cpu) (known_after (setup_in pass) (opened_in pass) held.publisher.front.seen.log) =
-    known_extend (setup_in pass) (opened_in pass) log held.publisher.front.seen.log meets in
+    let known : Extends (known_of cpu) (known_after (setup_in pass) (opened_in pass) held.publisher.value.front.seen.log) =
+    known_extend (setup_in pass) (opened_in pass) log held.publisher.value.front.seen.log meets in
     record {
       setup = setup;
       opened = opened;
@@ -150,7 +150,7 @@ finds cpu held begins opens own part meets =
 -- and the same of the caller's pass after it has learnt that list
 pub known_left :
     (before now : SharedPass) (held : Shared) (log : List Mark) → IsSamePass before now →
-    log ≡ held.publisher.front.seen.log →
+    log ≡ held.publisher.value.front.seen.log →
     setup_in before ≡ held.board.value.setup → opened_in before ≡ oldest held.opened held.board.value.entries →
     known_after (setup_in now) (opened_in now) log ≡ map_writes_of (setup_in before) held.board.value.entries
 known_left before now held log same learnt setup opened =
@@ -176,7 +176,7 @@ pub record HasLearnt (cpu : Cpu) (now : SharedPass) (log : List Mark) : Type 0 w
 
 pub has_learnt :
     (cpu : Cpu) (held : Shared) (now : SharedPass) (log : List Mark) → Finds cpu held → IsSamePass cpu.pass now →
-    log ≡ held.publisher.front.seen.log → seen_in now ≡ reverse held.board.value.entries → HasLearnt cpu now log
+    log ≡ held.publisher.value.front.seen.log → seen_in now ≡ reverse held.board.value.entries → HasLearnt cpu now log
 has_learnt cpu held now log found same learnt listed =
     let seen : reverse (seen_in now) ≡ held.board.value.entries =
     ap reverse listed ∙ reverse-reverse held.board.value.entries in

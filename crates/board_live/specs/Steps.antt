@@ -14,14 +14,14 @@ use Rattle.board_live.specs.Origins.{origin}
 abbrev pub opened_with : Shared → Origin
 opened_with shared =
     origin shared.board.value.setup shared.callers (oldest shared.opened shared.board.value.entries)
-    shared.publisher.front.seen.book
+    shared.publisher.value.front.seen.book
 
 -- the same board, publisher and callers
 pub record IsSameBoard (before now : Shared) : Type 0 where
   pub setup : now.board.value.setup ≡ before.board.value.setup
   pub opened : oldest now.opened now.board.value.entries ≡ oldest before.opened before.board.value.entries
   pub callers : now.callers ≡ before.callers
-  pub book : now.publisher.front.seen.book ≡ before.publisher.front.seen.book
+  pub book : now.publisher.value.front.seen.book ≡ before.publisher.value.front.seen.book
 
 -- a board did an event of a caller, which added one entry
 pub record AddsEntry (number : ℕ) (event : Event) (answered : Answered) (before now : Standing) : Type 0 where

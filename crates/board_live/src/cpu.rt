@@ -6,7 +6,7 @@ ghost use Rattle.bus_turn.specs.Passes.{IsIdle, IsHolding, IsSameCaller as IsSam
 ghost use Rattle.bus_turn.specs.Turns.{IsOf};
 ghost use Rattle.bus_turn.specs.Views.{own_by};
 ghost use Rattle.map_publish.specs.Lists.{opened_of};
-ghost use Rattle.board_live.specs.Known.{Opens, most_each};
+ghost use Rattle.board_live.specs.Known.{Opens};
 ghost use Rattle.board_live.specs.Passes.{IsPassOf, IsFresh, IsViewerFor, callers_in, setup_in, opened_in};
 ghost use Rattle.board_live.specs.Origins.{origin};
 ghost use Rattle.board_live.specs.Steps.{opened_with};
@@ -64,8 +64,8 @@ fn enter<R: Wait>(live: &Live, rt: &R, pass: &mut Pass<Shared>, viewer: &mut Vie
     ensures mine { own_by (λ entry. entry.actor) (number_of pass.old)
         (drop (length (opened_by pass.old)) (reverse result.value.board.value.entries)) ≡ mine_in pass.old }
     ensures part { part_of pass.old ≡ Some (opened_with result.value) }
-    ensures copies { result.value.publisher.front.seen.book ≡ viewer.old.front.seen.book }
-    ensures meets { IsPrefix viewer.old.front.seen.log result.value.publisher.front.seen.log }
+    ensures copies { result.value.publisher.value.front.seen.book ≡ viewer.old.front.seen.book }
+    ensures meets { IsPrefix viewer.old.front.seen.log result.value.publisher.value.front.seen.log }
 {
     let mut held = live.turn.take(rt, pass);
     meet(rt, &mut held.value.publisher, viewer);
@@ -78,13 +78,13 @@ fn leave(live: &Live, pass: &mut Pass<Shared>, viewer: &mut Viewer, held: Held<S
     requires holds { IsHolding pass.old }
     requires list { seen_in pass.old ≡ reverse held.value.board.value.entries }
     requires part { part_of pass.old ≡ Some (opened_with held.value) }
-    requires copies { held.value.publisher.front.seen.book ≡ viewer.old.front.seen.book }
-    requires begins { IsPrefix viewer.old.front.seen.log held.value.publisher.front.seen.log }
+    requires copies { held.value.publisher.value.front.seen.book ≡ viewer.old.front.seen.book }
+    requires begins { IsPrefix viewer.old.front.seen.log held.value.publisher.value.front.seen.log }
     ensures own { IsOf live.now.turn pass.new }
     ensures idle { IsIdle pass.new }
     ensures same { IsSamePass pass.old pass.new × HasSameJoined pass.old pass.new }
     ensures seen { (seen_in pass.new ≡ seen_in pass.old) × (mine_in pass.new ≡ mine_in pass.old) }
-    ensures learnt { viewer.new.front ≡ held.value.publisher.front }
+    ensures learnt { viewer.new.front ≡ held.value.publisher.value.front }
     ensures opened { opened_of viewer.new.front.seen.log ≡ opened_of viewer.old.front.seen.log }
 {
     let mut held = held;
@@ -94,7 +94,7 @@ fn leave(live: &Live, pass: &mut Pass<Shared>, viewer: &mut Viewer, held: Held<S
 }
 
 impl Cpu {
-    ghost use Rattle.board_live.specs.Callers.{IsCallerOf, IsNewOf, IsSameCaller, setup_of, seen_of, mine_of, known_of};
+    ghost use Rattle.board_live.specs.Callers.{IsCallerOf, IsNewOf, IsSameCaller, setup_of, mine_of, known_of};
     ghost use Rattle.board_live.specs.Bus.{Adds, AddsNone, IsNoLook};
     ghost use Rattle.map_publish.specs.Laws.{IsLookAfter};
     ghost use Rattle.board_live.specs.Known.{Extends, most_each};
@@ -149,8 +149,6 @@ impl Cpu {
     /// kind of access has one area. It neither waits nor takes memory, and needs no turn.
     pub fn look(&mut self, addr: u32, kind: Kind, smm: bool) -> Look
         ensures pass { (self.new.number ≡ self.old.number) × (self.new.pass ≡ self.old.pass) }
-        ensures same { IsSameCaller self.old self.new }
-        ensures seen { (seen_of self.new ≡ seen_of self.old) × (mine_of self.new ≡ mine_of self.old) }
         ensures later { Extends (known_of self.old) (known_of self.new) }
         ensures look { IsLookAfter (setup_of self.new) (known_of self.new) addr kind smm result }
     {

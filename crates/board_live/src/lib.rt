@@ -4,7 +4,7 @@
 
 mod cpu;
 mod live;
-pub mod sends;
+mod sends;
 mod shared;
 
 pub use cpu::Cpu;

@@ -40,10 +40,10 @@ impl LiveOpen {
 }
 
 /// What the callers of a board share.
-fn shared(board: Box<Board>, publisher: Publisher, callers: u8) -> Shared
+fn shared(board: Box<Board>, publisher: Box<Publisher>, callers: u8) -> Shared
     requires few { AreFew callers board.value.entries }
-    requires opens { Opens board.value.setup board.value.entries (opened_of publisher.front.seen.log) }
-    requires none { changes_of publisher.front.seen.log ≡ [] }
+    requires opens { Opens board.value.setup board.value.entries (opened_of publisher.value.front.seen.log) }
+    requires none { changes_of publisher.value.front.seen.log ≡ [] }
     ensures board { result.board ≡ board }
     ensures publisher { result.publisher ≡ publisher }
     ensures callers { result.callers ≡ callers }
@@ -68,7 +68,7 @@ fn unshared<R: Wait>(rt: &R, shared: Shared) -> Board
         opened: _opened,
         callers: _callers,
     } = shared;
-    publisher.close(rt);
+    Box::into_inner(publisher).close(rt);
     Box::into_inner(board)
 }
 
@@ -113,6 +113,14 @@ impl Live {
         let Ok((publisher, viewers)) = map_publish::open(rt, alloc, map, u32::from(n)) else {
             cpus.destroy_empty();
             return Err(LiveOpen::of(board));
+        };
+        let publisher = match Box::new(alloc, publisher) {
+            Ok(publisher) => publisher,
+            Err(AllocFailed { value: publisher }) => {
+                cpus.destroy_empty();
+                publisher.close(rt);
+                return Err(LiveOpen::of(board));
+            }
         };
         match Turn::open(alloc, shared(board, publisher, n)) {
             Err(TurnOpen { value }) => {

@@ -19,21 +19,21 @@ fn lent<X: Sync>(x: &X) -> &X
 }
 
 /// A caller may go to another thread.
-pub fn send_cpu(cpu: Cpu) -> Cpu
+fn send_cpu(cpu: Cpu) -> Cpu
     ensures same { result ≡ cpu }
 {
     sent(cpu)
 }
 
 /// A shared board may go to another thread.
-pub fn send_live(live: Live) -> Live
+fn send_live(live: Live) -> Live
     ensures same { result ≡ live }
 {
     sent(live)
 }
 
 /// Threads may share a shared board.
-pub fn share_live(live: &Live) -> &Live
+fn share_live(live: &Live) -> &Live
     ensures same { result.now ≡ live.now }
 {
     lent(live)

@@ -38,17 +38,17 @@ pub struct Origin {
 /// The board, with the publisher of its map, for 1 to 8 callers. Each caller has at most 250,000 entries. It is not
 /// `Drop`, as its publisher is not.
 pub struct Shared {
-    /// On the heap, since a turn moves this value and a board is large.
+    /// On the heap, as the publisher is, since a turn moves this value and both are large.
     pub board: Box<Board>,
-    pub publisher: Publisher,
+    pub publisher: Box<Publisher>,
     /// How many entries the board had when it was opened.
     pub opened: u32,
     /// How many callers there are.
     pub callers: u8,
     pub ghost within: { opened ≤ length board.value.entries },
     pub ghost few: { AreFew callers board.value.entries } by { AreFew-prop callers board.value.entries },
-    pub ghost published: { ArePublished board.value.setup opened board.value.entries publisher.front.seen.log },
-    pub ghost opens: { Opens board.value.setup (oldest opened board.value.entries) (opened_of publisher.front.seen.log) } by { Opens-prop board.value.setup (oldest opened board.value.entries) (opened_of publisher.front.seen.log) },
+    pub ghost published: { ArePublished board.value.setup opened board.value.entries publisher.value.front.seen.log },
+    pub ghost opens: { Opens board.value.setup (oldest opened board.value.entries) (opened_of publisher.value.front.seen.log) } by { Opens-prop board.value.setup (oldest opened board.value.entries) (opened_of publisher.value.front.seen.log) },
 }
 
 impl Kept for Shared {
@@ -77,7 +77,6 @@ fn publish<R: Wait>(
 ) -> Result<(), NoMemory>
     requires room { version_after publisher.old.front.seen.log < entry_limit }
     ensures own { publisher.new.front.seen.book ≡ publisher.old.front.seen.book }
-    ensures opened { opened_of publisher.new.front.seen.log ≡ opened_of publisher.old.front.seen.log }
     ensures ok { OnOk result (changes_of publisher.new.front.seen.log
         ≡ option_to_list change ++ changes_of publisher.old.front.seen.log) }
     ensures refused { OnErr result (publisher.new.front.seen.log ≡ publisher.old.front.seen.log) }
@@ -107,8 +106,8 @@ impl Shared {
         ensures steps { IfOk result (λ answered.
             AddsEntry number event.now answered self.old.board.value self.new.board.value) }
         ensures refused { OnErr result (self.new.board.value.entries ≡ self.old.board.value.entries) }
-        ensures later { IsPrefix self.old.publisher.front.seen.log self.new.publisher.front.seen.log }
-        ensures unpublished { OnErr result (self.new.publisher.front.seen.log ≡ self.old.publisher.front.seen.log) }
+        ensures later { IsPrefix self.old.publisher.value.front.seen.log self.new.publisher.value.front.seen.log }
+        ensures unpublished { OnErr result (self.new.publisher.value.front.seen.log ≡ self.old.publisher.value.front.seen.log) }
     {
         let place = self.board.history().len();
         self.board.reserve(1)?;

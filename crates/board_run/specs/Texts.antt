@@ -1,5 +1,5 @@
 -- What each command puts.
-use Rattle.std.specs.Prelude.{ℕ, ◌≡◌, ◌≤◌, ◌++◌, ◌∷◌, [], List, length, codes, decimal, Some}
+use Rattle.std.specs.Prelude.{ℕ, ◌≡◌, ◌≤◌, ◌++◌, ◌∷◌, [], List, length, reverse, codes, decimal, Some}
 use Rattle.board_spec.specs.declared.event.Entry.{Entry}
 use Rattle.board_spec.specs.Text.{line_feed}
 use Rattle.board_spec.specs.Setup.{Setup}
@@ -10,6 +10,7 @@ use Rattle.board_spec.specs.LockLaw.{LockLaw}
 use Rattle.board_spec.specs.LogText.{log_text}
 use Rattle.board_spec.specs.FlatMap.{MapRange, IsFlatMapOf}
 use Rattle.board_spec.specs.MapText.{map_text}
+use Rattle.run_order.specs.Places.{AreAllInPlace}
 use Rattle.script_spec.specs.ScriptText.{Script as Said, IsScriptText}
 use Rattle.script_spec.specs.ScriptRange.{statements_in}
 use Rattle.script_spec.specs.Checks.{IsLogOf}
@@ -29,11 +30,12 @@ pub record IsReplayText (setup : Setup) (script : Said) (text : List ℕ) : Type
   pub log : text ≡ log_text script.version history
 
 -- the log of a run of a script: of a legal history that has, phase by phase, each processor's statements once each in
--- its own order, and in which nothing outside SMM reaches SMRAM once it is locked
+-- its own order and each look in its place, and in which nothing outside SMM reaches SMRAM once it is locked
 pub record IsRunText (setup : Setup) (script : Said) (text : List ℕ) : Type 0 where
   pub history : List Entry
   pub legal : IsLegal setup history
   pub complete : IsCompleteFor script.phases history
+  pub places : AreAllInPlace setup (reverse script.phases) history
   pub locked : LockLaw setup history
   pub log : text ≡ log_text script.version history
 

@@ -1,9 +1,10 @@
 //! Runs of scripts on threads.
 
-ghost use Rattle.std.specs.Prelude.{◌≡◌, [], IfOk};
+ghost use Rattle.std.specs.Prelude.{◌≡◌, [], reverse, IfOk};
 ghost use Rattle.board_spec.specs.Legal.{IsLegal};
 ghost use Rattle.board_spec.specs.Orders.{IsCompleteFor};
 ghost use Rattle.board_spec.specs.LogText.{log_text};
+ghost use Rattle.run_order.specs.Places.{AreAllInPlace};
 ghost use Rattle.script_spec.specs.ScriptRange.{IsInRangeScript};
 ghost use Rattle.script_text.specs.Script.{said_of};
 ghost use Rattle.board_run.specs.Texts.{IsRunText};
@@ -20,7 +21,7 @@ use std::thread::Threads;
 
 /// Runs a script on a fresh board with its cards: in each phase every processor does its own statements on a thread of its
 /// own, and the gate is told before and after each. A phase begins when the one before has ended. The history is legal, and
-/// has each phase's statements. Their memory is given back phase by phase.
+/// has each phase's statements, with each look in its place. Their memory is given back phase by phase.
 pub fn run_script<R: Threads + Wait + Sync, G: Gate>(
     rt: &R,
     alloc: Global,
@@ -33,6 +34,8 @@ pub fn run_script<R: Threads + Wait + Sync, G: Gate>(
     requires fresh { board.entries ≡ [] }
     ensures legal { IfOk result (λ history. IsLegal board.setup history.entries) }
     ensures complete { IfOk result (λ history. IsCompleteFor (said_of script).phases history.entries) }
+    ensures places { IfOk result (λ history. AreAllInPlace board.setup
+        (reverse (said_of script).phases) history.entries) }
 {
     run_phases(rt, alloc, board, script.cpus, script.phases, gate)
 }

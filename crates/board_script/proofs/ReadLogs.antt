@@ -240,59 +240,8 @@ names_bad bytes heading_line lines version (Bad line) parts named bad = bad_afte
     line parts named bad
 names_bad bytes heading_line lines version NoMemory parts named bad = tt
 
--- ---- a log that was written
-
-pub written_back : (version other : ℕ) (entries others : List Entry) (bytes : List ℕ) → IsVersion version
-    → All (IsWellFormed version) (reverse entries)
-    → bytes ≡ log_text version (reverse entries) → IsLogText other (reverse others) bytes
-    → (other ≡ version) × (others ≡ entries)
-written_back version other entries others bytes known each is log =
-    let same = log_says_all bytes other version (reverse others) (reverse entries) log
-    (record { known = known; each = each; text = is }) in
-    (same.0, sym (reverse-reverse others) ∙ ap reverse same.1 ∙ reverse-reverse entries)
-
-pub not_bad : (version : ℕ) (entries : List Entry) (bytes : List ℕ) (fault : LogFault) → IsVersion version
-    → All (IsWellFormed version) (reverse entries)
-    → bytes ≡ log_text version (reverse entries) → NamesBad (IsBadLog bytes) fault → fault ≡ NoMemory
-not_bad version entries bytes (Bad line) known each is bad =
-    absurd (bad.other (record {
-      version = version;
-      entries = reverse entries;
-      log = record
-          { known = known; each = each; text = is };
-    }))
-not_bad version entries bytes NoMemory known each is bad = refl
-
 pub passed_on : {T : Type 0} (result : Result T LogFault) (fault : LogFault) (Named : LogFault → Type 0)
     → IsErrAnd result (λ given. given ≡ fault)
     → Named fault → IfErr result Named
 passed_on (Ok value) fault Named is named = tt
 passed_on (Err given) fault Named is named = subst Named (sym is) named
-
-pub version_back : (version : ℕ) (entries : List Entry) (bytes : List ℕ) (result : Result Log LogFault)
-    → IsVersion version
-    → All (IsWellFormed version) entries → bytes ≡ log_text version (reverse entries)
-    → IfOk result (λ log. IsLogText log.version (reverse log.entries.items) bytes)
-    → IfOk result (λ log. log.version ≡ version)
-version_back version entries bytes (Ok log) known each is read =
-    (written_back version log.version entries log.entries.items bytes known
-    (all_reverse (IsWellFormed version) entries each) is read).0
-version_back version entries bytes (Err fault) known each is read = tt
-
-pub entries_back : (version : ℕ) (entries : List Entry) (bytes : List ℕ) (result : Result Log LogFault)
-    → IsVersion version
-    → All (IsWellFormed version) entries → bytes ≡ log_text version (reverse entries)
-    → IfOk result (λ log. IsLogText log.version (reverse log.entries.items) bytes)
-    → IfOk result (λ log. log.entries.items ≡ entries)
-entries_back version entries bytes (Ok log) known each is read =
-    (written_back version log.version entries log.entries.items bytes known
-    (all_reverse (IsWellFormed version) entries each) is read).1
-entries_back version entries bytes (Err fault) known each is read = tt
-
-pub memory_back : (version : ℕ) (entries : List Entry) (bytes : List ℕ) (result : Result Log LogFault)
-    → IsVersion version
-    → All (IsWellFormed version) entries → bytes ≡ log_text version (reverse entries)
-    → IfErr result (NamesBad (IsBadLog bytes)) → IfErr result (λ fault. fault ≡ NoMemory)
-memory_back version entries bytes (Ok log) known each is bad = tt
-memory_back version entries bytes (Err fault) known each is bad =
-    not_bad version entries bytes fault known (all_reverse (IsWellFormed version) entries each) is bad

@@ -1,11 +1,11 @@
-//! One line of text.
+//! A text.
 
 ghost use Rattle.std.specs.Prelude.{◌≡◌, ℕ, List};
 ghost use Rattle.std.specs.String.{string_bytes};
 
 use std::marker::Model;
 
-/// A line of text without its line feed. Contracts see it as its bytes.
+/// A text; that of `log_line` has no line feed. Contracts see it as its bytes.
 #[derive(Drop, Debug)]
 pub struct Line {
     text: String,
@@ -18,21 +18,21 @@ impl Model for Line {
 }
 
 impl Line {
-    /// A line with this text.
+    /// This text.
     pub fn new(text: String) -> Line
         ensures bytes { result ≡ string_bytes text }
     {
         Line { text }
     }
 
-    /// The line as text.
+    /// The text as a string slice.
     pub fn as_str(&self) -> &str
         ensures text { result.now ≡ self.now }
     {
         self.text.as_str()
     }
 
-    /// The bytes of the line.
+    /// The bytes of the text.
     pub fn as_bytes(&self) -> &[u8]
         ensures bytes { result.now ≡ self.now }
     {

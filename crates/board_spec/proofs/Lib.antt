@@ -15,6 +15,7 @@ mod ExampleOrderRuns
 mod ExampleMapRuns
 pub mod StoredLaws
 mod SmramProofs
+mod SystemPortProofs
 pub mod MapLawProofs
 pub mod OrderLawProofs
 pub mod GoesOnProofs

@@ -21,7 +21,7 @@ use Rattle.board_spec.specs.declared.event.Part.{Part}
 use Rattle.board_spec.specs.declared.event.Parts.{Parts}
 use Rattle.board_spec.specs.declared.event.Reply.TheVariants.{Bus, Parts as InParts, Saw}
 use Rattle.board_spec.specs.declared.event.Entry.{Entry}
-use Rattle.board_spec.specs.Setup.{Base, MemoryBase, IoBase, FittedCard, Setup, card_at}
+use Rattle.board_spec.specs.Setup.{Base, MemoryBase, IoBase, FittedCard, Setup, card_at, rom_base, vga_base, vga_bits}
 use Rattle.board_spec.specs.Bits.{wide}
 use Rattle.board_spec.specs.Registers.{reset_control, config_address, byte_of}
 use Rattle.board_spec.specs.MapWrites.{version_of}
@@ -50,8 +50,8 @@ rom_bits (Some card) = unwrap_or card.rom 0
 
 abbrev pub window_bits : Setup → ℕ → ℕ → ℕ
 window_bits setup dev base =
-    if base == 7 then 17 else
-    if base == 6 then rom_bits (card_at setup dev) else bits_of_base (base_of_card (card_at setup dev) base)
+    if base == vga_base then vga_bits else
+    if base == rom_base then rom_bits (card_at setup dev) else bits_of_base (base_of_card (card_at setup dev) base)
 
 -- what an access to an area reaches: ROM and cards by the address modulo their size
 abbrev pub target_at : Setup → Area → ℕ → Target

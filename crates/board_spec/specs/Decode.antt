@@ -9,7 +9,7 @@ use Rattle.board_base.specs.declared.target.Area.TheVariants.{Dram, Shadow, Smra
 use Rattle.board_base.specs.declared.target.Denial.{Denial}
 use Rattle.board_base.specs.declared.target.Denial.TheVariants.{Register, NoRegister}
 use Rattle.board_base.specs.declared.access.Width.TheVariants.{Four}
-use Rattle.board_spec.specs.Setup.{Base, MemoryBase, IoBase, FittedCard, Setup}
+use Rattle.board_spec.specs.Setup.{Base, MemoryBase, IoBase, FittedCard, Setup, rom_base, vga_base, vga_bits}
 use Rattle.board_spec.specs.Bits.{is_bit, wide}
 use Rattle.board_spec.specs.RegisterNames.{bridge, pam, drb, fdhc, smram, xbcs, card_register, card_command, base_register, expansion_rom}
 use Rattle.board_spec.specs.Ranges.{lies_in, smram_range, expansion_range, system_bios, shadow_range, upper_memory, hole_at_512_kib, hole_at_15_mib, high_bios, lower_bios, lower_high_bios, extended_bios, selectable_bios, largest_top, boundary_unit}
@@ -145,7 +145,7 @@ io_window bytes dev k (IoBase bits) = record { dev = dev; base = k; inside = bas
 -- the window of a card's expansion ROM, where it has one
 abbrev pub rom_window_of : Bytes → ℕ → Option ℕ → List Window
 rom_window_of bytes dev None = []
-rom_window_of bytes dev (Some bits) = record { dev = dev; base = 6; inside = rom_value bytes dev; bits = bits } ∷ []
+rom_window_of bytes dev (Some bits) = record { dev = dev; base = rom_base; inside = rom_value bytes dev; bits = bits } ∷ []
 
 abbrev pub rom_window : Bytes → FittedCard → List Window
 rom_window bytes card = rom_window_of bytes card.dev card.rom
@@ -156,7 +156,7 @@ is_rom_on bytes dev = is_bit (bytes (expansion_rom dev)) 0
 
 abbrev pub vga_window : FittedCard → List Window
 vga_window card =
-    if card.vga then record { dev = card.dev; base = 7; inside = smram_range.0; bits = 17 } ∷ [] else []
+    if card.vga then record { dev = card.dev; base = vga_base; inside = smram_range.0; bits = vga_bits } ∷ [] else []
 
 -- the memory windows of a card in the order of their base numbers
 abbrev pub memory_windows : Bytes → FittedCard → List Window

@@ -27,6 +27,7 @@ pub mod MapText
 pub mod Laws
 pub mod StoreLaws
 pub mod SmramLaw
+pub mod SystemPortLaw
 pub mod PartLaws
 pub mod MapLaws
 pub mod OrderLaws

@@ -8,6 +8,17 @@ pub data Base : Type 0 where
   MemoryBase : (bits : ℕ) → Base
   IoBase : (bits : ℕ) → Base
 
+-- the numbers of what a card decodes: 0 to 5 for its base address registers, then its expansion ROM, and then
+-- the window of a VGA adapter, A0000h to BFFFFh, of 2 ^ vga_bits bytes
+abbrev pub rom_base : ℕ
+rom_base = 6
+
+abbrev pub vga_base : ℕ
+vga_base = 7
+
+abbrev pub vga_bits : ℕ
+vga_bits = 17
+
 -- a PCI card: its device number, whether it is a VGA adapter, its bases from offset 10h on, and its
 -- expansion ROM of 2 ^ rom bytes where it has one (PCI Local Bus 2.1, section 6.2.5.2)
 pub record FittedCard : Type 0 where

@@ -15,7 +15,7 @@ use Rattle.board_spec.specs.declared.event.Part.{Part}
 use Rattle.board_spec.specs.declared.event.Reply.{Reply}
 use Rattle.board_spec.specs.declared.event.Reply.TheVariants.{Bus, Parts}
 use Rattle.board_spec.specs.declared.event.Entry.{Entry}
-use Rattle.board_spec.specs.Setup.{Setup, installed}
+use Rattle.board_spec.specs.Setup.{Setup, installed, rom_base}
 use Rattle.board_spec.specs.Bits.{byte}
 use Rattle.board_spec.specs.WideParts.{parts_of, parts_list}
 
@@ -25,12 +25,12 @@ pub data Cell : Type 0 where
   CardCell : (dev base off : ℕ) → Cell
 
 -- the first byte that an access with this target covers: in DRAM the one at its own address. An expansion
--- ROM, base 6, stores nothing
+-- ROM stores nothing
 abbrev pub first_cell : Target → ℕ → Option Cell
 first_cell (Dram row) addr = Some (DramCell addr)
 first_cell (Shadow row) addr = Some (DramCell addr)
 first_cell Smram addr = Some (DramCell addr)
-first_cell (Card dev base off) addr = if base == 6 then None else Some (CardCell dev base off)
+first_cell (Card dev base off) addr = if base == rom_base then None else Some (CardCell dev base off)
 first_cell _ addr = None
 
 -- how far a cell lies after another of its store
@@ -90,4 +90,4 @@ expansion_byte dev off = (off + dev) % 256
 
 abbrev pub card_byte : List Entry → (dev base off : ℕ) → ℕ
 card_byte history dev base off =
-    if base == 6 then expansion_byte dev off else stored_of history (CardCell dev base off)
+    if base == rom_base then expansion_byte dev off else stored_of history (CardCell dev base off)

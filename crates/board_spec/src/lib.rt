@@ -3,6 +3,7 @@
 #![tactic(auto)]
 
 pub mod bits;
+pub mod command;
 mod event;
 pub mod examples;
 pub mod laws;

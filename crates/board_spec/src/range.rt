@@ -36,8 +36,8 @@ pub const SYSTEM_BIOS: AddressRange = AddressRange {
 };
 /// All shadow windows of PAM.
 pub const SHADOW_RANGE: AddressRange = AddressRange {
-    first: 0xC_0000,
-    last: 0xF_FFFF,
+    first: EXPANSION_RANGE.first,
+    last: SYSTEM_BIOS.last,
 };
 
 /// The hole of FDHC at 512 KiB.
@@ -73,8 +73,8 @@ pub const EXTENDED_BIOS: AddressRange = AddressRange {
 };
 /// All that XBCS can take from the ROM at the top of the address space.
 pub const SELECTABLE_BIOS: AddressRange = AddressRange {
-    first: 0xFFF8_0000,
-    last: 0xFFFE_FFFF,
+    first: EXTENDED_BIOS.first,
+    last: LOWER_HIGH_BIOS.last,
 };
 
 /// The largest top of DRAM that the boundary registers can set.

@@ -10,11 +10,11 @@ use Rattle.board_base.specs.declared.access.Width.TheVariants.{One, Two, Four}
 use Rattle.board_base.specs.declared.access.Access.{Access}
 use Rattle.board_base.specs.declared.access.WideAccess.{WideAccess}
 use Rattle.board_base.specs.Access.{bytes_of, largest_of}
-use Rattle.board_spec.specs.declared.event.Entry.{Entry}
 use Rattle.board_spec.specs.declared.event.Part.{Part}
 use Rattle.board_spec.specs.Setup.{Setup}
-use Rattle.board_spec.specs.Answer.{part_answer}
+use Rattle.board_spec.specs.Decode.{Bytes}
 use Rattle.board_spec.specs.WideParts.{longest_at, part_at, parts_from, parts_of}
+use Rattle.board_stores.specs.Targets.{part_in}
 use Rattle.board_stores.specs.declared.cut.Cycle.{Cycle}
 use Rattle.board_stores.specs.Cycles.{accesses, answers}
 
@@ -134,13 +134,13 @@ all_parts access parts count done four on =
 -- ---- their answers
 
 pub all_decoded :
-    (setup : Setup) (history : List Entry) (cycles : List Cycle) (cycle : Cycle) →
-    answers cycles ≡ map (part_answer setup history) (accesses cycles) →
-    cycle.answer ≡ part_answer setup history cycle.access →
-    answers (cycles ++ cycle ∷ []) ≡ map (part_answer setup history) (accesses (cycles ++ cycle ∷ []))
-all_decoded setup history cycles cycle before last =
+    (setup : Setup) (bytes : Bytes) (cycles : List Cycle) (cycle : Cycle) →
+    answers cycles ≡ map (part_in setup bytes) (accesses cycles) →
+    cycle.answer ≡ part_in setup bytes cycle.access →
+    answers (cycles ++ cycle ∷ []) ≡ map (part_in setup bytes) (accesses (cycles ++ cycle ∷ []))
+all_decoded setup bytes cycles cycle before last =
     map-append (λ (c : Cycle). c.answer) cycles (cycle ∷ [])
     ∙ ap (λ (parts : List Part). parts ++ cycle.answer ∷ []) before
-    ∙ ap (λ (part : Part). map (part_answer setup history) (accesses cycles) ++ part ∷ []) last
-    ∙ sym (map-append (part_answer setup history) (accesses cycles) (cycle.access ∷ []))
-    ∙ sym (ap (map (part_answer setup history)) (map-append (λ (c : Cycle). c.access) cycles (cycle ∷ [])))
+    ∙ ap (λ (part : Part). map (part_in setup bytes) (accesses cycles) ++ part ∷ []) last
+    ∙ sym (map-append (part_in setup bytes) (accesses cycles) (cycle.access ∷ []))
+    ∙ sym (ap (map (part_in setup bytes)) (map-append (λ (c : Cycle). c.access) cycles (cycle ∷ [])))

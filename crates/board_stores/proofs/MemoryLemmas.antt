@@ -1,23 +1,25 @@
 -- What an access to memory reaches.
-use Rattle.std.proofs.Common.{◌≡◌, List, Option, refl}
+use Rattle.std.proofs.Common.{◌≡◌, List, ◌∙◌, refl, map}
 use Rattle.board_base.specs.declared.access.Access.{Access}
-use Rattle.board_base.specs.declared.target.Area.{Area}
-use Rattle.board_base.specs.declared.target.Target.{Target}
-use Rattle.board_base.specs.declared.target.Denial.{Denial}
 use Rattle.board_spec.specs.declared.event.Entry.{Entry}
 use Rattle.board_spec.specs.declared.event.Part.{Part}
 use Rattle.board_spec.specs.Setup.{Setup}
 use Rattle.board_spec.specs.Registers.{byte_of}
-use Rattle.board_spec.specs.Decode.{area_of}
-use Rattle.board_spec.specs.Answer.{target_at, memory_denial, part_answer}
+use Rattle.board_spec.specs.Answer.{part_answer}
+use Rattle.board_stores.specs.Targets.{part_in}
 
--- the area and the denial of an access make its answer
-pub part_answered :
-    (setup : Setup) (history : List Entry) (access : Access) (area : Area) (target : Target) (denial : Option Denial) →
-    area ≡ area_of setup (byte_of setup history) access.addr access.kind access.smm →
-    target ≡ target_at setup area access.addr →
-    denial ≡ memory_denial setup history access →
-    ◌≡◌ {A = Part} (record { target = target; denial = denial }) (part_answer setup history access)
+-- by the register bytes after a history it is the answer to the part
+part_known : (setup : Setup) (history : List Entry) (access : Access) →
+    part_in setup (byte_of setup history) access ≡ part_answer setup history access
 unfolding part_answer
-part_answered setup history access area target denial area_is target_is denial_is =
-    rw (target_is, area_is, denial_is) refl
+part_known setup history access = refl
+
+pub part_answered :
+    (setup : Setup) (history : List Entry) (access : Access) (answer : Part) →
+    answer ≡ part_in setup (byte_of setup history) access → answer ≡ part_answer setup history access
+part_answered setup history access answer is = is ∙ part_known setup history access
+
+pub parts_answered :
+    (setup : Setup) (history : List Entry) (parts : List Access) (answers : List Part) →
+    answers ≡ map (part_in setup (byte_of setup history)) parts → answers ≡ map (part_answer setup history) parts
+parts_answered setup history parts answers is = is ∙ λ k. map (λ access. part_known setup history access k) parts

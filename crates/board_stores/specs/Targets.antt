@@ -1,10 +1,22 @@
--- Which targets bytes are stored behind, and when an access to them lies within.
+-- What an access reaches, which targets bytes are stored behind, and when an access to them lies within.
 use Rattle.std.specs.Prelude.{ℕ, ◌+◌, ◌≤◌, List, length}
 use Rattle.board_base.specs.Access.{bytes_of}
+use Rattle.board_base.specs.declared.access.Access.{Access}
 use Rattle.board_base.specs.declared.access.Width.{Width}
 use Rattle.board_base.specs.declared.target.Target.{Target}
 use Rattle.board_base.specs.declared.target.Target.TheVariants.{Dram, Shadow, Smram, Rom, Card, Abort}
+use Rattle.board_spec.specs.declared.event.Part.{Part}
+use Rattle.board_spec.specs.Setup.{Setup}
+use Rattle.board_spec.specs.Decode.{Bytes, area_of, denial_of}
+use Rattle.board_spec.specs.Answer.{target_at}
 use Rattle.pci_bars.specs.Contents.{LiesIn}
+
+-- what an access to memory reaches by the register bytes, and what denies it
+abbrev pub part_in : Setup → Bytes → Access → Part
+part_in setup bytes access = record {
+  target = target_at setup (area_of setup bytes access.addr access.kind access.smm) access.addr;
+  denial = denial_of setup bytes access.addr access.kind access.smm;
+}
 
 -- an access to DRAM, to a base of a card within which it lies, or to nobody
 abbrev pub IsStored : (contents : List (List ℕ)) → Target → Width → Type 0

@@ -1,13 +1,12 @@
 //! A wide access is cut into aligned bus cycles.
 ghost use Rattle.std.specs.Prelude.{◌≡◌, ◌≤◌, ◌<◌, ◌+◌, ◌-◌, List, length, map};
-ghost use Rattle.board_spec.specs.declared.event.Entry.{Entry};
 ghost use Rattle.board_spec.specs.Setup.{Setup, IsRomSize};
 ghost use Rattle.board_spec.specs.InRange.{IsWideAccess};
 ghost use Rattle.board_spec.specs.WideParts.{longest_at, part_at, parts_of};
-ghost use Rattle.board_spec.specs.Answer.{part_answer};
-ghost use Rattle.board_spec.specs.Registers.{byte_of};
+ghost use Rattle.board_spec.specs.Decode.{Bytes};
 ghost use Rattle.pci_bars.specs.Cards.{AreFitted};
 ghost use Rattle.addr_decode.specs.MapRegs.{StandsFor, map_bytes};
+ghost use Rattle.board_stores.specs.Targets.{part_in};
 ghost use Rattle.board_stores.specs.Cycles.{accesses, answers};
 
 use crate::memory::decoded;
@@ -50,9 +49,8 @@ pub fn cycles_of(regs: &MapRegs, rom: &[u8], access: &WideAccess) -> ArrayVec<Cy
     requires cards { AreFitted regs.now.cards.items }
     requires rom { IsRomSize (length rom.now) }
     ensures parts { accesses result.items ≡ parts_of access.now }
-    ensures decoded { (setup : Setup) (history : List Entry)
-        → StandsFor setup (byte_of setup history) (map_bytes regs.now)
-        → setup.rom ≡ rom.now → answers result.items ≡ map (part_answer setup history) (parts_of access.now) }
+    ensures decoded { (setup : Setup) (bytes : Bytes) → StandsFor setup bytes (map_bytes regs.now)
+        → setup.rom ≡ rom.now → answers result.items ≡ map (part_in setup bytes) (parts_of access.now) }
 {
     let mut cycles = ArrayVec::new();
     let mut done = 0;

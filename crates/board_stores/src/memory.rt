@@ -3,12 +3,13 @@ ghost use Rattle.std.specs.Prelude.{◌≡◌, ℕ, true, List, length};
 ghost use Rattle.board_spec.specs.declared.event.Entry.{Entry};
 ghost use Rattle.board_spec.specs.Setup.{Setup, IsRomSize};
 ghost use Rattle.board_spec.specs.Stored.{is_write, memory_put};
-ghost use Rattle.board_spec.specs.Answer.{target_at, value_at, part_answer};
-ghost use Rattle.board_spec.specs.Registers.{byte_of};
+ghost use Rattle.board_spec.specs.Answer.{target_at, value_at};
+ghost use Rattle.board_spec.specs.Decode.{Bytes};
 ghost use Rattle.pci_bars.specs.Cards.{AreCards, AreFitted, cards_of};
 ghost use Rattle.addr_decode.specs.MapRegs.{StandsFor, map_bytes};
 ghost use Rattle.board_stores.specs.Puts.{HasStores, ArePut};
 ghost use Rattle.board_stores.specs.Ready.{IsReady};
+ghost use Rattle.board_stores.specs.Targets.{part_in};
 
 use crate::stores::Stores;
 use addr_decode::{MapRegs, decode};
@@ -21,9 +22,8 @@ use pci_bars::offset_in;
 pub fn decoded(map: &MapRegs, rom: &[u8], access: &Access) -> Part
     requires cards { AreFitted map.now.cards.items }
     requires rom { IsRomSize (length rom.now) }
-    ensures decoded { (setup : Setup) (history : List Entry)
-        → StandsFor setup (byte_of setup history) (map_bytes map.now)
-        → setup.rom ≡ rom.now → result ≡ part_answer setup history access.now }
+    ensures decoded { (setup : Setup) (bytes : Bytes) → StandsFor setup bytes (map_bytes map.now)
+        → setup.rom ≡ rom.now → result ≡ part_in setup bytes access.now }
 {
     let (area, denial) = decode(map, access.addr, access.kind, access.smm);
     Part {

@@ -118,7 +118,7 @@ impl Cmos {
         ensures state { self.new ≡ after_moment self.old (civil_time m) }
     {
         let control = self.control();
-        if control.is_set() {
+        if control.holds_time() {
             return;
         }
         put_time(&mut self.bytes, control, m);

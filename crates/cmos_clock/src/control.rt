@@ -32,7 +32,7 @@ impl Control {
         ensures byte { result.byte ≡ control_written byte }
     {
         let as_given = Control { byte };
-        if as_given.is_set() && as_given.update_interrupts() {
+        if as_given.holds_time() && as_given.update_interrupts() {
             Control {
                 byte: byte - (1 << UPDATE_INTERRUPT),
             }
@@ -51,7 +51,7 @@ impl Control {
     }
 
     /// Whether the time stands still.
-    pub fn is_set(self) -> bool
+    pub fn holds_time(self) -> bool
         ensures value { result ≡ is_set self.byte }
     {
         is_bit(self.byte, SET)

@@ -15,6 +15,7 @@ use Rattle.pmc_regs.proofs.PmcLemmas.{reset_byte-small}
 use Rattle.xbus_select.specs.Piix.{IsIsaFixed}
 use Rattle.xbus_select.proofs.FixedLemmas.{IsFixedAt, kept_byte}
 use Rattle.xbus_select.proofs.PiixLemmas.{fixed_at}
+use Rattle.config_regs.specs.Config.{HasFixed}
 
 -- a register that cannot be written has its byte of a reset at all times
 abbrev IsFixed : Setup → Reg → Type 0
@@ -37,7 +38,7 @@ always setup (entry ∷ before) reg plain fixed =
     stays setup (register_change setup before entry.event) reg (byte_of setup before reg) plain fixed
     (always setup before reg plain fixed)
 
-pub bridge_always :
+bridge_always :
     (setup : Setup) (history : List Entry) (off : ℕ) → IsFixedOffset off →
     byte_of setup history (bridge off) ≡ reset_byte setup (bridge off)
 bridge_always setup history off fixed =
@@ -47,13 +48,16 @@ bridge_always setup history off fixed =
       fits = reset_byte-small setup off fixed;
     })
 
-pub isa_always :
+isa_always :
     (setup : Setup) (history : List Entry) (off : ℕ) → IsIsaFixed off →
     byte_of setup history (isa off) ≡ reset_byte setup (isa off)
 isa_always setup history off fixed =
     let it = fixed_at setup off fixed in
     always setup history (isa off) refl
     (record { reset = refl; read_only = it.read_only; fits = rw (← it.reset) it.fits })
+
+pub has_fixed : (setup : Setup) (history : List Entry) → HasFixed setup (byte_of setup history)
+has_fixed setup history = record { bridge_bytes = bridge_always setup history; isa_bytes = isa_always setup history }
 
 pub fixed_below : (off : ℕ) → off < 0x59 → IsFixedOffset off
 fixed_below off below = ((omega arith, inl below, inl (omega arith)), inl (omega arith))

@@ -1,8 +1,13 @@
 -- The registers in configuration space, among the register bytes of a board.
+use Rattle.std.specs.Prelude.{ℕ, ◌≡◌}
 use Rattle.board_spec.specs.Setup.{Setup}
+use Rattle.board_spec.specs.RegisterNames.{bridge, isa}
+use Rattle.board_spec.specs.RegisterTable.{reset_byte}
 use Rattle.board_spec.specs.Decode.{Bytes}
+use Rattle.pmc_regs.specs.Pmc.{IsFixedOffset}
 use Rattle.pirq_router.specs.Routes.{AreRoutesIn}
 use Rattle.xbus_select.specs.Ide.{IsIdeOf}
+use Rattle.xbus_select.specs.Piix.{IsIsaFixed}
 use Rattle.pci_bars.specs.Cards.{AreCardsOf}
 use Rattle.addr_decode.specs.MapRegs.{MapBytes, StandsFor}
 use Rattle.config_regs.specs.declared.south.South.{South}
@@ -17,3 +22,8 @@ pub record AreKeptOf (setup : Setup) (bytes : Bytes) (regs : MapBytes) (beside :
   pub map : StandsFor setup bytes regs
   pub cards : AreCardsOf setup bytes regs.cards
   pub south : IsSouthOf bytes beside
+
+-- the registers that are not kept, since nothing changes them, are as a reset leaves them
+pub record HasFixed (setup : Setup) (bytes : Bytes) : Type 0 where
+  pub bridge_bytes : (off : ℕ) → IsFixedOffset off → bytes (bridge off) ≡ reset_byte setup (bridge off)
+  pub isa_bytes : (off : ℕ) → IsIsaFixed off → bytes (isa off) ≡ reset_byte setup (isa off)

@@ -5,5 +5,5 @@
 mod reading;
 mod south;
 
-pub use reading::{read, read_byte};
+pub use reading::read;
 pub use south::South;

@@ -1,17 +1,15 @@
 //! Reads of registers in configuration space, by function and then by offset.
-ghost use Rattle.std.specs.Prelude.{◌≡◌, ◌+◌, ◌≤◌, true, List, is_some};
+ghost use Rattle.std.specs.Prelude.{◌≡◌, ◌+◌, ◌≤◌, true, is_some};
 ghost use Rattle.board_base.specs.Access.{bytes_of};
-ghost use Rattle.board_spec.specs.declared.event.Entry.{Entry};
 ghost use Rattle.board_spec.specs.Setup.{Setup, card_at};
 ghost use Rattle.board_spec.specs.Bits.{wide};
 ghost use Rattle.board_spec.specs.RegisterNames.{bridge, isa, card_register};
 ghost use Rattle.board_spec.specs.RegisterTable.{function_exists};
-ghost use Rattle.board_spec.specs.Registers.{byte_of};
 ghost use Rattle.board_spec.specs.Decode.{Bytes};
 ghost use Rattle.pci_bars.specs.Cards.{AreCards, AreCardsOf, AreFitted};
 ghost use Rattle.xbus_select.specs.Piix.{piix_register};
 ghost use Rattle.addr_decode.specs.MapRegs.{StandsFor, map_bytes};
-ghost use Rattle.config_regs.specs.Config.{AreKeptOf};
+ghost use Rattle.config_regs.specs.Config.{AreKeptOf, HasFixed};
 
 use crate::south::South;
 use addr_decode::MapRegs;
@@ -27,10 +25,9 @@ use pci_bars::{CardRegs, card_at};
 pub fn read(regs: &MapRegs, south: &South, reg: Reg, width: Width) -> u32
     requires within { reg.off + bytes_of width ≤ 0x100 }
     requires cards { AreFitted regs.now.cards.items }
-    ensures value { (setup : Setup) (history : List Entry)
-        → AreKeptOf setup (byte_of setup history) (map_bytes regs.now) south.now
-        → function_exists setup 0 reg.dev reg.fun ≡ true
-        → result ≡ wide (λ off. byte_of setup history (record reg { off = off })) reg.off width }
+    ensures value { (setup : Setup) (bytes : Bytes) → AreKeptOf setup bytes (map_bytes regs.now) south.now
+        → HasFixed setup bytes → function_exists setup 0 reg.dev reg.fun ≡ true
+        → result ≡ wide (λ off. bytes (record reg { off = off })) reg.off width }
 {
     let mut bytes = [0; 4];
     for index in 0..width.bytes() as u8 {
@@ -44,11 +41,10 @@ pub fn read(regs: &MapRegs, south: &South, reg: Reg, width: Width) -> u32
 }
 
 /// The register byte of a function that exists.
-pub fn read_byte(regs: &MapRegs, south: &South, reg: Reg) -> u8
+fn read_byte(regs: &MapRegs, south: &South, reg: Reg) -> u8
     requires cards { AreFitted regs.now.cards.items }
-    ensures byte { (setup : Setup) (history : List Entry)
-        → AreKeptOf setup (byte_of setup history) (map_bytes regs.now) south.now
-        → function_exists setup 0 reg.dev reg.fun ≡ true → result ≡ byte_of setup history reg }
+    ensures byte { (setup : Setup) (bytes : Bytes) → AreKeptOf setup bytes (map_bytes regs.now) south.now
+        → HasFixed setup bytes → function_exists setup 0 reg.dev reg.fun ≡ true → result ≡ bytes reg }
 {
     match reg.dev {
         HOST_BRIDGE => bridge_byte(regs, reg.off),
@@ -59,9 +55,8 @@ pub fn read_byte(regs: &MapRegs, south: &South, reg: Reg) -> u8
 
 /// A register of the host bridge.
 fn bridge_byte(regs: &MapRegs, off: u8) -> u8
-    ensures byte { (setup : Setup) (history : List Entry)
-        → StandsFor setup (byte_of setup history) (map_bytes regs.now)
-        → result ≡ byte_of setup history (bridge off) }
+    ensures byte { (setup : Setup) (bytes : Bytes) → StandsFor setup bytes (map_bytes regs.now)
+        → HasFixed setup bytes → result ≡ bytes (bridge off) }
 {
     match off {
         PAM0..=PAM6 => regs.pam[usize::from(off - PAM0)],
@@ -74,9 +69,8 @@ fn bridge_byte(regs: &MapRegs, off: u8) -> u8
 
 /// A register of the 82371SB, of its ISA bridge or else of its IDE function.
 fn south_byte(regs: &MapRegs, south: &South, fun: u8, off: u8) -> u8
-    ensures byte { (setup : Setup) (history : List Entry)
-        → AreKeptOf setup (byte_of setup history) (map_bytes regs.now) south.now
-        → function_exists setup 0 1 fun ≡ true → result ≡ byte_of setup history (piix_register fun off) }
+    ensures byte { (setup : Setup) (bytes : Bytes) → AreKeptOf setup bytes (map_bytes regs.now) south.now
+        → HasFixed setup bytes → function_exists setup 0 1 fun ≡ true → result ≡ bytes (piix_register fun off) }
 {
     match fun {
         ISA_BRIDGE => isa_byte(regs, south, off),
@@ -86,9 +80,8 @@ fn south_byte(regs: &MapRegs, south: &South, fun: u8, off: u8) -> u8
 
 /// A register of the ISA bridge.
 fn isa_byte(regs: &MapRegs, south: &South, off: u8) -> u8
-    ensures byte { (setup : Setup) (history : List Entry)
-        → AreKeptOf setup (byte_of setup history) (map_bytes regs.now) south.now
-        → result ≡ byte_of setup history (isa off) }
+    ensures byte { (setup : Setup) (bytes : Bytes) → AreKeptOf setup bytes (map_bytes regs.now) south.now
+        → HasFixed setup bytes → result ≡ bytes (isa off) }
 {
     match off {
         XBCS => regs.xbcs,

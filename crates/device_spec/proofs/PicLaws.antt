@@ -5,8 +5,8 @@ use Rattle.device_spec.specs.Bits.{is_bit}
 use Rattle.device_spec.specs.Levels.{Levels, has, levels_where, with_level, without_level}
 use Rattle.device_spec.specs.Pic.{Chip, pending, priority_order, is_blocking, blocks_itself, is_requested, request, interrupt, acknowledged, acknowledged_if, chip_after_write}
 use Rattle.std.proofs.lemmas.List.{get_or_past}
-use Rattle.device_spec.specs.Pair.{Pair, Answer, answer_of, pair_after_acknowledge, settled, chip_answer, pair_acknowledged, answer_at, pair_acknowledged_at}
-use Rattle.device_spec.specs.PicLaws.{IsFirstInOrder, EndsOne, IsSpuriousAt}
+use Rattle.device_spec.specs.Pair.{Pair, Answer, answer_of, pair_after_acknowledge, settled, chip_answer, pair_written, pair_read, pair_acknowledged, answer_at, pair_acknowledged_at}
+use Rattle.device_spec.specs.PicLaws.{IsFirstInOrder, EndsOne, IsSpuriousAt, SlaveIsLatched, StaysLatched}
 use Rattle.device_spec.proofs.Levels.{has-levels_where}
 use Rattle.device_spec.proofs.Priorities.{scan, request-is}
 
@@ -205,9 +205,22 @@ specific-end-one chip byte b4 b3 command = rw (specific-end chip byte b4 b3 comm
 
 -- ---- the slave's request
 
-pub slave-latched : (pair : Pair) → is_some (interrupt (settled pair).slave) ≡ true → has (settled pair).master.latches 2 ≡ true
+slave-latched : (pair : Pair) → SlaveIsLatched (settled pair)
 slave-latched pair asks =
     elim (cases_Bool (is_some (interrupt pair.slave))) [
       | inl now ↦ rw now (with_level-has pair.master.latches 2 (lit< tt))
       | inr quiet ↦ absurd (false≢true (sym quiet ∙ ap (λ (c : Chip). is_some (interrupt c)) (sym (settled-slave pair)) ∙ asks))
     ]
+
+acknowledged-latched : (pair : Pair) (o : Option ℕ) → interrupt pair.master ≡ o → SlaveIsLatched pair → SlaveIsLatched (pair_after_acknowledge pair)
+acknowledged-latched pair None e before = rw (after-at pair None e) before
+acknowledged-latched pair (Some level) e before = rw (after-at pair (Some level) e) (slave-latched (pair_acknowledged pair level))
+
+pub stays-latched : StaysLatched
+stays-latched = record {
+  at_reset = λ levels asks. absurd (false≢true asks);
+  at_lines = λ pair levels elcr. slave-latched _;
+  at_write = λ pair port byte. slave-latched (pair_written pair port byte);
+  at_read = λ pair port. slave-latched (pair_read pair port);
+  at_acknowledge = λ pair before. acknowledged-latched pair (interrupt pair.master) refl before;
+}

@@ -4,7 +4,7 @@ use Rattle.std.specs.List.{list_all}
 use Rattle.device_spec.specs.Bits.{is_bit}
 use Rattle.device_spec.specs.Levels.{has}
 use Rattle.device_spec.specs.Pic.{cascade, last_level, Chip, priority_order, is_blocking, blocks_itself, is_requested, pending, interrupt, chip_after_write}
-use Rattle.device_spec.specs.Pair.{Pair, settled, is_slave_port, pair_after_lines, pair_after_read, answer_of, pair_after_acknowledge}
+use Rattle.device_spec.specs.Pair.{Pair, settled, is_slave_port, pair_at_reset, pair_after_lines, pair_after_write, pair_after_read, answer_of, pair_after_acknowledge}
 
 -- The priorities go round from the level after the lowest to the lowest.
 abbrev pub PrioritiesGoRound : Type 0
@@ -115,10 +115,18 @@ pub record IsSpuriousAt (pair : Pair) : Type 0 where
 abbrev pub SpuriousLeavesAlone : Type 0
 SpuriousLeavesAlone = (pair : Pair) → (answer_of pair).is_spurious ≡ true → IsSpuriousAt pair
 
--- Whenever the slave's INT is 1, the latch of the master's input 2 is set.
-abbrev pub SlaveIsLatched : Type 0
-SlaveIsLatched =
-    (pair : Pair) → is_some (interrupt (settled pair).slave) ≡ true → has (settled pair).master.latches cascade ≡ true
+-- Where the slave's INT is 1, the latch of the master's input 2 is set.
+abbrev pub SlaveIsLatched : Pair → Type 0
+SlaveIsLatched pair = is_some (interrupt pair.slave) ≡ true → has pair.master.latches cascade ≡ true
+
+-- It is so from the reset on, whatever happens to the pair. An acknowledge keeps it, since a spurious answer
+-- changes nothing.
+pub record StaysLatched : Type 0 where
+  pub at_reset : (levels : List Bool) → SlaveIsLatched (pair_at_reset levels)
+  pub at_lines : (pair : Pair) (levels : List Bool) (elcr : ℕ) → SlaveIsLatched (pair_after_lines pair levels elcr)
+  pub at_write : (pair : Pair) (port byte : ℕ) → SlaveIsLatched (pair_after_write pair port byte)
+  pub at_read : (pair : Pair) (port : ℕ) → SlaveIsLatched (pair_after_read pair port)
+  pub at_acknowledge : (pair : Pair) → SlaveIsLatched pair → SlaveIsLatched (pair_after_acknowledge pair)
 
 -- The levels that the lines have already change nothing when they are given again.
 abbrev pub SameLevelsAgain : Type 0

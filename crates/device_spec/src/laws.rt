@@ -1,6 +1,6 @@
 //! Laws of the machines. Each function does nothing: its clauses are the laws.
 ghost use Rattle.device_spec.specs.ClockLaws.{MemoryKeeps, ReadingQuiets, ResetKeepsTheTime, RingsAtItsTime, ShowsTheMoment, StaysSound};
-ghost use Rattle.device_spec.specs.PicLaws.{PrioritiesGoRound, InterruptIsFirst, MaskedLevelsWait, InterruptIsSelected, SelectedInterrupts, NonSpecificEndEndsFirst, NonSpecificEndOfNone, SameLevelsAgain, ReadsLeaveTheOther, AcknowledgedIsInService, AcknowledgedSlaveIsInService, SpecificEndEndsOne, SpuriousLeavesAlone, SlaveIsLatched};
+ghost use Rattle.device_spec.specs.PicLaws.{PrioritiesGoRound, InterruptIsFirst, MaskedLevelsWait, InterruptIsSelected, SelectedInterrupts, NonSpecificEndEndsFirst, NonSpecificEndOfNone, SameLevelsAgain, ReadsLeaveTheOther, AcknowledgedIsInService, AcknowledgedSlaveIsInService, SpecificEndEndsOne, SpuriousLeavesAlone, StaysLatched};
 ghost use Rattle.device_spec.specs.PitLaws.{LatchedCountStays, LatchedCountIsRead, ReadBackIsOneByOne, ReadBackIsLatch, ReadBackOfBoth, PulsesAddUp, CountersAreApart, CountReadsAsWritten};
 ghost use Rattle.device_spec.specs.PitPeriods.{CountIsTaken, CountWaits, CountsEndOnce, CountsStrobeOnce, PulseLoads, RateRepeats, SquareRepeats};
 ghost use Rattle.device_spec.specs.RoutingLaws.{ReservedLinesRest, RoutesOneLine};
@@ -62,9 +62,9 @@ pub fn spurious_leaves_alone()
     ensures { SpuriousLeavesAlone }
 {}
 
-/// Whenever the slave asks, its request is latched at input 2 of the master.
+/// Whenever the slave asks, its request is latched at input 2 of the master, from the reset on.
 pub fn slave_is_latched()
-    ensures { SlaveIsLatched }
+    ensures { StaysLatched }
 {}
 
 /// The same levels again change nothing of the pair.

@@ -4,3 +4,6 @@
 
 pub mod examples;
 pub mod laws;
+
+/// How many interrupt lines the two 8259As have.
+pub const LINE_COUNT: usize = 16;

@@ -1,19 +1,13 @@
 -- The DRAM is the list of its bytes, from address 0 on.
-use Rattle.std.specs.Prelude.{ℕ, ◌≡◌, ◌≤◌, ◌<◌, ◌*◌, nat_lt, if◌then◌else◌, List, All, length, slice_index}
+use Rattle.std.specs.Prelude.{ℕ, ◌≡◌, ◌≤◌, ◌<◌, nat_lt, if◌then◌else◌, List, All, length, slice_index}
 use Rattle.board_spec.specs.declared.event.Entry.{Entry}
 use Rattle.board_spec.specs.Setup.{Setup, installed}
 use Rattle.board_spec.specs.Stored.{DramCell, stored_of}
-use Rattle.dram_store.specs.Bank.{bank_size, IsBank}
+use Rattle.dram_store.specs.Bank.{IsBank}
 
--- the DRAM of a setup, up to 64 MiB
-pub record IsDramSize (size : ℕ) : Type 0 where
-  pub setup : Setup
-  pub whole : size ≡ installed setup
-  pub most : setup.mib ≤ 64
-
--- the banks of a DRAM, one for each MiB
+-- the banks of a DRAM, one for each MiB, and 64 at most
 pub record AreBanks (banks : List (List ℕ)) : Type 0 where
-  pub size : IsDramSize (length banks * bank_size)
+  pub most : length banks ≤ 64
   pub each : All IsBank banks
 
 -- the byte at an address, FFh at and past the end

@@ -10,7 +10,7 @@ ghost use Rattle.board_live.specs.Bus.{IsNoLook};
 ghost use Rattle.board_live.specs.Callers.{IsCallerOf, IsSameCaller, AreAllOf, AreOpened, mine_of};
 
 use board_base::{NoMemory, PortAccess, Width};
-use board_core::{Board, Setup};
+use board_core::{Board, BoardOpen, Setup};
 use board_live::{Cpu, Live, LiveOpen};
 use board_spec::Event;
 use std::alloc::Global;
@@ -60,7 +60,9 @@ fn open_board(alloc: Global) -> Result<Board, NoMemory>
     };
     match Board::open(alloc, setup) {
         Ok(board) => Ok(board),
-        Err(_) => Err(NoMemory),
+        Err(BoardOpen::NoMemory) => Err(NoMemory),
+        Err(BoardOpen::BadRom) => unreachable!(),
+        Err(BoardOpen::BadDisk) => unreachable!(),
     }
 }
 

@@ -7,29 +7,29 @@ use Rattle.std.proofs.lemmas.Grind.{flat_map-append}
 use Rattle.std.proofs.lemmas.List.{map-append, take-append-drop, take_more}
 use Rattle.board_spec.specs.declared.event.Statement.{Statement}
 use Rattle.board_spec.specs.OrderLaws.{in_file_order}
-use Rattle.log_check.specs.Phases.{listed}
+use Rattle.script_spec.specs.Phases.{lists_of}
 use Rattle.log_check.proofs.NextStatements.{all_parts}
 
 -- the phases before one, this one, and those after it
 pub phases_cut :
     (phases : List (Vec Statement Global)) (i : ℕ) (phase : Vec Statement Global) → i < length phases →
     phase ≡ get_or phases i phase →
-    listed phases ≡ listed (take i phases) ++ phase.items ∷ listed (drop (i + 1) phases)
+    lists_of phases ≡ lists_of (take i phases) ++ phase.items ∷ lists_of (drop (i + 1) phases)
 phases_cut phases i phase within is =
-    ap listed (sym (take-append-drop i phases))
+    ap lists_of (sym (take-append-drop i phases))
     ∙ map-append (λ (p : Vec Statement Global). p.items) (take i phases) (drop i phases)
-    ∙ ap (λ (rest : List (Vec Statement Global)). listed (take i phases) ++ listed rest)
+    ∙ ap (λ (rest : List (Vec Statement Global)). lists_of (take i phases) ++ lists_of rest)
     (drop-cons phases i phase within
     ∙ ap (λ (p : Vec Statement Global). p ∷ drop (suc i) phases) (sym is)
     ∙ ap (λ (n : ℕ). phase ∷ drop n phases) (sym (add-one i)))
 
 pub phases_more :
     (phases : List (Vec Statement Global)) (i : ℕ) (phase : Vec Statement Global) → i < length phases →
-    phase ≡ get_or phases i phase → listed (take (i + 1) phases) ≡ listed (take i phases) ++ phase.items ∷ []
+    phase ≡ get_or phases i phase → lists_of (take (i + 1) phases) ≡ lists_of (take i phases) ++ phase.items ∷ []
 phases_more phases i phase within is =
-    ap listed (take_more phases i phase within)
+    ap lists_of (take_more phases i phase within)
     ∙ map-append (λ (p : Vec Statement Global). p.items) (take i phases) (get_or phases i phase ∷ [])
-    ∙ ap (λ (p : Vec Statement Global). listed (take i phases) ++ p.items ∷ []) (sym is)
+    ∙ ap (λ (p : Vec Statement Global). lists_of (take i phases) ++ p.items ∷ []) (sym is)
 
 -- the statements of the phases before one, those of this one, and those after it
 pub statements_cut :
@@ -57,11 +57,11 @@ all_of_phase P before phase later all =
 pub few_so_far :
     (phases : List (Vec Statement Global)) (i : ℕ) (phase : Vec Statement Global) → i < length phases →
     phase ≡ get_or phases i phase →
-    length (in_file_order (listed (take i phases))) + length phase.items ≤ length (in_file_order (listed phases))
+    length (in_file_order (lists_of (take i phases))) + length phase.items ≤ length (in_file_order (lists_of phases))
 few_so_far phases i phase within is =
-    let whole : length (in_file_order (listed phases))
-    ≡ length (in_file_order (listed (take i phases)))
-    + (length phase.items + length (in_file_order (listed (drop (i + 1) phases)))) =
+    let whole : length (in_file_order (lists_of phases))
+    ≡ length (in_file_order (lists_of (take i phases)))
+    + (length phase.items + length (in_file_order (lists_of (drop (i + 1) phases)))) =
     ap (λ (ps : List (List Statement)). length (in_file_order ps)) (phases_cut phases i phase within is)
-    ∙ length_cut (listed (take i phases)) phase.items (listed (drop (i + 1) phases)) in
+    ∙ length_cut (lists_of (take i phases)) phase.items (lists_of (drop (i + 1) phases)) in
     omega arith

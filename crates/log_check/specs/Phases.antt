@@ -1,15 +1,9 @@
--- The phases of a script as the program keeps them.
-use Rattle.std.specs.Prelude.{◌<◌, List, map}
-use Rattle.std.specs.declared.vec.Vec.{Vec}
-use Rattle.std.specs.Global.{Global}
+-- Statements whose numbers fit their types.
+use Rattle.std.specs.Prelude.{◌<◌}
 use Rattle.board_spec.specs.declared.event.Event.{Event}
 use Rattle.board_spec.specs.declared.event.Event.TheVariants.{Look as LookAt}
 use Rattle.board_spec.specs.declared.event.Statement.{Statement}
 use Rattle.board_spec.specs.FlatMap.{address_count}
-
--- the statements of each phase
-abbrev pub listed : List (Vec Statement Global) → List (List Statement)
-listed phases = map (λ phase. phase.items) phases
 
 -- a look is at an address
 abbrev pub FitsLook : Event → Type 0

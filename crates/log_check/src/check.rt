@@ -9,7 +9,8 @@ ghost use Rattle.board_spec.specs.OrderLaws.{in_file_order};
 ghost use Rattle.board_core.specs.Steps.{AreInRange};
 ghost use Rattle.script_spec.specs.Checks.{IsLogOf, DiffersAt};
 ghost use Rattle.log_check.specs.declared.fault.CheckFault.{CheckFault};
-ghost use Rattle.log_check.specs.Phases.{IsTyped, listed};
+ghost use Rattle.script_spec.specs.Phases.{lists_of};
+ghost use Rattle.log_check.specs.Phases.{IsTyped};
 ghost use Rattle.log_check.specs.Fronts.{left_of};
 ghost use Rattle.log_check.specs.Checked.{IsCheckedLog, StandsAfter};
 ghost use Rattle.log_check.specs.Walks.{Place, IsWithin, IsPast, Stopped, Failed};
@@ -94,15 +95,15 @@ fn check_phases<'a>(
     rest: &'a [u8],
 ) -> Result<&'a [u8], CheckFault>
     requires fresh { board.old.entries ≡ [] }
-    requires spare { length (in_file_order (listed phases.now)) ≤ board.old.spare }
-    requires in_range { AreInRange board.old.setup (in_file_order (listed phases.now)) }
-    requires typed { All IsTyped (in_file_order (listed phases.now)) }
+    requires spare { length (in_file_order (lists_of phases.now)) ≤ board.old.spare }
+    requires in_range { AreInRange board.old.setup (in_file_order (lists_of phases.now)) }
+    requires typed { All IsTyped (in_file_order (lists_of phases.now)) }
     ensures setup { board.new.setup ≡ board.old.setup }
     ensures walked { (version : ℕ) (bytes : List ℕ) → bytes ≡ log_text version [] ++ rest.now
         → MatchResult result
-        (λ after. IsCompleteFor (listed phases.now) board.new.entries
+        (λ after. IsCompleteFor (lists_of phases.now) board.new.entries
         × (bytes ≡ log_text version board.new.entries ++ after.now))
-        (λ fault. Stopped board.old.setup version (listed phases.now) bytes board.new.entries fault) }
+        (λ fault. Stopped board.old.setup version (lists_of phases.now) bytes board.new.entries fault) }
 {
     let mut left = rest;
     for phase in phases {
@@ -120,13 +121,13 @@ fn check_lines(
     bytes: &[u8],
 ) -> Result<u32, CheckFault>
     requires fresh { board.old.entries ≡ [] }
-    requires spare { length (in_file_order (listed phases.now)) ≤ board.old.spare }
-    requires in_range { AreInRange board.old.setup (in_file_order (listed phases.now)) }
-    requires typed { All IsTyped (in_file_order (listed phases.now)) }
+    requires spare { length (in_file_order (lists_of phases.now)) ≤ board.old.spare }
+    requires in_range { AreInRange board.old.setup (in_file_order (lists_of phases.now)) }
+    requires typed { All IsTyped (in_file_order (lists_of phases.now)) }
     ensures setup { board.new.setup ≡ board.old.setup }
     ensures checked { MatchResult result
-        (λ count. IsCheckedLog board.old.setup version (listed phases.now) bytes.now board.new.entries count)
-        (λ fault. Failed board.old.setup version (listed phases.now) bytes.now board.new.entries fault) }
+        (λ count. IsCheckedLog board.old.setup version (lists_of phases.now) bytes.now board.new.entries count)
+        (λ fault. Failed board.old.setup version (lists_of phases.now) bytes.now board.new.entries fault) }
 {
     law_one_replay();
     let mut text = String::new(alloc);
@@ -153,17 +154,17 @@ pub fn check_log(
     bytes: &[u8],
 ) -> Result<u32, CheckFault>
     requires fresh { board.old.entries ≡ [] }
-    requires in_range { AreInRange board.old.setup (in_file_order (listed phases.now)) }
-    requires few { length (in_file_order (listed phases.now)) ≤ most_statements }
+    requires in_range { AreInRange board.old.setup (in_file_order (lists_of phases.now)) }
+    requires few { length (in_file_order (lists_of phases.now)) ≤ most_statements }
     ensures log { IfOk result (λ count.
-        IsCheckedLog board.old.setup version (listed phases.now) bytes.now board.new.entries count) }
+        IsCheckedLog board.old.setup version (lists_of phases.now) bytes.now board.new.entries count) }
     ensures differs { (line : ℕ) → result ≡ Err (CheckFault.Differs line)
-        → DiffersAt board.old.setup version (listed phases.now) bytes.now line }
-    ensures exactly { (log : IsLogOf board.old.setup version (listed phases.now) bytes.now)
+        → DiffersAt board.old.setup version (lists_of phases.now) bytes.now line }
+    ensures exactly { (log : IsLogOf board.old.setup version (lists_of phases.now) bytes.now)
         → (result ≡ Ok (length log.history)) ⊎ (result ≡ Err CheckFault.NoMemory) }
     ensures setup { board.new.setup ≡ board.old.setup }
     ensures legal { IsLegal board.new.setup board.new.entries }
-    ensures begun { IsBegunFor (listed phases.now) board.new.entries }
+    ensures begun { IsBegunFor (lists_of phases.now) board.new.entries }
     ensures stands { IfErr result (λ fault. StandsAfter version bytes.now board.new.entries fault) }
 {
     phases_fit(phases);

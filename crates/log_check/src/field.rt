@@ -6,7 +6,7 @@ ghost use Rattle.board_spec.specs.declared.event.Entry.{Entry};
 ghost use Rattle.board_spec.specs.LogText.{line_text};
 
 /// The place of the first such byte.
-fn place_of(mark: u8, bytes: &[u8]) -> Option<usize>
+fn place_of_mark(mark: u8, bytes: &[u8]) -> Option<usize>
     ensures place { result ≡ position (λ byte. byte == mark) bytes.now }
 {
     bytes.iter().position(|byte| *byte == mark)
@@ -17,7 +17,7 @@ fn cut(mark: u8, bytes: &[u8]) -> Option<(&[u8], &[u8])>
     ensures parts { (before after : List ℕ) → All (λ byte. byte ≢ mark) before → bytes.now ≡ before ++ mark ∷ after
         → MatchOption result ⊥ (λ parts. (parts.0.now ≡ before) × (parts.1.now ≡ after)) }
 {
-    let at = place_of(mark, bytes)?;
+    let at = place_of_mark(mark, bytes)?;
     Some((&bytes[..at], &bytes[at + 1..]))
 }
 

@@ -9,14 +9,14 @@ ghost use Rattle.log_check.specs.declared.fault.CheckFault.{CheckFault};
 use crate::fault::CheckFault;
 use access_history::History;
 use board_base::NoMemory;
-use board_script::{push_line, push_log};
+use board_script::{push_heading, push_line};
 
 /// Puts the heading of a log in place of a text, with its line feed.
 pub(crate) fn print_heading(text: &mut String, version: u8) -> Result<(), NoMemory>
     ensures printed { OnOk result (string_bytes text.new ≡ log_text version []) }
 {
     text.clear();
-    push_log(text, version, &[])
+    push_heading(text, version)
 }
 
 /// Puts the line of the newest entry in place of a text, with its line feed.

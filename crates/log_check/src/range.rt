@@ -3,11 +3,13 @@
 ghost use Rattle.std.specs.Prelude.{◌≡◌, ◌≤◌, All, length};
 ghost use Rattle.board_spec.specs.Limits.{most_statements};
 ghost use Rattle.board_spec.specs.OrderLaws.{in_file_order};
-ghost use Rattle.log_check.specs.Phases.{IsTyped, listed};
+ghost use Rattle.script_spec.specs.Phases.{lists_of};
+ghost use Rattle.log_check.specs.Phases.{IsTyped};
 
 use board_spec::{Event, Statement};
 
-/// The processor of a statement and the address of a look fit their types.
+/// The processor of a statement and the address of a look fit their types. A contract has the range of a number behind a
+/// reference only where the body reads it, so this reads both, for the proof alone.
 fn fits(statement: &Statement)
     ensures typed { IsTyped statement.now }
 {
@@ -17,7 +19,7 @@ fn fits(statement: &Statement)
     }
 }
 
-/// Those of a phase fit their types.
+/// Those of a phase fit their types. It reads each statement, for the proof alone.
 fn phase_fits(phase: &[Statement])
     ensures typed { All IsTyped phase.now }
 {
@@ -26,9 +28,10 @@ fn phase_fits(phase: &[Statement])
     }
 }
 
-/// Those of all phases fit their types.
+/// Those of all phases fit their types. It reads each statement of the script once, and changes nothing: the loop is
+/// there for the proof alone.
 pub(crate) fn phases_fit(phases: &[Vec<Statement>])
-    ensures typed { All IsTyped (in_file_order (listed phases.now)) }
+    ensures typed { All IsTyped (in_file_order (lists_of phases.now)) }
 {
     for phase in phases {
         phase_fits(phase);
@@ -37,8 +40,8 @@ pub(crate) fn phases_fit(phases: &[Vec<Statement>])
 
 /// How many statements the phases have.
 pub fn statement_count(phases: &[Vec<Statement>]) -> u32
-    requires few { length (in_file_order (listed phases.now)) ≤ most_statements }
-    ensures count { result ≡ length (in_file_order (listed phases.now)) }
+    requires few { length (in_file_order (lists_of phases.now)) ≤ most_statements }
+    ensures count { result ≡ length (in_file_order (lists_of phases.now)) }
 {
     let mut count = 0;
     for phase in phases {

@@ -87,8 +87,6 @@ fn is_placed(event: Event) -> bool
         Event::Wide(access) => is_within(&access),
         Event::Port(access) => access.width.is_aligned(u32::from(access.port)),
         Event::Time(moment) => is_moment(moment),
-        Event::Wire { .. } => true,
-        Event::Line { .. } => true,
         _ => true,
     }
 }

@@ -108,7 +108,7 @@ fn longest_at(addr: u64, left: u64) -> Width
 /// How many aligned parts the bytes that are left from an address on make, at most so many.
 #[tactic(auto, unfolding(crate::specs::Replies::part_count))]
 pub(crate) fn part_count(most: u32, addr: u64, left: u64) -> u32
-    requires least { addr + left ≤ 2 ^ 33 }
+    requires within { addr + left ≤ 2 ^ 33 }
     ensures count { result ≡ part_count most addr left }
     ensures few { result ≤ most }
 {

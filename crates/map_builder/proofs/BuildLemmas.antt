@@ -8,6 +8,7 @@ use Rattle.board_spec.specs.Setup.{Setup}
 use Rattle.board_spec.specs.Decode.{Bytes}
 use Rattle.board_spec.specs.FlatMap.{address_count, six_areas, MapRange, Tiles, NeighboursDiffer, IsRight, IsFlatMapOf}
 use Rattle.addr_decode.specs.Edges.{SameAreas}
+use Rattle.map_builder.specs.Map.{most_ranges}
 use Rattle.map_builder.specs.Build.{GoesOn, Built, BuiltOf}
 
 abbrev pub range : ℕ → ℕ → List Area → MapRange
@@ -111,7 +112,7 @@ built_of_on setup bytes ranges ranges' last last' addr edge areas begun above sa
 -- each step adds at most one range, and then leaves fewer edges
 pub few_on : (ranges ranges' : List MapRange) (last last' : MapRange) (edge : ℕ) (areas : List Area) (before after : ℕ) →
     GoesOn ranges ranges' last last' edge areas → after ≤ before → (areas ≢ last.areas → after < before) →
-    length ranges + before ≤ 141 → length ranges' + after ≤ 141
+    length ranges + before < most_ranges → length ranges' + after < most_ranges
 few_on ranges ranges' last last' edge areas before after (inl (here, is, last_is)) left fewer few = omega (arith, ap (λ (xs : List MapRange). length xs) is)
 few_on ranges ranges' last last' edge areas before after (inr (other, is, last_is)) left fewer few =
     let long : length ranges' ≡ length ranges + 1 =

@@ -22,6 +22,7 @@ use Rattle.map_builder.specs.Sorted.{sorted, Rise, rows_in}
 use Rattle.map_builder.specs.Changed.{after, bounds, is_fixed, windows_of, windows_covered, changed_windows, most_rows}
 use Rattle.map_builder.specs.Rows.{stores_rows, AreMoved}
 use Rattle.map_builder.specs.Unchanged.{IsHeldAt, IsSameByte}
+use Rattle.map_builder.proofs.FindLemmas.{tiles_below}
 use Rattle.map_builder.proofs.OutsideLemmas.{Outside, and_no}
 use Rattle.map_builder.proofs.BoundsLemmas.{covered_ordered, changed_ordered, bounds_twice}
 use Rattle.map_builder.proofs.SortedLemmas.{rise_sorted, outside_sorted, rows_few, sorted_twice}
@@ -31,11 +32,6 @@ use Rattle.map_builder.proofs.KeptStores.{top_after, changes_keep}
 use Rattle.map_builder.proofs.SameBoards.{boards_same, untouched_areas}
 
 -- the last address of a range is an address
-tiles_below : (from : ℕ) (ranges : List MapRange) → Tiles from ranges → from ≤ address_count
-tiles_below from [] tiles = omega arith
-tiles_below from (range ∷ later) tiles =
-    let next : range.hi + 1 ≤ address_count = tiles_below (range.hi + 1) later tiles.2 in omega (arith, tiles.0, tiles.1)
-
 range_below : (from : ℕ) (ranges : List MapRange) → Tiles from ranges → (k : ℕ) (d : MapRange) → k < length ranges → (get_or ranges k d).hi < address_count
 range_below from [] tiles k d within = absurd (omega arith)
 range_below from (range ∷ later) tiles zero d within =
@@ -88,6 +84,7 @@ module _ (old new : MapBytes) (change : MapChange) (ranges : List MapRange) (is_
       right = λ k d within. record { at_each = λ addr low high. still_right setup bytes now k d within addr low high (all addr) };
       least = was_map.least;
     };
+    few = is_map.few;
   }
 
 -- a register keeps its byte, on each board that has the registers before, and on each that has those after
@@ -153,7 +150,7 @@ found_once setup bytes change all once same =
       sorted_same = ap sorted once ∙ sym (sorted_twice covered (covered_ordered setup bytes change)) ∙ sym (ap sorted twice);
     }
 
-pub are_found : (old new : MapBytes) (setup : Setup) (bytes : Bytes) (change : MapChange) (all : List Changed) (kept same : Bool) →
+are_found : (old new : MapBytes) (setup : Setup) (bytes : Bytes) (change : MapChange) (all : List Changed) (kept same : Bool) →
     StandsFor setup bytes old → StandsFor setup (after setup change bytes) new → (kept ≡ true → KeepsByte old new change) →
     same ≡ (kept || is_fixed change) → (same ≡ true → all ≡ windows_covered setup bytes change) →
     (same ≡ false → all ≡ changed_windows setup bytes change) → AreFound setup bytes change all
@@ -168,6 +165,21 @@ are_found old new setup bytes change all kept same stands now keeps same_is once
                 found_once setup bytes change all (once stay) (fixed_same setup (after setup change bytes) bytes change fixed)
           ]
     ]
+
+-- as they are pushed: by what the registers held, and again by what they hold, unless that is known to be the same
+pub pushed_found : (old new : MapBytes) (change : MapChange) (none first all : List Changed) (kept same : Bool) →
+    (kept ≡ true → KeepsByte old new change) → same ≡ (kept || is_fixed change) → none ≡ [] →
+    ((setup : Setup) (bytes : Bytes) → StandsFor setup bytes old → first ≡ none ++ windows_covered setup bytes change) →
+    (same ≡ true → all ≡ first) →
+    (same ≡ false → (setup : Setup) (bytes : Bytes) → StandsFor setup bytes new → all ≡ first ++ windows_covered setup bytes change) →
+    (setup : Setup) (bytes : Bytes) → StandsFor setup bytes old → StandsFor setup (after setup change bytes) new → AreFound setup bytes change all
+pushed_found old new change none first all kept same keeps same_is none_is first_is once twice setup bytes stands now =
+    let covered : first ≡ windows_covered setup bytes change =
+    first_is setup bytes stands ∙ ap (λ (windows : List Changed). windows ++ windows_covered setup bytes change) none_is in
+    are_found old new setup bytes change all kept same stands now keeps same_is (λ stay. once stay ∙ covered)
+    (λ move.
+    twice move setup (after setup change bytes) now
+    ∙ ap (λ (windows : List Changed). windows ++ windows_covered setup (after setup change bytes) change) covered)
 
 -- ---- the windows that are built anew: those that changed, or where rows alone are stored what moves of them
 

@@ -1,5 +1,5 @@
 -- A change keeps each register whose windows lie elsewhere.
-use Rattle.std.proofs.Common.{◌≡◌, ℕ, zero, suc, ◌+◌, ◌-◌, ◌*◌, ◌<◌, ◌≤◌, inl, inr, true, List, [], ◌∷◌, length, get_or, take, refl, sym, ◌∙◌, ap, subst, arith}
+use Rattle.std.proofs.Common.{◌≡◌, ℕ, zero, suc, ◌+◌, ◌-◌, ◌<◌, ◌≤◌, inl, inr, true, List, [], ◌∷◌, length, get_or, take, refl, subst, arith}
 use Rattle.std.specs.Prelude.{flat_map}
 use Rattle.std.proofs.lemmas.Bool.{cases_Bool}
 use Rattle.std.proofs.lemmas.Bool.Decides.{nat_tests}
@@ -14,17 +14,15 @@ use Rattle.board_spec.specs.Setup.{Setup, IsCardList}
 use Rattle.board_spec.specs.Bits.{byte}
 use Rattle.board_spec.specs.RegisterTable.{host_bridge, reset_byte, writable_bits}
 use Rattle.board_spec.specs.Registers.{covers, byte_after}
-use Rattle.board_spec.specs.Decode.{Bytes, boundary, top_of}
+use Rattle.board_spec.specs.Decode.{Bytes, top_of}
 use Rattle.board_spec.specs.RegisterNames.{bridge}
 use Rattle.board_spec.specs.MapWrites.{reg_after}
 use Rattle.board_spec.specs.FlatMap.{address_count, six_areas}
-use Rattle.addr_decode.specs.MapRegs.{MapBytes, StandsFor}
 use Rattle.board_spec.proofs.MergedLemmas.{merged-all}
 use Rattle.map_builder.specs.declared.range.Changed.{Changed}
 use Rattle.map_builder.specs.Changed.{windows_of, windows_covered, after, changed_windows, IsOutside}
-use Rattle.map_builder.specs.Map.{HasBoard}
-use Rattle.map_builder.specs.Laws.{WindowsHoldChanges}
-use Rattle.map_builder.proofs.OutsideLemmas.{Outside, outside_left, outside_right}
+use Rattle.map_builder.specs.Laws.{WindowsHoldChanges, BoundsHoldChanges}
+use Rattle.map_builder.proofs.OutsideLemmas.{Outside, outside_bounds, outside_left, outside_right}
 use Rattle.map_builder.proofs.WindowLemmas.{offsets}
 use Rattle.map_builder.proofs.KeptCards.{Kept}
 use Rattle.map_builder.proofs.KeptLemmas.{row_same, areas_same}
@@ -141,11 +139,6 @@ pub windows_hold_changes : WindowsHoldChanges
 windows_hold_changes setup bytes change addr list top address out =
     changes_keep setup bytes change addr list top address (recursion_from_All (IsOutside addr) (changed_windows setup bytes change) out)
 
--- outside all changed windows nothing changes, on each board that has the registers of some board
-pub beside_keeps : (regs : MapBytes) (setup : Setup) (bytes : Bytes) → HasBoard regs → (change : MapChange) (addr : ℕ) → StandsFor setup bytes regs →
-    addr < address_count → Outside addr (changed_windows setup bytes change) → six_areas setup (after setup change bytes) addr ≡ six_areas setup bytes addr
-beside_keeps regs setup bytes board change addr stands address out =
-    let list : IsCardList setup.cards = subst IsCardList (board.stands.cards.0 ∙ sym stands.cards.0) board.cards in
-    let last : boundary bytes 7 ≡ boundary board.bytes 7 =
-    ap (λ (byte : ℕ). byte * 0x80_0000) (sym (stands.rows 7 (omega arith)) ∙ board.stands.rows 7 (omega arith)) in
-    changes_keep setup bytes change addr list (rw last board.top) address out
+pub bounds_hold_changes : BoundsHoldChanges
+bounds_hold_changes setup bytes change addr list top address out =
+    changes_keep setup bytes change addr list top address (outside_bounds addr (changed_windows setup bytes change) out)

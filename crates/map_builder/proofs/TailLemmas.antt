@@ -10,7 +10,7 @@ use Rattle.board_spec.specs.Decode.{Bytes}
 use Rattle.board_spec.specs.FlatMap.{address_count, MapRange, Tiles, Differs, NeighboursDiffer, IsFlatMapOf}
 use Rattle.addr_decode.specs.MapRegs.{MapBytes, StandsFor}
 use Rattle.map_builder.specs.declared.range.Range.{Range}
-use Rattle.map_builder.specs.Map.{range_of, HasBoard}
+use Rattle.map_builder.specs.Map.{range_of, most_ranges, HasBoard}
 use Rattle.map_builder.specs.Find.{no_range, range_at, Holds}
 use Rattle.map_builder.specs.Build.{GoesOn, IsBuilt, IsRightWhere, IsMapWhere, IsBetween, IsWhole}
 use Rattle.map_builder.proofs.FindLemmas.{tiles_below}
@@ -40,7 +40,7 @@ differs_as here there (next ∷ later) same differ = λ alike. differ (sym same 
 pub record IsWholeOf (regs : MapBytes) (ranges : List MapRange) : Type 0 where
   pub tiles : Tiles 0 ranges
   pub is_map : (setup : Setup) (bytes : Bytes) → StandsFor setup bytes regs → IsFlatMapOf setup bytes ranges
-  pub few : length ranges ≤ 142
+  pub few : length ranges ≤ most_ranges
 
 pub whole_last : (regs : MapBytes) (board : HasBoard regs) (ranges : List MapRange) (last : MapRange) → IsBuilt regs ranges last 0xFFFF_FFFF →
     IsWholeOf regs (ranges ++ last ∷ [])
@@ -124,7 +124,7 @@ whole_ranges regs front one old k ranges is whole =
     record { tiles = made.tiles; is_map = made.is_map; few = omega (arith, made.few, length-map ranges range_of) }
 
 pub few_from : (regs : MapBytes) (front : List Range) (one : MapRange) (old : List Range) (k : ℕ) →
-    IsWholeOf regs (map range_of front ++ one ∷ drop (k + 1) (map range_of old)) → length front + 1 + length (drop (k + 1) old) ≤ 142
+    IsWholeOf regs (map range_of front ++ one ∷ drop (k + 1) (map range_of old)) → length front + 1 + length (drop (k + 1) old) ≤ most_ranges
 few_from regs front one old k whole =
     let rest : length (drop (k + 1) (map range_of old)) ≡ length (drop (k + 1) old) =
     ap (λ (all : List MapRange). length all) (drop-map range_of (k + 1) old) ∙ length-map (drop (k + 1) old) range_of in

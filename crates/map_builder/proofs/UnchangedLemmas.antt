@@ -1,8 +1,7 @@
 -- A store of one byte to a register that keeps its byte changes no area.
-use Rattle.std.proofs.Common.{◌≡◌, ℕ, ◌+◌, ◌*◌, inl, inr, List, [], ◌∷◌, Option, Some, None, refl, sym, ◌∙◌, ap, subst, arith}
-use Rattle.std.specs.Prelude.{◌==◌, find, nat_lt, is_some, unwrap_or}
-use Rattle.std.specs.List.{AllByRecursion}
-use Rattle.std.proofs.lemmas.Bool.{cases_Bool, false≢true}
+use Rattle.std.proofs.Common.{◌≡◌, ℕ, ◌+◌, ◌*◌, inl, inr, refl, sym, ◌∙◌, ap, subst, arith}
+use Rattle.std.specs.Prelude.{nat_lt}
+use Rattle.std.proofs.lemmas.Bool.{cases_Bool}
 use Rattle.std.proofs.lemmas.Bool.Decides.{nat_tests}
 use Rattle.board_base.specs.declared.access.Width.TheVariants.{One, Two, Four}
 use Rattle.board_base.specs.declared.target.Reg.{Reg}
@@ -13,35 +12,11 @@ use Rattle.board_spec.specs.Registers.{covers}
 use Rattle.board_spec.specs.Decode.{Bytes}
 use Rattle.board_spec.specs.RegisterNames.{bridge}
 use Rattle.board_spec.specs.FlatMap.{six_areas}
-use Rattle.pci_bars.specs.Cards.{CardBytes, DecodesAs}
 use Rattle.map_builder.specs.Changed.{after}
 use Rattle.map_builder.specs.Unchanged.{IsHeldAt}
 use Rattle.map_builder.proofs.KeptStores.{same_register}
 use Rattle.map_builder.proofs.KeptLemmas.{areas_same}
 use Rattle.map_builder.proofs.MovedRows.{row_stays}
-
-pub record IsDecoded (setup : Setup) (bytes : Bytes) (dev : ℕ) (card : CardBytes) : Type 0 where
-  pub decodes : DecodesAs setup bytes card
-  pub at : card.card.dev ≡ dev
-
--- the card that is found at a device number
-pub found_decoded : (setup : Setup) (bytes : Bytes) (cards : List CardBytes) (dev : ℕ) (card : CardBytes) → AllByRecursion (DecodesAs setup bytes) cards →
-    find (λ card. card.card.dev == dev) cards ≡ Some card → IsDecoded setup bytes dev card
-found_decoded setup bytes [] dev card each is = absurd (none_some is)
-  where
-    none_some : {card : CardBytes} → None ≡ Some card → ⊥
-    none_some is = absurd (false≢true (ap (λ (it : Option CardBytes). is_some it) is))
-found_decoded setup bytes (first ∷ later) dev card each is =
-    elim (cases_Bool (first.card.dev == dev)) [
-      | inl here ↦
-          let same : first ≡ card = some_same (rw here at is) in
-          let at : first.card.dev ≡ dev = grind (arith, nat_tests) in
-          record { decodes = subst (DecodesAs setup bytes) same each.0; at = subst (λ (it : CardBytes). it.card.dev ≡ dev) same at }
-      | inr not_here ↦ found_decoded setup bytes later dev card each.1 (rw not_here at is)
-    ]
-  where
-    some_same : {first card : CardBytes} → Some first ≡ Some card → first ≡ card
-    some_same {first} {card} is = ap (λ (it : Option CardBytes). unwrap_or it first) is
 
 -- where one byte is stored and the register has the same byte before and after
 pub same_bytes : (setup : Setup) (bytes : Bytes) (change : MapChange) (held : ℕ) → IsHeldAt change bytes held → IsHeldAt change (after setup change bytes) held →

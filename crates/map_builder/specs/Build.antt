@@ -3,12 +3,12 @@ use Rattle.std.specs.Prelude.{ℕ, ◌≡◌, ◌≢◌, ◌+◌, ◌-◌, ◌<�
 use Rattle.board_base.specs.declared.target.Area.{Area}
 use Rattle.board_spec.specs.Setup.{Setup}
 use Rattle.board_spec.specs.Decode.{Bytes}
-use Rattle.board_spec.specs.FlatMap.{MapRange, six_areas, Tiles, NeighboursDiffer, IsRight, IsFlatMapOf}
+use Rattle.board_spec.specs.FlatMap.{address_count, MapRange, six_areas, Tiles, NeighboursDiffer, IsRight, IsFlatMapOf}
 use Rattle.addr_decode.specs.MapRegs.{MapBytes, StandsFor}
 use Rattle.addr_decode.specs.Edges.{edges_after}
 use Rattle.map_builder.specs.declared.range.Changed.{Changed}
 use Rattle.map_builder.specs.declared.range.Range.{Range}
-use Rattle.map_builder.specs.Map.{range_of, HasBoard}
+use Rattle.map_builder.specs.Map.{range_of, most_ranges, HasBoard}
 use Rattle.std.specs.List.{AllByRecursion}
 use Rattle.map_builder.specs.Changed.{IsOutside}
 
@@ -18,14 +18,14 @@ GoesOn ranges ranges' last last' addr areas =
     ((areas ≡ last.areas) × (ranges' ≡ ranges) × (last' ≡ last))
     ⊎ ((areas ≢ last.areas)
     × (ranges' ≡ ranges ++ record last { hi = addr - 1 } ∷ [])
-    × (last' ≡ record { lo = addr; hi = 0xFFFF_FFFF; areas = areas }))
+    × (last' ≡ record { lo = addr; hi = address_count - 1; areas = areas }))
 
 -- the ranges cover all addresses as if the last of them went on to the last address
 pub record Built (ranges : List MapRange) (last : MapRange) (addr : ℕ) : Type 0 where
   pub tiles : Tiles 0 (ranges ++ last ∷ [])
   pub least : NeighboursDiffer (ranges ++ last ∷ [])
   pub begun : last.lo ≤ addr
-  pub open_end : last.hi ≡ 0xFFFF_FFFF
+  pub open_end : last.hi ≡ address_count - 1
 
 -- up to this address they are right
 pub record BuiltOf (setup : Setup) (bytes : Bytes) (ranges : List MapRange) (last : MapRange) (addr : ℕ) : Type 0 where
@@ -37,7 +37,7 @@ pub record BuiltOf (setup : Setup) (bytes : Bytes) (ranges : List MapRange) (las
 pub record IsBuilt (regs : MapBytes) (ranges : List MapRange) (last : MapRange) (addr : ℕ) : Type 0 where
   pub built : Built ranges last addr
   pub of_board : (setup : Setup) (bytes : Bytes) → StandsFor setup bytes regs → BuiltOf setup bytes ranges last addr
-  pub few : (board : HasBoard regs) → length ranges + edges_after board.setup board.bytes addr ≤ 141
+  pub few : (board : HasBoard regs) → length ranges + edges_after board.setup board.bytes addr < most_ranges
 
 -- ---- ranges that were those of a map before a change
 
@@ -73,4 +73,4 @@ pub record IsKept (ranges : List MapRange) (last : MapRange) (before : List MapR
 pub record IsWhole (regs : MapBytes) (ranges : List Range) : Type 0 where
   pub tiles : Tiles 0 (map range_of ranges)
   pub is_map : (setup : Setup) (bytes : Bytes) → StandsFor setup bytes regs → IsFlatMapOf setup bytes (map range_of ranges)
-  pub few : length ranges ≤ 142
+  pub few : length ranges ≤ most_ranges

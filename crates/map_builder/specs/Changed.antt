@@ -9,7 +9,9 @@ use Rattle.board_spec.specs.declared.map_change.MapChange.TheVariants.{Store, Re
 use Rattle.board_spec.specs.Setup.{FittedCard, Setup, card_at}
 use Rattle.board_spec.specs.Bits.{is_within}
 use Rattle.board_spec.specs.Decode.{Bytes, Window, memory_window, rom_window, vga_window}
-use Rattle.board_spec.specs.RegisterNames.{card_command}
+use Rattle.board_spec.specs.RegisterNames.{pam, drb, fdhc, smram, xbcs, card_command, base_register, expansion_rom}
+use Rattle.board_spec.specs.Ranges.{smram_range, expansion_range, system_bios, hole_at_512_kib, hole_at_15_mib, lower_bios, selectable_bios, largest_top}
+use Rattle.board_spec.specs.FlatMap.{address_count}
 use Rattle.board_spec.specs.Registers.{changed_byte}
 use Rattle.board_spec.specs.MapWrites.{reg_after}
 use Rattle.addr_decode.specs.Edges.{edges_of, first_address}
@@ -19,21 +21,49 @@ use Rattle.map_builder.specs.declared.range.Changed.{Changed}
 abbrev pub from_to : ℕ → ℕ → Changed
 from_to lo hi = record { lo = lo; hi = hi }
 
+-- those of a range
+abbrev pub whole : ℕ × ℕ → Changed
+whole range = from_to range.0 range.1
+
+-- every address
+abbrev pub everything : Changed
+everything = from_to 0 (address_count - 1)
+
 -- ---- the windows that a register byte governs
 
--- 00.0. PAM0: the window of 64 KiB at F0000h. PAM1 to PAM6: two windows of 16 KiB each, from C0000h on. A row of
--- DRAM ends at most at 255 times 8 MiB. FDHC: the two holes. SMRAM: A0000h to BFFFFh
+-- how many addresses the two windows of PAM1 to PAM6 have
+abbrev pub pam_size : ℕ
+pam_size = 0x8000
+
+-- those of PAM1 to PAM6
+abbrev pub pam_windows : (off : ℕ) → Changed
+pam_windows off =
+    from_to (expansion_range.0 + pam_size * (off - (pam 1).off)) (expansion_range.0 + (pam_size - 1) + pam_size * (off - (pam 1).off))
+
+-- 00.0. PAM0: the system BIOS. PAM1 to PAM6: two shadow windows of 16 KiB each. The boundaries: every address that a row
+-- can have. FDHC: the two holes. SMRAM: where it can lie
 abbrev pub bridge_windows : (off : ℕ) → List Changed
 bridge_windows off =
-    if off == 0x59 then from_to 0xF_0000 0xF_FFFF ∷ [] else
-    if is_within 0x5A 0x5F off then from_to (0xC_0000 + 0x8000 * (off - 0x5A)) (0xC_7FFF + 0x8000 * (off - 0x5A)) ∷ [] else
-    if is_within 0x60 0x67 off then from_to 0 0x7F7F_FFFF ∷ [] else
-    if off == 0x68 then from_to 0x8_0000 0x9_FFFF ∷ from_to 0xF0_0000 0xFF_FFFF ∷ [] else
-    if off == 0x72 then from_to 0xA_0000 0xB_FFFF ∷ [] else []
+    if off == (pam 0).off then whole system_bios ∷ [] else
+    if is_within (pam 1).off (pam 6).off off then pam_windows off ∷ [] else
+    if is_within (drb 0).off (drb 7).off off then from_to 0 (largest_top - 1) ∷ [] else
+    if off == fdhc.off then whole hole_at_512_kib ∷ whole hole_at_15_mib ∷ [] else
+    if off == smram.off then whole smram_range ∷ [] else []
 
 -- 01.0. XBCS: the ranges of the ROM that it selects
 abbrev pub isa_windows : (off : ℕ) → List Changed
-isa_windows off = if off == 0x4E then from_to 0xE_0000 0xE_FFFF ∷ from_to 0xFFF8_0000 0xFFFE_FFFF ∷ [] else []
+isa_windows off = if off == xbcs.off then whole lower_bios ∷ whole selectable_bios ∷ [] else []
+
+-- the bytes of the base registers of a card, the number of the base that a byte is of, and the bytes of the register of
+-- its expansion ROM
+abbrev pub is_of_bases : (off : ℕ) → Bool
+is_of_bases off = is_within (base_register 0 0).off ((base_register 0 5).off + 3) off
+
+abbrev pub base_number : (off : ℕ) → ℕ
+base_number off = (off - (base_register 0 0).off) / 4
+
+abbrev pub is_of_rom : (off : ℕ) → Bool
+is_of_rom off = is_within (expansion_rom 0).off ((expansion_rom 0).off + 3) off
 
 -- what a window of a card decodes
 abbrev pub decoded : Window → Changed
@@ -50,9 +80,9 @@ abbrev pub card_windows : Bytes → (off : ℕ) → FittedCard → List Changed
 card_windows bytes off card =
     if off == (card_command card.dev).off
     then map decoded (base_windows bytes card ++ rom_window bytes card ++ vga_window card) else
-    if is_within 0x10 0x27 off
-    then map decoded (filter (λ window. window.base == (off - 0x10) / 4) (base_windows bytes card)) else
-    if is_within 0x30 0x33 off then map decoded (rom_window bytes card) else []
+    if is_of_bases off
+    then map decoded (filter (λ window. window.base == base_number off) (base_windows bytes card)) else
+    if is_of_rom off then map decoded (rom_window bytes card) else []
 
 -- where the registers hold these bytes
 abbrev pub windows_of : Setup → Bytes → Reg → List Changed
@@ -65,7 +95,7 @@ windows_of setup bytes reg =
 
 -- those of the bytes that it covers. A hard reset covers them all
 unfoldable pub windows_covered : Setup → Bytes → MapChange → List Changed
-windows_covered setup bytes Reset = from_to 0 0xFFFF_FFFF ∷ []
+windows_covered setup bytes Reset = everything ∷ []
 windows_covered setup bytes (Store reg width value) =
     flat_map (λ k. windows_of setup bytes (reg_after reg k)) (take (bytes_of width) (0 ∷ 1 ∷ 2 ∷ 3 ∷ []))
 

@@ -1,11 +1,12 @@
 -- The windows of cards as the code finds them, by what their base registers and that of the expansion ROM hold.
-use Rattle.std.specs.Prelude.{ℕ, ◌+◌, ◌-◌, ◌*◌, ◌/◌, ◌^◌, List, [], ◌∷◌, ◌++◌, Option, Some, None, slice_get, slice_index, ◌==◌, Bool, if◌then◌else◌}
+use Rattle.std.specs.Prelude.{ℕ, ◌+◌, ◌-◌, ◌*◌, ◌/◌, ◌^◌, List, [], ◌∷◌, ◌++◌, Option, Some, None, slice_get, slice_index, find, ◌==◌, Bool, if◌then◌else◌}
 use Rattle.std.specs.Option.{option_map_or}
 use Rattle.board_spec.specs.Setup.{Base, MemoryBase, IoBase}
-use Rattle.board_spec.specs.Bits.{is_within}
+use Rattle.board_spec.specs.RegisterNames.{card_command}
+use Rattle.board_spec.specs.Ranges.{smram_range}
 use Rattle.pci_bars.specs.Cards.{CardBytes}
 use Rattle.map_builder.specs.declared.range.Changed.{Changed}
-use Rattle.map_builder.specs.Changed.{from_to}
+use Rattle.map_builder.specs.Changed.{from_to, whole, is_of_bases, base_number, is_of_rom}
 
 -- the addresses that agree with one but in the low bits
 abbrev pub block : (inside bits : ℕ) → Changed
@@ -32,16 +33,15 @@ rom_held (Some bits) register = block register bits ∷ []
 
 -- the VGA window
 abbrev pub vga_held : Bool → List Changed
-vga_held vga = if vga then from_to 0xA_0000 0xB_FFFF ∷ [] else []
+vga_held vga = if vga then whole smram_range ∷ [] else []
 
 -- those that a register of a card governs
 abbrev pub card_held : (off : ℕ) → CardBytes → List Changed
 card_held off card =
-    if off == 0x04 then held_from card.bases 0 card.card.bases ++ rom_held card.card.rom card.rom ++ vga_held card.card.vga else
-    if is_within 0x10 0x27 off then held_at card.bases card.card.bases ((off - 0x10) / 4) else
-    if is_within 0x30 0x33 off then rom_held card.card.rom card.rom else []
+    if off == (card_command card.card.dev).off then held_from card.bases 0 card.card.bases ++ rom_held card.card.rom card.rom ++ vga_held card.card.vga else
+    if is_of_bases off then held_at card.bases card.card.bases (base_number off) else
+    if is_of_rom off then rom_held card.card.rom card.rom else []
 
 -- those of a card found by its device number
 abbrev pub device_held : (dev off : ℕ) → List CardBytes → List Changed
-device_held dev off [] = []
-device_held dev off (card ∷ later) = if card.card.dev == dev then card_held off card else device_held dev off later
+device_held dev off cards = option_map_or (card_held off) (find (λ card. card.card.dev == dev) cards) []

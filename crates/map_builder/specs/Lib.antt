@@ -1,6 +1,7 @@
 pub mod Map
 pub mod Find
 pub mod Changed
+pub mod Applied
 pub mod Sorted
 pub mod Rows
 pub mod Unchanged

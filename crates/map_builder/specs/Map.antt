@@ -1,6 +1,7 @@
 -- The memory map as the crate keeps it: the registers, the ranges and the version.
 use Rattle.std.specs.Prelude.{ℕ, ◌^◌, ◌<◌, ◌≤◌, List, length, All, slice_index}
 use Rattle.board_spec.specs.Setup.{Setup, IsCardList}
+use Rattle.board_spec.specs.Ranges.{largest_top}
 use Rattle.board_spec.specs.Decode.{Bytes, top_of}
 use Rattle.board_spec.specs.FlatMap.{MapRange, Tiles, IsFlatMapOf}
 use Rattle.pci_bars.specs.Cards.{CardBytes, AreFitted}
@@ -21,8 +22,12 @@ pub record HasBoard (regs : MapBytes) : Type 0 where
   pub setup : Setup
   pub bytes : Bytes
   pub cards : IsCardList setup.cards
-  pub top : top_of bytes ≤ 0x7F80_0000
+  pub top : top_of bytes ≤ largest_top
   pub stands : StandsFor setup bytes regs
+
+-- a range begins at the first address, and one at each of at most 141 edges
+abbrev pub most_ranges : ℕ
+most_ranges = 142
 
 -- the ranges are the flat map of every board that has these registers, and cover all addresses
 pub record IsMapOf (regs : MapBytes) (ranges : List MapRange) : Type 0 where
@@ -30,6 +35,7 @@ pub record IsMapOf (regs : MapBytes) (ranges : List MapRange) : Type 0 where
   pub board : HasBoard regs
   pub tiles : Tiles 0 ranges
   pub map : (setup : Setup) (bytes : Bytes) → StandsFor setup bytes regs → IsFlatMapOf setup bytes ranges
+  pub few : length ranges ≤ most_ranges
 
 -- the base registers of a card and that of its expansion ROM hold doublewords
 pub record HoldsDoublewords (card : CardBytes) : Type 0 where

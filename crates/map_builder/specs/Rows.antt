@@ -4,7 +4,8 @@ use Rattle.std.specs.List.{AllByRecursion}
 use Rattle.board_base.specs.Access.{bytes_of}
 use Rattle.board_spec.specs.declared.map_change.MapChange.{MapChange}
 use Rattle.board_spec.specs.declared.map_change.MapChange.TheVariants.{Store, Reset}
-use Rattle.board_spec.specs.Ranges.{boundary_unit}
+use Rattle.board_spec.specs.RegisterNames.{drb}
+use Rattle.board_spec.specs.Ranges.{boundary_unit, largest_top}
 use Rattle.map_builder.specs.declared.range.Changed.{Changed}
 use Rattle.map_builder.specs.Changed.{IsOutside}
 
@@ -12,7 +13,7 @@ use Rattle.map_builder.specs.Changed.{IsOutside}
 abbrev pub stores_rows : MapChange → Bool
 stores_rows Reset = false
 stores_rows (Store reg width value) =
-    reg.dev == 0 && reg.fun == 0 && nat_le 0x60 reg.off && nat_le (reg.off + bytes_of width) 0x68
+    reg.dev == 0 && reg.fun == 0 && nat_le (drb 0).off reg.off && nat_le (reg.off + bytes_of width) ((drb 7).off + 1)
 
 -- an address lies below the boundary of a row, where the registers of the boundaries hold these bytes
 abbrev pub is_below : (boundaries : List ℕ) → (addr row : ℕ) → Bool
@@ -36,7 +37,7 @@ pub record RowStays (old new : List ℕ) (addr : ℕ) : Type 0 where
 
 -- a window that a row can have
 abbrev pub IsInRows : Changed → Type 0
-IsInRows window = (window.lo ≤ window.hi) × (window.hi ≤ 0x7F7F_FFFF)
+IsInRows window = (window.lo ≤ window.hi) × (window.hi < largest_top)
 
 -- at most one window, outside of which each address keeps its row
 pub record AreMoved (old new : List ℕ) (windows : List Changed) : Type 0 where

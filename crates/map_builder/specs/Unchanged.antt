@@ -8,6 +8,7 @@ use Rattle.board_spec.specs.Decode.{Bytes}
 use Rattle.board_spec.specs.RegisterNames.{pam, fdhc, smram, xbcs, card_command}
 use Rattle.pci_bars.specs.Cards.{CardBytes}
 use Rattle.board_base.specs.declared.target.Reg.{Reg}
+use Rattle.map_builder.specs.Changed.{is_of_bases}
 
 -- a change stores one byte alone, to a register that holds this byte
 abbrev pub IsHeldAt : MapChange → Bytes → ℕ → Type 0
@@ -28,7 +29,7 @@ is_compared_in_bridge off = is_within (pam 0).off (pam 6).off off || off == fdhc
 
 -- of a card the command and the bases
 abbrev pub is_compared_in_card : (off : ℕ) → Bool
-is_compared_in_card off = off == (card_command 0).off || is_within 0x10 0x27 off
+is_compared_in_card off = off == (card_command 0).off || is_of_bases off
 
 -- a card has this device number
 abbrev pub is_card : List CardBytes → (dev : ℕ) → Bool

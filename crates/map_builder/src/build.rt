@@ -7,7 +7,7 @@ ghost use Rattle.board_spec.specs.FlatMap.{address_count, Tiles, IsFlatMapOf};
 ghost use Rattle.pci_bars.specs.Cards.{AreFitted};
 ghost use Rattle.addr_decode.specs.MapRegs.{MapBytes, StandsFor, map_bytes};
 ghost use Rattle.addr_decode.specs.Edges.{SameAreas, edges_after};
-ghost use Rattle.map_builder.specs.Map.{range_of, HasBoard};
+ghost use Rattle.map_builder.specs.Map.{range_of, most_ranges, HasBoard};
 ghost use Rattle.map_builder.specs.Find.{Begins, Holds};
 ghost use Rattle.map_builder.specs.Build.{GoesOn, IsBuilt, IsMapWhere, IsBelow, IsBetween, IsBeside, IsKept, IsWhole};
 ghost use Rattle.map_builder.specs.Sorted.{Rise, rows_in as rows_of};
@@ -15,17 +15,15 @@ ghost use Rattle.map_builder.specs.Sorted.{Rise, rows_in as rows_of};
 use crate::changed::EVERYTHING;
 use crate::find::index_of;
 use crate::list::FixedList;
-use crate::range::{Changed, Range};
+use crate::range::{Changed, LAST_ADDRESS, Range};
 use addr_decode::{MapRegs, SixAreas, next_edge, row};
 use board_base::Steps;
 use std::sync::ledger::Ledger;
 
-/// The most ranges that a map can keep. A board's map has at most 142.
+/// The most ranges that a map can keep, which is more than a board's map has.
 pub const CAPACITY: usize = 160;
 /// The ranges of a map in rising order of address.
 pub type Ranges = FixedList<Range, CAPACITY>;
-/// The last address.
-const LAST_ADDRESS: u32 = 0xFFFF_FFFF;
 
 /// The flat map of registers: from the first address on, the areas at each edge go on in the range below where it has
 /// the same, and else begin a range.
@@ -35,7 +33,7 @@ pub fn ranges_of<L: Ledger>(regs: &MapRegs, steps: &mut Steps<L>) -> Ranges
     ensures tiles { Tiles 0 (map range_of result.items) }
     ensures map { (setup : Setup) (bytes : Bytes) → StandsFor setup bytes (map_bytes regs.now)
         → IsFlatMapOf setup bytes (map range_of result.items) }
-    ensures few { length result.items ≤ 142 }
+    ensures few { length result.items ≤ most_ranges }
 {
     let mut ranges = FixedList::new();
     let first = first_range(regs, steps);
@@ -58,9 +56,11 @@ pub fn rebuild<L: Ledger>(
     requires board { HasBoard (map_bytes regs.now) }
     requires rise { Rise windows.now }
     requires beside { IsMapWhere (map_bytes regs.now) (IsBeside windows.now) (map range_of ranges.old.items) }
+    requires few { length ranges.old.items ≤ most_ranges }
     ensures tiles { Tiles 0 (map range_of ranges.new.items) }
     ensures map { (setup : Setup) (bytes : Bytes) → StandsFor setup bytes (map_bytes regs.now)
         → IsFlatMapOf setup bytes (map range_of ranges.new.items) }
+    ensures few { length ranges.new.items ≤ most_ranges }
     ensures rows { (setup : Setup) (bytes : Bytes) → StandsFor setup bytes (map_bytes regs.now)
         → steps.new ≤ steps.old + rows_of (edges_after setup bytes) windows.now }
 {
@@ -210,9 +210,9 @@ fn keep(
 fn finish(ranges: &mut Ranges, last: Range, before: &[Range], from: usize, after: u32)
     requires tiles { Tiles 0 (map range_of before.now) }
     requires from { Begins before.now from after }
-    requires kept { IsKept (map range_of ranges.old.items) (range_of last) (map range_of before.now) after 0xFFFF_FFFF }
+    requires kept { IsKept (map range_of ranges.old.items) (range_of last) (map range_of before.now) after (address_count - 1) }
     ensures whole { (regs : MapBytes) → HasBoard regs → IsBuilt regs (map range_of ranges.old.items) (range_of last) after
-        → IsMapWhere regs (IsBetween after 0xFFFF_FFFF) (map range_of before.now) → IsWhole regs ranges.new.items }
+        → IsMapWhere regs (IsBetween after (address_count - 1)) (map range_of before.now) → IsWhole regs ranges.new.items }
 {
     if after == LAST_ADDRESS {
         ranges.push(last);

@@ -2,16 +2,17 @@
 ghost use Rattle.std.specs.Prelude.{true, false, ◌||◌, ◌≡◌, ◌≤◌, ◌<◌, ◌+◌, ◌-◌, ◌*◌, ◌++◌, [], ◌∷◌, All, length, map};
 ghost use Rattle.board_spec.specs.declared.map_change.MapChange.TheVariants.{Store};
 ghost use Rattle.board_spec.specs.Setup.{Setup, IsBase, IsCard, IsExpansionRom};
+ghost use Rattle.board_spec.specs.RegisterNames.{pam};
 ghost use Rattle.board_spec.specs.Decode.{Bytes};
 ghost use Rattle.board_spec.specs.MapWrites.{reg_after};
 ghost use Rattle.pci_bars.specs.Bases.{base_of};
 ghost use Rattle.pci_bars.specs.Cards.{AreCards, AreFitted};
 ghost use Rattle.addr_decode.specs.MapRegs.{StandsFor, map_bytes};
-ghost use Rattle.map_builder.specs.Changed.{bridge_windows as windows_of_bridge, isa_windows as windows_of_isa, windows_of as windows_by, windows_covered, from_to, is_fixed};
+ghost use Rattle.map_builder.specs.Changed.{pam_windows, bridge_windows as windows_of_bridge, isa_windows as windows_of_isa, windows_of as windows_by, windows_covered, from_to, is_fixed};
 ghost use Rattle.map_builder.specs.Held.{block, held_by, held_from, held_at, rom_held, vga_held, card_held, device_held};
 
 use crate::list::FixedList;
-use crate::range::Changed;
+use crate::range::{Changed, LAST_ADDRESS};
 use addr_decode::{MapChange, MapRegs};
 use board_base::{Reg, Width};
 use board_spec::offset::{
@@ -22,12 +23,12 @@ use board_spec::range::{
     AddressRange, EXPANSION_RANGE, HOLE_AT_15_MIB, HOLE_AT_512_KIB, LARGEST_TOP, LOWER_BIOS,
     SELECTABLE_BIOS, SMRAM_RANGE, SYSTEM_BIOS,
 };
-use pci_bars::{BaseSpec, CardRegs};
+use pci_bars::{BaseSpec, CardRegs, card_at};
 
 /// Every address.
 pub const EVERYTHING: Changed = Changed {
     lo: 0,
-    hi: 0xFFFF_FFFF,
+    hi: LAST_ADDRESS,
 };
 /// The first PAM register that governs two shadow windows.
 const PAM1: u8 = PAM0 + 1;
@@ -187,9 +188,9 @@ fn push_two(windows: &mut Covered, first: AddressRange, second: AddressRange)
 
 /// The two shadow windows of a PAM register after PAM0.
 fn windows_of_pam(off: u8) -> Changed
-    requires first { 0x5A ≤ off }
-    requires last { off ≤ 0x5F }
-    ensures windows { result ≡ from_to (0xC_0000 + 0x8000 * (off - 0x5A)) (0xC_7FFF + 0x8000 * (off - 0x5A)) }
+    requires first { (pam 1).off ≤ off }
+    requires last { off ≤ (pam 6).off }
+    ensures windows { result ≡ pam_windows off }
 {
     let lo = EXPANSION_RANGE.first + PAM_SIZE * u32::from(off - PAM1);
     Changed {
@@ -216,11 +217,9 @@ fn push_of_device(windows: &mut Covered, cards: &[CardRegs], dev: u8, off: u8)
     ensures few { length windows.new.items ≤ length windows.old.items + 8 }
     ensures windows { windows.new.items ≡ windows.old.items ++ device_held dev off cards.now }
 {
-    for card in cards {
-        if card.spec.dev == dev {
-            push_of_card(windows, card, off);
-            return;
-        }
+    match card_at(cards, dev) {
+        Some(card) => push_of_card(windows, card, off),
+        None => {}
     }
 }
 

@@ -1,5 +1,5 @@
 //! The memory map as one list of ranges.
-ghost use Rattle.std.specs.Prelude.{◌≡◌, ◌≤◌, ◌<◌, ◌+◌, ℕ, All, false, if◌then◌else◌, length, map};
+ghost use Rattle.std.specs.Prelude.{◌≡◌, ◌≤◌, ◌<◌, ◌+◌, false, if◌then◌else◌, length, map};
 ghost use Rattle.board_base.specs.declared.access.Kind.{Kind};
 ghost use Rattle.board_spec.specs.Limits.{entry_limit};
 ghost use Rattle.board_spec.specs.Setup.{Setup};
@@ -7,11 +7,12 @@ ghost use Rattle.board_spec.specs.declared.map_change.MapChange.TheVariants.{Sto
 ghost use Rattle.board_spec.specs.MapWrites.{touches_map};
 ghost use Rattle.board_spec.specs.Registers.{changed_byte};
 ghost use Rattle.board_spec.specs.Decode.{Bytes};
-ghost use Rattle.board_spec.specs.FlatMap.{address_count, six_areas, Tiles, IsFlatMapOf, IsSpan};
+ghost use Rattle.board_spec.specs.FlatMap.{Tiles, IsFlatMapOf, IsSpan};
 ghost use Rattle.pci_bars.specs.Cards.{AreCardsOf, AreFitted, cards_of};
 ghost use Rattle.addr_decode.specs.MapRegs.{StandsFor, map_bytes};
-ghost use Rattle.map_builder.specs.Map.{range_of, HasBoard, IsMapOf};
-ghost use Rattle.map_builder.specs.Changed.{after, changed_windows, bounds_or_zero, most_rows, IsOutside};
+ghost use Rattle.map_builder.specs.Map.{range_of, most_ranges, HasBoard, IsMapOf};
+ghost use Rattle.map_builder.specs.Changed.{most_rows};
+ghost use Rattle.map_builder.specs.Applied.{IsApplied};
 
 use crate::build::{CAPACITY, Ranges, ranges_of, rebuild};
 use crate::changed::{Covered, keeps_windows, push_again, push_covered};
@@ -64,7 +65,7 @@ impl FlatMap {
         ensures regs { result.regs ≡ map_bytes regs }
         ensures version { result.version ≡ 0 }
         ensures map { (setup : Setup) (bytes : Bytes) → StandsFor setup bytes result.regs → IsFlatMapOf setup bytes result.ranges }
-        ensures few { length result.ranges ≤ 142 }
+        ensures few { length result.ranges ≤ most_ranges }
     {
         hold_widths(&regs);
         let ranges = uncounted_ranges::<Brand>(&regs, Blank::new(1));
@@ -110,6 +111,7 @@ impl FlatMap {
         ensures tiles { Tiles 0 self.now.ranges }
         ensures map { (setup : Setup) (bytes : Bytes) → StandsFor setup bytes self.now.regs
             → IsFlatMapOf setup bytes self.now.ranges }
+        ensures few { length self.now.ranges ≤ most_ranges }
     {
         self.ranges.as_slice()
     }
@@ -139,25 +141,10 @@ impl FlatMap {
 
     /// Makes a change of the registers, which raises the version by one, and tells the bounds of the addresses whose
     /// areas it may change: the least first and the greatest last address of the windows that the registers govern
-    /// which it covers. Both are 0 where there is no such window, and then no area changes.
+    /// which it covers. Both are 0 where there is no such window, and then no area changes (`law_changed_bounds`).
     pub fn apply(&mut self, change: &MapChange) -> Changed
         requires version { self.old.version < entry_limit }
-        ensures stands { (setup : Setup) (bytes : Bytes) → StandsFor setup bytes self.old.regs
-            → StandsFor setup (λ reg. changed_byte setup change.now reg (bytes reg)) self.new.regs }
-        ensures cards { (setup : Setup) (bytes : Bytes) → AreCardsOf setup bytes self.old.regs.cards
-            → AreCardsOf setup (λ reg. changed_byte setup change.now reg (bytes reg)) self.new.regs.cards }
-        ensures same_cards { cards_of self.new.regs.cards ≡ cards_of self.old.regs.cards }
-        ensures version { self.new.version ≡ self.old.version + 1 }
-        ensures map { (setup : Setup) (bytes : Bytes) → StandsFor setup bytes self.new.regs
-            → IsFlatMapOf setup bytes self.new.ranges }
-        ensures changed { (setup : Setup) (bytes : Bytes) → StandsFor setup bytes self.old.regs
-            → result ≡ bounds_or_zero (changed_windows setup bytes change.now) }
-        ensures kept { (setup : Setup) (bytes : Bytes) → StandsFor setup bytes self.old.regs
-            → (addr : ℕ) → addr < address_count → IsOutside addr result
-            → six_areas setup (after setup change.now bytes) addr ≡ six_areas setup bytes addr }
-        ensures beside { (setup : Setup) (bytes : Bytes) → StandsFor setup bytes self.old.regs
-            → (addr : ℕ) → addr < address_count → All (IsOutside addr) (changed_windows setup bytes change.now)
-            → six_areas setup (after setup change.now bytes) addr ≡ six_areas setup bytes addr }
+        ensures applied { IsApplied self.old self.new change.now result }
     {
         self.apply_uncounted::<Brand>(change, Blank::new(1))
     }
@@ -168,22 +155,7 @@ impl FlatMap {
         requires parts { blank.parts ≡ L.parts }
         requires some_part { 0 < L.parts }
         requires version { self.old.version < entry_limit }
-        ensures stands { (setup : Setup) (bytes : Bytes) → StandsFor setup bytes self.old.regs
-            → StandsFor setup (λ reg. changed_byte setup change.now reg (bytes reg)) self.new.regs }
-        ensures cards { (setup : Setup) (bytes : Bytes) → AreCardsOf setup bytes self.old.regs.cards
-            → AreCardsOf setup (λ reg. changed_byte setup change.now reg (bytes reg)) self.new.regs.cards }
-        ensures same_cards { cards_of self.new.regs.cards ≡ cards_of self.old.regs.cards }
-        ensures version { self.new.version ≡ self.old.version + 1 }
-        ensures map { (setup : Setup) (bytes : Bytes) → StandsFor setup bytes self.new.regs
-            → IsFlatMapOf setup bytes self.new.ranges }
-        ensures changed { (setup : Setup) (bytes : Bytes) → StandsFor setup bytes self.old.regs
-            → result ≡ bounds_or_zero (changed_windows setup bytes change.now) }
-        ensures kept { (setup : Setup) (bytes : Bytes) → StandsFor setup bytes self.old.regs
-            → (addr : ℕ) → addr < address_count → IsOutside addr result
-            → six_areas setup (after setup change.now bytes) addr ≡ six_areas setup bytes addr }
-        ensures beside { (setup : Setup) (bytes : Bytes) → StandsFor setup bytes self.old.regs
-            → (addr : ℕ) → addr < address_count → All (IsOutside addr) (changed_windows setup bytes change.now)
-            → six_areas setup (after setup change.now bytes) addr ≡ six_areas setup bytes addr }
+        ensures applied { IsApplied self.old self.new change.now result }
     {
         let mut steps = Steps::<L>::new(blank);
         self.apply_counted(change, &mut steps)
@@ -193,22 +165,7 @@ impl FlatMap {
     /// for each edge that lies inside the windows after the change.
     pub fn apply_counted<L: Ledger>(&mut self, change: &MapChange, steps: &mut Steps<L>) -> Changed
         requires version { self.old.version < entry_limit }
-        ensures stands { (setup : Setup) (bytes : Bytes) → StandsFor setup bytes self.old.regs
-            → StandsFor setup (λ reg. changed_byte setup change.now reg (bytes reg)) self.new.regs }
-        ensures cards { (setup : Setup) (bytes : Bytes) → AreCardsOf setup bytes self.old.regs.cards
-            → AreCardsOf setup (λ reg. changed_byte setup change.now reg (bytes reg)) self.new.regs.cards }
-        ensures same_cards { cards_of self.new.regs.cards ≡ cards_of self.old.regs.cards }
-        ensures version { self.new.version ≡ self.old.version + 1 }
-        ensures map { (setup : Setup) (bytes : Bytes) → StandsFor setup bytes self.new.regs
-            → IsFlatMapOf setup bytes self.new.ranges }
-        ensures changed { (setup : Setup) (bytes : Bytes) → StandsFor setup bytes self.old.regs
-            → result ≡ bounds_or_zero (changed_windows setup bytes change.now) }
-        ensures kept { (setup : Setup) (bytes : Bytes) → StandsFor setup bytes self.old.regs
-            → (addr : ℕ) → addr < address_count → IsOutside addr result
-            → six_areas setup (after setup change.now bytes) addr ≡ six_areas setup bytes addr }
-        ensures beside { (setup : Setup) (bytes : Bytes) → StandsFor setup bytes self.old.regs
-            → (addr : ℕ) → addr < address_count → All (IsOutside addr) (changed_windows setup bytes change.now)
-            → six_areas setup (after setup change.now bytes) addr ≡ six_areas setup bytes addr }
+        ensures applied { IsApplied self.old self.new change.now result }
         ensures rows { (setup : Setup) (bytes : Bytes) → StandsFor setup bytes self.old.regs
             → steps.new ≤ steps.old + most_rows setup bytes change.now }
     {
@@ -287,7 +244,7 @@ fn uncounted_ranges<L: Ledger>(regs: &MapRegs, blank: Blank) -> Ranges
     ensures tiles { Tiles 0 (map range_of result.items) }
     ensures map { (setup : Setup) (bytes : Bytes) → StandsFor setup bytes (map_bytes regs.now)
         → IsFlatMapOf setup bytes (map range_of result.items) }
-    ensures few { length result.items ≤ 142 }
+    ensures few { length result.items ≤ most_ranges }
 {
     let mut steps = Steps::<L>::new(blank);
     ranges_of(regs, &mut steps)

@@ -3,6 +3,9 @@
 use addr_decode::SixAreas;
 use board_base::Area;
 
+/// The last address.
+pub const LAST_ADDRESS: u32 = 0xFFFF_FFFF;
+
 /// A range of the memory map: first and last address, and the areas that each of its addresses has.
 #[derive(Clone, Copy, PartialEq, Eq, Debug, Default)]
 pub struct Range {

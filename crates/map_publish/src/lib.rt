@@ -8,7 +8,7 @@ mod list;
 mod mark;
 mod names;
 mod publisher;
-pub mod sends;
+mod sends;
 mod shown;
 mod viewer;
 

@@ -2,7 +2,7 @@
 ghost use Rattle.std.specs.Prelude.{◌≡◌, ◌≤◌, ◌<◌, ◌++◌, ◌∷◌, [], All, drop, length, IfSome, IfOk, OnOk, MatchResult};
 ghost use Rattle.board_spec.specs.Limits.{entry_limit};
 ghost use Rattle.left_right.specs.Sides.{view};
-ghost use Rattle.map_publish.specs.Lists.{opened_of, version_after, IsMapOfLog};
+ghost use Rattle.map_publish.specs.Lists.{version_after, IsMapOfLog};
 ghost use Rattle.map_publish.specs.Fronts.{head_of};
 ghost use Rattle.map_publish.specs.declared.mark.Mark.TheVariants.{Opened, Changed};
 ghost use Rattle.map_publish.specs.Names.{name};
@@ -91,7 +91,6 @@ impl Publisher {
     pub fn change<R: Wait>(&mut self, rt: &R, change: &MapChange) -> Result<(), NoMemory>
         requires room { version_after self.old.front.seen.log < entry_limit }
         ensures own { self.new.front.seen.book ≡ self.old.front.seen.book }
-        ensures opened { opened_of self.new.front.seen.log ≡ opened_of self.old.front.seen.log }
         ensures list { MatchResult result (λ _. self.new.front.seen.log ≡ self.old.front.seen.log ++ Changed change.now ∷ []) (λ _. self.new.front.seen.log ≡ self.old.front.seen.log) }
     {
         let front = self.front.add(&self.head, change).ok_or(NoMemory)?;
@@ -228,7 +227,7 @@ fn viewers(
     ensures viewers { IfOk result (λ viewers. All (λ viewer. viewer.front ≡ publisher.old.front) viewers.items) }
 {
     let mut viewers = Vec::with_capacity(alloc, readers as usize)?;
-    for number in 0..readers {
+    for _ in 0..readers {
         viewers.push(publisher.viewer())?;
     }
     Ok(viewers)

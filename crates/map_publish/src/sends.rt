@@ -11,21 +11,21 @@ fn sent<X: Send>(x: X) -> X
 }
 
 /// A publisher may go to another thread.
-pub fn send_publisher(publisher: Publisher) -> Publisher
+fn send_publisher(publisher: Publisher) -> Publisher
     ensures same { result ≡ publisher }
 {
     sent(publisher)
 }
 
 /// A viewer may go to another thread.
-pub fn send_viewer(viewer: Viewer) -> Viewer
+fn send_viewer(viewer: Viewer) -> Viewer
     ensures same { result ≡ viewer }
 {
     sent(viewer)
 }
 
 /// A note may go to another thread.
-pub fn send_note(note: Note) -> Note
+fn send_note(note: Note) -> Note
     ensures same { result ≡ note }
 {
     sent(note)

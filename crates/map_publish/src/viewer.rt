@@ -94,7 +94,6 @@ impl Viewer {
         requires begins { IsPrefix self.old.front.seen.log front.seen.log }
         requires map { IsMapOfLog front.seen.log map.now }
         ensures learnt { self.new.front ≡ front }
-        ensures opened { opened_of self.new.front.seen.log ≡ opened_of self.old.front.seen.log }
     {
         self.map.copy_from(map);
         self.front = front;
@@ -119,7 +118,8 @@ impl Viewer {
         self.map.version()
     }
 
-    /// Whether nothing was published since the viewer's own copy, as far as is known without an entry.
+    /// Whether nothing was published since the viewer's own copy, as far as is known without an entry. A hint: no clause
+    /// rests on it.
     fn is_latest(&self) -> bool {
         match &self.latest {
             Some(latest) => latest.load(Ordering::SeqCst) == self.front.count,
@@ -130,7 +130,6 @@ impl Viewer {
     /// Takes in the published map where there may be a newer one.
     fn keep_up(&mut self)
         ensures own { self.new.front.seen.book ≡ self.old.front.seen.book }
-        ensures opened { opened_of self.new.front.seen.log ≡ opened_of self.old.front.seen.log }
         ensures later { IsPrefix self.old.front.seen.log self.new.front.seen.log }
     {
         if !self.is_latest() {
@@ -143,7 +142,6 @@ impl Viewer {
     #[inline(never)]
     fn refresh(&mut self)
         ensures own { self.new.front.seen.book ≡ self.old.front.seen.book }
-        ensures opened { opened_of self.new.front.seen.log ≡ opened_of self.old.front.seen.log }
         ensures later { IsPrefix self.old.front.seen.log self.new.front.seen.log }
     {
         let Some(reader) = self.reader.take() else {

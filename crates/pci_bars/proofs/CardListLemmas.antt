@@ -1,15 +1,16 @@
 -- The cards in a list by their device numbers.
-use Rattle.std.proofs.Common.{◌≡◌, ℕ, Bor, true, false, get_or, List, [], ◌∷◌, length, Option, Some, None, inl, inr, ◌∙◌, refl, sym, ap, subst}
+use Rattle.std.proofs.Common.{◌≡◌, ℕ, Bor, true, false, get_or, List, [], ◌∷◌, length, ◌++◌, ◌+◌, Option, Some, None, inl, inr, ◌∙◌, refl, sym, ap, subst}
 use Rattle.std.specs.Prelude.{◌==◌, All, find, option_map, nat_lt, is_some, slice_get}
 use Rattle.std.specs.Option.{IfSome}
 use Rattle.std.specs.List.{position, position_or_len}
 use Rattle.std.proofs.lemmas.Bool.{cases_Bool, cases_lt, cond-true, cond-false, eqb-true, lt-ltb, le-ltb}
 use Rattle.std.proofs.lemmas.List.Folds.{find_at}
 use Rattle.std.proofs.lemmas.Option.{slice_get_past, slice_get-get_or}
-use Rattle.std.proofs.lemmas.List.Elements.{All-head, All-tail}
+use Rattle.std.proofs.lemmas.List.Elements.{All-nil, All-cons, All-append, All-head, All-tail}
+use Rattle.std.proofs.lemmas.List.{length-append, map-append}
 use Rattle.board_spec.specs.Setup.{FittedCard, Setup, card_at}
 use Rattle.pci_bars.specs.declared.regs.CardRegs.{CardRegs}
-use Rattle.pci_bars.specs.Cards.{CardBytes, cards_of}
+use Rattle.pci_bars.specs.Cards.{CardBytes, IsCardAdded, AreReset, IsReset, cards_of}
 
 -- the card at a device number, among the cards' registers and among the cards
 pub find-cards : (cards : List CardBytes) (dev : ℕ) →
@@ -89,3 +90,23 @@ pub map_twice : (lent : Option (Bor CardRegs)) →
     ≡ option_map (λ (card : CardBytes). card.card) (option_map (λ card. card.now) lent)
 map_twice None = refl
 map_twice (Some card) = refl
+
+-- ---- one card more
+
+pub added-cards : (old new : List CardBytes) (spec : FittedCard) → IsCardAdded old new spec →
+    cards_of new ≡ cards_of old ++ spec ∷ []
+added-cards old new spec is =
+    ap (λ (list : List CardBytes). cards_of list) is.added
+    ∙ map-append (λ (card : CardBytes). card.card) old (is.regs ∷ [])
+    ∙ ap (λ (card : FittedCard). cards_of old ++ card ∷ []) is.card
+
+pub added-reset : (old new : List CardBytes) (spec : FittedCard) → IsCardAdded old new spec → AreReset old →
+    AreReset new
+added-reset old new spec is each =
+    subst AreReset (sym is.added)
+    (All-append IsReset old (is.regs ∷ []) each (All-cons IsReset is.regs [] is.reset (All-nil IsReset)))
+
+pub added-count : (old new : List CardBytes) (spec : FittedCard) → IsCardAdded old new spec →
+    length new ≡ length old + 1
+added-count old new spec is =
+    ap (λ (list : List CardBytes). length list) is.added ∙ length-append old (is.regs ∷ [])

@@ -1,7 +1,7 @@
 -- The base address registers of a card by their numbers.
 use Rattle.std.specs.Prelude.{ℕ, ◌^◌, ◌==◌, if◌then◌else◌, List, Option, slice_get}
 use Rattle.std.specs.Option.{option_map_or}
-use Rattle.board_spec.specs.Setup.{Base, MemoryBase, IoBase, FittedCard}
+use Rattle.board_spec.specs.Setup.{Base, MemoryBase, IoBase, FittedCard, rom_base, vga_base, vga_bits}
 use Rattle.board_spec.specs.Answer.{bits_of_base, base_of_card, rom_bits}
 use Rattle.pci_bars.specs.declared.spec.BaseSpec.{BaseSpec}
 use Rattle.pci_bars.specs.declared.spec.BaseSpec.TheVariants.{Memory, Io}
@@ -22,5 +22,5 @@ of_base number_of bases k = option_map_or number_of (slice_get bases k) 0
 -- how many low bits of an address lie within a base of a card, as `window_bits` says it of a setup's
 abbrev pub bits_in : Option FittedCard → ℕ → ℕ
 bits_in card base =
-    if base == 7 then 17 else
-    if base == 6 then rom_bits card else bits_of_base (base_of_card card base)
+    if base == vga_base then vga_bits else
+    if base == rom_base then rom_bits card else bits_of_base (base_of_card card base)

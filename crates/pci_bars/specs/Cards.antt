@@ -1,5 +1,5 @@
 -- The registers of a card, and what it means that they are those of a board's configuration space.
-use Rattle.std.specs.Prelude.{◌≡◌, ℕ, ◌+◌, ◌<◌, ◌==◌, Bool, false, ◌&&◌, ◌||◌, List, map, All, slice_index, Option, Some, None, is_some, [], ◌∷◌, if◌then◌else◌}
+use Rattle.std.specs.Prelude.{◌≡◌, ℕ, ◌+◌, ◌<◌, ◌==◌, Bool, false, ◌&&◌, ◌||◌, List, map, All, slice_index, Option, Some, None, is_some, [], ◌∷◌, ◌++◌, if◌then◌else◌}
 use Rattle.board_base.specs.declared.access.Width.TheVariants.{Four}
 use Rattle.board_base.specs.declared.target.Reg.{Reg}
 use Rattle.board_spec.specs.Setup.{FittedCard, Setup, IsCard, Rises, card_at}
@@ -78,6 +78,13 @@ IsReset card = (setup : Setup) → card_at setup card.card.dev ≡ Some card.car
 
 abbrev pub AreReset : List CardBytes → Type 0
 AreReset cards = All IsReset cards
+
+-- one card more, as a reset leaves it. Those that were there stay as they are
+pub record IsCardAdded (old new : List CardBytes) (spec : FittedCard) : Type 0 where
+  pub regs : CardBytes
+  pub added : new ≡ old ++ regs ∷ []
+  pub card : regs.card ≡ spec
+  pub reset : IsReset regs
 
 -- the first sixteen registers
 abbrev pub header_of : CardBytes → List ℕ

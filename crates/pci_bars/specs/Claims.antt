@@ -1,7 +1,7 @@
 -- Claims as the cards' own registers decide them.
 use Rattle.std.specs.Prelude.{ℕ, ◌+◌, ◌/◌, ◌^◌, ◌==◌, Bool, true, false, not, ◌&&◌, if◌then◌else◌, List, [], ◌∷◌, Option, Some, None, option_map, slice_index}
 use Rattle.std.specs.Option.{option_or}
-use Rattle.board_spec.specs.Setup.{Base, MemoryBase, IoBase}
+use Rattle.board_spec.specs.Setup.{Base, MemoryBase, IoBase, rom_base, vga_base, vga_bits}
 use Rattle.board_spec.specs.Bits.{is_bit}
 use Rattle.board_spec.specs.Ranges.{smram_range}
 use Rattle.pci_bars.specs.declared.claims.Gate.{Gate}
@@ -32,16 +32,16 @@ abbrev pub rom_covers : Option ℕ → (register place : ℕ) → Bool
 rom_covers None register place = false
 rom_covers (Some bits) register place = agrees bits register place
 
--- the expansion ROM as base 6, among the memory windows where bit 0 of its register selects it
+-- the expansion ROM, among the memory windows where bit 0 of its register selects it
 abbrev pub rom_claim : Windows → Option ℕ → (register place : ℕ) → Option ℕ
-rom_claim Memory rom register place = if is_bit register 0 && rom_covers rom register place then Some 6 else None
+rom_claim Memory rom register place = if is_bit register 0 && rom_covers rom register place then Some rom_base else None
 rom_claim UnselectedRom rom register place =
-    if not (is_bit register 0) && rom_covers rom register place then Some 6 else None
+    if not (is_bit register 0) && rom_covers rom register place then Some rom_base else None
 rom_claim Ports rom register place = None
 
--- the VGA window A0000h to BFFFFh as base 7
+-- the VGA window
 abbrev pub vga_claim : Windows → Bool → ℕ → Option ℕ
-vga_claim Memory vga place = if vga && agrees 17 smram_range.0 place then Some 7 else None
+vga_claim Memory vga place = if vga && agrees vga_bits smram_range.0 place then Some vga_base else None
 vga_claim UnselectedRom vga place = None
 vga_claim Ports vga place = None
 

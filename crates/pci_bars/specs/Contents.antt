@@ -1,9 +1,9 @@
 -- The contents of the cards' bases: a list of bytes each, found by device and base.
-use Rattle.std.specs.Prelude.{◌≡◌, ◌≢◌, ℕ, ◌+◌, ◌-◌, ◌*◌, ◌<◌, ◌≤◌, ◌==◌, if◌then◌else◌, List, [], Option, Some, None, get_or, length, slice_index}
+use Rattle.std.specs.Prelude.{◌≡◌, ◌≢◌, ℕ, ◌+◌, ◌-◌, ◌*◌, ◌^◌, ◌<◌, ◌≤◌, ◌==◌, if◌then◌else◌, List, [], Option, Some, None, get_or, length, slice_index}
 use Rattle.board_base.specs.declared.access.Width.{Width}
 use Rattle.board_base.specs.Access.{bytes_of}
 use Rattle.board_spec.specs.declared.event.Entry.{Entry}
-use Rattle.board_spec.specs.Setup.{FittedCard, Setup, card_at}
+use Rattle.board_spec.specs.Setup.{FittedCard, Setup, card_at, rom_base, vga_base, vga_bits}
 use Rattle.board_spec.specs.Stored.{card_byte, expansion_byte}
 use Rattle.pci_bars.specs.Bases.{base_size, of_base}
 
@@ -24,18 +24,18 @@ held contents dev base = get_or contents (slot_number dev base) []
 -- a byte of a base. That of an expansion ROM is fixed
 abbrev pub held_byte : List (List ℕ) → (dev base off : ℕ) → ℕ
 held_byte contents dev base off =
-    if base == 6 then expansion_byte dev off else slice_index (held contents dev base) off
+    if base == rom_base then expansion_byte dev off else slice_index (held contents dev base) off
 
 -- how many bytes are kept of a base of a card. The VGA window has 128 KiB
 abbrev pub kept_size : Option FittedCard → ℕ → ℕ
 kept_size None base = 0
 kept_size (Some card) base =
-    if base == 7 then (if card.vga then 0x2_0000 else 0) else of_base base_size card.bases base
+    if base == vga_base then (if card.vga then 2 ^ vga_bits else 0) else of_base base_size card.bases base
 
 -- an access lies in the bytes that are kept of a base, or in an expansion ROM
 pub record LiesIn (contents : List (List ℕ)) (dev base off : ℕ) (width : Width) : Type 0 where
   pub number : IsBaseNumber dev base
-  pub fits : base ≢ 6 → off + bytes_of width ≤ length (held contents dev base)
+  pub fits : base ≢ rom_base → off + bytes_of width ≤ length (held contents dev base)
 
 -- each base of the setup's cards has its size, and holds what the last write in a history left there, or the
 -- fixed bytes of an expansion ROM

@@ -3,7 +3,7 @@ ghost use Rattle.std.specs.Prelude.{◌≡◌, ◌==◌, ◌+◌, ◌<◌, ◌++
 ghost use Rattle.std.specs.List.{position};
 ghost use Rattle.arrayvec.specs.ArrayVec.{array_vec_len};
 ghost use Rattle.board_spec.specs.Setup.{Setup, IsCard, card_at};
-ghost use Rattle.pci_bars.specs.Cards.{AreReset, cards_of};
+ghost use Rattle.pci_bars.specs.Cards.{IsCardAdded, cards_of};
 
 use crate::regs::CardRegs;
 use crate::spec::CardSpec;
@@ -28,13 +28,11 @@ pub fn card_at(cards: &[CardRegs], dev: u8) -> Option<&CardRegs>
     cards.get(card_index(cards, dev)?)
 }
 
-/// Adds a card as a reset leaves it.
+/// Adds a card as a reset leaves it. The cards that were there stay as they are.
 pub fn push_card(cards: &mut ArrayVec<CardRegs, CARD_COUNT>, spec: CardSpec)
     requires room { array_vec_len cards.old < 8 }
     requires card { IsCard spec }
-    ensures cards { cards_of cards.new.items ≡ cards_of cards.old.items ++ spec ∷ [] }
-    ensures reset { AreReset cards.old.items → AreReset cards.new.items }
-    ensures count { array_vec_len cards.new ≡ array_vec_len cards.old + 1 }
+    ensures added { IsCardAdded cards.old.items cards.new.items spec }
 {
     cards.push(CardRegs::new(spec));
 }

@@ -8,9 +8,10 @@ ghost use Rattle.pci_bars.specs.Cards.{AreCards, AreDecoded, cards_of};
 ghost use Rattle.pci_bars.specs.Claims.{covers, covering, covering_base, first_claim, gate_of, is_enabled, rom_claim, rom_covers, vga_claim};
 
 use crate::cards::card_at;
-use crate::regs::{CardRegs, IO_SPACE_ENABLE, MEMORY_SPACE_ENABLE};
+use crate::regs::CardRegs;
 use crate::spec::{BASE_COUNT, BaseSpec, ROM_BASE, ROM_ENABLE, VGA_BASE, VGA_BITS};
 use board_spec::bits::is_set;
+use board_spec::command::{IO_SPACE_ENABLE, MEMORY_SPACE_ENABLE};
 use board_spec::range::SMRAM_RANGE;
 
 /// Which windows of a card are asked: those in memory, an expansion ROM that is not selected, or those among the

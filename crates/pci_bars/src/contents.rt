@@ -4,7 +4,7 @@ ghost use Rattle.board_base.specs.declared.access.Width.{Width};
 ghost use Rattle.board_base.specs.declared.target.Target.TheVariants.{Card};
 ghost use Rattle.board_base.specs.Access.{largest_of};
 ghost use Rattle.board_spec.specs.declared.event.Entry.{Entry};
-ghost use Rattle.board_spec.specs.Setup.{Setup, IsCard};
+ghost use Rattle.board_spec.specs.Setup.{Setup, IsCard, rom_base};
 ghost use Rattle.board_spec.specs.Bits.{wide};
 ghost use Rattle.board_spec.specs.Stored.{CardCell, byte_put, card_byte, entry_put, expansion_byte};
 ghost use Rattle.pci_bars.specs.Contents.{IsBaseNumber, slot_number, held, held_byte, kept_size, LiesIn, IsContentsOf};
@@ -53,7 +53,7 @@ impl Contents {
         requires cards { All IsCard specs.now }
         ensures sizes { IfOk result (λ contents. (dev base : ℕ) → IsBaseNumber dev base
             → length (held contents dev base) ≡ kept_size (find (λ card. card.dev == dev) specs.now) base) }
-        ensures zeros { IfOk result (λ contents. (dev base off : ℕ) → base ≢ 6 → held_byte contents dev base off ≡ 0) }
+        ensures zeros { IfOk result (λ contents. (dev base off : ℕ) → base ≢ rom_base → held_byte contents dev base off ≡ 0) }
         ensures stored { IfOk result (λ contents. (setup : Setup) → setup.cards ≡ specs.now
             → IsContentsOf setup [] contents) }
     {

@@ -1,10 +1,11 @@
 //! The configuration registers of a card (PCI Local Bus 2.1, section 6.2).
-ghost use Rattle.std.specs.Prelude.{◌≡◌, ◌≢◌, ◌<◌, ◌/◌, ◌%◌, ℕ, Some, slice_index};
+ghost use Rattle.std.specs.Prelude.{◌≡◌, ◌≢◌, ◌<◌, ◌/◌, ◌%◌, ℕ, true, Some, slice_index};
 ghost use Rattle.board_base.specs.declared.access.Width.TheVariants.{One};
 ghost use Rattle.board_spec.specs.declared.map_change.MapChange.TheVariants.{Store};
 ghost use Rattle.board_spec.specs.Setup.{Setup, IsCard, card_at};
 ghost use Rattle.board_spec.specs.Bits.{byte, merged};
 ghost use Rattle.board_spec.specs.RegisterTable.{reset_byte};
+ghost use Rattle.board_spec.specs.MapWrites.{is_map_byte};
 ghost use Rattle.board_spec.specs.Registers.{changed_byte};
 ghost use Rattle.board_spec.specs.Decode.{Bytes};
 ghost use Rattle.board_spec.specs.RegisterNames.{card_register};
@@ -12,17 +13,12 @@ ghost use Rattle.pci_bars.specs.Cards.{DecodesAs, IsCardOf, header_of};
 
 use crate::spec::{BASE_COUNT, CardSpec};
 use board_spec::bits::merged;
+use board_spec::command::{BUS_MASTER_ENABLE, IO_SPACE_ENABLE, MEMORY_SPACE_ENABLE};
 use board_spec::offset::{
     BASE0, BASE5_END, COMMAND, EXPANSION_ROM, EXPANSION_ROM_END, INTERRUPT_LINE, INTERRUPT_PIN,
 };
 use std::marker::Model;
 
-/// The bit of the command register that lets a card decode I/O ports.
-pub(crate) const IO_SPACE_ENABLE: u32 = 0;
-/// The bit of the command register that lets a card decode memory.
-pub(crate) const MEMORY_SPACE_ENABLE: u32 = 1;
-/// The bit of the command register that lets a card be a bus master.
-const BUS_MASTER_ENABLE: u32 = 2;
 /// The bits of the command register that can be written. The others read 0.
 const COMMAND_WRITABLE: u8 = 1 << IO_SPACE_ENABLE
     | 1 << MEMORY_SPACE_ENABLE
@@ -102,6 +98,9 @@ impl CardRegs {
     pub fn read(&self, off: u8) -> u8
         requires card { IsCard self.now.card }
         ensures byte { (setup : Setup) (bytes : Bytes) → IsCardOf setup bytes self.now
+            → result ≡ bytes (card_register self.now.card.dev off) }
+        ensures decoded { (setup : Setup) (bytes : Bytes) → DecodesAs setup bytes self.now
+            → is_map_byte setup (card_register self.now.card.dev off) ≡ true
             → result ≡ bytes (card_register self.now.card.dev off) }
     {
         match off {

@@ -12,14 +12,14 @@ use std::marker::Model;
 /// How many base address registers a card can have.
 pub const BASE_COUNT: usize = 6;
 /// The base number of the expansion ROM.
-pub const ROM_BASE: u8 = 6;
+pub(crate) const ROM_BASE: u8 = 6;
 /// The base number of the VGA window, A0000h to BFFFFh.
-pub const VGA_BASE: u8 = 7;
+pub(crate) const VGA_BASE: u8 = 7;
 /// log2 of the size of the VGA window.
-pub const VGA_BITS: u8 = 17;
+pub(crate) const VGA_BITS: u8 = 17;
 
 /// The bit of the expansion ROM's register that selects the ROM (PCI Local Bus 2.1, section 6.2.5.2).
-pub const ROM_ENABLE: u32 = 0;
+pub(crate) const ROM_ENABLE: u32 = 0;
 
 /// A base address register for memory or for I/O ports, by log2 of its size in bytes or ports: 4 to 24 for memory, and
 /// 2 to 8 for ports.

@@ -15,6 +15,7 @@ use Rattle.run_order.specs.declared.done.Done.{Done}
 use Rattle.run_order.specs.Placing.{done_by, placed}
 use Rattle.run_order.specs.Room.{Order}
 use Rattle.run_order.specs.PhaseRun.{bare, IsWork, IsPhaseRun, IsPlaced, PhaseRuns}
+use Rattle.run_order.specs.Places.{AreInPlace, AreAllInPlace}
 use Rattle.run_order.specs.Trace.{Begins}
 use Rattle.phase_run.specs.declared.worker.Work.{Work}
 use Rattle.phase_run.specs.Jobs.{IsStatement, HasRun, TakesIn, done_in}
@@ -106,6 +107,10 @@ takes_in before now opened entries phase lists old new version law run b is_old 
       legal = there.legal;
       same = there.bus ∙ ap bare (whole_is before.entries now.entries opened entries b is_old is);
       phases = there.phases;
+      added = there.added;
+      adds = there.adds;
+      size = there.size;
+      places = there.places;
     }
 
 -- ---- phase after phase
@@ -118,6 +123,21 @@ in_phase phase = phase.items
 
 pub phases_more : (done : List Phase) (phase : Phase) → map in_phase (done ++ phase ∷ []) ≡ map in_phase done ++ phase.items ∷ []
 phases_more done phase = map-append in_phase done (phase ∷ [])
+
+-- the last phase is the first of those that have the newest first
+pub newest_first : (done : List Phase) (phase : Phase)
+    → reverse (map in_phase (done ++ phase ∷ [])) ≡ phase.items ∷ reverse (map in_phase done)
+newest_first done phase = ap reverse (phases_more done phase) ∙ reverse-append (map in_phase done) (phase.items ∷ [])
+
+pub all_in_place : (setup : Setup) (phase : List Statement) (earlier : List (List Statement)) (added history all : List Entry)
+    → all ≡ added ++ history → length added ≡ length phase → AreInPlace setup history added → AreAllInPlace setup earlier history
+    → AreAllInPlace setup (phase ∷ earlier) all
+all_in_place setup phase earlier added history all is size places before =
+    let front : take (length phase) all ≡ added =
+    ap (take (length phase)) is ∙ (ap (λ (n : ℕ). take n (added ++ history)) (sym size) ∙ take-append_seam added history) in
+    let back : drop (length phase) all ≡ history =
+    ap (drop (length phase)) is ∙ (ap (λ (n : ℕ). drop n (added ++ history)) (sym size) ∙ drop-append_seam added history) in
+    rw (front, back) (places, before)
 
 pub statements_more : (done : List Phase) (phase : Phase)
     → length (flat_map in_phase (done ++ phase ∷ [])) ≡ length (flat_map in_phase done) + length phase.items

@@ -14,6 +14,7 @@ use Rattle.board_live.specs.Callers.{IsCallerOf, IsNew, setup_of, seen_of, mine_
 use Rattle.run_order.specs.declared.done.Done.{Done}
 use Rattle.run_order.specs.Placing.{done_by}
 use Rattle.run_order.specs.PhaseRun.{IsWork, bare}
+use Rattle.run_order.specs.Places.{AreInPlace}
 use Rattle.run_order.specs.Trace.{Begins}
 use Rattle.phase_run.specs.declared.worker.Work.{Work}
 use Rattle.phase_run.specs.declared.jobs.Job.{Job}
@@ -96,10 +97,14 @@ pub record GoesOn (phase : List Statement) (before now : Run) : Type 0 where
       AreAsked (most + length phase) now.board.entries now.works.items
 
 -- the history of a run, which was `history` before a phase, is legal with it, has the entries of the board's own, and
--- has one phase more
+-- has one phase more, in which each look is in its place
 pub record TakesIn (phase : List Statement) (before now : Standing) (history all : List Entry) : Type 0 where
   pub legal : IsLegal before.setup all
   pub same : bare all ≡ bare now.entries
   pub phases :
       (phases : List (List Statement)) → HasPhases phases (statements_of history) →
       HasPhases (phases ++ phase ∷ []) (statements_of all)
+  pub added : List Entry
+  pub adds : all ≡ added ++ history
+  pub size : length added ≡ length phase
+  pub places : AreInPlace before.setup history added

@@ -1,10 +1,11 @@
 //! A script's phases, one after another.
 
-ghost use Rattle.std.specs.Prelude.{◌≡◌, ◌≤◌, [], All, None, true, length, map, flat_map, IfOk, OnOk};
+ghost use Rattle.std.specs.Prelude.{◌≡◌, ◌≤◌, [], All, None, true, length, map, reverse, flat_map, IfOk, OnOk};
 ghost use Rattle.board_spec.specs.Setup.{IsCardList};
 ghost use Rattle.board_spec.specs.Legal.{IsLegal};
 ghost use Rattle.board_spec.specs.Orders.{IsCompleteFor};
 ghost use Rattle.run_order.specs.PhaseRun.{bare};
+ghost use Rattle.run_order.specs.Places.{AreAllInPlace};
 ghost use Rattle.phase_run.specs.Placed.{entries_of, HasNoLook, IsUpTo};
 ghost use Rattle.board_spec.specs.Limits.{most_statements};
 ghost use Rattle.phase_run.specs.Jobs.{IsStatement, CanDo, GoesOn, HasRun, TakesIn};
@@ -120,6 +121,8 @@ pub fn run_phases<R: Threads + Wait + Sync, G: Gate>(
     requires statements { length (flat_map (λ phase. phase.items) phases.items) ≤ most_statements }
     ensures legal { IfOk result (λ history. IsLegal board.setup history.entries) }
     ensures complete { IfOk result (λ history. IsCompleteFor (map (λ phase. phase.items) phases.items) history.entries) }
+    ensures places { IfOk result (λ history. AreAllInPlace board.setup
+        (reverse (map (λ phase. phase.items) phases.items)) history.entries) }
     ensures own { IfOk result (λ history. All (λ phase. HasNoLook phase.items) phases.items → history.own ≡ true) }
 {
     let mut board = board;

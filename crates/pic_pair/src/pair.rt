@@ -6,11 +6,10 @@ ghost use Rattle.pic_pair.specs.View.{answer_shown};
 
 use crate::chip::{CASCADE, Pic};
 use crate::level_set::LevelSet;
+use device_spec::LINE_COUNT;
 use std::marker::Model;
 
-/// How many lines the pair has.
-const LINES: usize = 16;
-/// How many of them are the master's.
+/// How many of the lines are the master's.
 const MASTER_LINES: usize = 8;
 /// The number of the master, and that of the slave.
 const MASTER: u8 = 0;
@@ -52,13 +51,13 @@ impl PicPair {
     pub fn new() -> PicPair
         ensures power_on { result ≡ pair_at_reset levels_at_power_on }
     {
-        let mut levels = [false; LINES];
+        let mut levels = [false; LINE_COUNT];
         levels[0] = true;
         PicPair::at_reset(&levels)
     }
 
     /// Resets both chips, with the sixteen lines at these levels.
-    pub fn reset(&mut self, levels: [bool; 16])
+    pub fn reset(&mut self, levels: [bool; LINE_COUNT])
         ensures reset { self.new ≡ pair_at_reset levels }
     {
         *self = PicPair::at_reset(&levels);
@@ -83,7 +82,7 @@ impl PicPair {
     }
 
     /// Gives the sixteen lines their levels. Bit k of `elcr` says that line k is level triggered.
-    pub fn lines(&mut self, levels: [bool; 16], elcr: u16)
+    pub fn lines(&mut self, levels: [bool; LINE_COUNT], elcr: u16)
         ensures lines { self.new ≡ pair_after_lines self.old levels elcr }
     {
         let (low, high) = levels.split_at(MASTER_LINES);
@@ -160,7 +159,7 @@ impl PicPair {
     }
 
     /// The pair after a reset, with its lines at these levels.
-    fn at_reset(levels: &[bool; 16]) -> PicPair
+    fn at_reset(levels: &[bool; LINE_COUNT]) -> PicPair
         ensures reset { result ≡ pair_at_reset levels.now }
     {
         let (low, high) = levels.split_at(MASTER_LINES);

@@ -12,12 +12,11 @@ ghost use Rattle.device_spec.specs.Routing.{route_byte, routes_after_write, rout
 
 use board_spec::bits::{is_set, merged};
 use board_spec::offset::{PIRQRCA, PIRQRCD};
+use device_spec::LINE_COUNT;
 use std::marker::Model;
 
 /// How many PCI interrupt pins are routed, PIRQA# to PIRQD#.
 const PINS: usize = 4;
-/// How many interrupt lines the two interrupt controllers have.
-const LINES: usize = 16;
 
 /// The bit that disables the routing.
 const DISABLE: u32 = 7;
@@ -88,10 +87,10 @@ impl Pirq {
     }
 
     /// The lines that the pins hold at 1: each one that a pin at 1 is routed to.
-    pub fn route(&self, pins: [bool; 4]) -> [bool; 16]
+    pub fn route(&self, pins: [bool; 4]) -> [bool; LINE_COUNT]
         ensures lines { (line : ℕ) → line < 16 → slice_index_or result line false ≡ is_line_driven self.now pins line }
     {
-        let mut lines = [false; LINES];
+        let mut lines = [false; LINE_COUNT];
         for pin in 0..PINS {
             match line_of_route(self.bytes[pin]) {
                 Some(line) => lines[line] |= pins[pin],
@@ -164,7 +163,7 @@ mod tests {
             for (number, is_driven) in lines.iter().enumerate() {
                 assert_eq!(rt; *is_driven, line == Some(number), "line {number} at {byte}");
             }
-            assert_eq!(rt; pirq.route([true, true, true, false]), [false; LINES]);
+            assert_eq!(rt; pirq.route([true, true, true, false]), [false; LINE_COUNT]);
         }
     }
 }

@@ -199,13 +199,3 @@ impl Pit {
         }
     }
 }
-
-impl Default for Pit {
-    ghost use Rattle.device_spec.specs.Pit.{PitState};
-
-    ghost is_default = { λ p. p ≡ reset };
-
-    fn default() -> Pit {
-        Pit::new()
-    }
-}

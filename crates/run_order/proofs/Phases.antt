@@ -3,7 +3,7 @@ use Rattle.std.proofs.Common.{◌≡◌, ℕ, suc, ◌+◌, ◌<◌, ◌≤◌, 
 use Rattle.std.specs.Prelude.{reverse, if◌then◌else◌}
 use Rattle.std.proofs.lemmas.Bool.{cases_Bool}
 use Rattle.std.proofs.lemmas.Bool.Decides.{nat_tests}
-use Rattle.std.proofs.lemmas.List.{append-nil, reverse-append, reverse-reverse, map-append, append_cancel_left, length-take, take_all, drop_all, take-append-le, drop-append-le}
+use Rattle.std.proofs.lemmas.List.{append-nil, reverse-append, reverse-reverse, map-append, append_cancel_left, length-map, length-reverse, length-take, take_all, drop_all, take-append-le, drop-append-le}
 use Rattle.std.proofs.lemmas.List.Elements.{filter-append}
 use Rattle.board_spec.specs.declared.event.Event.{Event}
 use Rattle.board_spec.specs.declared.event.Entry.{Entry}
@@ -174,5 +174,6 @@ phase_placed blind setup opened later phase rests final over legal same =
       phases = λ phases has. subst (HasPhases (phases ++ phase ∷ [])) (sym said) (has_more phases phase (statements_of final) part has is_whole);
       added = adds.added;
       adds = adds.adds;
+      size = sym (length-map (reverse adds.added) statement_of ∙ length-reverse adds.added) ∙ is_whole.size;
       places = adds.places;
     }

@@ -61,6 +61,7 @@ pub record IsPlaced (setup : Setup) (opened later : List Entry) (phase : List St
       HasPhases (phases ++ phase ∷ []) (statements_of all)
   pub added : List Entry
   pub adds : all ≡ added ++ history
+  pub size : length added ≡ length phase
   pub places : AreInPlace setup history added
 
 -- with its looks placed, the history of a run stays legal and that of the bus, and has one phase more, in which each

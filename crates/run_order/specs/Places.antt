@@ -1,11 +1,12 @@
 -- The place of a look: directly after the later of its processor's previous statement and the map write whose count is
 -- its version. Looks in the same place stand in order of processor. Histories have the newest entry first.
-use Rattle.std.specs.Prelude.{ℕ, ◌≡◌, ◌<◌, ◌⊎◌, ◌&&◌, nat_lt, if◌then◌else◌, List, [], ◌∷◌, ◌++◌}
+use Rattle.std.specs.Prelude.{ℕ, ◌≡◌, ◌<◌, ◌⊎◌, ◌&&◌, nat_lt, if◌then◌else◌, List, [], ◌∷◌, ◌++◌, length, take, drop}
 use Rattle.board_spec.specs.declared.event.Event.{Event}
 use Rattle.board_spec.specs.declared.event.Event.TheVariants.{Look as LookAt}
 use Rattle.board_spec.specs.declared.event.Reply.{Reply}
 use Rattle.board_spec.specs.declared.event.Reply.TheVariants.{Saw}
 use Rattle.board_spec.specs.declared.event.Entry.{Entry}
+use Rattle.board_spec.specs.declared.event.Statement.{Statement}
 use Rattle.board_spec.specs.Setup.{Setup}
 use Rattle.board_spec.specs.MapWrites.{version_of}
 use Rattle.run_order.specs.Placing.{is_look}
@@ -39,3 +40,10 @@ abbrev pub AreInPlace : Setup → List Entry → List Entry → Type 0
 AreInPlace setup history [] = Unit {0}
 AreInPlace setup history (entry ∷ before) =
     IsInPlace setup history before entry.actor entry.event entry.reply × AreInPlace setup history before
+
+-- cut into parts as long as the phases, the newest first, each look of each part is in its place
+abbrev pub AreAllInPlace : Setup → (phases : List (List Statement)) → List Entry → Type 0
+AreAllInPlace setup [] history = Unit {0}
+AreAllInPlace setup (phase ∷ earlier) history =
+    AreInPlace setup (drop (length phase) history) (take (length phase) history)
+    × AreAllInPlace setup earlier (drop (length phase) history)

@@ -4,6 +4,7 @@ use Rattle.std.specs.Prelude.{codes, decimal}
 use Rattle.std.specs.Fmt.{digits}
 use Rattle.std.specs.Str.Parse.{digits_value}
 use Rattle.std.proofs.lemmas.Grind.{flat_map-append}
+use Rattle.std.proofs.lemmas.Fmt.{decimal_injective}
 use Rattle.std.proofs.lemmas.List.{map-append, reverse-append, reverse-reverse}
 use Rattle.std.proofs.lemmas.List.Elements.{All-nil, All-head, All-tail, All-push}
 use Rattle.board_base.specs.declared.target.Dev.TheVariants.{Pit, Clock, Wires, Ata}
@@ -188,9 +189,26 @@ entry_read version n entry formed =
     ∙ seq_read version entry.actor entry.seq later formed.seq
     ∙ last_read version entry formed
 
+-- the number is the first field
+number_read : (n : ℕ) (entry : Entry) → front space (line_text n entry) ≡ decimal n
+unfolding line_text
+number_read n entry =
+    let event : List ℕ = event_text entry.event in
+    let reply : List ℕ = reply_text (value_bytes entry.event) entry.reply in
+    let numbered : List ℕ = decimal entry.seq ++ space ∷ (event ++ (codes " = " ++ reply)) in
+    ap (front space)
+    (seven_parts (decimal n) (space ∷ decimal entry.actor) (codes ".") (decimal entry.seq) (space ∷ event)
+    (codes " = ") reply)
+    ∙ front-field space (decimal n) (decimal entry.actor ++ 0x2E ∷ numbered) (lacks-word space (decimal n) refl
+    (decimal_word n))
+
 pub line_says_entry : LineSaysEntry
-line_says_entry version n m entry other formed others same =
-    sym (entry_read version n entry formed) ∙ ap (entry_of version) same ∙ entry_read version m other others
+line_says_entry version n m entry other formed others same = (
+  λ first second.
+      decimal_injective n m first second
+      (sym (number_read n entry) ∙ ap (front space) same ∙ number_read m other),
+  sym (entry_read version n entry formed) ∙ ap (entry_of version) same ∙ entry_read version m other others,
+)
 
 -- ---- whole logs
 

@@ -1,5 +1,5 @@
 -- What the laws say: each is proved on a function of `laws`.
-use Rattle.std.specs.Prelude.{ℕ, ◌≡◌, ◌⊎◌, List}
+use Rattle.std.specs.Prelude.{ℕ, ◌≡◌, ◌<◌, ◌^◌, ◌⊎◌, List}
 use Rattle.board_spec.specs.declared.event.Entry.{Entry}
 use Rattle.board_spec.specs.declared.event.Statement.{Statement}
 use Rattle.board_spec.specs.Setup.{Setup}
@@ -41,11 +41,11 @@ SomeReading =
 abbrev pub ScriptsAreInRange : Type 0
 ScriptsAreInRange = (bytes : List ℕ) (script : Script) → IsScriptText bytes script → IsInRangeScript script
 
--- a line of the log says its number and its entry
+-- a line of the log says its number, which is one of 64 bits, and its entry
 abbrev pub LineSaysEntry : Type 0
 LineSaysEntry =
     (version n m : ℕ) (entry other : Entry) → IsWellFormed version entry → IsWellFormed version other →
-    line_text n entry ≡ line_text m other → entry ≡ other
+    line_text n entry ≡ line_text m other → (n < 2 ^ 64 → m < 2 ^ 64 → n ≡ m) × (entry ≡ other)
 
 -- a log says its version and its history
 abbrev pub LogSaysAll : Type 0

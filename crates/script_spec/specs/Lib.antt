@@ -8,3 +8,4 @@ pub mod Checks
 pub mod Laws
 pub mod ExampleScripts
 pub mod ExampleLogs
+pub mod Phases

@@ -30,7 +30,7 @@ pub fn law_in_range()
     ensures each { ScriptsAreInRange }
 {}
 
-/// A line of a log says its entry, and a whole log its version and its history.
+/// A line of a log says its number and its entry, and a whole log its version and its history.
 pub fn law_log_says_all()
     ensures line { LineSaysEntry }
     ensures log { LogSaysAll }

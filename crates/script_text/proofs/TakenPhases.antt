@@ -9,10 +9,11 @@ use Rattle.board_spec.specs.declared.event.Statement.{Statement}
 use Rattle.script_spec.specs.Grammar.{Item, BeginPhase, Ask}
 use Rattle.script_spec.specs.Reasons.{is_phase, is_statement, is_setup, has_setup, pulses_of, pulses_of_event, passes_limits}
 use Rattle.script_spec.specs.ScriptText.{phase_items}
+use Rattle.script_spec.specs.Phases.{lists_of}
 use Rattle.script_spec.proofs.GoodItems.{NoReason, no_reason}
 use Rattle.script_spec.proofs.ReadingExists.{reverse_more, phases_more}
 use Rattle.script_text.specs.declared.reading.Reading.{Reading}
-use Rattle.script_text.specs.Reading.{lists_of, Takes}
+use Rattle.script_text.specs.Reading.{Takes}
 
 abbrev list_of : Vec Statement Global → List Statement
 list_of phase = phase.items

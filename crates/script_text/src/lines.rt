@@ -1,10 +1,11 @@
 //! The lines of a text.
 
-ghost use Rattle.std.specs.Prelude.{◌≡◌, ◌<◌, [], ◌∷◌, length, bytes_eq, IfSome, MatchOption};
+ghost use Rattle.std.specs.Prelude.{◌≡◌, ◌<◌, [], ◌∷◌, length, IfSome, MatchOption};
 ghost use Rattle.script_spec.specs.Lines.{lines_of};
 ghost use Rattle.script_spec.specs.ScriptText.{IsVersion, first_line, BeginsBadly, is_skipped};
 
 use memchr::memchr;
+use script_lines::is_word;
 
 /// What ends a line.
 const LINE_FEED: u8 = b'\n';
@@ -24,13 +25,6 @@ pub(crate) fn split_line(bytes: &[u8]) -> Option<(&[u8], &[u8])>
     }
 }
 
-/// Whether a line is this text.
-fn is_text(line: &[u8], text: &str) -> bool
-    ensures same { result ≡ bytes_eq line.now text.now }
-{
-    line == text.as_bytes()
-}
-
 /// The version that line 1 names, and the bytes after that line. None where it names none, or there is no line.
 pub(crate) fn version_of(bytes: &[u8]) -> Option<(u8, &[u8])>
     ensures cases { MatchOption result (BeginsBadly (lines_of bytes.now))
@@ -38,10 +32,10 @@ pub(crate) fn version_of(bytes: &[u8]) -> Option<(u8, &[u8])>
     ensures shorter { IfSome result (λ p. length p.1.now < length bytes.now) }
 {
     let (line, rest) = split_line(bytes)?;
-    if is_text(line, "board 1") {
+    if is_word(line, "board 1") {
         return Some((1, rest));
     }
-    if is_text(line, "board 2") {
+    if is_word(line, "board 2") {
         return Some((2, rest));
     }
     None

@@ -6,8 +6,9 @@ ghost use Rattle.board_spec.specs.declared.event.Statement.{Statement};
 ghost use Rattle.board_spec.specs.Setup.{IsCard};
 ghost use Rattle.script_spec.specs.Grammar.{SetCpus, SetMemory, SetRom, SetDisk, FitCard, BeginPhase, Ask, IsName};
 ghost use Rattle.script_spec.specs.Reasons.{pulses_of_event};
+ghost use Rattle.script_spec.specs.Phases.{lists_of};
 ghost use Rattle.script_text.specs.Valid.{item_said, IsValid};
-ghost use Rattle.script_text.specs.Reading.{IsWithinLimits, lists_of, Takes};
+ghost use Rattle.script_text.specs.Reading.{IsWithinLimits, Takes};
 
 use crate::name::Name;
 use crate::reading::Reading;

@@ -22,9 +22,9 @@ const FIRST_DEVICE: u32 = 2;
 const LAST_DEVICE: u32 = 9;
 
 /// The powers of two of memory bases: 16 bytes to 16 MiB.
-const LEAST_MEMORY: u32 = 4;
+const LEAST_MEMORY_BITS: u32 = 4;
 
-const MOST_MEMORY: u32 = 24;
+const MOST_MEMORY_BITS: u32 = 24;
 
 /// The powers of two of I/O bases: 4 to 256 ports.
 const LEAST_PORTS: u32 = 2;
@@ -37,7 +37,7 @@ const LEAST_ROM: u32 = 11;
 const MOST_ROM: u32 = 24;
 
 /// The most pulses of one statement.
-const MOST_PULSES: u32 = 1_000_000;
+const MOST_PULSES_AT_ONCE: u32 = 1_000_000;
 
 /// The last sector of the largest disk.
 const LAST_SECTOR: u32 = 0xFFFF;
@@ -79,7 +79,7 @@ fn base_of(field: BaseField) -> Option<BaseSpec>
 fn memory_base(bits: u32) -> Option<BaseSpec>
     ensures base { option_map base_of result ≡ in_case (is_base_in_range (base_said (BaseField.Memory bits))) (base_said (BaseField.Memory bits)) }
 {
-    if is_within(LEAST_MEMORY, MOST_MEMORY, bits) {
+    if is_within(LEAST_MEMORY_BITS, MOST_MEMORY_BITS, bits) {
         Some(BaseSpec::Memory(bits as u8))
     } else {
         None
@@ -178,7 +178,7 @@ fn is_event_in_range(event: &Event) -> bool
     ensures in_range { result ≡ is_event_in_range event.now }
 {
     match event {
-        Event::Pulses(count) => is_within(1, MOST_PULSES, *count),
+        Event::Pulses(count) => is_within(1, MOST_PULSES_AT_ONCE, *count),
         Event::Time(moment) => is_moment(moment),
         Event::Wire { dev, .. } => is_within(FIRST_DEVICE, LAST_DEVICE, u32::from(*dev)),
         Event::Line { irq, .. } => is_free_line(u32::from(*irq)),

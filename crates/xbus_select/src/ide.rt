@@ -12,13 +12,10 @@ ghost use Rattle.xbus_select.specs.Ide.{IsIdeOf, is_ide_decoded};
 
 use crate::header::header_byte;
 use board_spec::bits::{is_set, merged};
+use board_spec::command::{BUS_MASTER_ENABLE, IO_SPACE_ENABLE};
 use board_spec::offset::{COMMAND, IDETIM, IDETIM_HIGH};
 use std::marker::Model;
 
-/// The bit of the command that lets the function answer at I/O ports.
-const IO_SPACE_ENABLE: u32 = 0;
-/// The bit of the command that lets the function be a bus master.
-const BUS_MASTER_ENABLE: u32 = 2;
 /// The bit of IDETIM's high byte, bit 15 of the register, that decodes the ports of the channel.
 const IDE_DECODE_ENABLE: u32 = 7;
 

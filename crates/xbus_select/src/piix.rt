@@ -105,27 +105,6 @@ impl Piix {
         *self = Piix::new();
     }
 
-    /// The X-Bus chip select register.
-    pub fn xbcs(&self) -> u8
-        ensures xbcs { result ≡ self.now.xbcs }
-    {
-        self.xbcs
-    }
-
-    /// The low byte of the IDE function's command.
-    pub fn ide_command(&self) -> u8
-        ensures command { result ≡ self.now.ide.command }
-    {
-        self.ide.command()
-    }
-
-    /// The timing register of the primary IDE channel.
-    pub fn idetim(&self) -> u16
-        ensures timing { result ≡ self.now.ide.timing_low + 0x100 * self.now.ide.timing_high }
-    {
-        self.ide.timing()
-    }
-
     /// Whether the device at a port is selected: the keyboard controller, the clock or the disk at its ports. False
     /// at all other ports.
     pub fn selects(&self, port: u16) -> bool
@@ -202,9 +181,10 @@ mod tests {
             piix.write(1, 0x04, command);
             piix.write(1, 0x40, low);
             piix.write(1, 0x41, high);
-            assert_eq!(rt; piix.xbcs(), xbcs, "XBCS of {xbcs}");
-            assert_eq!(rt; piix.ide_command(), command, "command of {command}");
-            assert_eq!(rt; piix.idetim(), idetim, "IDETIM of {idetim}");
+            assert_eq!(rt; piix.read(0, 0x4E), xbcs, "XBCS of {xbcs}");
+            assert_eq!(rt; piix.read(1, 0x04), command, "command of {command}");
+            assert_eq!(rt; piix.read(1, 0x40), low, "IDETIM of {idetim}");
+            assert_eq!(rt; piix.read(1, 0x41), high, "IDETIM of {idetim}");
             assert_eq!(rt; piix.selects(port), selected, "at {port}");
         }
     }

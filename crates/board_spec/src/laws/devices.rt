@@ -2,6 +2,7 @@
 
 ghost use Rattle.board_spec.specs.DeviceLaws.{FirstLevels, LineHasDriver, LinesStay, MemoryLeavesDevices, OthersStay, PairHasSeen, PairStays, PulsesAdd, UndrivenLines, WireReachesLine};
 ghost use Rattle.board_spec.specs.ResetLaws.{HardResetKeeps, HardResetResets};
+ghost use Rattle.board_spec.specs.SystemPortLaw.{SystemPortByBits};
 
 use device_spec::laws::{pulses_add_up, reserved_lines_rest, same_levels_again};
 
@@ -39,6 +40,11 @@ pub fn law_memory_leaves_devices()
 {
     same_levels_again();
 }
+
+/// What a read of port 61h gives, bit by bit.
+pub fn law_system_port()
+    ensures bits { SystemPortByBits }
+{}
 
 /// Pulses add up.
 pub fn law_pulses()

@@ -1,4 +1,6 @@
 use Rattle.std.proofs.Common.{◌∙◌, refl}
+use Rattle.board_spec.specs.Registers.{byte_of}
+use Rattle.board_stores.proofs.MemoryLemmas.{part_answered}
 use Rattle.board_core.proofs.RegisterSteps.{writes_none}
 use Rattle.board_core.proofs.ChipsetSteps.{chipset_put, chipset_stays}
 use Rattle.board_core.proofs.HeldTargets.{ready}
@@ -11,14 +13,17 @@ write-requires-clause-ready c =
     let stand = c.regs.ensures.stand kept.setup kept.history kept.of.registers in (
       c.args.rom.now,
       ready kept.of kept.image c.requires.bus
-          (c.decoded-answer.ensures.decoded kept.setup kept.history stand kept.image),
+          (part_answered kept.setup kept.history c.args.access.now c.decoded-answer.result
+          (c.decoded-answer.ensures.decoded kept.setup (byte_of kept.setup kept.history) stand kept.image)),
     )
 
 pub returns-then-is_write-clause-answer : goal.returns-then-is_write-clause-answer
 returns-then-is_write-clause-answer c = λ setup history kept image.
     write_answer setup history c.args.access.now c.decoded-answer.result
     (writes_when c.args.access.now.kind c.is_write.result c.is_write.ensures.write ∙ c.if-is_write.true)
-    (c.decoded-answer.ensures.decoded setup history (c.regs.ensures.stand setup history kept.registers) image)
+    (part_answered setup history c.args.access.now c.decoded-answer.result
+    (c.decoded-answer.ensures.decoded setup (byte_of setup history) (c.regs.ensures.stand setup history kept.registers)
+    image))
 
 pub returns-then-is_write-clause-board : goal.returns-then-is_write-clause-board
 returns-then-is_write-clause-board c = λ setup history entry kept image event replied.
@@ -32,14 +37,17 @@ read-requires c =
     let stand = c.regs.ensures.stand kept.setup kept.history kept.of.registers in
     record {
       ready = ready kept.of kept.image c.requires.bus
-          (c.decoded-answer.ensures.decoded kept.setup kept.history stand kept.image);
+          (part_answered kept.setup kept.history c.args.access.now c.decoded-answer.result
+          (c.decoded-answer.ensures.decoded kept.setup (byte_of kept.setup kept.history) stand kept.image));
     }
 
 pub returns-clause-answer : goal.returns-clause-answer
 returns-clause-answer c = λ setup history kept image.
     read_answer setup history c.args.access.now c.decoded-answer.result c.read.result
     (writes_when c.args.access.now.kind c.is_write.result c.is_write.ensures.write ∙ c.if-is_write.false)
-    (c.decoded-answer.ensures.decoded setup history (c.regs.ensures.stand setup history kept.registers) image)
+    (part_answered setup history c.args.access.now c.decoded-answer.result
+    (c.decoded-answer.ensures.decoded setup (byte_of setup history) (c.regs.ensures.stand setup history kept.registers)
+    image))
     (c.read.ensures.value setup history kept.stores image)
 
 pub returns-clause-board : goal.returns-clause-board

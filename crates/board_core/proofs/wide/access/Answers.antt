@@ -1,6 +1,8 @@
 use Rattle.std.proofs.Common.{◌≡◌, ◌∙◌, true, refl}
 use Rattle.board_spec.specs.Stored.{is_write}
 use Rattle.board_spec.specs.WideParts.{parts_of, parts_list}
+use Rattle.board_spec.specs.Registers.{byte_of}
+use Rattle.board_stores.proofs.MemoryLemmas.{parts_answered}
 use Rattle.board_core.proofs.RegisterSteps.{writes_none}
 use Rattle.board_core.proofs.ChipsetSteps.{chipset_put, chipset_stays}
 use Rattle.board_core.proofs.MemorySteps.{writes_when}
@@ -10,8 +12,9 @@ use Rattle.board_core.proofs.wide.access.Goals as goal
 pub write_cycles-requires-clause-ready : goal.write_cycles-requires-clause-ready
 write_cycles-requires-clause-ready c =
     let kept = c.requires.kept in
-    let decoded = c.cycles_of-cut.ensures.decoded kept.setup kept.history
-    (c.regs.ensures.stand kept.setup kept.history kept.of.registers) kept.image in
+    let decoded = parts_answered kept.setup kept.history (parts_of c.args.access.now) _
+    (c.cycles_of-cut.ensures.decoded kept.setup (byte_of kept.setup kept.history)
+    (c.regs.ensures.stand kept.setup kept.history kept.of.registers) kept.image) in
     let is = c.as_slice-cycles.ensures.value in (
       c.args.rom.now,
       cycles_ready kept.of kept.image c.args.access.now _ (c.law_parts.ensures.cut c.args.access.now c.requires.wide)
@@ -30,8 +33,9 @@ write_cycles-requires-clause-writes c =
 pub returns-then-is_write-clause-answer : goal.returns-then-is_write-clause-answer
 returns-then-is_write-clause-answer c = λ setup history kept image.
     let access = c.args.access.now in
-    let decoded = c.cycles_of-cut.ensures.decoded setup history (c.regs.ensures.stand setup history kept.registers)
-    image in
+    let decoded = parts_answered setup history (parts_of access) _
+    (c.cycles_of-cut.ensures.decoded setup (byte_of setup history)
+    (c.regs.ensures.stand setup history kept.registers) image) in
     write_answer setup history access c.parts_of-parts.result
     (writes_when access.kind c.is_write.result c.is_write.ensures.write ∙ c.if-is_write.true)
     (c.parts_of-parts.ensures.answers ∙ rw (← c.as_slice-cycles.ensures.value) at decoded)
@@ -47,8 +51,9 @@ returns-then-is_write-clause-board c = λ setup history entry kept image event r
 pub read_cycles-requires-clause-ready : goal.read_cycles-requires-clause-ready
 read_cycles-requires-clause-ready c =
     let kept = c.requires.kept in
-    let decoded = c.cycles_of-cut.ensures.decoded kept.setup kept.history
-    (c.regs.ensures.stand kept.setup kept.history kept.of.registers) kept.image in
+    let decoded = parts_answered kept.setup kept.history (parts_of c.args.access.now) _
+    (c.cycles_of-cut.ensures.decoded kept.setup (byte_of kept.setup kept.history)
+    (c.regs.ensures.stand kept.setup kept.history kept.of.registers) kept.image) in
     let is = c.as_slice-cycles.ensures.value in
     cycles_ready kept.of kept.image c.args.access.now _ (c.law_parts.ensures.cut c.args.access.now c.requires.wide)
     (rw (← is) at c.cycles_of-cut.ensures.parts) (rw (← is) at decoded)
@@ -59,7 +64,9 @@ returns-clause-answer c = λ setup history kept image.
     let is = c.as_slice-cycles.ensures.value in
     let parts = rw (← is) at c.cycles_of-cut.ensures.parts in
     let decoded = rw (← is) at
-    (c.cycles_of-cut.ensures.decoded setup history (c.regs.ensures.stand setup history kept.registers) image) in
+    (parts_answered setup history (parts_of access) _
+    (c.cycles_of-cut.ensures.decoded setup (byte_of setup history)
+    (c.regs.ensures.stand setup history kept.registers) image)) in
     read_answer setup history access c.parts_of-parts.result c.read_cycles.result
     (writes_when access.kind c.is_write.result c.is_write.ensures.write ∙ c.if-is_write.false)
     (c.parts_of-parts.ensures.answers ∙ decoded)

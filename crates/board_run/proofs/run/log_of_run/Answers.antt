@@ -10,6 +10,7 @@ returns g c =
         history = history;
         legal = c.in_ok-ended.ensures.legal;
         complete = c.in_ok-ended.ensures.complete;
+        places = c.in_ok-ended.ensures.places;
         locked = c.law_lock.ensures.kept c.args.board.setup history c.in_ok-ended.ensures.legal;
         log = c.in_ok-text.ensures.text;
       };

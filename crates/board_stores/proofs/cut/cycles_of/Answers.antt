@@ -5,8 +5,8 @@ use Rattle.board_base.specs.declared.access.Width.{Width}
 use Rattle.board_base.specs.declared.access.Access.{Access}
 use Rattle.board_base.specs.Access.{bytes_of}
 use Rattle.board_spec.specs.WideParts.{longest_at}
-use Rattle.board_spec.specs.Answer.{part_answer}
 use Rattle.board_stores.specs.declared.cut.Cycle.{Cycle}
+use Rattle.board_stores.specs.Targets.{part_in}
 use Rattle.board_stores.specs.Cycles.{accesses}
 use Rattle.board_stores.proofs.CutLemmas.{part_within, next_part, no_part, all_parts, all_decoded}
 use Rattle.board_stores.proofs.cut.cycles_of.Goals.{then-done-access, else-done-access}
@@ -36,10 +36,10 @@ loop-preserved c =
                 rw (items, done_is, map-append (λ (cycle : Cycle). cycle.access) cycles (cycle ∷ []))
                 (next_part access (accesses cycles) c.loop.counter c.loop.done part c.loop-test.true some
                 w.part_at-part.ensures.part c.loop.invariant.parts);
-            decoded = λ setup history stands image.
+            decoded = λ setup bytes stands image.
                 rw items
-                (all_decoded setup history cycles cycle (c.loop.invariant.decoded setup history stands image)
-                (w.decoded.ensures.decoded setup history stands image));
+                (all_decoded setup bytes cycles cycle (c.loop.invariant.decoded setup bytes stands image)
+                (w.decoded.ensures.decoded setup bytes stands image));
           }
       | else-done-access w ↦
           let access = c.args.access.now in
@@ -50,8 +50,8 @@ loop-preserved c =
             parts =
                 rw (w.cycles-is, w.done-is)
                 (no_part access (accesses c.loop.cycles.items) c.loop.counter c.loop.done all c.loop.invariant.parts);
-            decoded = λ setup history stands image.
-                rw w.cycles-is (c.loop.invariant.decoded setup history stands image);
+            decoded = λ setup bytes stands image.
+                rw w.cycles-is (c.loop.invariant.decoded setup bytes stands image);
           }
     ]
 
@@ -61,8 +61,8 @@ returns-clause-parts c =
     c.loop.invariant.parts
 
 pub returns-clause-decoded : goal.returns-clause-decoded
-returns-clause-decoded c = λ setup history stands image.
-    c.loop.invariant.decoded setup history stands image
-    ∙ ap (map (part_answer setup history))
+returns-clause-decoded c = λ setup bytes stands image.
+    c.loop.invariant.decoded setup bytes stands image
+    ∙ ap (map (part_in setup bytes))
     (all_parts c.args.access.now (accesses c.loop.cycles.items) c.loop.counter c.loop.done (omega arith)
     c.loop.invariant.parts)

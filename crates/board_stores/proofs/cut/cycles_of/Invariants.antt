@@ -1,9 +1,8 @@
-use Rattle.std.proofs.Common.{◌≡◌, ◌≤◌, List, length, map}
-use Rattle.board_spec.specs.declared.event.Entry.{Entry}
+use Rattle.std.proofs.Common.{◌≡◌, ◌≤◌, length, map}
 use Rattle.board_spec.specs.Setup.{Setup}
-use Rattle.board_spec.specs.Answer.{part_answer}
-use Rattle.board_spec.specs.Registers.{byte_of}
+use Rattle.board_spec.specs.Decode.{Bytes}
 use Rattle.addr_decode.specs.MapRegs.{StandsFor, map_bytes}
+use Rattle.board_stores.specs.Targets.{part_in}
 use Rattle.board_stores.specs.Cycles.{accesses, answers}
 use Rattle.board_stores.proofs.CutLemmas.{GoesOn}
 use Rattle.board_stores.proofs.cut.cycles_of.Given as goal
@@ -14,7 +13,6 @@ invariant-loop l = record {
   few : length l.cycles.items ≤ l.counter;
   parts : GoesOn l.access (accesses l.cycles.items) l.counter l.done;
   decoded :
-      (setup : Setup) (history : List Entry) → StandsFor setup (byte_of setup history) (map_bytes l.regs) →
-      setup.rom ≡ l.rom →
-      answers l.cycles.items ≡ map (part_answer setup history) (accesses l.cycles.items);
+      (setup : Setup) (bytes : Bytes) → StandsFor setup bytes (map_bytes l.regs) → setup.rom ≡ l.rom →
+      answers l.cycles.items ≡ map (part_in setup bytes) (accesses l.cycles.items);
 }

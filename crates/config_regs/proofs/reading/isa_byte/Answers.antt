@@ -1,6 +1,5 @@
 use Rattle.std.proofs.Common.{◌∙◌, sym, arith, inl, inr}
 use Rattle.xbus_select.specs.Piix.{IsIsaFixed, IsOffRouting}
-use Rattle.config_regs.proofs.FixedBytes.{isa_always}
 use Rattle.config_regs.proofs.reading.isa_byte.Goals as goal
 use Rattle.config_regs.proofs.reading.isa_byte.Goals.{in_default-via-then-off-lt96, in_default-via-else-off-lt96+else-off-lt100}
 
@@ -13,6 +12,5 @@ returns-in_default c =
     ] in
     let fixed : IsIsaFixed c.args.off = record { select = omega arith; routing = routing } in
     record {
-      byte = λ setup history is.
-          c.isa_fixed_byte.ensures.byte setup ∙ sym (isa_always setup history c.args.off fixed);
+      byte = λ setup bytes is has. c.isa_fixed_byte.ensures.byte setup ∙ sym (has.isa_bytes c.args.off fixed);
     }

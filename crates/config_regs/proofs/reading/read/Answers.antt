@@ -1,40 +1,39 @@
 use Rattle.std.proofs.Common.{◌≡◌, ℕ, ◌≤◌, ◌∙◌, length, slice_index, set, inl, inr, length-set, get_or-set_same, get_or-set_other, sym, refl, subst, arith}
 use Rattle.std.proofs.lemmas.Bool.{cases_eq}
 use Rattle.board_base.specs.Access.{bytes_of}
-use Rattle.board_spec.specs.Registers.{byte_of}
 use Rattle.board_spec.specs.MapWrites.{reg_after}
 use Rattle.addr_decode.proofs.StoreLemmas.{few_bytes}
 use Rattle.config_regs.proofs.Functions.{wide_shifted}
 use Rattle.config_regs.proofs.reading.read.Goals as goal
 
 pub loop-index-init : goal.loop-index-init
-loop-index-init c = record { four = refl; read = λ setup history is exists' k below. absurd (omega arith) }
+loop-index-init c = record { four = refl; read = λ setup bytes is has exists' k below. absurd (omega arith) }
 
 pub loop-index-preserved : goal.loop-index-preserved
 loop-index-preserved c =
-    let bytes = c.loop-index.bytes in
+    let read = c.loop-index.bytes in
     let index = c.loop-index.index in
     let few : bytes_of c.args.width ≤ 4 = few_bytes c.args.width in
-    let four : length bytes ≡ 4 = c.loop-index.invariant.four in
+    let four : length read ≡ 4 = c.loop-index.invariant.four in
     record {
-      four = length-set bytes c.from.result c.read_byte.result ∙ four;
-      read = λ setup history is exists' k below. rw c.from.ensures elim (cases_eq k index) [
+      four = length-set read c.from.result c.read_byte.result ∙ four;
+      read = λ setup bytes is has exists' k below. rw c.from.ensures elim (cases_eq k index) [
         | inl here ↦
-            subst (λ (j : ℕ). slice_index (set bytes index c.read_byte.result) j
-            ≡ byte_of setup history (reg_after c.args.reg j)) (sym here)
-            (get_or-set_same bytes index c.read_byte.result 0 (omega arith)
-            ∙ c.read_byte.ensures.byte setup history is exists')
+            subst (λ (j : ℕ). slice_index (set read index c.read_byte.result) j
+            ≡ bytes (reg_after c.args.reg j)) (sym here)
+            (get_or-set_same read index c.read_byte.result 0 (omega arith)
+            ∙ c.read_byte.ensures.byte setup bytes is has exists')
         | inr apart ↦
-            get_or-set_other bytes index k c.read_byte.result 0 apart
-            ∙ c.loop-index.invariant.read setup history is exists' k (omega arith)
+            get_or-set_other read index k c.read_byte.result 0 apart
+            ∙ c.loop-index.invariant.read setup bytes is has exists' k (omega arith)
       ];
     }
 
 pub returns : goal.returns
 returns c = record {
-  value = λ setup history is exists'.
+  value = λ setup bytes is has exists'.
       c.read_at.ensures.value
-      ∙ wide_shifted (slice_index c.loop-index.bytes) (λ off. byte_of setup history (record c.args.reg { off = off }))
+      ∙ wide_shifted (slice_index c.loop-index.bytes) (λ off. bytes (record c.args.reg { off = off }))
       c.args.reg.off c.args.width
-      (λ k below. c.loop-index.invariant.read setup history is exists' k (omega arith));
+      (λ k below. c.loop-index.invariant.read setup bytes is has exists' k (omega arith));
 }

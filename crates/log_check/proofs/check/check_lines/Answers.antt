@@ -3,7 +3,7 @@ use Rattle.board_spec.specs.declared.event.Statement.{Statement}
 use Rattle.board_spec.specs.Setup.{Setup}
 use Rattle.board_spec.specs.Legal.{IsLegal}
 use Rattle.log_check.specs.declared.fault.CheckFault.TheVariants.{NoMemory}
-use Rattle.log_check.specs.Phases.{listed}
+use Rattle.script_spec.specs.Phases.{lists_of}
 use Rattle.log_check.specs.Walks.{Failed}
 use Rattle.log_check.proofs.LineSteps.{handed_on}
 use Rattle.log_check.proofs.LogChecks.{known, failed_first, failed_heading, failed_within, passed, failed_end, nothing_left, something_left}
@@ -12,13 +12,13 @@ use Rattle.log_check.proofs.check.check_lines.Goals as goal
 pub returns-in_err-print_heading-clause-checked : goal.returns-in_err-print_heading-clause-checked
 returns-in_err-print_heading-clause-checked c =
     handed_on c.from_residual.result NoMemory _ _ c.from_residual.ensures.1
-    (failed_first c.args.board.now.setup c.args.version (listed c.args.phases.now) c.args.bytes.now
+    (failed_first c.args.board.now.setup c.args.version (lists_of c.args.phases.now) c.args.bytes.now
     c.args.board.now.entries c.requires.fresh)
 
 pub returns-in_err-rest-clause-checked : goal.returns-in_err-rest-clause-checked
 returns-in_err-rest-clause-checked c =
     let setup : Setup = c.args.board.now.setup in
-    let phases : List (List Statement) = listed c.args.phases.now in
+    let phases : List (List Statement) = lists_of c.args.phases.now in
     let printed = c.deref.ensures ∙ c.in_ok-print_heading.ensures.printed in
     handed_on c.from_residual-in_err-rest.result c.in_err-rest.field-0.0 _ _ c.from_residual-in_err-rest.ensures.1
     (subst (Failed setup c.args.version phases c.args.bytes.now c.args.board.now.entries)
@@ -31,7 +31,7 @@ returns-in_err-rest-clause-checked c =
 pub returns-in_err-rest-2-clause-checked : goal.returns-in_err-rest-2-clause-checked
 returns-in_err-rest-2-clause-checked c =
     let setup : Setup = c.args.board.now.setup in
-    let phases : List (List Statement) = listed c.args.phases.now in
+    let phases : List (List Statement) = lists_of c.args.phases.now in
     let printed = c.deref.ensures ∙ c.in_ok-print_heading.ensures.printed in
     handed_on c.from_residual-in_err-rest-2.result c.in_err-rest-2.field-0.0 _ _ c.from_residual-in_err-rest-2.ensures.1
     (failed_within setup c.args.version phases c.args.bytes.now c.check_phases.new.board.entries
@@ -46,7 +46,7 @@ returns-then-is_empty-clause-checked c =
     let walked =
     c.in_ok-rest-2.ensures.walked c.args.version c.args.bytes.now
     (c.in_ok-rest.ensures.cases ∙ ap (λ (t : List ℕ). t ++ c.in_ok-rest.rest.now) printed) in
-    passed c.args.board.now.setup c.args.version (listed c.args.phases.now) c.args.bytes.now
+    passed c.args.board.now.setup c.args.version (lists_of c.args.phases.now) c.args.bytes.now
     c.check_phases.new.board.entries c.in_ok-rest-2.rest.now c.len-count.result
     (subst (λ (setup : Setup). IsLegal setup c.check_phases.new.board.entries) c.check_phases.ensures.setup
     c.history.ensures.legal)
@@ -57,7 +57,7 @@ returns-then-is_empty-clause-checked c =
 pub returns-clause-checked : goal.returns-clause-checked
 returns-clause-checked c =
     let setup : Setup = c.args.board.now.setup in
-    let phases : List (List Statement) = listed c.args.phases.now in
+    let phases : List (List Statement) = lists_of c.args.phases.now in
     let printed = c.deref.ensures ∙ c.in_ok-print_heading.ensures.printed in
     let walked =
     c.in_ok-rest-2.ensures.walked c.args.version c.args.bytes.now

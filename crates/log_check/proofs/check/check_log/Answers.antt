@@ -1,7 +1,7 @@
 use Rattle.std.proofs.Common.{ap, subst, ◌∙◌}
 use Rattle.std.specs.Prelude.{MatchResult}
 use Rattle.board_spec.specs.Setup.{Setup}
-use Rattle.log_check.specs.Phases.{listed}
+use Rattle.script_spec.specs.Phases.{lists_of}
 use Rattle.log_check.specs.Checked.{IsCheckedLog}
 use Rattle.log_check.specs.Walks.{Failed}
 use Rattle.log_check.proofs.LogChecks.{nothing_begun, begun_after, exactly}
@@ -9,19 +9,19 @@ use Rattle.log_check.proofs.check.check_log.Goals as goal
 
 pub returns-in_err-reserve-clause-begun : goal.returns-in_err-reserve-clause-begun
 returns-in_err-reserve-clause-begun c =
-    nothing_begun (listed c.args.phases.now) c.reserve.new.self.entries
+    nothing_begun (lists_of c.args.phases.now) c.reserve.new.self.entries
     (ap (λ board. board.entries) c.in_err-reserve.ensures.err ∙ c.requires.fresh)
 
 pub returns-clause-exactly : goal.returns-clause-exactly
 returns-clause-exactly c =
-    exactly c.args.board.now.setup c.args.version (listed c.args.phases.now) c.args.bytes.now
+    exactly c.args.board.now.setup c.args.version (lists_of c.args.phases.now) c.args.bytes.now
     c.check_lines.new.board.entries c.check_lines.result
     (subst (λ (setup : Setup). MatchResult c.check_lines.result
-    (IsCheckedLog setup c.args.version (listed c.args.phases.now) c.args.bytes.now c.check_lines.new.board.entries)
-    (Failed setup c.args.version (listed c.args.phases.now) c.args.bytes.now c.check_lines.new.board.entries))
+    (IsCheckedLog setup c.args.version (lists_of c.args.phases.now) c.args.bytes.now c.check_lines.new.board.entries)
+    (Failed setup c.args.version (lists_of c.args.phases.now) c.args.bytes.now c.check_lines.new.board.entries))
     (ap (λ board. board.setup) c.in_ok-reserve.ensures.ok) c.check_lines.ensures.checked)
 
 pub returns-clause-begun : goal.returns-clause-begun
 returns-clause-begun c =
-    begun_after c.reserve.new.self.setup c.args.version (listed c.args.phases.now) c.args.bytes.now
+    begun_after c.reserve.new.self.setup c.args.version (lists_of c.args.phases.now) c.args.bytes.now
     c.check_lines.new.board.entries c.check_lines.result c.check_lines.ensures.checked

@@ -7,7 +7,8 @@ use Rattle.board_spec.specs.LogText.{log_text}
 use Rattle.board_spec.specs.Orders.{statements_of, IsCompleteFor}
 use Rattle.board_spec.specs.OrderLaws.{in_file_order}
 use Rattle.board_core.specs.Steps.{AreInRange}
-use Rattle.log_check.specs.Phases.{IsTyped, listed}
+use Rattle.script_spec.specs.Phases.{lists_of}
+use Rattle.log_check.specs.Phases.{IsTyped}
 use Rattle.log_check.specs.Walks.{Place, Stopped}
 use Rattle.log_check.proofs.LineSteps.{handed_on}
 use Rattle.log_check.proofs.PhaseLists.{phases_cut, phases_more, length_cut, all_of_phase}
@@ -25,9 +26,9 @@ loop-phase-init c = record {
 pub check_phase-requires-clause-spare : goal.check_phase-requires-clause-spare
 check_phase-requires-clause-spare c =
     let i : ℕ = c.loop-phase.phase-index in
-    let before : List (List Statement) = listed (take i c.args.phases.now) in
-    let later : List (List Statement) = listed (drop (i + 1) c.args.phases.now) in
-    let size : length (in_file_order (listed c.args.phases.now))
+    let before : List (List Statement) = lists_of (take i c.args.phases.now) in
+    let later : List (List Statement) = lists_of (drop (i + 1) c.args.phases.now) in
+    let size : length (in_file_order (lists_of c.args.phases.now))
     ≡ length (in_file_order before) + (length c.phase-item.result.items + length (in_file_order later)) =
     ap (λ (ps : List (List Statement)). length (in_file_order ps))
     (phases_cut c.args.phases.now i c.phase-item.result c.loop-phase-test.true c.phase-item.is)
@@ -40,8 +41,8 @@ check_phase-requires-clause-in_range c =
     let i : ℕ = c.loop-phase.phase-index in
     let P : Statement → Type 0 = λ statement. IsInRange c.args.board.now.setup statement.event in
     let own : All P c.phase-item.result.items =
-    all_of_phase P (listed (take i c.args.phases.now)) c.phase-item.result.items
-    (listed (drop (i + 1) c.args.phases.now))
+    all_of_phase P (lists_of (take i c.args.phases.now)) c.phase-item.result.items
+    (lists_of (drop (i + 1) c.args.phases.now))
     (subst (λ (ps : List (List Statement)). All P (in_file_order ps))
     (phases_cut c.args.phases.now i c.phase-item.result c.loop-phase-test.true c.phase-item.is) c.requires.in_range) in
     subst (λ (setup : Setup). AreInRange setup c.deref.result.now) (sym c.loop-phase.invariant.setup)
@@ -51,16 +52,16 @@ pub check_phase-requires-clause-typed : goal.check_phase-requires-clause-typed
 check_phase-requires-clause-typed c =
     let i : ℕ = c.loop-phase.phase-index in
     subst (All IsTyped) (sym c.deref.ensures.value)
-    (all_of_phase IsTyped (listed (take i c.args.phases.now)) c.phase-item.result.items
-    (listed (drop (i + 1) c.args.phases.now))
+    (all_of_phase IsTyped (lists_of (take i c.args.phases.now)) c.phase-item.result.items
+    (lists_of (drop (i + 1) c.args.phases.now))
     (subst (λ (ps : List (List Statement)). All IsTyped (in_file_order ps))
     (phases_cut c.args.phases.now i c.phase-item.result c.loop-phase-test.true c.phase-item.is) c.requires.typed))
 
 pub loop-phase-preserved : goal.loop-phase-preserved
 loop-phase-preserved c =
     let i : ℕ = c.loop-phase.phase-index in
-    let before : List (List Statement) = listed (take i c.args.phases.now) in
-    let more : listed (take (i + 1) c.args.phases.now) ≡ before ++ c.phase-item.result.items ∷ [] =
+    let before : List (List Statement) = lists_of (take i c.args.phases.now) in
+    let more : lists_of (take (i + 1) c.args.phases.now) ≡ before ++ c.phase-item.result.items ∷ [] =
     phases_more c.args.phases.now i c.phase-item.result c.loop-phase-test.true c.phase-item.is in
     let place : ℕ → List ℕ → Place = λ (version : ℕ) (bytes : List ℕ). record {
       version = version;
@@ -69,7 +70,7 @@ loop-phase-preserved c =
       later = [];
       count = 0;
     } in
-    let size : length (in_file_order (listed (take (i + 1) c.args.phases.now)))
+    let size : length (in_file_order (lists_of (take (i + 1) c.args.phases.now)))
     ≡ length (in_file_order before) + (length c.phase-item.result.items + 0) =
     ap (λ (ps : List (List Statement)). length (in_file_order ps)) more
     ∙ length_cut before c.phase-item.result.items [] in
@@ -91,9 +92,9 @@ loop-phase-preserved c =
 pub returns-in_err-left-clause-walked : goal.returns-in_err-left-clause-walked
 returns-in_err-left-clause-walked c = λ version bytes text.
     let i : ℕ = c.loop-phase.phase-index in
-    let before : List (List Statement) = listed (take i c.args.phases.now) in
-    let later : List (List Statement) = listed (drop (i + 1) c.args.phases.now) in
-    let cut : listed c.args.phases.now ≡ before ++ c.phase-item.result.items ∷ later =
+    let before : List (List Statement) = lists_of (take i c.args.phases.now) in
+    let later : List (List Statement) = lists_of (drop (i + 1) c.args.phases.now) in
+    let cut : lists_of c.args.phases.now ≡ before ++ c.phase-item.result.items ∷ later =
     phases_cut c.args.phases.now i c.phase-item.result c.loop-phase-test.true c.phase-item.is in
     let place : Place = record { version = version; bytes = bytes; done = before; later = later; count = 0 } in
     let stopped =
@@ -109,7 +110,7 @@ returns-in_err-left-clause-walked c = λ version bytes text.
 
 pub returns-clause-walked : goal.returns-clause-walked
 returns-clause-walked c = λ version bytes text. (
-  subst (λ phases. IsCompleteFor (listed phases) c.loop-phase.board.entries)
+  subst (λ phases. IsCompleteFor (lists_of phases) c.loop-phase.board.entries)
       (take_all c.loop-phase.phase-index c.args.phases.now c.loop-phase-test.false) c.loop-phase.invariant.complete,
   c.loop-phase.invariant.past version bytes text,
 )

@@ -2,16 +2,16 @@ use Rattle.std.proofs.Common.{ℕ, ◌≡◌, ◌≤◌, ◌+◌, ◌++◌, List
 use Rattle.board_spec.specs.Orders.{IsCompleteFor}
 use Rattle.board_spec.specs.OrderLaws.{in_file_order}
 use Rattle.board_spec.specs.LogText.{log_text}
-use Rattle.log_check.specs.Phases.{listed}
+use Rattle.script_spec.specs.Phases.{lists_of}
 use Rattle.log_check.proofs.check.check_phases.Given as goal
 
 abbrev pub invariant-loop-phase : goal.invariant-loop-phase
 invariant-loop-phase l = record {
   setup : l.board.setup ≡ l.fn.board.setup;
   spare :
-      length (in_file_order (listed l.phases))
-      ≤ l.board.spare + length (in_file_order (listed (take l.phase-index l.phases)));
-  complete : IsCompleteFor (listed (take l.phase-index l.phases)) l.board.entries;
+      length (in_file_order (lists_of l.phases))
+      ≤ l.board.spare + length (in_file_order (lists_of (take l.phase-index l.phases)));
+  complete : IsCompleteFor (lists_of (take l.phase-index l.phases)) l.board.entries;
   past : (version : ℕ) (bytes : List ℕ) → bytes ≡ log_text version [] ++ l.rest →
       bytes ≡ log_text version l.board.entries ++ l.left;
 }

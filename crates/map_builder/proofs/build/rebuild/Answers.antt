@@ -24,3 +24,6 @@ returns-clause-tiles g c = c.sweep.ensures.whole.tiles
 
 pub returns-clause-map : goal.returns-clause-map
 returns-clause-map g c = c.sweep.ensures.whole.is_map
+
+pub returns-clause-few : goal.returns-clause-few
+returns-clause-few g c = c.sweep.ensures.whole.few

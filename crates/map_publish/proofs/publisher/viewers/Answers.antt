@@ -3,15 +3,15 @@ use Rattle.std.proofs.lemmas.List.Elements.{All-append}
 use Rattle.map_publish.specs.declared.viewer.Viewer.{Viewer}
 use Rattle.map_publish.proofs.publisher.viewers.Goals as goal
 
-pub loop-number-preserved : goal.loop-number-preserved
-loop-number-preserved c =
-    let before = c.loop-number.viewers.items in
-    let front : c.viewer.new.self.front ≡ c.args.publisher.now.front = c.viewer.ensures.same ∙ c.loop-number.invariant.front in
+pub loop-preserved : goal.loop-preserved
+loop-preserved c =
+    let before = c.loop.viewers.items in
+    let front : c.viewer.new.self.front ≡ c.args.publisher.now.front = c.viewer.ensures.same ∙ c.loop.invariant.front in
     let added : c.push.new.self.items ≡ before ++ c.viewer.result ∷ [] = search rules in
     let P : Viewer → Type 0 = λ viewer. viewer.front ≡ c.args.publisher.now.front in
-    let last : All P (c.viewer.result ∷ []) = search (rules, c.viewer.ensures.viewer ∙ c.loop-number.invariant.front) in
+    let last : All P (c.viewer.result ∷ []) = search (rules, c.viewer.ensures.viewer ∙ c.loop.invariant.front) in
     record {
       front = front;
       count = search rules;
-      each = subst (λ (viewers : List Viewer). All P viewers) (sym added) (All-append P before (c.viewer.result ∷ []) c.loop-number.invariant.each last);
+      each = subst (λ (viewers : List Viewer). All P viewers) (sym added) (All-append P before (c.viewer.result ∷ []) c.loop.invariant.each last);
     }

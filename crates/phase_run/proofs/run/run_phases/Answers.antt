@@ -7,9 +7,10 @@ use Rattle.board_spec.specs.Setup.{Setup}
 use Rattle.board_spec.specs.Legal.{IsLegal}
 use Rattle.board_spec.specs.Orders.{statements_of, HasPhases}
 use Rattle.board_spec.specs.Limits.{most_statements}
+use Rattle.run_order.specs.Places.{AreInPlace, AreAllInPlace}
 use Rattle.phase_run.specs.Jobs.{AreAsked, IsStatement}
 use Rattle.phase_run.specs.Placed.{entries_of, HasNoLook}
-use Rattle.phase_run.proofs.Phases.{phases_more, statements_more, statements_within}
+use Rattle.phase_run.proofs.Phases.{phases_more, newest_first, all_in_place, statements_more, statements_within}
 use Rattle.phase_run.proofs.run.run_phases.Goals as goal
 
 abbrev Phase : Type 0
@@ -63,6 +64,7 @@ loop-phase-preserved g c =
     ap (λ (phases : List Phase). l.yielded ++ phases) (sym steps) ∙ l.invariant.left in
     let room = room_for l.yielded phase rest c.args.phases.items whole c.requires.statements in
     let next = c.in_ok-run.run' in
+    let taken = c.in_ok-run.ensures.takes_in in
     let asked = c.in_ok-run.ensures.goes_on.asked (length (flat_map in_phase l.yielded)) l.invariant.asked room in
     record {
       left = append_assoc l.yielded (phase ∷ []) rest ∙ whole;
@@ -78,6 +80,11 @@ loop-phase-preserved g c =
       up_to = c.in_ok-run.ensures.up_to;
       phases = subst (λ (ps : List (List Statement)). HasPhases ps (statements_of (entries_of c.run_phase.new.placing.order next.board.entries)))
           (sym (phases_more l.yielded phase)) (c.in_ok-run.ensures.takes_in.phases _ l.invariant.phases);
+      places = subst (λ (ps : List (List Statement)). AreAllInPlace c.args.board.setup ps (entries_of c.run_phase.new.placing.order next.board.entries))
+          (sym (newest_first l.yielded phase))
+          (all_in_place c.args.board.setup phase.items _ taken.added _ _ taken.adds taken.size
+          (subst (λ (setup : Setup). AreInPlace setup (entries_of l.placing.order l.run.board.entries) taken.added) l.invariant.setup taken.places)
+          l.invariant.places);
       own = λ all. c.in_ok-run.ensures.own
           (of_one (λ (one : Phase). HasNoLook one.items) l.yielded phase rest (subst (All (λ (one : Phase). HasNoLook one.items)) (sym whole) all))
           (l.invariant.own all);

@@ -1,6 +1,7 @@
-use Rattle.std.proofs.Common.{rules, ◌∙◌, ◌++◌, [], ◌∷◌, ap, sym, List, arith}
+use Rattle.std.proofs.Common.{ℕ, ◌∙◌, ◌+◌, ◌++◌, [], ◌∷◌, ap, sym, List, arith}
 use Rattle.board_spec.specs.Setup.{FittedCard}
 use Rattle.pci_bars.specs.Cards.{CardBytes, cards_of}
+use Rattle.pci_bars.proofs.CardListLemmas.{added-cards, added-count, added-reset}
 use Rattle.addr_decode.proofs.CardLemmas.{fitted_same, one_more_pushed, all_pushed}
 use Rattle.addr_decode.proofs.regs.MapRegs.reset.Goals as goal
 
@@ -22,14 +23,18 @@ pub loop-card-preserved : goal.loop-card-preserved
 loop-card-preserved c = record {
   from = c.loop-card.invariant.from;
   few = c.loop-card.invariant.few;
-  count = search rules;
+  count =
+      added-count c.loop-card.cards.items c.push_card.new.cards.items c.copy.result c.push_card.ensures.added
+      ∙ ap (λ (n : ℕ). n + 1) c.loop-card.invariant.count;
   pushed =
       one_more_pushed c.as_slice-card-items.result.now c.loop-card.card-index c.card-item.result
       (cards_of c.push_card.new.cards.items) c.copy.result
       (omega arith) c.card-item.is (c.copy.ensures.equal ∙ ap (λ (card : CardBytes). card.card) c.card.view_is)
-      (c.push_card.ensures.cards
+      (added-cards c.loop-card.cards.items c.push_card.new.cards.items c.copy.result c.push_card.ensures.added
       ∙ ap (λ (first : List FittedCard). first ++ c.copy.result ∷ []) c.loop-card.invariant.pushed);
-  reset = c.push_card.ensures.reset c.loop-card.invariant.reset;
+  reset =
+      added-reset c.loop-card.cards.items c.push_card.new.cards.items c.copy.result c.push_card.ensures.added
+      c.loop-card.invariant.reset;
 }
 
 pub returns-clause-reset : goal.returns-clause-reset

@@ -1,6 +1,6 @@
 -- The statements so far are done.
-use Rattle.std.proofs.Common.{◌≡◌, ◌+◌, ◌++◌, take}
-use Rattle.board_spec.specs.Legal.{IsLegal}
+use Rattle.std.proofs.Common.{◌≡◌, ◌+◌, ◌++◌, List, take}
+use Rattle.board_spec.specs.declared.event.Entry.{Entry}
 use Rattle.board_spec.specs.Orders.{statements_of}
 use Rattle.board_core.proofs.board.Board.steps.Given as goal
 
@@ -9,5 +9,5 @@ invariant-loop-statement l = record {
   setup : l.self.setup ≡ l.fn.self.setup;
   room : l.self.spare + l.statement-index ≡ l.fn.self.spare;
   same : statements_of l.self.entries ≡ statements_of l.fn.self.entries ++ take l.statement-index l.statements;
-  legal : IsLegal l.fn.self.setup l.fn.self.entries → IsLegal l.self.setup l.self.entries;
+  grows : (more : List Entry) × (l.self.entries ≡ more ++ l.fn.self.entries);
 }

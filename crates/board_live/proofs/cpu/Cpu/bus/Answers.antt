@@ -41,11 +41,11 @@ commit-requires-clause-adds g c =
 pub leave-requires-clause-begins : goal.leave-requires-clause-begins
 leave-requires-clause-begins g c =
     let viewer : c.enter-held.new.viewer.front.seen.log ≡ c.args.self.now.viewer.front.seen.log = search rules in
-    let now : c.commit.new.held.value.publisher.front.seen.log ≡ c.step.new.self.publisher.front.seen.log =
+    let now : c.commit.new.held.value.publisher.value.front.seen.log ≡ c.step.new.self.publisher.value.front.seen.log =
     search rules in
     subst (λ (z : List Mark × List Mark). IsPrefix z.0 z.1) (λ k. (sym viewer k, sym now k))
-    (prefix_trans c.args.self.now.viewer.front.seen.log c.enter-held.result.value.publisher.front.seen.log
-    c.step.new.self.publisher.front.seen.log
+    (prefix_trans c.args.self.now.viewer.front.seen.log c.enter-held.result.value.publisher.value.front.seen.log
+    c.step.new.self.publisher.value.front.seen.log
     c.enter-held.ensures.meets c.step.ensures.later)
 
 pub invariant_of-self : goal.invariant_of-self
@@ -104,7 +104,7 @@ returns-in-Ok-clause-added g c =
     let listed : seen_in now ≡ reverse c.step.new.self.board.value.entries = search rules in
     let seen : reverse (seen_in now) ≡ entry ∷ held.board.value.entries =
     ap reverse listed ∙ (reverse-reverse c.step.new.self.board.value.entries ∙ entries) in
-    let log : c.leave.new.viewer.front.seen.log ≡ c.step.new.self.publisher.front.seen.log = search rules in
+    let log : c.leave.new.viewer.front.seen.log ≡ c.step.new.self.publisher.value.front.seen.log = search rules in
     let known : known_after (setup_in now) (opened_in now) c.leave.new.viewer.front.seen.log
     ≡ map_writes_of (setup_in pass) c.step.new.self.board.value.entries =
     known_left pass now c.step.new.self c.leave.new.viewer.front.seen.log same log (found.setup ∙ sym stepped.setup)

@@ -23,9 +23,9 @@ use Rattle.board_live.proofs.live.Live.open.Goals as goal
 pub shared-requires-clause-opens : goal.shared-requires-clause-opens
 shared-requires-clause-opens g c =
     let board = c.deref.result.now in
-    let map : opened_of c.in-Ok-open.publisher.front.seen.log ≡ c.map.result.now = search rules in
+    let map : opened_of c.in-Ok-new.publisher.value.front.seen.log ≡ c.map.result.now = search rules in
     let version : c.map.result.now.version ≡ length (map_writes_of board.setup board.entries) = c.map.ensures.version in
-    subst (λ (b : Standing). Opens b.setup b.entries (opened_of c.in-Ok-open.publisher.front.seen.log)) c.deref.ensures
+    subst (λ (b : Standing). Opens b.setup b.entries (opened_of c.in-Ok-new.publisher.value.front.seen.log)) c.deref.ensures
     (subst (λ (m : Mapped). Opens board.setup board.entries m) (sym map)
     (record {
       stands = stands_after board.setup board.entries c.map.result.now.regs
@@ -40,10 +40,10 @@ callers-cpus-requires-clause-viewers g c =
     let part : part_of pass ≡ Some (opened_with shared) = search rules in
     let opened : opened_by pass ≡ reverse shared.board.value.entries = search rules in
     let count : shared.opened ≡ length shared.board.value.entries = search rules in
-    let none : changes_of shared.publisher.front.seen.log ≡ [] = search rules in
-    let fronts : All (λ (viewer : Viewer). viewer.front ≡ shared.publisher.front) c.in-Ok-open.viewers.items =
+    let none : changes_of shared.publisher.value.front.seen.log ≡ [] = search rules in
+    let fronts : All (λ (viewer : Viewer). viewer.front ≡ shared.publisher.value.front) c.in-Ok-open.viewers.items =
     search rules in
-    All-weaker (λ (viewer : Viewer). viewer.front ≡ shared.publisher.front) (IsViewerFor pass)
+    All-weaker (λ (viewer : Viewer). viewer.front ≡ shared.publisher.value.front) (IsViewerFor pass)
     (λ viewer front. opened_viewer pass shared viewer part opened count front none) c.in-Ok-open.viewers.items fronts
 
 pub returns-in-Ok-open-2-clause-opened : goal.returns-in-Ok-open-2-clause-opened

@@ -5,7 +5,9 @@ use Rattle.board_spec.specs.declared.map_change.MapChange.{MapChange}
 use Rattle.board_spec.specs.MapWrites.{map_change_of, version_of}
 use Rattle.board_spec.specs.Legal.{next_entry}
 use Rattle.board_core.specs.Kept.{Standing}
+use Rattle.map_publish.specs.declared.publisher.Publisher.{Publisher}
 use Rattle.map_publish.specs.Lists.{opened_of, changes_of, version_after}
+use Rattle.map_publish.proofs.Changes.{opened_same}
 use Rattle.board_live.specs.Known.{oldest}
 use Rattle.board_live.proofs.Histories.{oldest_added, writes_few}
 use Rattle.board_live.proofs.Limits.{few_entries, few_added}
@@ -24,14 +26,16 @@ reserve-requires g c =
 pub publish-requires : goal.publish-requires
 publish-requires g c =
     let shared = c.args.self.now in
-    let log = shared.publisher.front.seen.log in
+    let log = shared.publisher.value.front.seen.log in
     let all : length shared.board.value.entries ≤ 2_000_000 =
     few_entries shared.callers shared.board.value.entries shared.few in
     let writes = writes_few shared.board.value.setup shared.board.value.entries in
     let version : version_after log ≡ version_of shared.board.value.setup shared.board.value.entries =
     published_version shared.board.value.setup shared.opened shared.board.value.entries log shared.published
     shared.opens.version in
-    record { room = omega (arith, all, writes, version) }
+    let same : version_after c.deref_mut-2.result.now.front.seen.log ≡ version_after log =
+    ap (λ (p : Publisher). version_after p.front.seen.log) c.deref_mut-2.ensures.value in
+    record { room = omega (arith, all, writes, version, same) }
 
 pub invariant_of-self-2 : goal.invariant_of-self-2
 invariant_of-self-2 g c =
@@ -42,17 +46,20 @@ invariant_of-self-2 g c =
     let reply = c.step-reply.result in
     let entry : Entry = next_entry board.entries c.args.number event reply in
     let stepped : IsStepped board c.reserve.new.self now entry =
-    is_stepped board c.deref_mut.result.now c.reserve.new.self c.deref_mut-2.result.now now c.reserve.new.self.spare _
-    c.args.number event reply c.deref_mut.ensures.value (search rules) c.deref_mut-2.ensures.value
+    is_stepped board c.deref_mut.result.now c.reserve.new.self c.deref_mut-3.result.now now c.reserve.new.self.spare _
+    c.args.number event reply c.deref_mut.ensures.value (search rules) c.deref_mut-3.ensures.value
     c.step-reply.ensures.entry in
-    let log = shared.publisher.front.seen.log in
+    let log = shared.publisher.value.front.seen.log in
     let later = c.publish.new.publisher.front.seen.log in
     let changes : changes_of later ≡ option_to_list c.map_change-change.result ++ changes_of log = search rules in
     let change : c.map_change-change.result ≡ map_change_of board.setup board.entries event =
     c.map_change-change.ensures.change
     ∙ (ap (λ (b : Standing). map_change_of b.setup b.entries event) c.deref-2.ensures
     ∙ λ k. map_change_of (stepped.reserved_setup k) (stepped.reserved_entries k) event) in
-    let opened : opened_of later ≡ opened_of log = c.publish.ensures.opened in
+    let opened : opened_of later ≡ opened_of log =
+    opened_same c.deref_mut-2.result.now.front.seen.log later (omega (arith, c.deref_mut-2.result.now.front.begun))
+    c.publish.ensures.later
+    ∙ ap (λ (p : Publisher). opened_of p.front.seen.log) c.deref_mut-2.ensures.value in
     rw (stepped.setup, stepped.entries) (record {
       within = let within : shared.opened ≤ length board.entries = shared.within in omega (arith, within);
       few = few_added shared.callers entry board.entries shared.few c.requires.number c.requires.few;
@@ -70,13 +77,13 @@ returns-clause-same g c =
     let reply = c.step-reply.result in
     let entry : Entry = next_entry board.entries c.args.number event reply in
     let stepped : IsStepped board c.reserve.new.self now entry =
-    is_stepped board c.deref_mut.result.now c.reserve.new.self c.deref_mut-2.result.now now c.reserve.new.self.spare _
-    c.args.number event reply c.deref_mut.ensures.value (search rules) c.deref_mut-2.ensures.value
+    is_stepped board c.deref_mut.result.now c.reserve.new.self c.deref_mut-3.result.now now c.reserve.new.self.spare _
+    c.args.number event reply c.deref_mut.ensures.value (search rules) c.deref_mut-3.ensures.value
     c.step-reply.ensures.entry in
     record {
       setup = stepped.setup;
       opened = ap (λ (h : List Entry). oldest shared.opened h) stepped.entries
           ∙ oldest_added shared.opened entry board.entries shared.within;
       callers = refl;
-      book = c.publish.ensures.own;
+      book = c.publish.ensures.own ∙ ap (λ (p : Publisher). p.front.seen.book) c.deref_mut-2.ensures.value;
     }

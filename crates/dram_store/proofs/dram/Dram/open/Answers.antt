@@ -1,4 +1,4 @@
-use Rattle.std.proofs.Common.{ℕ, ◌≡◌, [], None, replicate, ◌∙◌, ap, arith}
+use Rattle.std.proofs.Common.{ℕ, ◌≡◌, replicate, ◌∙◌, ap, arith}
 use Rattle.std.specs.List.{concat}
 use Rattle.board_spec.specs.Setup.{Setup, installed}
 use Rattle.dram_store.proofs.ConcatLemmas.{zero_banks}
@@ -20,10 +20,6 @@ returns-clause-fresh c = λ setup same. fresh setup (concat c.loop.banks.items) 
 
 pub invariant_of-result : goal.invariant_of-result
 invariant_of-result c = record {
-  size = record {
-    setup = record { mib = c.args.mib; cards = []; rom = []; disk = None };
-    whole = omega (arith, c.loop.invariant.count);
-    most = c.requires.most;
-  };
+  most = let most = c.requires.most in omega (arith, c.loop.invariant.count);
   each = c.loop.invariant.each;
 }

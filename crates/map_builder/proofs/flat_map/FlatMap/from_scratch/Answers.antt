@@ -14,6 +14,7 @@ invariant_of-result c = record {
   board = has_board (map_bytes c.args.regs) c.requires.cards c.hold_widths.ensures.widths;
   tiles = c.uncounted_ranges-ranges.ensures.tiles;
   map = c.uncounted_ranges-ranges.ensures.map;
+  few = omega (arith, c.uncounted_ranges-ranges.ensures.few, length-map c.uncounted_ranges-ranges.result.items range_of);
 }
 
 pub returns-clause-few : goal.returns-clause-few

@@ -16,7 +16,7 @@ pub returns-then-touches-clause-version : goal.returns-then-touches-clause-versi
 returns-then-touches-clause-version c = λ setup same.
     let board = c.self.invariant.board in
     let cards = subst (λ (flat : Mapped). setup.cards ≡ cards_of flat.regs.cards) (sym c.self.view_is) same in
-    c.apply.ensures.version
+    c.apply.ensures.applied.version
     ∙ ap (λ (is : Bool). c.args.self.now.version + (if is then 1 else 0))
     (sym c.if-touches.true
     ∙ touched_alike (map_bytes c.self.inside.regs) board setup c.args.reg c.args.width c.args.value c.touches.result cards

@@ -4,7 +4,7 @@ use Rattle.map_publish.proofs.shown.Shown.grow.Goals as goal
 pub invariant_of-self : goal.invariant_of-self
 invariant_of-self c =
     let shown = c.args.self.now in
-    let made = c.apply.ensures in
+    let made = c.apply.ensures.applied in
     record {
       is_map = rw (c.grown.ensures.list) (changed_map shown.list.log c.args.change.now shown.map c.apply.new.self shown.is_map made.stands made.same_cards made.version);
     }

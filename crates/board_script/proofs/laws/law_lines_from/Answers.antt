@@ -1,5 +1,5 @@
 use Rattle.board_script.proofs.Parts.{lines_of_history, lines_of_parts}
-use Rattle.board_script.proofs.laws.law_lines.Goals as goal
+use Rattle.board_script.proofs.laws.law_lines_from.Goals as goal
 
 pub returns-clause-whole : goal.returns-clause-whole
 returns-clause-whole c = lines_of_history
