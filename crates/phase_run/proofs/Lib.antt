@@ -1,6 +1,5 @@
 pub mod Beginnings
 pub mod Pairs
 pub mod Phases
-pub mod Looks
 pub mod Numbers
 pub mod Workers

@@ -1,7 +1,7 @@
 -- A phase, as the history of the run takes it in.
-use Rattle.std.proofs.Common.{◌≡◌, ℕ, ◌+◌, ◌<◌, ◌≤◌, List, [], ◌∷◌, ◌++◌, map, length, take, drop, flat_map, All, Option, Vec, Global, sym, ◌∙◌, ap, subst, arith}
+use Rattle.std.proofs.Common.{◌≡◌, ℕ, ◌+◌, ◌<◌, ◌≤◌, List, [], ◌∷◌, ◌++◌, map, length, take, drop, get_or, flat_map, All, Option, Vec, Global, sym, ◌∙◌, ap, subst, arith}
 use Rattle.std.specs.Prelude.{reverse}
-use Rattle.std.proofs.lemmas.List.{reverse-append, reverse-reverse, length-append, length-map, length-reverse, map-append, append-nil}
+use Rattle.std.proofs.lemmas.List.{reverse-append, reverse-reverse, length-append, length-map, length-reverse, map-append, append-nil, take-append-drop, drop_more}
 use Rattle.std.proofs.lemmas.Grind.{flat_map-append}
 use Rattle.std.proofs.Math.Seq.{drop-append_seam, take-append_seam}
 use Rattle.std.proofs.lemmas.List.Elements.{All-drop}
@@ -153,3 +153,13 @@ statements_within done phase rest =
     ∙ length-append (flat_map in_phase done) (phase.items ++ flat_map in_phase rest) in
     let later = length-append phase.items (flat_map in_phase rest) in
     omega (arith, whole, later)
+
+-- the statements of the phases before one, and its own
+pub few_so_far : (phases : List Phase) (i : ℕ) (phase : Phase) → i < length phases → phase ≡ get_or phases i phase
+    → length (flat_map in_phase (take i phases)) + length phase.items ≤ length (flat_map in_phase phases)
+few_so_far phases i phase less is =
+    let cut : take i phases ++ phase ∷ drop (i + 1) phases ≡ phases =
+    ap (λ (rest : List Phase). take i phases ++ rest) (ap (λ (p : Phase). p ∷ drop (i + 1) phases) is ∙ sym (drop_more phases i phase less))
+    ∙ take-append-drop i phases in
+    subst (λ (ps : List Phase). length (flat_map in_phase (take i phases)) + length phase.items ≤ length (flat_map in_phase ps)) cut
+    (statements_within (take i phases) phase (drop (i + 1) phases))

@@ -1,9 +1,7 @@
 -- The order of a run beside the history of its board. Histories have the newest entry first.
-use Rattle.std.specs.Prelude.{◌≡◌, false, List, length, reverse, All, Option, None, Some}
+use Rattle.std.specs.Prelude.{◌≡◌, List, length, reverse, Option, None, Some}
 use Rattle.board_spec.specs.declared.event.Entry.{Entry}
-use Rattle.board_spec.specs.declared.event.Statement.{Statement}
 use Rattle.run_order.specs.Over.{over}
-use Rattle.run_order.specs.Placing.{is_look}
 use Rattle.run_order.specs.Room.{Order}
 
 -- the entries of a run: the board's own, where the run has no order of its own
@@ -15,7 +13,3 @@ entries_of (Some order) own = over (reverse own) order.entries
 abbrev pub IsUpTo : Option Order → List Entry → Type 0
 IsUpTo None own = Unit {0}
 IsUpTo (Some order) own = order.bus ≡ length own
-
--- no statement is a look
-abbrev pub HasNoLook : List Statement → Type 0
-HasNoLook statements = All (λ statement. is_look statement.event ≡ false) statements

@@ -15,7 +15,7 @@ use board_spec::{Event, Look};
 use std::sync::Wait;
 
 /// A caller of a shared board, of one processor.
-pub trait Caller {
+pub(crate) trait Caller {
     /// The shared board.
     type Shared;
 

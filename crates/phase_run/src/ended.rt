@@ -1,6 +1,6 @@
 //! A run that has ended.
 
-ghost use Rattle.std.specs.Prelude.{◌≡◌, length, reverse, is_none, All, IfSome, MatchOption};
+ghost use Rattle.std.specs.Prelude.{◌≡◌, length, reverse, All, IfSome, MatchOption};
 ghost use Rattle.run_order.specs.Over.{IsWithin, over};
 ghost use Rattle.phase_run.specs.Placed.{entries_of, IsUpTo};
 
@@ -9,8 +9,8 @@ use board_spec::Entry;
 use run_order::{RunEntry, RunOrder};
 use std::marker::Model;
 
-/// A run that has ended. Contracts see the entries of its history, the newest first, whether it is the board's own, and
-/// the board's own, the oldest first.
+/// A run that has ended. Contracts see the entries of its history, the newest first, and those of the board's own, the
+/// oldest first.
 #[derive(Drop)]
 pub struct EndedRun {
     board: Board,
@@ -18,7 +18,7 @@ pub struct EndedRun {
 }
 
 impl Model for EndedRun {
-    ghost use Rattle.std.specs.Prelude.{reverse, is_none};
+    ghost use Rattle.std.specs.Prelude.{reverse};
     ghost use Rattle.phase_run.specs.Ended.{Ended};
     ghost use Rattle.phase_run.specs.Placed.{entries_of, IsUpTo};
 
@@ -26,7 +26,6 @@ impl Model for EndedRun {
 
     ghost view = { λ run. record {
       entries = entries_of run.order run.board.entries;
-      own = is_none run.order;
       bus = reverse run.board.entries;
     } };
 
@@ -38,7 +37,6 @@ impl EndedRun {
     pub(crate) fn new(board: Board, order: Option<RunOrder>) -> EndedRun
         requires up_to { IsUpTo order board.entries }
         ensures entries { result.entries ≡ entries_of order board.entries }
-        ensures own { result.own ≡ is_none order }
         ensures bus { result.bus ≡ reverse board.entries }
     {
         EndedRun { board, order }
@@ -53,7 +51,6 @@ impl EndedRun {
 
     /// The order of all entries, where somebody looked. Else they are those of the bus.
     pub fn order(&self) -> Option<&[RunEntry]>
-        ensures own { is_none result ≡ self.now.own }
         ensures entries { MatchOption result (self.now.bus ≡ reverse self.now.entries)
             (λ order. over self.now.bus order.now ≡ reverse self.now.entries) }
         ensures within { IfSome result (λ order. All (IsWithin (length self.now.bus)) order.now) }

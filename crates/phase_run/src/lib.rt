@@ -10,6 +10,5 @@ mod placing;
 mod run;
 mod worker;
 
-pub use caller::Caller;
 pub use ended::EndedRun;
 pub use run::run_phases;

@@ -1,10 +1,9 @@
 //! The order of a run beside the history of its board.
 
-ghost use Rattle.std.specs.Prelude.{◌≡◌, ◌<◌, ◌≤◌, All, None, length, map, take, drop, reverse, OnOk};
+ghost use Rattle.std.specs.Prelude.{◌≡◌, ◌<◌, ◌≤◌, All, length, map, take, drop, reverse, OnOk};
 ghost use Rattle.board_spec.specs.Setup.{Setup};
 ghost use Rattle.board_spec.specs.Legal.{IsLegal};
 ghost use Rattle.run_order.specs.Placing.{placed};
-ghost use Rattle.run_order.specs.Room.{HaveLooked};
 ghost use Rattle.phase_run.specs.Placed.{entries_of, IsUpTo};
 
 use board_base::NoMemory;
@@ -40,8 +39,6 @@ impl Placing {
             ≡ placed version (drop opened bus.now) (map (λ done. done.now) works.entry.items)
             (entries_of self.old.order (reverse (take opened bus.now)))) }
         ensures up_to { OnOk result (IsUpTo self.new.order (reverse bus.now)) }
-        ensures own { ¬ HaveLooked (map (λ done. done.now) works.entry.items)
-            → self.old.order ≡ None → self.new.order ≡ None }
     {
         if let Some(order) = &mut self.order {
             return order.place(version, bus, works);

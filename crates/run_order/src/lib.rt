@@ -12,4 +12,4 @@ mod order;
 
 pub use done::Done;
 pub use entry::RunEntry;
-pub use order::{MOST_PROCESSORS, RunOrder, Works, has_looks};
+pub use order::{RunOrder, Works, has_looks};

@@ -1,6 +1,6 @@
 //! What comes next in what a processor did.
 
-ghost use Rattle.std.specs.Prelude.{◌≡◌, [], ◌∷◌, ◌+◌, ◌<◌, ◌≤◌, ℕ, List, length, IfSome, MatchOption};
+ghost use Rattle.std.specs.Prelude.{◌≡◌, [], ◌∷◌, ◌+◌, ◌<◌, ◌≤◌, ℕ, List, length, IsFalse, IfSome, MatchOption};
 ghost use Rattle.board_spec.specs.declared.event.Entry.{Entry};
 ghost use Rattle.board_spec.specs.declared.event.Event.TheVariants.{Look as LookAt};
 ghost use Rattle.board_spec.specs.declared.event.Reply.TheVariants.{Saw};
@@ -88,6 +88,14 @@ pub(crate) fn without_first(done: &[Done]) -> &[Done]
         [_, after @ ..] => after,
         [] => done,
     }
+}
+
+/// Whether one is a look.
+#[tactic(auto, using(crate::proofs::Counts::none_looked))]
+pub(crate) fn has_look(done: &[Done]) -> bool
+    ensures none { IsFalse result → looks_in done.now ≡ 0 }
+{
+    done.iter().any(|one| one_if_look(one) == 1)
 }
 
 /// How many looks there are.

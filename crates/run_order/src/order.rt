@@ -1,23 +1,19 @@
 //! The order of the entries of a run, with the looks of all processors.
 
-ghost use Rattle.std.specs.Prelude.{◌≡◌, ◌-◌, ◌+◌, ◌<◌, ◌≤◌, ℕ, List, [], ◌∷◌, length, map, drop, reverse, slice_index_or, All, max, IsTrue, IsFalse, IsOk, IfOk, OnOk, OnErr};
+ghost use Rattle.std.specs.Prelude.{◌≡◌, ◌-◌, ◌+◌, ◌<◌, ◌≤◌, ℕ, List, [], ◌∷◌, length, map, drop, reverse, slice_index_or, All, max, IsFalse, IsOk, IfOk, OnOk, OnErr};
 ghost use Rattle.board_spec.specs.declared.event.Entry.{Entry};
 ghost use Rattle.board_spec.specs.declared.event.Event.TheVariants.{Look as LookAt};
 ghost use Rattle.board_spec.specs.declared.event.Reply.TheVariants.{Saw};
-ghost use Rattle.board_spec.specs.declared.event.Statement.{Statement};
 ghost use Rattle.board_spec.specs.Setup.{Setup};
-ghost use Rattle.board_spec.specs.MapWrites.{version_of};
 ghost use Rattle.board_spec.specs.Legal.{IsLegal, entries_by, next_entry};
 ghost use Rattle.run_order.specs.Over.{IsWithin, entry_of, nowhere, over};
-ghost use Rattle.run_order.specs.PhaseRun.{bare, IsPhaseRun, IsPlaced};
 ghost use Rattle.run_order.specs.Placing.{with_looks, left_after, with_all_looks, all_left, placed};
-ghost use Rattle.run_order.specs.Room.{in_all, most, looks_in, all_looks_in, HaveLooked};
+ghost use Rattle.run_order.specs.Room.{in_all, most, looks_in, all_looks_in};
 ghost use Rattle.run_order.specs.Settled.{IsSettledBut};
 
 use crate::done::Done;
 use crate::entry::RunEntry;
-use crate::laws::law_phase_runs;
-use crate::next::{NextLook, due_look, looks_in, noted, without_first};
+use crate::next::{NextLook, due_look, has_look, looks_in, noted, without_first};
 use arrayvec::ArrayVec;
 use board_base::NoMemory;
 use board_spec::Entry;
@@ -25,7 +21,7 @@ use std::alloc::Global;
 use std::marker::Model;
 
 /// How many processors a board has at most.
-pub const MOST_PROCESSORS: usize = 8;
+pub(crate) const MOST_PROCESSORS: usize = 8;
 
 /// How many entries a run has at most.
 const MOST_ENTRIES: usize = u32::MAX as usize;
@@ -58,12 +54,11 @@ impl Model for RunOrder {
 }
 
 /// Whether a processor looked in a phase.
-#[tactic(auto, using(crate::proofs::Counts::have_looked))]
+#[tactic(auto, using(crate::proofs::Counts::nobody_looked))]
 pub fn has_looks(works: &Works) -> bool
     ensures none { IsFalse result → all_looks_in (map (λ done. done.now) works.now.items) ≡ 0 }
-    ensures some { IsTrue result → HaveLooked (map (λ done. done.now) works.now.items) }
 {
-    entries_in(&[], works) > 0
+    works.iter().any(|done| has_look(done))
 }
 
 /// How many entries a phase adds: those of the bus, and the looks.
@@ -80,7 +75,7 @@ fn entries_in(later: &[Entry], works: &Works) -> usize
 
 impl RunOrder {
     /// An order without entries.
-    pub fn new(alloc: Global) -> RunOrder
+    pub(crate) fn new(alloc: Global) -> RunOrder
         ensures empty { result ≡ record { entries = []; spare = 0; bus = 0 } }
     {
         RunOrder {
@@ -125,12 +120,6 @@ impl RunOrder {
         requires callers { All (λ entry. entry.actor < length works.items) (drop self.old.bus bus.now) }
         ensures placed { OnOk result (over bus.now self.new.entries ≡ placed version (drop self.old.bus bus.now)
             (map (λ done. done.now) works.entry.items) (over bus.now self.old.entries)) }
-        ensures runs { OnOk result ((setup : Setup) (opened : List Entry) (phase : List Statement)
-            → IsPhaseRun setup opened (drop self.old.bus bus.now) phase (map (λ done. done.now) works.entry.items)
-            → version ≡ version_of setup opened → IsLegal setup (over bus.now self.old.entries)
-            → bare (over bus.now self.old.entries) ≡ bare opened
-            → IsPlaced setup opened (drop self.old.bus bus.now) phase
-            (over bus.now self.old.entries) (over bus.now self.new.entries)) }
         ensures bus { OnOk result (self.new.bus ≡ length bus.now) }
         ensures within { All (IsWithin self.old.bus) self.old.entries }
         ensures keeps { OnOk result (in_all self.old ≤ in_all self.new) }
@@ -139,13 +128,12 @@ impl RunOrder {
             ≤ self.old.spare → IsOk result }
     {
         self.reserve(entries_in(&bus[self.bus as usize..], &works))?;
-        law_phase_runs();
         self.place_all(version, bus, works.as_mut_slice());
         Ok(())
     }
 
     /// Makes room for at least `n` more entries, where those of the run with them stay below 2^32.
-    pub fn reserve(&mut self, n: usize) -> Result<(), NoMemory>
+    fn reserve(&mut self, n: usize) -> Result<(), NoMemory>
         ensures ok { OnOk result (self.new ≡ record self.old { spare = max self.old.spare n }) }
         ensures few { OnOk result (n < most) }
         ensures err { OnErr result (self.new ≡ self.old) }

@@ -9,7 +9,6 @@ use Rattle.run_order.specs.declared.done.Done.{Done}
 use Rattle.phase_run.specs.declared.worker.Work.{Work}
 use Rattle.phase_run.specs.Jobs.{IsStatement, GoesOn, HasRun, done_in}
 use Rattle.phase_run.specs.Placed.{IsUpTo}
-use Rattle.phase_run.proofs.Looks.{nobody_looks}
 use Rattle.phase_run.proofs.Phases.{gained, gained_all, gained_within, front_is, front_all, back_is, phase_is_run, takes_in}
 use Rattle.phase_run.proofs.run.run_phase.Goals as goal
 use Rattle.std.proofs.lemmas.List.{length-map}
@@ -61,14 +60,6 @@ returns-clause-takes_in g c =
     let version : c.version-version.result ≡ version_of before.setup before.entries = c.version-version.ensures.version ∙ c.map.ensures.version in
     takes_in before now opened entries c.args.phase.items lists c.args.placing.now.order c.add.new.self.order c.version-version.result
     c.law_phase_runs.ensures.runs run c.in_ok-run.ensures.run.begins old is version c.requires.legal c.requires.same c.in_ok-add.ensures.placed
-
-pub returns-clause-own : goal.returns-clause-own
-returns-clause-own g c = λ none was.
-    let works : List Work = c.in_ok-run.run'.works.items in
-    let lists : List (List Done) = map (λ (done : Bor (List Done)). done.now) c.works_of.result.items in
-    let are : lists ≡ done_in works = c.works_of.ensures.done ∙ ap done_in c.deref-2.ensures.value in
-    let ran = subst (λ (phase : List Statement). HasRun c.args.run.board c.in_ok-run.run'.board phase works) c.deref.ensures.value c.in_ok-run.ensures.run in
-    c.in_ok-add.ensures.own (nobody_looks c.args.run.board c.in_ok-run.run'.board c.args.phase.items works lists ran are none) was
 
 pub returns-clause-up_to : goal.returns-clause-up_to
 returns-clause-up_to g c =

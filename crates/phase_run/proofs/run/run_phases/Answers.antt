@@ -9,7 +9,7 @@ use Rattle.board_spec.specs.Orders.{statements_of, HasPhases}
 use Rattle.board_spec.specs.Limits.{most_statements}
 use Rattle.run_order.specs.Places.{AreInPlace, AreAllInPlace}
 use Rattle.phase_run.specs.Jobs.{AreAsked, IsStatement}
-use Rattle.phase_run.specs.Placed.{entries_of, HasNoLook}
+use Rattle.phase_run.specs.Placed.{entries_of}
 use Rattle.phase_run.proofs.Phases.{phases_more, newest_first, all_in_place, statements_more, statements_within}
 use Rattle.phase_run.proofs.run.run_phases.Goals as goal
 
@@ -85,8 +85,5 @@ loop-phase-preserved g c =
           (all_in_place c.args.board.setup phase.items _ taken.added _ _ taken.adds taken.size
           (subst (λ (setup : Setup). AreInPlace setup (entries_of l.placing.order l.run.board.entries) taken.added) l.invariant.setup taken.places)
           l.invariant.places);
-      own = λ all. c.in_ok-run.ensures.own
-          (of_one (λ (one : Phase). HasNoLook one.items) l.yielded phase rest (subst (All (λ (one : Phase). HasNoLook one.items)) (sym whole) all))
-          (l.invariant.own all);
       asked = subst (λ (most : ℕ). AreAsked most next.board.entries next.works.items) (sym (statements_more l.yielded phase)) asked;
     }

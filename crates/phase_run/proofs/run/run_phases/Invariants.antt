@@ -1,11 +1,11 @@
-use Rattle.std.proofs.Common.{◌≡◌, ◌++◌, All, None, length, map, reverse, flat_map}
+use Rattle.std.proofs.Common.{◌≡◌, ◌++◌, length, map, reverse, flat_map}
 use Rattle.std.specs.Vec.Iter.{into_iter_items, into_iter_len}
 use Rattle.board_spec.specs.Legal.{IsLegal}
 use Rattle.board_spec.specs.Orders.{statements_of, HasPhases}
 use Rattle.run_order.specs.PhaseRun.{bare}
 use Rattle.run_order.specs.Places.{AreAllInPlace}
 use Rattle.phase_run.specs.Jobs.{AreAsked}
-use Rattle.phase_run.specs.Placed.{entries_of, HasNoLook, IsUpTo}
+use Rattle.phase_run.specs.Placed.{entries_of, IsUpTo}
 use Rattle.phase_run.proofs.run.run_phases.Given as goal
 
 abbrev pub invariant-loop-phase : goal.invariant-loop-phase
@@ -19,6 +19,5 @@ invariant-loop-phase g l = record {
   up_to : IsUpTo l.placing.order l.run.board.entries;
   phases : HasPhases (map (λ phase. phase.items) l.yielded) (statements_of (entries_of l.placing.order l.run.board.entries));
   places : AreAllInPlace l.fn.board.setup (reverse (map (λ phase. phase.items) l.yielded)) (entries_of l.placing.order l.run.board.entries);
-  own : All (λ phase. HasNoLook phase.items) l.fn.phases.items → l.placing.order ≡ None;
   asked : AreAsked (length (flat_map (λ phase. phase.items) l.yielded)) l.run.board.entries l.run.works.items;
 }
