@@ -9,3 +9,4 @@ pub mod Output
 pub mod Outcomes
 pub mod Calls
 pub mod Statuses
+pub mod Fresh

@@ -2,6 +2,7 @@
 use Rattle.std.specs.Prelude.{ℕ, ◌≡◌, ◌≤◌, ◌↔◌, Bool, List, [], ◌∷◌, map, string_bytes, String, Option, Some, None, codes, decimal, bytes_eq, if◌then◌else◌, ◌&&◌, nat_le}
 use Rattle.std.specs.Global.{Global}
 use Rattle.script_lines.specs.Numbers.{decimal_of, ◌>>=◌}
+use Rattle.make_script.specs.Laws.{most_rounds}
 
 -- a command, with the names of the files that it reads
 pub data Command : Type 0 where
@@ -26,7 +27,7 @@ log_name _ = None
 
 -- `make` makes 1 to 20,000 rounds
 abbrev pub is_round_count : ℕ → Bool
-is_round_count count = nat_le 1 count && nat_le count 20_000
+is_round_count count = nat_le 1 count && nat_le count most_rounds
 
 unfoldable pub make_of : List ℕ → Option Command
 make_of word = do
@@ -67,7 +68,7 @@ words_of (Make rounds) = codes "make" ∷ decimal rounds ∷ []
 
 -- such a command there is
 abbrev pub IsCommand : Command → Type 0
-IsCommand (Make rounds) = (1 ≤ rounds) × (rounds ≤ 20_000)
+IsCommand (Make rounds) = (1 ≤ rounds) × (rounds ≤ most_rounds)
 IsCommand _ = Unit {0}
 
 -- words ask for a command exactly where they are its words

@@ -38,7 +38,7 @@ fn limit_of(which: Which) -> usize
 }
 
 /// Reads a file whole, of at most its limit.
-pub fn fetch<S: Shelf>(
+pub(crate) fn fetch<S: Shelf>(
     alloc: Global,
     shelf: &mut S,
     which: Which,
@@ -48,7 +48,6 @@ pub fn fetch<S: Shelf>(
     ensures fits { IfOk result (λ v. vec_len v ≤ limit_of which) }
     ensures refused { IfErr result (IsNotTaken which name.now
         (shelf_call S.files S.faults S.failed_name shelf.old shelf.new)) }
-    ensures later { S.faults shelf.old ≤ S.faults shelf.new }
     ensures quiet { OnOk result (S.faults shelf.new ≡ S.faults shelf.old) }
     ensures no_fault { IfErr result (λ status. ((of : Which) → status ≢ Status.ReadFault of)
         → S.faults shelf.new ≡ S.faults shelf.old) }
@@ -64,7 +63,7 @@ pub fn fetch<S: Shelf>(
 }
 
 /// Reads a BIOS ROM, which has 64, 128, 256 or 512 KiB.
-pub fn fetch_rom<S: Shelf>(alloc: Global, shelf: &mut S, name: &str) -> Result<Vec<u8>, Status>
+pub(crate) fn fetch_rom<S: Shelf>(alloc: Global, shelf: &mut S, name: &str) -> Result<Vec<u8>, Status>
     ensures whole { IfOk result (λ v. OfFile (S.files shelf.old) name.now (λ file. v.items ≡ file)) }
     ensures size { IfOk result (λ v. IsRomSize (length v.items)) }
     ensures refused { IfErr result (IsNotTaken Which.Rom name.now

@@ -10,7 +10,7 @@ use std::alloc::{AllocError, Global};
 
 /// Why a file could not be read.
 #[derive(Clone, Copy, PartialEq, Eq, Debug)]
-pub enum FileFault {
+pub(crate) enum FileFault {
     /// The shelf failed.
     Failed,
     /// The file is longer than its limit.
@@ -87,13 +87,12 @@ fn read_on<S: Shelf>(
 
 /// Reads a file of at most `limit` bytes: until the shelf is at its end, fails, has given more
 /// bytes than the limit, or memory is refused.
-pub fn read_file<S: Shelf>(
+pub(crate) fn read_file<S: Shelf>(
     alloc: Global,
     shelf: &mut S,
     name: &str,
     limit: usize,
 ) -> Result<Vec<u8>, FileFault>
-    requires { limit < 2 ^ 32 }
     ensures whole { IfOk result (λ v. OfFile (S.files shelf.old) name.now (λ file. v.items ≡ file)) }
     ensures fits { IfOk result (λ v. vec_len v ≤ limit) }
     ensures too_long { IfErr result (λ fault. fault ≡ FileFault.TooLong →

@@ -4,7 +4,7 @@ use board_base::Gate;
 use std::sync::atomic::{AtomicU32, Ordering};
 
 /// How often a gate looks whether it may go on.
-const MOST_TURNS: u32 = 1_000_000_000;
+const MOST_TURNS: u32 = 10_000_000;
 
 /// Before or after a processor's `k`-th statement.
 #[derive(Clone, Copy, PartialEq, Eq)]

@@ -5,6 +5,7 @@ ghost use Rattle.script_spec.specs.ScriptText.{IsScriptText};
 ghost use Rattle.script_spec.specs.ScriptRange.{IsInRangeScript};
 ghost use Rattle.script_text.specs.Script.{said_of};
 ghost use Rattle.make_script.specs.MakeText.{make_text};
+ghost use Rattle.make_script.specs.Laws.{most_rounds};
 ghost use Rattle.board_run.specs.Texts.{HasSummary, IsMakeText, made_setup_of};
 
 use crate::prepare::open;
@@ -18,9 +19,8 @@ use script_text::{Script, ScriptFault, read_script};
 use std::alloc::Global;
 
 /// The script of so many rounds, read from its text.
-pub fn made_script(alloc: Global, rounds: u32) -> Result<Script, NoMemory>
-    requires some { 1 ≤ rounds }
-    requires most { rounds ≤ 20_000 }
+pub(crate) fn made_script(alloc: Global, rounds: u32) -> Result<Script, NoMemory>
+    requires most { rounds ≤ most_rounds }
     ensures says { IfOk result (λ script. IsScriptText (make_text rounds) (said_of script)) }
     ensures in_range { IfOk result (λ script. IsInRangeScript (said_of script)) }
 {
@@ -34,7 +34,7 @@ pub fn made_script(alloc: Global, rounds: u32) -> Result<Script, NoMemory>
 }
 
 /// The board that the script is made for, with the images that are made.
-pub fn made_board(alloc: Global, script: &Script) -> Result<Board, NoMemory>
+pub(crate) fn made_board(alloc: Global, script: &Script) -> Result<Board, NoMemory>
     requires in_range { IsInRangeScript (said_of script.now) }
     ensures fresh { IfOk result (λ board. board ≡ record {
       setup = made_setup_of (said_of script.now);
@@ -70,9 +70,8 @@ fn summary_of(alloc: Global, board: &Board) -> Result<Text, NoMemory>
 }
 
 /// The summary of the replay of the script of so many rounds, 1 to 20,000. No file is read.
-pub fn summary_of_made(alloc: Global, rounds: u32) -> Result<Text, NoMemory>
-    requires some { 1 ≤ rounds }
-    requires most { rounds ≤ 20_000 }
+pub(crate) fn summary_of_made(alloc: Global, rounds: u32) -> Result<Text, NoMemory>
+    requires most { rounds ≤ most_rounds }
     ensures text { IfOk result (λ text. IsMakeText rounds text) }
 {
     let script = made_script(alloc, rounds)?;

@@ -37,7 +37,7 @@ fn put_piece<K: Sink>(out: &mut K, piece: &[u8]) -> Result<(), PutFault>
 }
 
 /// Puts all of a text. Where the sink refuses a piece, what it took before is a front of the text.
-pub fn put_all<K: Sink>(out: &mut K, text: &Text) -> Result<(), PutFault>
+pub(crate) fn put_all<K: Sink>(out: &mut K, text: &Text) -> Result<(), PutFault>
     ensures whole { OnOk result (Appends (K.taken out.old) (K.taken out.new) text.now) }
     ensures front { OnErr result (AppendsFront (K.taken out.old) (K.taken out.new) text.now) }
     ensures failed { IfErr result (λ fault. fault ≡ PutFault.Failed → Rose (K.faults out.old) (K.faults out.new)) }

@@ -10,6 +10,7 @@ ghost use Rattle.board_run.specs.Words.{Command, script_name};
 ghost use Rattle.board_run.specs.Asked.{fitted};
 ghost use Rattle.board_run.specs.Outcomes.{OfFiles, shelf_call};
 ghost use Rattle.board_run.specs.Calls.{OfCalls, ReadsDiskBy, FetchesForBoard};
+ghost use Rattle.board_run.specs.Fresh.{IsFreshFor};
 ghost use Rattle.board_run.specs.Statuses.{IsRefused, FitsDisk, IsDiskNotTaken, IsNotOpened, IsReady};
 
 use crate::fetch::{fetch, fetch_rom};
@@ -22,7 +23,7 @@ use std::alloc::Global;
 
 /// A script that was read, and the board that it asks for, as after power-on.
 #[derive(Drop)]
-pub struct Prepared {
+pub(crate) struct Prepared {
     pub script: Script,
     pub board: Board,
 }
@@ -65,7 +66,7 @@ fn copies(alloc: Global, cards: &[CardSpec]) -> Result<Vec<CardSpec>, NoMemory>
 }
 
 /// The board of a script with these images, of which the ROM has one of its sizes.
-pub fn open(
+pub(crate) fn open(
     alloc: Global,
     script: &Script,
     rom: Vec<u8>,
@@ -92,12 +93,10 @@ pub fn open(
 
 /// Reads the script of a command and its images, and opens the board that it asks for: first the script, then its ROM,
 /// then its disk. The first that is not there or refused is the answer.
-pub fn prepare<S: Shelf>(alloc: Global, shelf: &mut S, name: &str) -> Result<Prepared, Status>
+pub(crate) fn prepare<S: Shelf>(alloc: Global, shelf: &mut S, name: &str) -> Result<Prepared, Status>
     ensures ready { IfOk result (λ prepared. OfFiles (S.files shelf.old) (λ files.
         IsReady files name.now (said_of prepared.script) prepared.board.setup)) }
-    ensures in_range { IfOk result (λ prepared. IsInRangeScript (said_of prepared.script)) }
-    ensures cards { IfOk result (λ prepared. prepared.board.setup.cards ≡ (said_of prepared.script).cards) }
-    ensures fresh { IfOk result (λ prepared. prepared.board.entries ≡ []) }
+    ensures fresh { IfOk result (λ prepared. IsFreshFor (said_of prepared.script) prepared.board) }
     ensures refused { IfErr result (λ status. (command : Command) → script_name command ≡ Some name.now
         → IsRefused command (shelf_call S.files S.faults S.failed_name shelf.old shelf.new) status) }
     ensures quiet { OnOk result (S.faults shelf.new ≡ S.faults shelf.old) }

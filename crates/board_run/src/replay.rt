@@ -6,13 +6,14 @@ ghost use Rattle.board_spec.specs.Orders.{IsReplayOf, IsBegunFor};
 ghost use Rattle.board_spec.specs.Text.{line_feed};
 ghost use Rattle.board_spec.specs.MapText.{map_text};
 ghost use Rattle.map_builder.specs.Map.{range_of};
-ghost use Rattle.script_spec.specs.ScriptRange.{IsInRangeScript, statements_in};
+ghost use Rattle.script_spec.specs.ScriptRange.{statements_in};
 ghost use Rattle.script_spec.specs.Checks.{IsLogOf, DiffersAt};
 ghost use Rattle.script_text.specs.Script.{said_of};
 ghost use Rattle.log_check.specs.declared.fault.CheckFault.{CheckFault};
 ghost use Rattle.log_check.specs.Checked.{IsCheckedLog, StandsAfter};
 ghost use Rattle.board_run.specs.declared.status.Which.{Which};
 ghost use Rattle.board_run.specs.Asked.{limit_of};
+ghost use Rattle.board_run.specs.Fresh.{IsFreshFor};
 ghost use Rattle.board_run.specs.Texts.{IsReplayText, IsMapText, IsLegalText};
 
 use board_base::NoMemory;
@@ -28,9 +29,7 @@ use std::alloc::Global;
 /// Does the statements of a script in the order of its file, on a fresh board with its cards. One thread does it, and
 /// nobody is waited for. Where there is no memory the board is as before.
 pub fn replay_script(board: &mut Board, script: &Script) -> Result<(), NoMemory>
-    requires in_range { IsInRangeScript (said_of script.now) }
-    requires cards { board.old.setup.cards ≡ (said_of script.now).cards }
-    requires fresh { board.old.entries ≡ [] }
+    requires fresh { IsFreshFor (said_of script.now) board.old }
     ensures replay { OnOk result (IsReplayOf board.old.setup (statements_in (said_of script.now)) board.new.entries) }
     ensures setup { board.new.setup ≡ board.old.setup }
     ensures err { OnErr result (board.new ≡ board.old) }
@@ -51,9 +50,7 @@ pub fn check_log(
     script: &Script,
     bytes: &[u8],
 ) -> Result<u32, CheckFault>
-    requires in_range { IsInRangeScript (said_of script.now) }
-    requires cards { board.old.setup.cards ≡ (said_of script.now).cards }
-    requires fresh { board.old.entries ≡ [] }
+    requires fresh { IsFreshFor (said_of script.now) board.old }
     ensures log { IfOk result (λ count. IsCheckedLog board.old.setup (said_of script.now).version
         (said_of script.now).phases bytes.now board.new.entries count) }
     ensures differs { (line : ℕ) → result ≡ Err (CheckFault.Differs line)
@@ -69,10 +66,8 @@ pub fn check_log(
 }
 
 /// The log of a script's replay on its board. The memory of the script is given back before the log takes its own.
-pub fn log_of_replay(alloc: Global, board: &mut Board, script: Script) -> Result<Text, NoMemory>
-    requires in_range { IsInRangeScript (said_of script) }
-    requires cards { board.old.setup.cards ≡ (said_of script).cards }
-    requires fresh { board.old.entries ≡ [] }
+pub(crate) fn log_of_replay(alloc: Global, board: &mut Board, script: Script) -> Result<Text, NoMemory>
+    requires fresh { IsFreshFor (said_of script) board.old }
     ensures text { IfOk result (λ text. IsReplayText board.old.setup (said_of script) text) }
 {
     replay_script(board, &script)?;
@@ -96,10 +91,8 @@ fn push_map(text: &mut String, ranges: &[Range]) -> Result<(), NoMemory>
 }
 
 /// The address map after a script's replay on its board.
-pub fn map_after_replay(alloc: Global, board: &mut Board, script: &Script) -> Result<Text, NoMemory>
-    requires in_range { IsInRangeScript (said_of script.now) }
-    requires cards { board.old.setup.cards ≡ (said_of script.now).cards }
-    requires fresh { board.old.entries ≡ [] }
+pub(crate) fn map_after_replay(alloc: Global, board: &mut Board, script: &Script) -> Result<Text, NoMemory>
+    requires fresh { IsFreshFor (said_of script.now) board.old }
     ensures text { IfOk result (λ text. IsMapText board.old.setup (said_of script.now) text) }
 {
     replay_script(board, script)?;
@@ -120,15 +113,13 @@ fn legal_text(alloc: Global, count: u32) -> Result<Text, NoMemory>
 }
 
 /// `legal` and the number of entries of a log, where it is that of a legal and complete history of a script.
-pub fn verdict_on_log(
+pub(crate) fn verdict_on_log(
     alloc: Global,
     board: &mut Board,
     script: &Script,
     log: &[u8],
 ) -> Result<Text, CheckFault>
-    requires in_range { IsInRangeScript (said_of script.now) }
-    requires cards { board.old.setup.cards ≡ (said_of script.now).cards }
-    requires fresh { board.old.entries ≡ [] }
+    requires fresh { IsFreshFor (said_of script.now) board.old }
     requires fits { length log.now ≤ limit_of Which.Log }
     ensures text { IfOk result (λ text. IsLegalText board.old.setup (said_of script.now) log.now text) }
     ensures differs { (line : ℕ) → result ≡ Err (CheckFault.Differs line)

@@ -111,7 +111,7 @@ fn files_with(alloc: Global, script: &[u8], rom: usize) -> Result<Vec<(String, V
     Ok(files)
 }
 
-/// Runs the command of these words, with a script and a ROM of this size.
+/// Runs the command of these words over files in memory, with a script and a ROM of this size.
 fn answered<R: Threads + Wait + Sync>(
     rt: &R,
     alloc: Global,
@@ -124,7 +124,9 @@ fn answered<R: Threads + Wait + Sync>(
     let mut shelf = SafeShelf {
         files: files_of(alloc, script, rom)?,
     };
-    Ok(board(rt, alloc, &words, &mut shelf, out, &QuietGate))
+    Ok(board_in_memory(
+        rt, alloc, &words, &mut shelf, out, &QuietGate,
+    ))
 }
 
 /// The size of the ROM of most scripts below.
@@ -136,7 +138,7 @@ const SETUP: &str = "board 1\ncpus 1\nmemory 8\nrom r64\n";
 /// The log of a script without statements.
 const EMPTY_LOG: &str = "access log 1\n";
 
-/// Scripts behind that setup, each with the size of the ROM: what becomes of them, and the log.
+/// Scripts after that setup, each with the size of the ROM: what becomes of them, and the log.
 const SCRIPTS: [(&str, usize, Status, &str); 9] = [
     ("", ROM_SIZE, Status::Done, EMPTY_LOG),
     (
@@ -480,7 +482,7 @@ fn summaries(rt: HostRuntime) -> Result<(), Fail> {
     Ok(())
 }
 
-/// Statements behind the setup, and the address map that they leave.
+/// Statements after the setup, and the address map that they leave.
 const MAPS: [(&str, &str); 2] = [
     (
         "",
@@ -508,7 +510,7 @@ FFFF0000 FFFFFFFF rom rom rom rom rom rom
 ];
 
 #[test]
-fn maps_behind_a_replay(rt: HostRuntime) -> Result<(), Fail> {
+fn maps_after_a_replay(rt: HostRuntime) -> Result<(), Fail> {
     for (statements, map) in MAPS {
         let mut script = String::from_str(rt.alloc(), SETUP)?;
         write!(script, "phase\n{statements}")?;

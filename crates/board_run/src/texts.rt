@@ -1,7 +1,6 @@
 //! The text of each command, from its files.
 
 ghost use Rattle.std.specs.Prelude.{◌≡◌, ◌≤◌, ℕ, List, []};
-ghost use Rattle.script_spec.specs.ScriptRange.{IsInRangeScript};
 ghost use Rattle.script_text.specs.Script.{said_of};
 ghost use Rattle.board_run.specs.declared.status.Which.{Which};
 ghost use Rattle.board_run.specs.Words.{Replay, Run, Map, Check};
@@ -9,6 +8,7 @@ ghost use Rattle.board_run.specs.Commands.{said_by, IsCalled, WaitsForNobody};
 ghost use Rattle.board_run.specs.Outcomes.{OfFiles, shelf_call};
 ghost use Rattle.board_run.specs.Asked.{limit_of};
 ghost use Rattle.board_run.specs.Calls.{OfCalls, IsReading, FetchesOf};
+ghost use Rattle.board_run.specs.Fresh.{IsFreshFor};
 ghost use Rattle.board_run.specs.Statuses.{IsAnswered, IsReady};
 
 use crate::fetch::fetch;
@@ -58,9 +58,7 @@ fn verdict<S: Shelf>(
     prepared: &mut Prepared,
     log: &str,
 ) -> Result<Text, Status>
-    requires in_range { IsInRangeScript (said_of prepared.old.script) }
-    requires cards { prepared.old.board.setup.cards ≡ (said_of prepared.old.script).cards }
-    requires fresh { prepared.old.board.entries ≡ [] }
+    requires fresh { IsFreshFor (said_of prepared.old.script) prepared.old.board }
     ensures answer { (name : List ℕ)
         → OfFiles (S.files shelf.old)
         (λ files. IsReady files name (said_of prepared.old.script) prepared.old.board.setup)
@@ -130,7 +128,7 @@ fn run<R: Threads + Wait + Sync, S: Shelf, G: Gate>(
 }
 
 /// The text of a command. Only `run` may wait.
-pub fn command_text<R: Threads + Wait + Sync, S: Shelf, G: Gate>(
+pub(crate) fn command_text<R: Threads + Wait + Sync, S: Shelf, G: Gate>(
     rt: &R,
     alloc: Global,
     command: Command,

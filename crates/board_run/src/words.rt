@@ -11,7 +11,7 @@ const MOST_ROUNDS: u32 = 20_000;
 
 /// A command, with the names of the files that it reads.
 #[derive(Clone, Copy)]
-pub enum Command<'a> {
+pub(crate) enum Command<'a> {
     /// Puts the log of the replay of a script.
     Replay(&'a str),
     /// Puts the log of a run of a script, with a thread for each processor.
@@ -73,7 +73,7 @@ fn command_with_two<'a>(verb: &str, script: &'a str, log: &'a str) -> Option<Com
 
 /// Reads the words of `replay FILE`, `run FILE`, `map FILE`, `check FILE LOG` and `make N`. None where the words are no
 /// command.
-pub fn command_of(words: &[String]) -> Option<Command<'_>>
+pub(crate) fn command_of(words: &[String]) -> Option<Command<'_>>
     ensures said { option_map said_by result ≡ asked words.now }
     ensures called { IfSome result IsCalled }
 {

@@ -20,7 +20,7 @@ pub loop-phase-init : goal.loop-phase-init
 loop-phase-init c =
     let opened : c.reserve.new.self ≡ record c.args.board.now { spare = max c.args.board.now.spare c.statement_count.result } =
     c.in_ok-reserve.ensures.ok in
-    let none : c.reserve.new.self.entries ≡ [] = ap (λ (board : Standing). board.entries) opened ∙ c.requires.fresh in
+    let none : c.reserve.new.self.entries ≡ [] = ap (λ (board : Standing). board.entries) opened ∙ c.requires.fresh.fresh in
     let count : c.statement_count.result ≡ length (in_file_order (lists_of c.deref-phase-items.result.now)) =
     c.statement_count.ensures.count
     ∙ ap (λ phases. length (in_file_order (lists_of phases))) (c.deref.ensures.value ∙ sym c.deref-phase-items.ensures.value) in
@@ -38,7 +38,7 @@ pub steps-requires-clause-in_range : goal.steps-requires-clause-in_range
 steps-requires-clause-in_range c =
     let i : ℕ = c.loop-phase.phase-index in
     let phases = c.deref-phase-items.result.now in
-    let all = in_range c.args.board.now.setup (said_of c.args.script.now) c.requires.in_range c.requires.cards in
+    let all = in_range c.args.board.now.setup (said_of c.args.script.now) c.requires.fresh.in_range c.requires.fresh.cards in
     let own =
     all_of_phase (λ statement. IsInRange c.args.board.now.setup statement.event) (lists_of (take i phases)) c.phase-item.result.items
     (lists_of (drop (i + 1) phases))
