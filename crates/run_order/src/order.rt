@@ -75,7 +75,7 @@ fn entries_in(later: &[Entry], works: &Works) -> usize
 
 impl RunOrder {
     /// An order without entries.
-    pub(crate) fn new(alloc: Global) -> RunOrder
+    pub fn new(alloc: Global) -> RunOrder
         ensures empty { result ≡ record { entries = []; spare = 0; bus = 0 } }
     {
         RunOrder {
