@@ -1,7 +1,7 @@
 //! What the program answers of itself, without the board.
 
-ghost use Rattle.std.specs.Prelude.{◌≡◌, map, is_some, string_bytes};
-ghost use Rattle.board_main.specs.Words.{is_own, is_own_word};
+ghost use Rattle.std.specs.Prelude.{◌≡◌, false, map, is_some, string_bytes, IfSome};
+ghost use Rattle.board_main.specs.Words.{is_own, is_own_word, is_help, is_help_word, version_text};
 
 const HELP: &str = "\
 board: the PC chipset behind many virtual machines, with a log of every access
@@ -28,6 +28,7 @@ const VERSION: &str = "board 0.1\n";
 /// The text for `--help` and for `--version`, each as the only word. All other words are the board's.
 pub fn own_answer(words: &[String]) -> Option<&str>
     ensures own { is_some result ≡ is_own (map string_bytes words.now) }
+    ensures version { IfSome result (λ text. is_help (map string_bytes words.now) ≡ false → text.now ≡ version_text) }
 {
     match words {
         [word] => text_of(word.as_str()),
@@ -37,6 +38,7 @@ pub fn own_answer(words: &[String]) -> Option<&str>
 
 fn text_of(word: &str) -> Option<&str>
     ensures own { is_some result ≡ is_own_word word.now }
+    ensures version { IfSome result (λ text. is_help_word word.now ≡ false → text.now ≡ version_text) }
 {
     if word == "--help" {
         return Some(HELP);

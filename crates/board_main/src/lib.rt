@@ -7,4 +7,4 @@ mod out_sink;
 mod program;
 mod words;
 
-pub use program::{answer, run_program};
+pub use program::{answer, run_program, run_words};

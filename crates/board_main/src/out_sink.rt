@@ -2,7 +2,6 @@
 
 ghost use Rattle.std.specs.Prelude.{◌≡◌, ◌≤◌, length, IfOk, None};
 ghost use Rattle.board_base.specs.Counts.{next_fault};
-ghost use Rattle.board_base.specs.Outside.{Rose};
 
 use crate::file_shelf::TRIES;
 use board_base::{PutFault, Sink};
@@ -27,7 +26,6 @@ impl<W: Write> OutSink<W> {
         ensures failed { result ≡ PutFault.Failed }
         ensures counted { self.new.faults ≡ next_fault self.old.faults }
         ensures never_falls { self.old.faults ≤ self.new.faults }
-        ensures rose { Rose self.old.faults self.new.faults }
     {
         self.faults = self.faults.saturating_add(1);
         PutFault::Failed

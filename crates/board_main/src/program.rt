@@ -7,7 +7,7 @@ ghost use Rattle.board_run.specs.Status.{code_of};
 ghost use Rattle.board_run.specs.Words.{asked};
 ghost use Rattle.board_run.specs.Outcomes.{WordsCanEnd};
 ghost use Rattle.board_main.specs.Words.{is_own};
-ghost use Rattle.board_main.specs.Ends.{HasStatus};
+ghost use Rattle.board_main.specs.Ends.{Ends, HasStatus};
 
 use crate::answers::own_answer;
 use crate::file_shelf::FileShelf;
@@ -32,10 +32,23 @@ where
     E: Write + Drop,
     ensures code { HasStatus (exit_status result) }
 {
-    let status = match words_of(rt) {
-        Ok(words) => answer(rt, &words, output),
-        Err(status) => status,
-    };
+    match words_of(rt) {
+        Ok(words) => run_words(rt, &words, output, errors),
+        Err(status) => end(rt.alloc(), errors, &status),
+    }
+}
+
+/// Does what these words ask for, with real files and this output. What is said where it is not done goes to `errors`.
+/// It tells the exit code: that of Usage exactly where the words are neither the program's own nor a command, else that
+/// of a status with which they can end.
+pub fn run_words<R, W, E>(rt: &R, words: &[String], output: W, errors: E) -> ExitCode
+where
+    R: Files + AllocGlobal + Threads + Wait + Sync,
+    W: Write + Drop,
+    E: Write + Drop,
+    ensures ends { Ends (is_own (map string_bytes words.now)) (asked words.now) (exit_status result) }
+{
+    let status = answer(rt, words, output);
     end(rt.alloc(), errors, &status)
 }
 

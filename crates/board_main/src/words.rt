@@ -18,6 +18,7 @@ pub fn words_of<R: Env + AllocGlobal>(rt: &R) -> Result<Vec<String>, Status>
         .map_err(|_| Status::NoMemory)
 }
 
+/// `env::args` refuses a word that is not UTF-8, and otherwise only for want of memory: so each other error is that.
 fn refusal(error: &Error) -> Status
     ensures refused { (result ≡ Status.Usage) ⊎ (result ≡ Status.NoMemory) }
 {
