@@ -63,7 +63,11 @@ pub(crate) fn fetch<S: Shelf>(
 }
 
 /// Reads a BIOS ROM, which has 64, 128, 256 or 512 KiB.
-pub(crate) fn fetch_rom<S: Shelf>(alloc: Global, shelf: &mut S, name: &str) -> Result<Vec<u8>, Status>
+pub(crate) fn fetch_rom<S: Shelf>(
+    alloc: Global,
+    shelf: &mut S,
+    name: &str,
+) -> Result<Vec<u8>, Status>
     ensures whole { IfOk result (λ v. OfFile (S.files shelf.old) name.now (λ file. v.items ≡ file)) }
     ensures size { IfOk result (λ v. IsRomSize (length v.items)) }
     ensures refused { IfErr result (IsNotTaken Which.Rom name.now

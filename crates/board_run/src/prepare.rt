@@ -93,7 +93,11 @@ pub(crate) fn open(
 
 /// Reads the script of a command and its images, and opens the board that it asks for: first the script, then its ROM,
 /// then its disk. The first that is not there or refused is the answer.
-pub(crate) fn prepare<S: Shelf>(alloc: Global, shelf: &mut S, name: &str) -> Result<Prepared, Status>
+pub(crate) fn prepare<S: Shelf>(
+    alloc: Global,
+    shelf: &mut S,
+    name: &str,
+) -> Result<Prepared, Status>
     ensures ready { IfOk result (λ prepared. OfFiles (S.files shelf.old) (λ files.
         IsReady files name.now (said_of prepared.script) prepared.board.setup)) }
     ensures fresh { IfOk result (λ prepared. IsFreshFor (said_of prepared.script) prepared.board) }

@@ -66,7 +66,11 @@ pub fn check_log(
 }
 
 /// The log of a script's replay on its board. The memory of the script is given back before the log takes its own.
-pub(crate) fn log_of_replay(alloc: Global, board: &mut Board, script: Script) -> Result<Text, NoMemory>
+pub(crate) fn log_of_replay(
+    alloc: Global,
+    board: &mut Board,
+    script: Script,
+) -> Result<Text, NoMemory>
     requires fresh { IsFreshFor (said_of script) board.old }
     ensures text { IfOk result (λ text. IsReplayText board.old.setup (said_of script) text) }
 {
@@ -91,7 +95,11 @@ fn push_map(text: &mut String, ranges: &[Range]) -> Result<(), NoMemory>
 }
 
 /// The address map after a script's replay on its board.
-pub(crate) fn map_after_replay(alloc: Global, board: &mut Board, script: &Script) -> Result<Text, NoMemory>
+pub(crate) fn map_after_replay(
+    alloc: Global,
+    board: &mut Board,
+    script: &Script,
+) -> Result<Text, NoMemory>
     requires fresh { IsFreshFor (said_of script.now) board.old }
     ensures text { IfOk result (λ text. IsMapText board.old.setup (said_of script.now) text) }
 {

@@ -124,9 +124,7 @@ fn answered<R: Threads + Wait + Sync>(
     let mut shelf = SafeShelf {
         files: files_of(alloc, script, rom)?,
     };
-    Ok(board_in_memory(
-        rt, alloc, &words, &mut shelf, out, &QuietGate,
-    ))
+    Ok(board_in_memory(rt, alloc, &words, &mut shelf, out, &QuietGate))
 }
 
 /// The size of the ROM of most scripts below.
