@@ -3,8 +3,9 @@
 use board_base::Gate;
 use std::sync::atomic::{AtomicU32, Ordering};
 
-/// How often a gate looks whether it may go on.
-const MOST_TURNS: u32 = 10_000_000;
+/// How often a gate looks whether it may go on: so often that a machine with much else to do starts the other thread
+/// meanwhile. Ten million looks pass in some hundredths of a second, and a thread may wait longer for a processor.
+const MOST_TURNS: u32 = 1_000_000_000;
 
 /// Before or after a processor's `k`-th statement.
 #[derive(Clone, Copy, PartialEq, Eq)]
