@@ -51,7 +51,7 @@ mod tests {
     #[test]
     fn the_first_fetch_is_from_the_rom(rt: HostRuntime) -> Result<(), Fail> {
         let mut rom = Vec::new(rt.alloc());
-        for offset in 0..0x1_0000 {
+        for offset in 0..0x1_0000_u32 {
             rom.push((offset % 0x100) as u8)?;
         }
         let reply = reset_vector(rt.alloc(), rom)?;
