@@ -10,6 +10,7 @@ use Rattle.board_spec.specs.Ranges.{lies_in, upper_memory}
 use Rattle.board_spec.specs.Decode.{Window, first_of, line_where, is_smram_range, is_shadow_range, card_area, area_under, Bytes, row_of, is_in, hole_of, pam_register, is_high_window, nibble, is_open, is_shadowed, smram_answers, is_rom_selected, memory_claim, area_of}
 use Rattle.board_spec.specs.RegisterNames.{xbcs as select_register, smram as smram_register, fdhc as hole_register}
 use Rattle.addr_decode.specs.Memory.{dram_area, row_area, above_dram, beside_dram, area_by}
+use Rattle.addr_decode.specs.Master.{master_area}
 
 -- the table of the memory map over the ranges that the address lies in, SMRAM's and all of upper memory, and over what
 -- the registers say of it
@@ -149,3 +150,18 @@ no_row_answers setup bytes addr kind smm beside is_row is_beside =
     (ap (λ (found : Option ℕ). dram_area found (smram_answers (bytes smram_register) kind smm) (is_shadowed bytes addr kind)
     (is_in (hole_of (bytes hole_register)) addr) addr) is_row)
     is_beside
+
+-- the same of a bus master
+pub master_answers :
+    (setup : Setup) (bytes : Bytes) (addr : ℕ) (kind : Kind) (dram : Option Area) (beside : Area) →
+    dram ≡ dram_area (row_of bytes addr) false (is_shadowed bytes addr kind) (is_in (hole_of (bytes hole_register)) addr) addr →
+    beside ≡ beside_dram setup bytes addr → unwrap_or dram beside ≡ master_area setup bytes addr kind
+unfolding master_area
+master_answers setup bytes addr kind dram beside is_dram is_beside =
+    ap (λ (other : Area). unwrap_or dram other) is_beside
+    ∙ or_beside dram (is_rom_selected (bytes select_register) addr) (memory_claim setup bytes addr)
+    ∙ ap (λ (found : Option Area). above_dram found (is_rom_selected (bytes select_register) addr) (memory_claim setup bytes addr)) is_dram
+    ∙ sym
+    (area_in_order (row_of bytes addr) false (is_open (nibble (bytes (pam_register addr)) (is_high_window addr)) kind)
+    (is_in (hole_of (bytes hole_register)) addr) (is_rom_selected (bytes select_register) addr)
+    (memory_claim setup bytes addr) addr)

@@ -4,3 +4,4 @@ pub mod MapRegs
 pub mod Memory
 pub mod Onboard
 pub mod Ports
+pub mod Master

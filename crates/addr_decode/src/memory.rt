@@ -147,7 +147,7 @@ fn shadows(pam: &[u8; 7], addr: u32) -> (bool, bool)
 }
 
 /// Whether a shadow window is open at an address.
-fn is_shadowed(pam: &[u8; 7], addr: u32, kind: Kind) -> bool
+pub(crate) fn is_shadowed(pam: &[u8; 7], addr: u32, kind: Kind) -> bool
     ensures shadowed { (bytes : Bytes) → IsPamOf bytes pam.now → result ≡ is_shadowed bytes addr kind }
 {
     match window_of(addr) {
@@ -157,7 +157,7 @@ fn is_shadowed(pam: &[u8; 7], addr: u32, kind: Kind) -> bool
 }
 
 /// Whether an address lies in the hole that FDHC makes.
-fn is_in_hole(fdhc: u8, addr: u32) -> bool
+pub(crate) fn is_in_hole(fdhc: u8, addr: u32) -> bool
     ensures hole { result ≡ is_in (hole_by fdhc) addr }
 {
     match hole_of(fdhc) {

@@ -1,2 +1,3 @@
 pub mod Ata
 pub mod View
+pub mod Words

@@ -1,7 +1,8 @@
 //! The disk as its ports show it.
 
-ghost use Rattle.std.specs.Prelude.{◌≡◌, ◌↔◌, length, false, IsTrue, IfOk};
-ghost use Rattle.device_spec.specs.Ata.State.{is_disk_length, power_on, is_interrupt, sectors_of};
+ghost use Rattle.std.specs.Prelude.{◌≡◌, ◌<◌, ◌↔◌, length, false, IsTrue, IfOk};
+ghost use Rattle.device_spec.specs.Ata.State.{is_disk_length, power_on, is_interrupt, sectors_of, word_at};
+ghost use Rattle.ata_pio.specs.Words.{is_readable, with_word};
 ghost use Rattle.device_spec.specs.Ata.Steps.{is_ata_port, read_of, after_read, after_write, after_reset, after_bad, word_of, word_read, word_written, register_of, register_read, byte_written};
 
 use crate::controller::Controller;
@@ -125,6 +126,31 @@ impl Ata {
         ensures sectors { result ≡ sectors_of self.now.medium }
     {
         self.sectors.count()
+    }
+
+    /// Whether a sector exists and is not bad.
+    pub fn readable(&self, lba: u32) -> bool
+        ensures readable { result ≡ is_readable self.now.medium lba }
+    {
+        self.sectors.is_readable(lba)
+    }
+
+    /// Word `i` of a sector that exists, its lower byte first.
+    pub fn word(&self, lba: u32, i: u32) -> u16
+        requires sector { lba < sectors_of self.now.medium }
+        requires word { i < 256 }
+        ensures word { result ≡ word_at self.now.medium lba i }
+    {
+        self.sectors.word(lba, i as u8)
+    }
+
+    /// Sets word `i` of a sector that exists, its lower byte first. Nothing else changes.
+    pub fn set_word(&mut self, lba: u32, i: u32, word: u16)
+        requires sector { lba < sectors_of self.old.medium }
+        requires word { i < 256 }
+        ensures after { self.new ≡ record self.old { medium = with_word self.old.medium lba i word } }
+    {
+        self.sectors.set_word(lba, i as u8, word);
     }
 
     /// Reads a word at the data port.

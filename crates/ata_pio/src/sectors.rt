@@ -3,6 +3,7 @@
 ghost use Rattle.std.specs.Prelude.{◌≡◌, ◌+◌, ◌*◌, ◌<◌, ◌≤◌, length, vec_len, IsTrue, IfOk};
 ghost use Rattle.device_spec.specs.Ata.State.{is_disk_length, power_on, sectors_of, word_at, stored, marked};
 ghost use Rattle.device_spec.specs.Ata.Commands.{found, readable};
+ghost use Rattle.ata_pio.specs.Words.{is_readable, with_word};
 
 use crate::fault::Fault;
 use byteorder::{ByteOrder, LittleEndian};
@@ -83,6 +84,26 @@ impl Sectors {
         let at = sector as usize * SECTOR_BYTES;
         self.bytes[at..at + SECTOR_BYTES].copy_from_slice(bytes);
         self.bad[sector as usize] = false;
+    }
+
+    /// Sets a word of a sector, its lower byte first. Nothing else changes.
+    pub fn set_word(&mut self, sector: u32, word: u8, value: u16)
+        requires { sector < sectors_of (medium_of self.old) }
+        ensures set { medium_of self.new ≡ with_word (medium_of self.old) sector word value }
+    {
+        let at = sector as usize * SECTOR_BYTES + 2 * word as usize;
+        self.bytes[at] = (value % 256) as u8;
+        self.bytes[at + 1] = (value / 256) as u8;
+    }
+
+    /// Whether there is a sector of this number and it is not bad.
+    pub fn is_readable(&self, sector: u32) -> bool
+        ensures readable { result ≡ is_readable (medium_of self.now) sector }
+    {
+        match self.bad.get(sector as usize) {
+            Some(bad) => !*bad,
+            None => false,
+        }
     }
 
     /// Marks a sector as bad, where there is one of this number.

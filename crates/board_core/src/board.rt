@@ -11,13 +11,17 @@ ghost use Rattle.board_spec.specs.Orders.{statements_of};
 ghost use Rattle.board_spec.specs.Registers.{byte_of};
 ghost use Rattle.board_spec.specs.MapWrites.{map_change_of, version_of};
 ghost use Rattle.board_spec.specs.FlatMap.{IsFlatMapOf};
-ghost use Rattle.addr_decode.specs.MapRegs.{StandsFor};
+ghost use Rattle.addr_decode.specs.MapRegs.{StandsFor, map_bytes};
+ghost use Rattle.dram_store.specs.Dram.{IsDramOf};
+ghost use Rattle.pci_bars.specs.Contents.{IsContentsOf};
+ghost use Rattle.board_spec.specs.Devices.{disk_of};
 ghost use Rattle.board_core.specs.Kept.{CanDo, IsChipsetOf};
 ghost use Rattle.board_core.specs.Steps.{AreInRange};
 
 use crate::chipset::Chipset;
 use crate::registers::Registers;
 use crate::setup::{BoardOpen, Setup};
+use crate::store::Store;
 use crate::{looks, memory, outside, ports, wide};
 use access_history::History;
 use addr_decode::MapChange;
@@ -191,6 +195,37 @@ impl Board {
                 self.chipset.registers.map_change(access, disk)
             }
             _ => None,
+        }
+    }
+
+    /// What the board is fitted with.
+    pub fn setup(&self) -> &Setup
+        ensures setup { result.now ≡ self.now.setup }
+    {
+        &self.setup
+    }
+
+    /// The registers and bytes that the history left. It takes no memory.
+    pub fn into_store(self) -> Store
+        ensures regs { StandsFor self.setup (byte_of self.setup self.entries) (map_bytes result.regs) }
+        ensures dram { IsDramOf self.setup self.entries result.dram }
+        ensures contents { IsContentsOf self.setup self.entries result.contents }
+        ensures rom { result.rom.items ≡ self.setup.rom }
+        ensures disk { result.disk ≡ disk_of self.setup self.entries }
+    {
+        let regs = self.chipset.registers.regs().copy();
+        let Board { setup, chipset, .. } = self;
+        let Chipset {
+            stores,
+            devices,
+            ..
+        } = chipset;
+        Store {
+            regs,
+            dram: stores.dram,
+            contents: stores.contents,
+            rom: setup.rom,
+            disk: devices.into_disk(),
         }
     }
 

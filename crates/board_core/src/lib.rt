@@ -11,7 +11,9 @@ mod ports;
 mod registers;
 mod reset_control;
 mod setup;
+mod store;
 mod wide;
 
 pub use board::{Board, is_rom_size};
 pub use setup::{BoardOpen, Setup};
+pub use store::Store;

@@ -93,6 +93,14 @@ impl Devices {
         self.disk.is_some()
     }
 
+    /// The disk, where one is fitted. All else is given up.
+    pub fn into_disk(self) -> Option<Ata>
+        ensures disk { result ≡ self.disk }
+    {
+        let Devices { disk, .. } = self;
+        disk
+    }
+
     /// A hard reset: each device takes its reset state, and then the pair with the levels of that moment. The levels
     /// set from outside stay, and so do the disk's sectors and the clock's memory. `routes` are as the reset left them.
     pub fn reset(&mut self, routes: &Pirq)

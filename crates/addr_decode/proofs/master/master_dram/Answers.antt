@@ -1,0 +1,14 @@
+use Rattle.std.proofs.Common.{◌∙◌, ap, ℕ, Option, false}
+use Rattle.board_spec.specs.Decode.{is_in, hole_of, is_shadowed}
+use Rattle.board_spec.specs.RegisterNames.{bridge}
+use Rattle.addr_decode.specs.Memory.{dram_area}
+use Rattle.addr_decode.proofs.master.master_dram.Goals as goal
+
+pub returns-in-Some : goal.returns-in-Some
+returns-in-Some c = record {
+  dram = λ setup bytes stands.
+      c.master_row.ensures.dram setup bytes stands
+      ∙ ap (λ (row : Option ℕ). dram_area row false
+      (is_shadowed bytes c.args.addr c.args.kind) (is_in (hole_of (bytes (bridge 0x68))) c.args.addr) c.args.addr)
+      (c.in-Some.ensures.row bytes stands.rows);
+}

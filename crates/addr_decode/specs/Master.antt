@@ -1,0 +1,27 @@
+-- How a bus master sees the memory map: as a processor does where SMRAM answers nobody.
+use Rattle.std.specs.Prelude.{ℕ, false, Option}
+use Rattle.board_base.specs.declared.access.Kind.{Kind}
+use Rattle.board_base.specs.declared.target.Area.{Area}
+use Rattle.board_base.specs.declared.target.Denial.{Denial}
+use Rattle.board_spec.specs.Setup.{Setup}
+use Rattle.board_spec.specs.RegisterNames.{fdhc, xbcs}
+use Rattle.board_spec.specs.Decode.{Bytes, area_under, row_of, is_shadowed, is_in, hole_of, is_rom_selected, memory_claim, denial_in, abort_denial, top_of, memory_shut, rom_unselected, rom_denial}
+
+-- the area that an access of a bus master reaches
+unfoldable pub master_area : Setup → Bytes → ℕ → Kind → Area
+master_area setup bytes addr kind =
+    area_under
+    (row_of bytes addr)
+    false
+    (is_shadowed bytes addr kind)
+    (is_in (hole_of (bytes fdhc)) addr)
+    (is_rom_selected (bytes xbcs) addr)
+    (memory_claim setup bytes addr)
+    addr
+
+-- and what denies it
+unfoldable pub master_denial : Setup → Bytes → ℕ → Kind → Option Denial
+master_denial setup bytes addr kind =
+    denial_in (master_area setup bytes addr kind) kind
+    (abort_denial (top_of bytes) (memory_shut setup bytes addr) (rom_unselected setup bytes addr) addr)
+    (rom_denial (bytes xbcs))

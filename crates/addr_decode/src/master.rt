@@ -1,0 +1,68 @@
+//! The memory map as a bus master sees it, to which SMRAM never answers.
+ghost use Rattle.std.specs.Prelude.{◌≡◌, false};
+ghost use Rattle.board_spec.specs.Setup.{Setup};
+ghost use Rattle.board_spec.specs.Decode.{Bytes, is_in, hole_of as hole_by, row_of as row_by, is_shadowed};
+ghost use Rattle.board_spec.specs.RegisterNames.{fdhc};
+ghost use Rattle.pci_bars.specs.Cards.{AreFitted};
+ghost use Rattle.addr_decode.specs.MapRegs.{StandsFor, map_bytes};
+ghost use Rattle.addr_decode.specs.Memory.{dram_area, row_area};
+ghost use Rattle.addr_decode.specs.Master.{master_area, master_denial};
+
+use crate::denial::denial_in;
+use crate::memory::{area_beside_dram, is_in_hole, is_shadowed};
+use crate::regs::MapRegs;
+use board_base::{Area, Denial, Kind};
+use board_spec::range::{SHADOW_RANGE, SMRAM_RANGE};
+use pmc_regs::row_of;
+
+/// The area that an access of a bus master reaches, and what denies it: None where the area answers, unless it is the
+/// ROM and the access writes.
+pub fn decode_master(regs: &MapRegs, addr: u32, kind: Kind) -> (Area, Option<Denial>)
+    requires cards { AreFitted regs.now.cards.items }
+    ensures area { (setup : Setup) (bytes : Bytes) → StandsFor setup bytes (map_bytes regs.now)
+        → result.0 ≡ master_area setup bytes addr kind }
+    ensures denial { (setup : Setup) (bytes : Bytes) → StandsFor setup bytes (map_bytes regs.now)
+        → result.1 ≡ master_denial setup bytes addr kind }
+{
+    let area = master_area(regs, addr, kind);
+    (area, denial_in(regs, area, addr, kind))
+}
+
+/// The area that an access of a bus master reaches.
+fn master_area(regs: &MapRegs, addr: u32, kind: Kind) -> Area
+    requires cards { AreFitted regs.now.cards.items }
+    ensures area { (setup : Setup) (bytes : Bytes) → StandsFor setup bytes (map_bytes regs.now)
+        → result ≡ master_area setup bytes addr kind }
+{
+    match master_dram(regs, addr, kind) {
+        Some(area) => area,
+        None => area_beside_dram(regs, addr),
+    }
+}
+
+/// Where such an access reaches DRAM. None where it does not.
+fn master_dram(regs: &MapRegs, addr: u32, kind: Kind) -> Option<Area>
+    ensures dram { (setup : Setup) (bytes : Bytes) → StandsFor setup bytes (map_bytes regs.now)
+        → result ≡ dram_area (row_by bytes addr) false
+        (is_shadowed bytes addr kind) (is_in (hole_by (bytes fdhc)) addr) addr }
+{
+    match row_of(&regs.drb, addr) {
+        Some(row) => master_row(regs, row, addr, kind),
+        None => None,
+    }
+}
+
+/// Where such an access at an address of a row reaches DRAM.
+fn master_row(regs: &MapRegs, row: u8, addr: u32, kind: Kind) -> Option<Area>
+    ensures dram { (setup : Setup) (bytes : Bytes) → StandsFor setup bytes (map_bytes regs.now)
+        → result ≡ row_area row false
+        (is_shadowed bytes addr kind) (is_in (hole_by (bytes fdhc)) addr) addr }
+{
+    if SMRAM_RANGE.contains(addr) {
+        return None;
+    }
+    if SHADOW_RANGE.contains(addr) {
+        return is_shadowed(&regs.pam, addr, kind).then_some(Area::Shadow(row));
+    }
+    (!is_in_hole(regs.fdhc, addr)).then_some(Area::Dram(row))
+}
