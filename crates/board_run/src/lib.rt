@@ -23,14 +23,3 @@ pub use replay::{check_log, replay_script};
 pub use run::run_script;
 pub use status::{Status, Which, exit_code};
 pub use words::law_words;
-
-#[cfg(test)]
-mod holding_gate;
-#[cfg(test)]
-mod made_maps;
-#[cfg(test)]
-mod rows;
-#[cfg(test)]
-mod tests;
-#[cfg(test)]
-mod told;

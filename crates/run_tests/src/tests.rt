@@ -1,9 +1,9 @@
-use super::*;
 use crate::holding_gate::HoldingGate;
 use crate::holding_gate::Moment::{After, Before};
 use crate::rows::*;
 use crate::told::{ToldShelf, ToldSink};
 use board_base::{MemShelf, MemSink, QuietGate, SafeShelf, SafeSink, SlowShelf, SlowSink};
+use board_run::{Status, Which, board, board_in_memory, exit_code, fault_text};
 use std::alloc::Global;
 use std::process::Abort;
 use std::sync::Wait;
