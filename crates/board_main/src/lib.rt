@@ -2,8 +2,6 @@
 #![tactic(auto)]
 
 mod answers;
-mod file_shelf;
-mod out_sink;
 mod program;
 mod words;
 

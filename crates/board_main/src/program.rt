@@ -10,10 +10,9 @@ ghost use Rattle.board_main.specs.Words.{is_own};
 ghost use Rattle.board_main.specs.Ends.{Ends, HasStatus};
 
 use crate::answers::own_answer;
-use crate::file_shelf::FileShelf;
-use crate::out_sink::OutSink;
 use crate::words::words_of;
 use board_base::QuietGate;
+use board_files::{FileShelf, OutSink, SystemFolder};
 use board_run::{Status, board, exit_code, fault_text};
 use std::alloc::Global;
 use std::env::Env;
@@ -66,7 +65,7 @@ where
     match own_answer(words) {
         Some(text) => write_own(output, text),
         None => {
-            let mut shelf = FileShelf::new(rt);
+            let mut shelf = FileShelf::new(SystemFolder { rt });
             let mut out = OutSink::new(output);
             board(rt, rt.alloc(), words, &mut shelf, &mut out, &QuietGate)
         }

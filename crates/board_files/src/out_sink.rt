@@ -1,15 +1,14 @@
-//! Standard output as a sink.
+//! A writer as a sink.
 
-ghost use Rattle.std.specs.Prelude.{◌≡◌, ◌≤◌, length, IfOk, None};
+ghost use Rattle.std.specs.Prelude.{◌≡◌, ◌≤◌, None};
 ghost use Rattle.board_base.specs.Counts.{next_fault};
 
-use crate::file_shelf::TRIES;
+use crate::tries::write_on;
 use board_base::{PutFault, Sink};
-use std::io;
-use std::io::{ErrorKind, Write};
+use std::io::Write;
 
-/// Standard output, which is written in pieces as large as they come. A write that fails, also since
-/// nobody reads any more, and one that takes nothing are faults. What it took it does not tell.
+/// A writer that is given pieces as large as they come, and tells what it took where the writer does. A write that
+/// fails, also since nobody reads any more, and one that takes nothing are faults.
 #[derive(Drop)]
 pub struct OutSink<W> {
     out: W,
@@ -17,8 +16,20 @@ pub struct OutSink<W> {
 }
 
 impl<W: Write> OutSink<W> {
-    pub fn new(out: W) -> OutSink<W> {
+    /// A sink over a writer, without faults.
+    pub fn new(out: W) -> OutSink<W>
+        ensures out { result.out ≡ out }
+        ensures quiet { result.faults ≡ 0 }
+    {
         OutSink { out, faults: 0 }
+    }
+
+    /// The writer with what it took.
+    pub fn into_inner(self) -> W
+        ensures out { result ≡ self.out }
+    {
+        let OutSink { out, .. } = self;
+        out
     }
 
     // Counts a fault.
@@ -26,27 +37,15 @@ impl<W: Write> OutSink<W> {
         ensures failed { result ≡ PutFault.Failed }
         ensures counted { self.new.faults ≡ next_fault self.old.faults }
         ensures never_falls { self.old.faults ≤ self.new.faults }
+        ensures out { self.new.out ≡ self.old.out }
     {
         self.faults = self.faults.saturating_add(1);
         PutFault::Failed
     }
 }
 
-// Writes, and again where a signal interrupted it.
-fn write_on<W: Write>(out: &mut W, piece: &[u8]) -> io::Result<usize>
-    ensures fits { IfOk result (λ k. k ≤ length piece.now) }
-{
-    for _ in 0..TRIES {
-        match out.write(piece) {
-            Err(error) if error.kind() == ErrorKind::Interrupted => {}
-            result => return result,
-        }
-    }
-    Err(io::Error::from(ErrorKind::Interrupted))
-}
-
 impl<W: Write> Sink for OutSink<W> {
-    ghost taken = { λ _. None };
+    ghost taken = { λ sink. W.contents sink.out };
 
     ghost faults = { λ sink. sink.faults };
 
