@@ -1,5 +1,5 @@
-//! Commands over real files, nearly all of which fail, each with its exit code and what is said of it. After them comes
-//! the command of this program's own words, as `board` does it.
+//! Commands over real files, nearly all of which fail, each with its exit code and what standard error is told. After them
+//! come what the program answers of itself, and the command of this program's own words, as `board` does it.
 #![tactic(auto)]
 
 ghost use Rattle.std.specs.Prelude.{◌≡◌, false, map, string_bytes, None, IfOk};
@@ -9,8 +9,9 @@ ghost use Rattle.board_main.specs.Words.{is_own};
 ghost use Rattle.app_failures.specs.Words.{words_in};
 
 use board_base::NoMemory;
-use board_main::{answer, run_program};
-use board_run::{Status, exit_code, fault_text};
+use board_files::SystemFolder;
+use board_main::{run_program, run_words};
+use board_run::{Status, exit_code};
 use std::alloc::Global;
 use std::fs::File;
 use std::io::Write;
@@ -40,6 +41,9 @@ const COMMANDS: [&str; 14] = [
 /// Words of commands whose output is a full disk.
 const FULL: [&str; 4] = ["replay good", "map good", "make 1", "--version"];
 
+/// Words that the program answers of itself.
+const OWN: [&str; 2] = ["--help", "--version"];
+
 /// The words of a line, cut at each space.
 fn words_of(alloc: Global, line: &str) -> Result<Vec<String>, NoMemory>
     ensures words { IfOk result (λ words. map string_bytes words.items ≡ words_in line.now) }
@@ -51,34 +55,38 @@ fn words_of(alloc: Global, line: &str) -> Result<Vec<String>, NoMemory>
     Ok(words)
 }
 
-/// How a command ends whose output goes to a file.
-fn status_of<R: Files + AllocGlobal + Threads + Wait + Sync>(
+/// How a command ends that writes to this output. What is said goes to `errors`.
+fn status_of<R: Files + AllocGlobal + Threads + Wait + Sync, W: Write, E: Write>(
     rt: &R,
     line: &str,
-    output: &str,
+    output: &mut W,
+    errors: &mut E,
 ) -> Status
     ensures usage { result ≡ Status.Usage
         → (is_own (words_in line.now) ≡ false) × (command_of (words_in line.now) ≡ None) }
 {
-    let Ok(words) = words_of(rt.alloc(), line) else {
-        return Status::NoMemory;
-    };
-    match File::create(rt, output) {
-        Ok(file) => answer(rt, &words, file),
-        Err(_) => Status::WriteFault,
+    match words_of(rt.alloc(), line) {
+        Ok(words) => run_words(rt, SystemFolder { rt }, &words, output, errors),
+        Err(_) => Status::NoMemory,
     }
 }
 
-/// Does a command, and writes its words, its exit code and what is said of it.
+/// Does a command, and writes its words, its exit code and what standard error is told.
 fn tell<R: Files + AllocGlobal + Threads + Wait + Sync, W: Write>(
     rt: &R,
     out: &mut W,
     line: &str,
     output: &str,
 ) {
-    let status = status_of(rt, line, output);
-    if let Ok(text) = fault_text(rt.alloc(), &status) {
-        let _ = writeln!(out, "{line}: {} {}", exit_code(&status), text.as_str());
+    let Ok(mut file) = File::create(rt, output) else {
+        return;
+    };
+    let mut said = Vec::new(rt.alloc());
+    let status = status_of(rt, line, &mut file, &mut said);
+    let _ = write!(out, "{line}: {} ", exit_code(&status));
+    let _ = out.write_all(&said);
+    if said.is_empty() {
+        let _ = writeln!(out, "");
     }
 }
 
@@ -88,6 +96,9 @@ fn main(rt: HostRuntime) -> ExitCode {
     }
     for line in FULL {
         tell(&rt, &mut rt.stdout(), line, "/dev/full");
+    }
+    for line in OWN {
+        let _ = status_of(&rt, line, &mut rt.stdout(), &mut rt.stderr());
     }
     run_program(&rt, rt.stdout(), rt.stderr())
 }

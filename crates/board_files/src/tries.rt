@@ -17,7 +17,7 @@ pub fn read_on<R: Read>(file: &mut R, into: &mut [u8]) -> io::Result<usize>
     for _ in 0..TRIES {
         match file.read(into) {
             Err(error) if error.kind() == ErrorKind::Interrupted => {}
-            result => return result,
+            read => return read,
         }
     }
     Err(io::Error::from(ErrorKind::Interrupted))
@@ -31,7 +31,7 @@ pub fn write_on<W: Write>(out: &mut W, piece: &[u8]) -> io::Result<usize>
     for _ in 0..TRIES {
         match out.write(piece) {
             Err(error) if error.kind() == ErrorKind::Interrupted => {}
-            result => return result,
+            written => return written,
         }
     }
     Err(io::Error::from(ErrorKind::Interrupted))

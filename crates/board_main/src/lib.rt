@@ -5,4 +5,4 @@ mod answers;
 mod program;
 mod words;
 
-pub use program::{answer, run_program, run_words};
+pub use program::{run_program, run_words};
