@@ -1,0 +1,5 @@
+pub mod Chipset
+pub mod Faults
+pub mod Kept
+pub mod Ports
+pub mod Steps
