@@ -110,7 +110,7 @@ module _ {setup : Setup} {history : List Entry} {state : State} (kept : IsStateO
       memory_claim_sized setup (byte_of setup history) state.registers.map.regs.cards addr by.0 cards_fitted.each
       kept.registers.kept.map.cards by.1 in
       lies_in_base setup state.stores.contents by.0 dev base addr width sized by.2 by.3
-      (lies_in_window setup history state.stores.contents by.0 addr width sized kept.stores.contents aligned)
+      (lies_in_window setup state.stores.contents by.0 addr width sized kept.stores.contents.sizes aligned)
   held_in addr width _ aligned claim = tt
 
   pub ready :
@@ -140,6 +140,6 @@ module _ {setup : Setup} {history : List Entry} {state : State} (kept : IsStateO
       io_claim_sized setup (byte_of setup history) state.registers.map.regs.cards port window cards_fitted.each
       kept.registers.kept.map.cards is.1.1 in
       rw (← is.1.2, ← is.1.3, ← is.1.4)
-      (lies_in_window setup history state.stores.contents window port width sized kept.stores.contents aligned)
+      (lies_in_window setup state.stores.contents window port width sized kept.stores.contents.sizes aligned)
   stored_target port width Abort aligned is device config = tt
   stored_target port width _ aligned is device config = absurd is
