@@ -5,6 +5,7 @@ ghost use Rattle.pit_8254.specs.View.{mode_view, access_view, notation_view, lat
 ghost use Rattle.pit_8254.specs.Quiet.{least_count};
 
 mod pulsing;
+mod rising;
 mod running;
 
 use crate::latch::CountLatch;
