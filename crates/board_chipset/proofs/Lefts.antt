@@ -6,7 +6,7 @@ use Rattle.board_spec.specs.Setup.{Setup}
 use Rattle.board_spec.specs.InRange.{IsInRange}
 use Rattle.board_chipset.specs.declared.state.State.{State}
 use Rattle.board_chipset.specs.Kept.{CanDo, IsStateOf}
-use Rattle.board_chipset.specs.Chipset.{Running, IsLeftBy, IsLeftByFew}
+use Rattle.board_chipset.specs.Chipset.{Running, IsLeftBy, IsLeft}
 
 pub left_by : {setup : Setup} {history : List Entry} {state : State} → IsStateOf setup history state →
     IsLeftBy (record { setup = setup; state = state }) history
@@ -21,8 +21,8 @@ state_of same left = rw (← same) at left
 
 pub can_do : (chipset : Running) (setup : Setup) (state : State) (rom : List ℕ) (event : Event) →
     record { setup = setup; state = state } ≡ chipset → setup.rom ≡ rom →
-    IsLeftByFew chipset → IsInRange chipset.setup event → CanDo state rom event
-can_do chipset setup state rom event same image (history, few, left) in_range = record {
-  kept = record { setup = setup; history = history; few = few; of = state_of same left; image = image };
+    IsLeft chipset → IsInRange chipset.setup event → CanDo state rom event
+can_do chipset setup state rom event same image (history, left) in_range = record {
+  kept = record { setup = setup; history = history; of = state_of same left; image = image };
   in_range = subst (λ (it : Running). IsInRange it.setup event) (sym same) in_range;
 }

@@ -12,3 +12,4 @@ pub mod MemorySteps
 pub mod ChangeSteps
 pub mod Lefts
 pub mod Openings
+pub mod Exact

@@ -11,12 +11,12 @@ use Rattle.board_spec.specs.Setup.{Setup}
 use Rattle.board_spec.specs.RegisterTable.{reset_byte}
 use Rattle.board_spec.specs.Registers.{control_after, resets_hard, kept_address, reset_control, config_address, register_change, byte_with, byte_of}
 use Rattle.board_spec.specs.MapWrites.{map_writes_of}
-use Rattle.board_spec.specs.Limits.{entry_limit}
 use Rattle.config_regs.specs.Config.{AreKeptOf}
 use Rattle.board_chipset.specs.declared.registers.Registers.{Registers}
 use Rattle.board_chipset.specs.Kept.{IsFlat, HasRegisters}
 use Rattle.board_chipset.specs.Ports.{Writes}
-use Rattle.board_chipset.proofs.MapVersions.{moved, version_after, few_writes}
+use Rattle.board_chipset.specs.Versions.{AreLastChanged}
+use Rattle.board_chipset.proofs.MapVersions.{version_by, modulo_after, Follow, changed_after}
 
 -- what is done to the registers in configuration space: a hard reset, or the store
 abbrev pub change_by : ℕ → Option ℕ → Option MapChange → Option MapChange
@@ -38,10 +38,11 @@ pub follows :
     new.control ≡ control_after old.control written →
     AreKeptOf setup (λ reg. byte_with setup (change_by old.control written store) reg (byte_of setup history reg))
     new.map.regs new.south →
-    new.map.version ≡ old.map.version + moved setup (change_by old.control written store) → IsFlat new.map →
+    new.map.version ≡ version_by setup (change_by old.control written store) old.map.version →
+    Follow setup history (change_by old.control written store) old.map.changed new.map.changed → IsFlat new.map →
     HasRegisters setup (entry ∷ history) new
 unfolding config_address reset_control byte_of
-follows {setup} {history} {entry} {old} {new} {written} {store = store} writes has address control kept version flat =
+follows {setup} {history} {entry} {old} {new} {written} {store = store} writes has address control kept version windows flat =
     let change : register_change setup history entry.event ≡ change_by old.control written store =
     rw (has.control) (change_is writes) in
     record {
@@ -51,8 +52,9 @@ follows {setup} {history} {entry} {old} {new} {written} {store = store} writes h
           (λ (c : Option MapChange). AreKeptOf setup (λ reg. byte_with setup c reg (byte_of setup history reg))
           new.map.regs new.south)
           (sym change) kept;
-      version = version ∙ ap (λ (n : ℕ). n + moved setup (change_by old.control written store)) has.version
-          ∙ sym (version_after setup history entry _ change);
+      version = version ∙ ap (version_by setup (change_by old.control written store)) has.version
+          ∙ modulo_after setup history entry _ change;
+      changed = changed_after setup history entry _ old.map.changed new.map.changed change has.changed windows;
       flat = flat;
     }
 
@@ -67,18 +69,18 @@ pub quiet :
     {setup : Setup} {history : List Entry} {entry : Entry} {old : Registers} →
     Writes setup history entry.event None None None →
     HasRegisters setup history old → HasRegisters setup (entry ∷ history) old
-quiet none has = follows none has refl refl has.kept (omega arith) has.flat
+quiet none has = follows none has refl refl has.kept refl refl has.flat
 
 pub registers_at_reset : (setup : Setup) (registers : Registers) → registers.address ≡ 0 → registers.control ≡ 0 →
     AreKeptOf setup (reset_byte setup) registers.map.regs registers.south → registers.map.version ≡ 0 →
-    IsFlat registers.map →
+    registers.map.changed ≡ [] → IsFlat registers.map →
     HasRegisters setup [] registers
-unfolding byte_of config_address reset_control map_writes_of
-registers_at_reset setup registers address control kept version flat =
-    record { address = address; control = control; kept = kept; version = version; flat = flat }
-
--- the map has had fewer changes than a history has room for entries
-pub few_changes : (setup : Setup) (history : List Entry) (registers : Registers) →
-    HasRegisters setup history registers →
-    length history < entry_limit → registers.map.version < entry_limit
-few_changes setup history registers has few = rw (has.version) (omega (arith, few_writes setup history))
+unfolding byte_of config_address reset_control map_writes_of AreLastChanged
+registers_at_reset setup registers address control kept version windows flat = record {
+  address = address;
+  control = control;
+  kept = kept;
+  version = version;
+  changed = windows;
+  flat = flat;
+}

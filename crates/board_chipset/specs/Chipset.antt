@@ -1,7 +1,6 @@
 -- What contracts see of a chipset. Its history is not kept: it is whatever history leaves a board as the chipset is.
-use Rattle.std.specs.Prelude.{List, length, ◌<◌}
+use Rattle.std.specs.Prelude.{List}
 use Rattle.board_spec.specs.declared.event.Entry.{Entry}
-use Rattle.board_spec.specs.Limits.{entry_limit}
 use Rattle.board_spec.specs.Setup.{Setup}
 use Rattle.board_chipset.specs.declared.state.State.{State}
 use Rattle.board_chipset.specs.Kept.{IsStateOf}
@@ -17,7 +16,3 @@ IsLeftBy chipset history = IsStateOf chipset.setup history chipset.state
 -- some history left it
 abbrev pub IsLeft : Running → Type 0
 IsLeft chipset = (history : List Entry) × IsLeftBy chipset history
-
--- a history with room for more entries left it
-abbrev pub IsLeftByFew : Running → Type 0
-IsLeftByFew chipset = (history : List Entry) × (length history < entry_limit) × IsLeftBy chipset history

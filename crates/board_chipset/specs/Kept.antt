@@ -1,5 +1,5 @@
 -- What a history leaves: the registers, the bytes behind the addresses, and the devices.
-use Rattle.std.specs.Prelude.{ℕ, ◌≡◌, ◌<◌, List, length}
+use Rattle.std.specs.Prelude.{ℕ, ◌≡◌, ◌%◌, List}
 use Rattle.board_spec.specs.declared.event.Event.{Event}
 use Rattle.board_spec.specs.declared.event.Entry.{Entry}
 use Rattle.board_spec.specs.Setup.{Setup, IsSetup}
@@ -10,12 +10,12 @@ use Rattle.board_spec.specs.Decode.{Bytes}
 use Rattle.board_spec.specs.FlatMap.{IsFlatMapOf}
 use Rattle.addr_decode.specs.MapRegs.{StandsFor}
 use Rattle.map_builder.specs.Map.{Mapped}
-use Rattle.board_spec.specs.Limits.{entry_limit}
 use Rattle.config_regs.specs.Config.{AreKeptOf}
 use Rattle.board_stores.specs.Puts.{HasStores}
 use Rattle.board_devices.specs.Devices.{AreDevicesOf}
 use Rattle.board_chipset.specs.declared.registers.Registers.{Registers}
 use Rattle.board_chipset.specs.declared.state.State.{State}
+use Rattle.board_chipset.specs.Versions.{version_count, AreLastChanged}
 
 -- the ranges of a map are the flat map of every board that has its registers
 abbrev pub IsFlat : Mapped → Type 0
@@ -27,7 +27,8 @@ pub record HasRegisters (setup : Setup) (history : List Entry) (registers : Regi
   pub address : registers.address ≡ config_address history
   pub control : registers.control ≡ reset_control history
   pub kept : AreKeptOf setup (byte_of setup history) registers.map.regs registers.south
-  pub version : registers.map.version ≡ version_of setup history
+  pub version : registers.map.version ≡ version_of setup history % version_count
+  pub changed : AreLastChanged setup history registers.map.changed
   pub flat : IsFlat registers.map
 
 pub record IsStateOf (setup : Setup) (history : List Entry) (state : State) : Type 0 where
@@ -36,11 +37,10 @@ pub record IsStateOf (setup : Setup) (history : List Entry) (state : State) : Ty
   pub stores : HasStores setup history state.stores
   pub devices : AreDevicesOf setup history state.devices
 
--- a state of some board and some history, to which there is room to add
+-- a state of some board and some history
 pub record IsState (state : State) (rom : List ℕ) : Type 0 where
   pub setup : Setup
   pub history : List Entry
-  pub few : length history < entry_limit
   pub of : IsStateOf setup history state
   pub image : setup.rom ≡ rom
 

@@ -3,3 +3,4 @@ pub mod Faults
 pub mod Kept
 pub mod Ports
 pub mod Steps
+pub mod Versions

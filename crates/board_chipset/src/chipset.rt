@@ -1,6 +1,6 @@
 //! The chipset: each event is one step, and its reply the answer to the history so far, which is not kept.
 
-ghost use Rattle.std.specs.Prelude.{◌≡◌, ◌≤◌, ◌↔◌, List, [], ◌∷◌, length, Err, IfOk};
+ghost use Rattle.std.specs.Prelude.{◌≡◌, ◌<◌, ◌≤◌, ◌%◌, ◌↔◌, List, [], ◌∷◌, length, Err, IfOk};
 ghost use Rattle.board_spec.specs.declared.event.Entry.{Entry};
 ghost use Rattle.board_spec.specs.Limits.{most_card_memory};
 ghost use Rattle.board_spec.specs.Setup.{IsCardList, IsDisk, IsRomSize, memory_of_cards};
@@ -13,7 +13,8 @@ ghost use Rattle.addr_decode.specs.MapRegs.{StandsFor, map_bytes};
 ghost use Rattle.dram_store.specs.Dram.{IsDramOf};
 ghost use Rattle.pci_bars.specs.Contents.{IsContentsOf};
 ghost use Rattle.board_spec.specs.Devices.{disk_of};
-ghost use Rattle.board_chipset.specs.Chipset.{IsLeftBy, IsLeftByFew};
+ghost use Rattle.board_chipset.specs.Chipset.{IsLeftBy};
+ghost use Rattle.board_chipset.specs.Versions.{version_count, AreLastChanged, IsAnswerModulo};
 
 use crate::setup::{BoardOpen, Setup};
 use crate::state::State;
@@ -59,13 +60,15 @@ impl Chipset {
         Ok(Chipset { setup, state })
     }
 
-    /// Does an event, and tells the reply. It takes no memory.
+    /// Does an event, and tells the reply: the answer to the history so far, in which the version of the map that a look
+    /// tells is counted modulo 2^32. It takes no memory.
     pub fn step(&mut self, event: &Event) -> Reply
         requires in_range { IsInRange self.old.setup event.now }
-        requires few { IsLeftByFew self.old }
         ensures setup { self.new.setup ≡ self.old.setup }
         ensures answer { (history : List Entry) → IsLeftBy self.old history
-            → IsAnswer self.old.setup history event.now result }
+            → IsAnswerModulo self.old.setup history event.now result }
+        ensures exact { (history : List Entry) → IsLeftBy self.old history
+            → version_of self.old.setup history < version_count → IsAnswer self.old.setup history event.now result }
         ensures left { (history : List Entry) (entry : Entry) → IsLeftBy self.old history
             → entry.event ≡ event.now → entry.reply ≡ result → IsLeftBy self.new (entry ∷ history) }
     {
@@ -94,15 +97,17 @@ impl Chipset {
         &self.setup
     }
 
-    /// The memory map of the registers as they stand. Its version is the number of map writes so far: the stores to a
-    /// register that the map depends on, and the hard resets.
+    /// The memory map of the registers as they stand. Its version is the number of map writes so far, modulo 2^32: the
+    /// stores to a register that the map depends on, and the hard resets.
     pub fn map(&self) -> &FlatMap
         ensures stands { (history : List Entry) → IsLeftBy self.now history
             → StandsFor self.now.setup (byte_of self.now.setup history) result.now.regs }
         ensures map { (history : List Entry) → IsLeftBy self.now history
             → IsFlatMapOf self.now.setup (byte_of self.now.setup history) result.now.ranges }
         ensures version { (history : List Entry) → IsLeftBy self.now history
-            → result.now.version ≡ version_of self.now.setup history }
+            → result.now.version ≡ version_of self.now.setup history % version_count }
+        ensures changed { (history : List Entry) → IsLeftBy self.now history
+            → AreLastChanged self.now.setup history result.now.changed }
     {
         &self.state.registers.map
     }

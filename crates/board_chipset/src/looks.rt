@@ -4,8 +4,8 @@ ghost use Rattle.std.specs.Prelude.{◌≡◌, List, ◌∷◌};
 ghost use Rattle.board_spec.specs.declared.event.Entry.{Entry};
 ghost use Rattle.board_spec.specs.declared.event.Event.TheVariants.{Look as LookAt};
 ghost use Rattle.board_spec.specs.Setup.{Setup};
-ghost use Rattle.board_spec.specs.Answer.{IsAnswer};
 ghost use Rattle.board_chipset.specs.Kept.{IsStateOf};
+ghost use Rattle.board_chipset.specs.Versions.{IsAnswerModulo};
 
 use crate::state::State;
 use board_base::Kind;
@@ -15,7 +15,7 @@ use board_spec::{Look, Reply};
 /// Tells the version of the map, and where this kind of access at an address would land. A look changes nothing.
 pub fn look(state: &State, kind: Kind, addr: u32, smm: bool) -> Reply
     ensures answer { (setup : Setup) (history : List Entry) → IsStateOf setup history state.now
-        → IsAnswer setup history (LookAt kind addr smm) result }
+        → IsAnswerModulo setup history (LookAt kind addr smm) result }
     ensures board { (setup : Setup) (history : List Entry) (entry : Entry) → IsStateOf setup history state.now
         → entry.event ≡ LookAt kind addr smm → IsStateOf setup (entry ∷ history) state.now }
 {

@@ -16,7 +16,8 @@ ghost use Rattle.board_spec.specs.Ports.{port_target_of};
 ghost use Rattle.pci_bars.specs.Cards.{AreFitted};
 ghost use Rattle.addr_decode.specs.MapRegs.{StandsFor, map_bytes};
 ghost use Rattle.addr_decode.specs.Ports.{as_decoded};
-ghost use Rattle.board_spec.specs.Limits.{entry_limit};
+ghost use Rattle.map_builder.specs.Map.{next_version};
+ghost use Rattle.map_builder.specs.Applied.{AreChanged};
 ghost use Rattle.config_regs.specs.Config.{AreKeptOf};
 ghost use Rattle.board_chipset.specs.Kept.{HasRegisters, IsFlat};
 ghost use Rattle.board_chipset.specs.Ports.{Writes};
@@ -99,7 +100,6 @@ impl Registers {
     /// Stores the bytes of a value in configuration space, the low one first, in rising offset.
     pub fn store(&mut self, reg: Reg, width: Width, value: u32)
         requires within { reg.off + bytes_of width ≤ 0x100 }
-        requires version { self.old.map.version < entry_limit }
         ensures registers { (setup : Setup) (history : List Entry) (entry : Entry) → HasRegisters setup history self.old
             → Writes setup history entry.event None None (Some (Store reg width value))
             → HasRegisters setup (entry ∷ history) self.new }
@@ -111,7 +111,6 @@ impl Registers {
 
     /// Writes reset control, and tells whether that is a hard reset, which gives each register its value after a reset.
     pub fn write_control(&mut self, byte: u8) -> bool
-        requires version { self.old.map.version < entry_limit }
         ensures hard { result ≡ is_hard_value self.old.control byte }
         ensures registers { (setup : Setup) (history : List Entry) (entry : Entry)
             → Writes setup history entry.event (Some byte) None None
@@ -127,12 +126,13 @@ impl Registers {
 
     /// Gives each register but reset control its value after a reset.
     fn reset(&mut self)
-        requires version { self.old.map.version < entry_limit }
         ensures address { self.new.address ≡ 0 }
         ensures control { self.new.control ≡ self.old.control }
         ensures kept { (setup : Setup) (bytes : Bytes) → AreKeptOf setup bytes self.old.map.regs self.old.south
             → AreKeptOf setup (reset_byte setup) self.new.map.regs self.new.south }
-        ensures version { self.new.map.version ≡ self.old.map.version + 1 }
+        ensures version { self.new.map.version ≡ next_version self.old.map.version }
+        ensures windows { (setup : Setup) (bytes : Bytes) → StandsFor setup bytes self.old.map.regs
+            → AreChanged setup bytes Reset self.new.map.changed }
         ensures flat { IsFlat self.new.map }
     {
         self.address.reset();

@@ -3,8 +3,8 @@
 ghost use Rattle.std.specs.Prelude.{◌≡◌, List, ◌∷◌};
 ghost use Rattle.board_spec.specs.declared.event.Entry.{Entry};
 ghost use Rattle.board_spec.specs.Setup.{Setup};
-ghost use Rattle.board_spec.specs.Answer.{IsAnswer};
 ghost use Rattle.board_chipset.specs.Kept.{CanDo, IsStateOf};
+ghost use Rattle.board_chipset.specs.Versions.{IsAnswerModulo};
 
 use crate::state::State;
 use crate::{looks, memory, outside, ports, wide};
@@ -15,7 +15,7 @@ pub fn step(state: &mut State, rom: &[u8], event: &Event) -> Reply
     requires can { CanDo state.old rom.now event.now }
     ensures answer { (setup : Setup) (history : List Entry) → IsStateOf setup history state.old
         → setup.rom ≡ rom.now
-        → IsAnswer setup history event.now result }
+        → IsAnswerModulo setup history event.now result }
     ensures board { (setup : Setup) (history : List Entry) (entry : Entry)
         → IsStateOf setup history state.old → setup.rom ≡ rom.now
         → entry.event ≡ event.now → entry.reply ≡ result → IsStateOf setup (entry ∷ history) state.new }

@@ -7,9 +7,12 @@ use Rattle.std.proofs.lemmas.Bool.Decides.{nat_tests}
 use Rattle.board_spec.specs.declared.event.Entry.{Entry}
 use Rattle.board_spec.specs.Setup.{Setup, IsDisk}
 use Rattle.board_spec.specs.Legal.{entries_by, IsLegal}
+use Rattle.board_spec.specs.MapWrites.{version_of}
 use Rattle.board_spec.specs.Answer.{IsAnswer}
 use Rattle.access_history.specs.Past.{Past}
-use Rattle.board_chipset.specs.Chipset.{Running, IsLeftBy, IsLeftByFew}
+use Rattle.board_chipset.specs.Chipset.{Running, IsLeftBy}
+use Rattle.board_chipset.specs.Versions.{version_count}
+use Rattle.board_chipset.proofs.Exact.{few_entries}
 use Rattle.board_core.specs.Kept.{IsKept}
 
 -- ---- a new board
@@ -58,9 +61,10 @@ count_fits chipset history spare counts actor at same below kept =
 
 -- ---- a step
 
-pub few_entries : {chipset : Running} {history : List Entry} {spare : ℕ} {counts : List ℕ} →
-    IsKept chipset history spare counts → IsLeftByFew chipset
-few_entries {history = history} kept = (history, omega (arith, kept.room), kept.left)
+-- a board has had fewer changes of its map than entries
+pub few_versions : {chipset : Running} {history : List Entry} {spare : ℕ} {counts : List ℕ} →
+    IsKept chipset history spare counts → version_of chipset.setup history < version_count
+few_versions {chipset} {history} kept = few_entries chipset.setup history (omega (arith, kept.room))
 
 pub stepped :
     (history : List Entry) (counts : List ℕ) (entry : Entry) (past : Past) (spare : ℕ) (old new : Running) →

@@ -2,7 +2,6 @@ use Rattle.std.proofs.Common.{◌≡◌, ◌≤◌, ◌∷◌, ◌∙◌, true, 
 use Rattle.board_spec.specs.Registers.{is_hard_reset}
 use Rattle.board_chipset.specs.Kept.{HasRegisters}
 use Rattle.board_chipset.proofs.Effects.{reached_in, entry_writes, fits_byte}
-use Rattle.board_chipset.proofs.RegisterSteps.{few_changes}
 use Rattle.board_chipset.proofs.StoreSteps.{stores_stay}
 use Rattle.board_chipset.proofs.PortSteps.{puts_none, registers_move}
 use Rattle.board_chipset.proofs.ports.write_control.Goals as goal
@@ -15,11 +14,6 @@ overflow_cast-access c =
     let small : access.value ≤ 0xFF =
     fits_byte access.width access.value at.1 (rw c.requires.writes at reaching.bus.fits) in
     omega arith
-
-pub write_control-requires : goal.write_control-requires
-write_control-requires c =
-    let kept = c.requires.reaching.kept in
-    record { version = few_changes kept.setup kept.history c.args.state.now.registers kept.of.registers kept.few }
 
 pub returns-then-write_control : goal.returns-then-write_control
 returns-then-write_control c = record {

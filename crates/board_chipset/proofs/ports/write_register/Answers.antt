@@ -1,24 +1,19 @@
 use Rattle.std.proofs.Common.{◌∷◌, refl, arith}
 use Rattle.board_chipset.specs.Kept.{HasRegisters}
 use Rattle.board_chipset.proofs.Effects.{reached_in, within_function, entry_writes}
-use Rattle.board_chipset.proofs.RegisterSteps.{few_changes}
 use Rattle.board_chipset.proofs.StoreSteps.{stores_stay}
 use Rattle.board_chipset.proofs.StateSteps.{soft}
 use Rattle.board_chipset.proofs.PortSteps.{passes, puts_none, registers_move}
 use Rattle.board_chipset.proofs.ports.write_register.Goals as goal
 
-pub store-requires-clause-within : goal.store-requires-clause-within
-store-requires-clause-within c =
+pub store-requires : goal.store-requires
+store-requires c =
     let reaching = c.requires.reaching in
-    let kept = reaching.kept in
     let access = c.args.access.now in
-    within_function kept.setup kept.history access.port access.width c.args.reg reaching.bus.aligned
-    (reached_in reaching).1
-
-pub store-requires-clause-version : goal.store-requires-clause-version
-store-requires-clause-version c =
-    let kept = c.requires.reaching.kept in
-    few_changes kept.setup kept.history c.args.state.now.registers kept.of.registers kept.few
+    record {
+      within = within_function reaching.kept.setup reaching.kept.history access.port access.width c.args.reg
+          reaching.bus.aligned (reached_in reaching).1;
+    }
 
 pub returns-then-reg-eq-SOUTH_BRIDGE : goal.returns-then-reg-eq-SOUTH_BRIDGE
 returns-then-reg-eq-SOUTH_BRIDGE c = record {

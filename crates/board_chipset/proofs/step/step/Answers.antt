@@ -1,4 +1,5 @@
 use Rattle.std.proofs.Common.{◌∙◌}
+use Rattle.board_chipset.proofs.Exact.{modulo}
 use Rattle.board_chipset.proofs.step.step.Goals as goal
 
 pub returns-in-Memory-clause-board : goal.returns-in-Memory-clause-board
@@ -19,6 +20,7 @@ returns-in-Look-clause-board c = λ setup history entry kept image event replied
 
 pub returns-in_default : goal.returns-in_default
 returns-in_default c = record {
-  answer = λ setup history kept image. c.answer.ensures.answer setup history kept;
+  answer = λ setup history kept image. modulo setup history c.args.event.now c.answer.result c.in_default.not-Look
+      (c.answer.ensures.answer setup history kept);
   board = λ setup history entry kept image event replied. c.answer.ensures.board setup history entry kept event;
 }

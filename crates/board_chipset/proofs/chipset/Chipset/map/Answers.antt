@@ -9,4 +9,5 @@ returns c = record {
       let registers = (state_of c.self.view_is left).registers in
       rw (← c.self.view_is) (registers.flat _ _ registers.kept.map);
   version = λ history left. rw (← c.self.view_is) (state_of c.self.view_is left).registers.version;
+  changed = λ history left. rw (← c.self.view_is) (state_of c.self.view_is left).registers.changed;
 }

@@ -19,5 +19,5 @@ returns c = record {
             (c.reset_of.ensures.reset setup same);
         south = c.new-3.ensures.reset setup;
       })
-      c.from_scratch.ensures.version c.from_scratch.ensures.map;
+      c.from_scratch.ensures.version c.from_scratch.ensures.changed c.from_scratch.ensures.map;
 }

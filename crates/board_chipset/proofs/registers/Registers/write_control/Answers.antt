@@ -9,10 +9,12 @@ returns-then-hard-clause-registers c = λ setup history entry put has.
     sym c.write-hard.ensures.hard ∙ c.if-hard.true in
     follows put has (rw hard c.reset.ensures.address) (c.reset.ensures.control ∙ c.write-hard.ensures.byte)
     (rw hard (c.reset.ensures.kept setup (byte_of setup history) has.kept))
-    (rw hard c.reset.ensures.version) c.reset.ensures.flat
+    (rw hard c.reset.ensures.version)
+    (rw hard (c.reset.ensures.windows setup (byte_of setup history) has.kept.map)) c.reset.ensures.flat
 
 pub returns-else-hard-clause-registers : goal.returns-else-hard-clause-registers
 returns-else-hard-clause-registers c = λ setup history entry put has.
     let soft : is_hard_value c.args.self.now.control c.args.byte ≡ false =
     sym c.write-hard.ensures.hard ∙ c.if-hard.false in
-    follows put has (rw soft refl) c.write-hard.ensures.byte (rw soft has.kept) (rw soft (omega arith)) has.flat
+    follows put has (rw soft refl) c.write-hard.ensures.byte (rw soft has.kept) (rw soft refl) (rw soft refl)
+    has.flat

@@ -3,7 +3,7 @@ use Rattle.std.specs.Prelude.{slice_index}
 use Rattle.board_spec.specs.InRange.{IsInRange}
 use Rattle.board_spec.specs.declared.event.Entry.{Entry}
 use Rattle.board_core.specs.Kept.{Standing}
-use Rattle.board_core.proofs.Boards.{few_entries, count_fits, stepped}
+use Rattle.board_core.proofs.Boards.{few_versions, count_fits, stepped}
 use Rattle.board_core.proofs.board.Board.step.Goals as goal
 
 pub step-reply-requires : goal.step-reply-requires
@@ -12,7 +12,6 @@ step-reply-requires c =
     record {
       in_range = subst (λ (board : Standing). IsInRange board.setup c.args.event.now) (sym c.self.view_is)
           c.requires.in_range;
-      few = few_entries c.self.invariant;
     }
 
 pub overflow_add-seq : goal.overflow_add-seq
@@ -37,5 +36,11 @@ invariant_of-self c =
     rw (c.from-2.ensures)
     (stepped old.history.entries old.counts entry c.push.new.self old.history.spare old.chipset c.step-reply.new.self
     c.self.told (omega arith) some c.push.ensures.pushed (rw (c.from.ensures) refl) c.self.invariant
-    c.step-reply.ensures.setup (c.step-reply.ensures.answer old.history.entries left)
+    c.step-reply.ensures.setup (c.step-reply.ensures.exact old.history.entries left (few_versions c.self.invariant))
     (c.step-reply.ensures.left old.history.entries entry left refl refl))
+
+pub returns-clause-answer : goal.returns-clause-answer
+returns-clause-answer c =
+    let board = c.self.inside in
+    rw (← c.self.view_is)
+    (c.step-reply.ensures.exact board.history.entries c.self.invariant.left (few_versions c.self.invariant))
