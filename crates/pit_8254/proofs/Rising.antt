@@ -1,10 +1,10 @@
 -- When OUT next rises.
-use Rattle.std.proofs.Common.{◌≡◌, ℕ, zero, suc, ◌+◌, ◌-◌, ◌*◌, ◌/◌, ◌%◌, ◌<◌, ◌≤◌, ◌==◌, ◌&&◌, ◌||◌, not, Bool, true, false, cond, Option, Some, None, nat_lt, inl, inr, refl, ap, sym, subst, ◌∙◌, arith}
+use Rattle.std.proofs.Common.{◌≡◌, ◌≢◌, ℕ, zero, suc, ◌+◌, ◌-◌, ◌*◌, ◌/◌, ◌%◌, ◌<◌, ◌≤◌, ◌==◌, ◌&&◌, ◌||◌, not, Bool, true, false, cond, Option, Some, None, nat_lt, inl, inr, refl, ap, sym, subst, ◌∙◌, arith}
 use Rattle.std.proofs.lemmas.Bool.{cases_Bool, cases_lt, or_parts, true≢false}
 use Rattle.device_spec.specs.Pit.{Mode, TerminalCount, OneShot, RateGenerator, SquareWave, SoftwareStrobe, HardwareStrobe, CounterState, PitState, is_periodic, pulse, out_of, pulses}
 use Rattle.device_spec.specs.PitLaws.{pulses_of}
 use Rattle.device_spec.proofs.PitPulses.{counters_apart}
-use Rattle.pit_8254.specs.Quiet.{rise, rises_of, is_due, counts, every_pulse, pulses_in_half, counted_quietly, quiet_pulses, element_after, after_quiet}
+use Rattle.pit_8254.specs.Quiet.{rise, rises_of, is_due, counts, most_count, every_pulse, pulses_in_half, counted_quietly, quiet_pulses, element_after, after_quiet}
 use Rattle.pit_8254.specs.Runs.{IsPart, IsSettled, IsAtPeriod}
 use Rattle.pit_8254.specs.NextRise.{RisesAt, IsNextRise, IsFirstRise, IsEdge}
 use Rattle.pit_8254.specs.declared.counting.running.Run.{Run}
@@ -129,14 +129,14 @@ edge_passes gate c d e is rises =
 
 -- ---- where all pulses that come are quiet
 
-never_half : (odd : Bool) (e j : ℕ) → e < 0x1_0000_0000 → pulses_in_half (cond odd 0 2) e ≡ every_pulse → (e - 2 * j == cond odd 0 2) ≡ false
+never_half : (odd : Bool) (e j : ℕ) → e ≤ most_count → pulses_in_half (cond odd 0 2) e ≡ every_pulse → (e - 2 * j == cond odd 0 2) ≡ false
 never_half true e j small all = absurd (omega arith)
 never_half false e j small all = elim (cases_Bool (e % 2 == 0 && nat_lt 0 e)) [
   | inl even ↦ let is : e / 2 - 1 ≡ every_pulse = rw even at all in absurd (omega arith)
   | inr odd ↦ past_two e j odd
 ]
 
-always : (mode : Mode) (c : CounterState) (j : ℕ) → c.element < 0x1_0000_0000 → counted_quietly mode c ≡ every_pulse →
+always : (mode : Mode) (c : CounterState) (j : ℕ) → c.element ≤ most_count → counted_quietly mode c ≡ every_pulse →
     counted mode (with_element c (element_after mode c.notation j c.element)) ≡ with_element c (element_after mode c.notation (suc j) c.element)
 always TerminalCount c j small all = lowers c j _ (elim (cases_Bool c.out) [
   | inl out ↦ end_out c _ out
@@ -158,7 +158,7 @@ always HardwareStrobe c j small all = lowers c j _ (elim (cases_Bool c.expired) 
   | inr still ↦ let is : c.element - 1 ≡ every_pulse = rw still at all in absurd (omega arith)
 ])
 
-pub never : (gate : Bool) (c : CounterState) → c.element < 0x1_0000_0000 → quiet_pulses gate c ≡ every_pulse → IsFirstRise gate c None
+pub never : (gate : Bool) (c : CounterState) → c.element ≤ most_count → quiet_pulses gate c ≡ every_pulse → IsFirstRise gate c None
 unfolding quiet_pulses
 never gate c small all = elim (cases_Bool (c.trigger || is_due c.mode c)) [
   | inl due ↦ let none : 0 ≡ every_pulse = rw due at all in absurd (omega arith)
@@ -173,6 +173,38 @@ never gate c small all = elim (cases_Bool (c.trigger || is_due c.mode c)) [
             λ n. (runs_quiet gate c (λ j. c.element) n refl (λ j sooner. rw off at (settled_pulse c.mode gate c c.element refl both.0 both.1)) n (omega arith)).rose
       ]
 ]
+
+-- ---- how many they are, where not all are
+
+few_or : (all : Bool) (n : ℕ) → n < most_count → cond all every_pulse n ≢ every_pulse → cond all every_pulse n < most_count
+few_or true n small h = absurd (h refl)
+few_or false n small h = small
+
+few_in_half : (odd : Bool) (e : ℕ) → e ≤ most_count → pulses_in_half (cond odd 0 2) e ≢ every_pulse → pulses_in_half (cond odd 0 2) e < most_count
+few_in_half true e small h = omega arith
+few_in_half false e small h = elim (cases_Bool (e % 2 == 0 && nat_lt 0 e)) [
+  | inl even ↦ rw even (omega arith)
+  | inr odd ↦ let all : pulses_in_half 2 e ≡ every_pulse = rw odd refl in absurd (h all)
+]
+
+few_counted : (mode : Mode) (c : CounterState) → c.element ≤ most_count → counted_quietly mode c ≢ every_pulse → counted_quietly mode c < most_count
+few_counted TerminalCount c small h = few_or c.out (c.element - 1) (omega arith) h
+few_counted OneShot c small h = few_or c.out (c.element - 1) (omega arith) h
+few_counted RateGenerator c small h = omega arith
+few_counted SquareWave c small h = few_in_half (c.out && c.in_use % 2 == 1) c.element small h
+few_counted SoftwareStrobe c small h = few_or c.expired (c.element - 1) (omega arith) h
+few_counted HardwareStrobe c small h = few_or c.expired (c.element - 1) (omega arith) h
+
+few_in : (due on : Bool) (n : ℕ) → (n ≢ every_pulse → n < most_count) → cond due 0 (cond on n every_pulse) ≢ every_pulse →
+    cond due 0 (cond on n every_pulse) < most_count
+few_in true on n few h = omega arith
+few_in false true n few h = few h
+few_in false false n few h = absurd (h refl)
+
+pub few_quiet : (gate : Bool) (c : CounterState) → c.element ≤ most_count → quiet_pulses gate c ≢ every_pulse → quiet_pulses gate c < most_count
+unfolding quiet_pulses
+few_quiet gate c small h =
+    few_in (c.trigger || is_due c.mode c) (counts c.mode gate c) (counted_quietly c.mode c) (few_counted c.mode c small) h
 
 -- ---- after edges at which OUT does not rise
 

@@ -188,20 +188,20 @@ impl Pit {
     }
 
     /// How many pulses until OUT of counter 0 next rises, if nothing is written before. None where it never does.
-    pub fn pulses_to_rise(&self) -> Option<u64>
+    pub fn pulses_to_rise(&self) -> Option<u32>
         ensures rise { IsNextRise self.now result }
-        ensures bound { IfSome result (λ n. n ≤ 0x3_0000_0000) }
+        ensures bound { IfSome result (λ n. n ≤ 131073) }
     {
         self.pulses_to_rise_by::<Brand>(Blank::new(1))
     }
 
     /// The same, for the ledger that a blank opens.
-    fn pulses_to_rise_by<L: Ledger>(&self, blank: Blank) -> Option<u64>
+    fn pulses_to_rise_by<L: Ledger>(&self, blank: Blank) -> Option<u32>
         requires name { blank.name ≡ L.name }
         requires parts { blank.parts ≡ L.parts }
         requires some_part { 0 < L.parts }
         ensures rise { IsNextRise self.now result }
-        ensures bound { IfSome result (λ n. n ≤ 0x3_0000_0000) }
+        ensures bound { IfSome result (λ n. n ≤ 131073) }
     {
         let mut steps = Steps::<L>::new(blank);
         self.pulses_to_rise_counted(&mut steps)
@@ -209,9 +209,9 @@ impl Pit {
 
     /// How many pulses until OUT of counter 0 next rises, as `pulses_to_rise` says, in at most three steps however
     /// many they are.
-    pub fn pulses_to_rise_counted<L: Ledger>(&self, steps: &mut Steps<L>) -> Option<u64>
+    pub fn pulses_to_rise_counted<L: Ledger>(&self, steps: &mut Steps<L>) -> Option<u32>
         ensures rise { IsNextRise self.now result }
-        ensures bound { IfSome result (λ n. n ≤ 0x3_0000_0000) }
+        ensures bound { IfSome result (λ n. n ≤ 131073) }
         ensures steps { steps.new ≤ steps.old + 3 }
     {
         self.counter0.pulses_to_rise(true, steps)

@@ -1,5 +1,6 @@
 //! How far the next rise of OUT is. It is found as a run of pulses is made, by jumps over quiet pulses and a period.
 ghost use Rattle.std.specs.Prelude.{◌≡◌, ◌+◌, ◌<◌, ◌≤◌, IfSome};
+ghost use Rattle.pit_8254.specs.Quiet.{most_count};
 ghost use Rattle.pit_8254.specs.Runs.{IsSettled};
 ghost use Rattle.pit_8254.specs.NextRise.{IsFirstRise, IsNextEdge};
 
@@ -11,16 +12,16 @@ use std::sync::ledger::Ledger;
 /// The next pulse that changes more than CE: how many pulses it and those before it are, and whether OUT rises at it.
 #[derive(Clone, Copy)]
 pub struct Edge {
-    pub pulses: u64,
+    pub pulses: u32,
     pub rises: bool,
 }
 
 impl Counter {
     /// How many pulses until OUT next rises, with the gate at this level: at the first single pulse, or as
     /// `settled_to_rise` finds. None where it never does.
-    pub(crate) fn pulses_to_rise<L: Ledger>(&self, gate: bool, steps: &mut Steps<L>) -> Option<u64>
+    pub(crate) fn pulses_to_rise<L: Ledger>(&self, gate: bool, steps: &mut Steps<L>) -> Option<u32>
         ensures rise { IsFirstRise gate self.now result }
-        ensures bound { IfSome result (λ n. n ≤ 0x3_0000_0000) }
+        ensures bound { IfSome result (λ n. n ≤ 131073) }
         ensures steps { steps.new ≤ steps.old + 3 }
     {
         let mut counter = self.copy();
@@ -34,10 +35,10 @@ impl Counter {
 
     /// The same after a pulse. Where OUT does not rise at the next edge and is then 1, a period begins, at whose end
     /// it rises; otherwise it rises at the edge after that, or never.
-    fn settled_to_rise<L: Ledger>(&mut self, gate: bool, steps: &mut Steps<L>) -> Option<u64>
+    fn settled_to_rise<L: Ledger>(&mut self, gate: bool, steps: &mut Steps<L>) -> Option<u32>
         requires settled { IsSettled self.old.mode gate self.old }
         ensures rise { IsFirstRise gate self.old result }
-        ensures bound { IfSome result (λ n. n < 0x3_0000_0000) }
+        ensures bound { IfSome result (λ n. n ≤ 131072) }
         ensures steps { steps.new ≤ steps.old + 2 }
     {
         let periodic = self.mode.is_periodic();
@@ -46,7 +47,7 @@ impl Counter {
             return Some(near.pulses);
         }
         if periodic && self.out {
-            return Some(near.pulses + u64::from(self.in_use));
+            return Some(near.pulses + self.in_use);
         }
         let far = self.next_edge(gate, steps)?;
         if far.rises {
@@ -58,8 +59,8 @@ impl Counter {
     /// Goes on past the quiet pulses to the next edge. None where all pulses that come are quiet.
     fn next_edge<L: Ledger>(&mut self, gate: bool, steps: &mut Steps<L>) -> Option<Edge>
         ensures edge { IsNextEdge gate self.old self.new result }
-        ensures bound { IfSome result (λ edge. edge.pulses < 0x1_0000_0000) }
-        ensures element { self.new.element < 0x1_0000_0000 }
+        ensures bound { IfSome result (λ edge. edge.pulses ≤ most_count) }
+        ensures element { self.new.element ≤ most_count }
         ensures steps { steps.new ≤ steps.old + 1 }
     {
         let quiet = self.quiet_pulses(gate);
@@ -70,7 +71,7 @@ impl Counter {
         self.pass_quietly(gate, quiet);
         self.pulse(gate, steps);
         Some(Edge {
-            pulses: u64::from(quiet) + 1,
+            pulses: quiet + 1,
             rises: self.out && !was,
         })
     }

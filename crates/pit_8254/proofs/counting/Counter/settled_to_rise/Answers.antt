@@ -30,8 +30,8 @@ returns-then-self-clause-rise g c =
     let new = c.next_edge.new.self in
     let periodic : is_periodic old.mode ≡ true = search rules in
     let out : new.out ≡ true = search rules in
-    let value : c.from.result ≡ new.in_use = search rules in
     let begins = begins_period c.args.gate old new c.in_ok-near.near c.in_ok-near.ensures.edge periodic c.requires.settled out in
+    let value : c.self-2.inside.in_use ≡ new.in_use = search rules in
     subst (λ (n : ℕ). IsFirstRise c.args.gate old (Some (c.in_ok-near.near.pulses + n))) (sym value)
     (rises_after c.args.gate c.in_ok-near.near.pulses new.in_use old new
     (edge_passes c.args.gate old new c.in_ok-near.near c.in_ok-near.ensures.edge c.if-near.false)
