@@ -13,3 +13,4 @@ pub mod ChangeSteps
 pub mod Lefts
 pub mod Openings
 pub mod Exact
+pub mod ResetLemmas

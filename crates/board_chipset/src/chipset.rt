@@ -29,8 +29,8 @@ use std::marker::Model;
 /// A chipset. Contracts see its setup, and by which histories it can be left as it is.
 #[derive(Drop)]
 pub struct Chipset {
-    setup: Setup,
-    state: State,
+    pub(crate) setup: Setup,
+    pub(crate) state: State,
 }
 
 impl Model for Chipset {

@@ -1,7 +1,8 @@
 //! What a board is opened with.
 
-ghost use Rattle.std.specs.Prelude.{◌≡◌, ◌↔◌, IsTrue, option_map};
-ghost use Rattle.board_spec.specs.Setup.{IsRomSize};
+ghost use Rattle.std.specs.List.{list_any};
+ghost use Rattle.std.specs.Prelude.{◌≡◌, ◌↔◌, ◌==◌, is_some, IsTrue, option_map};
+ghost use Rattle.board_spec.specs.Setup.{IsRomSize, card_at};
 
 use ata_pio::AtaOpen;
 use board_base::NoMemory;
@@ -44,6 +45,13 @@ impl Setup {
         &self.rom
     }
 
+    /// Whether a card has this device number.
+    pub(crate) fn has_card(&self, dev: u8) -> bool
+        ensures card { result ≡ is_some (card_at self.now dev) }
+    {
+        any_card(&self.cards, dev)
+    }
+
     /// The bytes of the disk, where one is fitted.
     pub(crate) fn disk(&self) -> Option<&[u8]>
         ensures bytes { option_map (λ disk. disk.now) result ≡ self.now.disk }
@@ -53,6 +61,13 @@ impl Setup {
             None => None,
         }
     }
+}
+
+/// Whether one of some cards has a device number.
+fn any_card(cards: &[CardSpec], dev: u8) -> bool
+    ensures any { result ≡ list_any (λ card. card.dev == dev) cards.now }
+{
+    cards.iter().any(|card| card.dev == dev)
 }
 
 /// Whether a BIOS ROM can have this many bytes: 64, 128, 256 or 512 KiB.
