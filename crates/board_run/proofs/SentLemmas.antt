@@ -1,10 +1,11 @@
 -- What a sink took of a text, piece after piece.
-use Rattle.std.proofs.Common.{◌≡◌, ℕ, ◌+◌, ◌<◌, List, [], ◌++◌, Option, Some, None, length, get_or, take, drop, flat_map, string_bytes, sym, ◌∙◌, ap, subst, refl, append_assoc, append-nil}
-use Rattle.std.specs.Prelude.{String, Result, Ok, Err, OnErr}
+use Rattle.std.proofs.Common.{◌≡◌, ℕ, ◌+◌, ◌<◌, List, [], ◌++◌, Option, Some, None, length, get_or, take, drop, sym, ◌∙◌, ap, subst, refl, append_assoc, append-nil}
+use Rattle.std.specs.Prelude.{Vec, Result, Ok, Err, OnErr}
 use Rattle.std.specs.Global.{Global}
 use Rattle.std.proofs.lemmas.List.{take-append-drop, at_drop_more}
 use Rattle.std.proofs.lemmas.List.Concat.{flat_map-cons}
 use Rattle.std.specs.Io.KnownBytes.{Appends, Keeps}
+use Rattle.log_pieces.specs.Text.{bytes_in, joined}
 use Rattle.board_run.specs.Output.{Sent, AppendsFront}
 
 kept_front :
@@ -91,18 +92,18 @@ piece_refused before now later text piece more sent refused =
     }
 
 -- the pieces from one on, whose next has these bytes
-module _ (before now later : Option (List ℕ)) (text : List ℕ) (pieces : List (String Global)) (i : ℕ)
-    (piece : String Global) (bytes : List ℕ) (inside : i < length pieces)
-    (is : piece ≡ get_or pieces i piece) (same : bytes ≡ string_bytes piece)
-    (sent : Sent before now text (flat_map string_bytes (drop i pieces))) where
+module _ (before now later : Option (List ℕ)) (text : List ℕ) (pieces : List (Vec ℕ Global)) (i : ℕ)
+    (piece : Vec ℕ Global) (bytes : List ℕ) (inside : i < length pieces)
+    (is : piece ≡ get_or pieces i piece) (same : bytes ≡ piece.items)
+    (sent : Sent before now text (joined (drop i pieces))) where
   abbrev more : List ℕ
-  more = flat_map string_bytes (drop (i + 1) pieces)
+  more = joined (drop (i + 1) pieces)
 
-  next_piece : flat_map string_bytes (drop i pieces) ≡ bytes ++ more
+  next_piece : joined (drop i pieces) ≡ bytes ++ more
   next_piece =
-      at_drop_more (flat_map string_bytes) pieces i piece inside
-      ∙ flat_map-cons string_bytes (get_or pieces i piece) (drop (i + 1) pieces)
-      ∙ ap (λ (front : List ℕ). front ++ more) (ap string_bytes (sym is) ∙ sym same)
+      at_drop_more joined pieces i piece inside
+      ∙ flat_map-cons bytes_in (get_or pieces i piece) (drop (i + 1) pieces)
+      ∙ ap (λ (front : List ℕ). front ++ more) (ap bytes_in (sym is) ∙ sym same)
 
   pub then_piece_sent : Appends now later bytes → Sent before later text more
   then_piece_sent taken =

@@ -47,7 +47,7 @@ pub(crate) fn put_all<K: Sink>(out: &mut K, text: &Text) -> Result<(), PutFault>
     ensures puts { OfCalls (K.puts out.old) (K.puts out.new) (PutsBy result) }
 {
     for piece in text.pieces() {
-        put_piece(out, piece.as_bytes())?;
+        put_piece(out, piece)?;
     }
     Ok(())
 }

@@ -89,11 +89,11 @@ fn expect_log<R: Abort>(
 ) -> Result<(), Fail> {
     let mut whole = String::new(alloc);
     push_log(&mut whole, 2, entries)?;
-    let mut joined = String::new(alloc);
+    let mut joined = Vec::new(alloc);
     for piece in text.pieces() {
-        joined.push_str(piece.as_str())?;
+        joined.extend_from_slice(piece)?;
     }
-    assert_eq!(rt; joined.as_str(), whole.as_str());
+    assert_eq!(rt; joined.as_slice(), whole.as_bytes());
     assert_eq!(rt; text.pieces().len(), pieces);
     Ok(())
 }

@@ -1,4 +1,4 @@
-//! Tests of the PCI cards, the address map and the flat map.
+//! Tests of the PCI cards, the address map, the flat map and the stores behind them.
 #![tactic(auto)]
 
 #[cfg(test)]
@@ -9,3 +9,5 @@ mod cards;
 mod flat_map;
 #[cfg(test)]
 mod made;
+#[cfg(test)]
+mod stores;

@@ -18,7 +18,7 @@ pub loop-piece-preserved : goal.loop-piece-preserved
 loop-piece-preserved g c = record {
   sent =
       then_piece_sent _ _ _ _ c.pieces-piece-items.result.now c.loop-piece.piece-index c.piece-item.result _ c.loop-piece-test.true
-      c.piece-item.is c.as_bytes.ensures.value c.loop-piece.invariant.sent c.in_ok-put_piece.ensures.whole;
+      c.piece-item.is c.deref.ensures.value c.loop-piece.invariant.sent c.in_ok-put_piece.ensures.whole;
   quiet = c.in_ok-put_piece.ensures.quiet ∙ c.loop-piece.invariant.quiet;
   puts = piece_put _ _ _ c.loop-piece.invariant.puts c.in_ok-put_piece.ensures.puts;
 }
@@ -26,7 +26,7 @@ loop-piece-preserved g c = record {
 pub returns-in_err-put_piece-clause-front : goal.returns-in_err-put_piece-clause-front
 returns-in_err-put_piece-clause-front g c =
     then_piece_refused _ _ _ _ c.pieces-piece-items.result.now c.loop-piece.piece-index c.piece-item.result _
-    c.loop-piece-test.true c.piece-item.is c.as_bytes.ensures.value c.loop-piece.invariant.sent c.from_residual.result
+    c.loop-piece-test.true c.piece-item.is c.deref.ensures.value c.loop-piece.invariant.sent c.from_residual.result
     c.in_err-put_piece.ensures.front
 
 pub returns-in_err-put_piece-clause-puts : goal.returns-in_err-put_piece-clause-puts

@@ -1,5 +1,5 @@
 use Rattle.std.proofs.Common.{◌≡◌, drop}
-use Rattle.std.specs.Prelude.{flat_map, string_bytes}
+use Rattle.log_pieces.specs.Text.{joined}
 use Rattle.board_run.specs.Output.{Sent}
 use Rattle.board_run.specs.Calls.{OfCalls, AllTook}
 use Rattle.board_run.proofs.output.put_all.Given as goal
@@ -8,7 +8,7 @@ use Rattle.board_run.proofs.output.put_all.Given as goal
 abbrev pub invariant-loop-piece : goal.invariant-loop-piece
 invariant-loop-piece g l = record {
   sent :
-      Sent (g.K.Sink.taken l.fn.out) (g.K.Sink.taken l.out) l.text (flat_map string_bytes (drop l.piece-index l.piece-items));
+      Sent (g.K.Sink.taken l.fn.out) (g.K.Sink.taken l.out) l.text (joined (drop l.piece-index l.piece-items));
   quiet : g.K.Sink.faults l.out ≡ g.K.Sink.faults l.fn.out;
   puts : OfCalls (g.K.Sink.puts l.fn.out) (g.K.Sink.puts l.out) AllTook;
 }
