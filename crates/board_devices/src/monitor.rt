@@ -1,12 +1,13 @@
 //! What a monitor asks of the devices between two events, and what it writes to them from outside the bus.
 
-ghost use Rattle.std.specs.Prelude.{◌≡◌, ◌<◌, ◌≤◌, ◌↔◌, ◌∷◌, List, option_map, IfSome, true, false};
+ghost use Rattle.std.specs.Prelude.{◌≡◌, ◌+◌, ◌*◌, ◌<◌, ◌≤◌, ◌↔◌, ◌∷◌, List, option_map, IfSome, true, false};
 ghost use Rattle.board_base.specs.declared.target.Dev.TheVariants.{Clock as ClockChip, Spurious};
 ghost use Rattle.board_spec.specs.declared.event.Entry.{Entry};
 ghost use Rattle.board_spec.specs.Setup.{Setup};
 ghost use Rattle.board_spec.specs.Devices.{timer_of, clock_of, disk_of};
 ghost use Rattle.board_spec.specs.Interrupts.{acknowledged_by};
 ghost use Rattle.device_spec.specs.Clock.{after_write};
+ghost use Rattle.pit_8254.specs.Quiet.{most_count};
 ghost use Rattle.pit_8254.specs.NextRise.{IsNextRise};
 ghost use Rattle.cmos_clock.specs.Outside.{with_byte};
 ghost use Rattle.board_devices.specs.Devices.{AreDevicesOf};
@@ -36,7 +37,7 @@ impl Devices {
     pub fn pulses_to_rise(&self) -> Option<u32>
         ensures rise { (setup : Setup) (history : List Entry) → AreDevicesOf setup history self.now
             → IsNextRise (timer_of history) result }
-        ensures bound { IfSome result (λ n. n ≤ 131073) }
+        ensures bound { IfSome result (λ n. n ≤ 2 * most_count + 1) }
     {
         self.timer.pulses_to_rise()
     }

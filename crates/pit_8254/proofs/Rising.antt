@@ -6,7 +6,7 @@ use Rattle.device_spec.specs.PitLaws.{pulses_of}
 use Rattle.device_spec.proofs.PitPulses.{counters_apart}
 use Rattle.pit_8254.specs.Quiet.{rise, rises_of, is_due, counts, most_count, every_pulse, pulses_in_half, counted_quietly, quiet_pulses, element_after, after_quiet}
 use Rattle.pit_8254.specs.Runs.{IsPart, IsSettled, IsAtPeriod}
-use Rattle.pit_8254.specs.NextRise.{RisesAt, IsNextRise, IsFirstRise, IsEdge}
+use Rattle.pit_8254.specs.NextRise.{RisesAt, IsNextRise, IsFirstRise, IsPulseEdge}
 use Rattle.pit_8254.specs.declared.counting.running.Run.{Run}
 use Rattle.pit_8254.specs.declared.counting.rising.Edge.{Edge}
 use Rattle.pit_8254.proofs.Quiet.{with_element, counted, settled_pulse, past_two, end_out, strobe_past, half_counts, lowers, runs_quiet, first_element_after, quietly}
@@ -22,18 +22,18 @@ no_fewer gate n m c h =
     subst (λ (k : ℕ). rises_of gate n c ≤ rises_of gate k c) all (omega (arith, rises_of-add gate n (m - n) c))
 
 -- n pulses lead from one state to another, and OUT rises at none of them
-pub record Passed (gate : Bool) (n : ℕ) (from to : CounterState) : Type 0 where
+pub record NoRiseIn (gate : Bool) (n : ℕ) (from to : CounterState) : Type 0 where
   pub state : to ≡ pulses_of gate n from
   pub none : rises_of gate n from ≡ 0
 
-rises_later : (gate : Bool) (n m : ℕ) (c d : CounterState) → Passed gate n c d → rises_of gate (n + m) c ≡ rises_of gate m d
+rises_later : (gate : Bool) (n m : ℕ) (c d : CounterState) → NoRiseIn gate n c d → rises_of gate (n + m) c ≡ rises_of gate m d
 rises_later gate n m c d p =
     let all = rises_of-add gate n m c in
     let none = p.none in
     let there : rises_of gate m d ≡ rises_of gate m (pulses_of gate n c) = ap (λ (e : CounterState). rises_of gate m e) p.state in
     omega arith
 
-pub never_later : (gate : Bool) (n : ℕ) (c d : CounterState) → Passed gate n c d → IsFirstRise gate d None → IsFirstRise gate c None
+pub never_later : (gate : Bool) (n : ℕ) (c d : CounterState) → NoRiseIn gate n c d → IsFirstRise gate d None → IsFirstRise gate c None
 never_later gate n c d p never = λ m. elim (cases_lt m n) [
   | inl few ↦ let least = no_fewer gate m n c (omega arith) in let none = p.none in omega arith
   | inr more ↦
@@ -41,7 +41,7 @@ never_later gate n c d p never = λ m. elim (cases_lt m n) [
       subst (λ (k : ℕ). rises_of gate k c ≡ 0) all (rises_later gate n (m - n) c d p ∙ never (m - n))
 ]
 
-pub rises_after : (gate : Bool) (n k : ℕ) (c d : CounterState) → Passed gate n c d → IsFirstRise gate d (Some k) → IsFirstRise gate c (Some (n + k))
+pub rises_after : (gate : Bool) (n k : ℕ) (c d : CounterState) → NoRiseIn gate n c d → IsFirstRise gate d (Some k) → IsFirstRise gate c (Some (n + k))
 rises_after gate n k c d p is =
     let some = is.0 in
     let before : n + (k - 1) ≡ n + k - 1 = omega arith in (
@@ -71,7 +71,7 @@ rises_first gate a b rose is some =
     let one : rises_of gate 1 a ≡ 1 = omega arith in
     (omega arith, refl, one)
 
-pub passes_first : (gate : Bool) (a b : CounterState) (rose : ℕ) → OnePulse gate a b rose → rose ≡ 0 → Passed gate 1 a b
+pub passes_first : (gate : Bool) (a b : CounterState) (rose : ℕ) → OnePulse gate a b rose → rose ≡ 0 → NoRiseIn gate 1 a b
 passes_first gate a b rose is none = record { state = is.state; none = is.count ∙ none }
 
 -- ---- an edge
@@ -106,10 +106,10 @@ edge_state gate c passed d n is quiet then_is =
     (quietly gate c q (omega arith)).state ∙ (ap (λ (k : ℕ). after_quiet gate k c) (sym is) ∙ sym quiet) in
     then_is ∙ (ap (pulse gate) (sym there) ∙ ap (λ (k : ℕ). pulses_of gate k c) (sym (next_number q)))
 
-pub is_edge : (gate : Bool) (c d : CounterState) (e : Edge) → IsEdge gate c d e → d ≡ edge gate c
+pub is_edge : (gate : Bool) (c d : CounterState) (e : Edge) → IsPulseEdge gate c d e → d ≡ edge gate c
 is_edge gate c d e is = is.state ∙ ap (λ (n : ℕ). pulses_of gate n c) (next_number (quiet_pulses gate c))
 
-pub edge_rises : (gate : Bool) (c d : CounterState) (e : Edge) → IsEdge gate c d e → e.rises ≡ true → IsFirstRise gate c (Some e.pulses)
+pub edge_rises : (gate : Bool) (c d : CounterState) (e : Edge) → IsPulseEdge gate c d e → e.rises ≡ true → IsFirstRise gate c (Some e.pulses)
 edge_rises gate c d e is rises =
     let q = quiet_pulses gate c in
     let both : (d.out && not c.out) ≡ true = sym is.rises ∙ rises in
@@ -120,12 +120,12 @@ edge_rises gate c d e is rises =
     let some : 1 ≤ suc q = omega arith in
     subst (λ (n : ℕ). IsFirstRise gate c (Some n)) (sym (is.pulses ∙ next_number q)) (some, before, there)
 
-pub edge_passes : (gate : Bool) (c d : CounterState) (e : Edge) → IsEdge gate c d e → e.rises ≡ false → Passed gate e.pulses c d
+pub edge_passes : (gate : Bool) (c d : CounterState) (e : Edge) → IsPulseEdge gate c d e → e.rises ≡ false → NoRiseIn gate e.pulses c d
 edge_passes gate c d e is rises =
     let q = quiet_pulses gate c in
     let both : (d.out && not c.out) ≡ false = sym is.rises ∙ rises in
     let there : rises_of gate (suc q) c ≡ 0 = edge_rise gate c d (is_edge gate c d e is) ∙ rw both refl in
-    subst (λ (n : ℕ). Passed gate n c d) (sym (is.pulses ∙ next_number q)) (record { state = is_edge gate c d e is; none = there })
+    subst (λ (n : ℕ). NoRiseIn gate n c d) (sym (is.pulses ∙ next_number q)) (record { state = is_edge gate c d e is; none = there })
 
 -- ---- where all pulses that come are quiet
 
@@ -209,19 +209,19 @@ few_quiet gate c small h =
 -- ---- after edges at which OUT does not rise
 
 -- a period begins, where OUT is 1
-reaches_period : (gate : Bool) (a b : CounterState) (e : Edge) → IsEdge gate a b e → Reaches gate a → IsAtPeriod gate b
+reaches_period : (gate : Bool) (a b : CounterState) (e : Edge) → IsPulseEdge gate a b e → Reaches gate a → IsAtPeriod gate b
 reaches_period gate a b e is (inl all) = absurd (is.some all)
 reaches_period gate a b e is (inr there) = subst (IsAtPeriod gate) (sym (is_edge gate a b e is)) there
 
-begins_in : (gate : Bool) (a b : CounterState) (e : Edge) → IsEdge gate a b e → b.out ≡ true → ComesTo gate a → IsAtPeriod gate b
+begins_in : (gate : Bool) (a b : CounterState) (e : Edge) → IsPulseEdge gate a b e → b.out ≡ true → ComesTo gate a → IsAtPeriod gate b
 begins_in gate a b e is out (inl reaches) = reaches_period gate a b e is reaches
 begins_in gate a b e is out (inr later) =
     absurd (true≢false (sym out ∙ (ap (λ (d : CounterState). d.out) (is_edge gate a b e is) ∙ later.0)))
 
-pub begins_period : (gate : Bool) (a b : CounterState) (e : Edge) → IsEdge gate a b e → is_periodic a.mode ≡ true → IsSettled a.mode gate a → b.out ≡ true → IsAtPeriod gate b
+pub begins_period : (gate : Bool) (a b : CounterState) (e : Edge) → IsPulseEdge gate a b e → is_periodic a.mode ≡ true → IsSettled a.mode gate a → b.out ≡ true → IsAtPeriod gate b
 begins_period gate a b e is periodic s out = begins_in gate a b e is out (comes gate a periodic s)
 
-module _ (gate : Bool) (a b d : CounterState) (e f : Edge) (one : IsEdge gate a b e) (two : IsEdge gate b d f) (quiet : f.rises ≡ false) where
+module _ (gate : Bool) (a b d : CounterState) (e f : Edge) (one : IsPulseEdge gate a b e) (two : IsPulseEdge gate b d f) (quiet : f.rises ≡ false) where
   after_1 : AreQuietBy1 gate a → quiet_pulses gate d ≡ every_pulse
   after_1 (inl now) = absurd (one.some now)
   after_1 (inr then_all) = absurd (two.some (ap (quiet_pulses gate) (is_edge gate a b e one) ∙ then_all))

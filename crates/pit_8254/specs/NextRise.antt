@@ -22,13 +22,13 @@ IsFirstRise gate c None = (n : ℕ) → rises_of gate n c ≡ 0
 IsFirstRise gate c (Some n) = (1 ≤ n) × (rises_of gate (n - 1) c ≡ 0) × (rises_of gate n c ≡ 1)
 
 -- the pulse after those that are quiet
-pub record IsEdge (gate : Bool) (from to : CounterState) (edge : Edge) : Type 0 where
+pub record IsPulseEdge (gate : Bool) (from to : CounterState) (edge : Edge) : Type 0 where
   pub pulses : edge.pulses ≡ quiet_pulses gate from + 1
   pub rises : edge.rises ≡ (to.out && not from.out)
   pub state : to ≡ pulses_of gate (quiet_pulses gate from + 1) from
   pub some : quiet_pulses gate from ≢ every_pulse
 
 -- where all that come are quiet, OUT never rises
-abbrev pub IsNextEdge : Bool → CounterState → CounterState → Option Edge → Type 0
-IsNextEdge gate from to None = (n : ℕ) → rises_of gate n from ≡ 0
-IsNextEdge gate from to (Some edge) = IsEdge gate from to edge
+abbrev pub IsNextPulseEdge : Bool → CounterState → CounterState → Option Edge → Type 0
+IsNextPulseEdge gate from to None = (n : ℕ) → rises_of gate n from ≡ 0
+IsNextPulseEdge gate from to (Some edge) = IsPulseEdge gate from to edge

@@ -3,8 +3,9 @@
 //! `device_spec` describes the chip in the terms of its datasheet, and each call of a `Pit` is one step of it.
 #![tactic(auto)]
 
-ghost use Rattle.std.specs.Prelude.{◌≡◌, ◌+◌, ◌<◌, ◌≤◌, IfSome};
+ghost use Rattle.std.specs.Prelude.{◌≡◌, ◌+◌, ◌*◌, ◌<◌, ◌≤◌, IfSome};
 ghost use Rattle.device_spec.specs.Pit.{IsTimerPort, reset, port_read, port_write, read_back_chosen, write_control, set_gate2, out_of, pulses, rises};
+ghost use Rattle.pit_8254.specs.Quiet.{most_count};
 ghost use Rattle.pit_8254.specs.NextRise.{IsNextRise};
 
 mod counting;
@@ -187,10 +188,11 @@ impl Pit {
         }
     }
 
-    /// How many pulses until OUT of counter 0 next rises, if nothing is written before. None where it never does.
+    /// How many pulses until OUT of counter 0 next rises, if nothing is written before: at the last of them it goes from
+    /// 0 to 1, and at none before it. None where it never does. At most twice the largest count, 65,536, and one more.
     pub fn pulses_to_rise(&self) -> Option<u32>
         ensures rise { IsNextRise self.now result }
-        ensures bound { IfSome result (λ n. n ≤ 131073) }
+        ensures bound { IfSome result (λ n. n ≤ 2 * most_count + 1) }
     {
         self.pulses_to_rise_by::<Brand>(Blank::new(1))
     }
@@ -201,7 +203,7 @@ impl Pit {
         requires parts { blank.parts ≡ L.parts }
         requires some_part { 0 < L.parts }
         ensures rise { IsNextRise self.now result }
-        ensures bound { IfSome result (λ n. n ≤ 131073) }
+        ensures bound { IfSome result (λ n. n ≤ 2 * most_count + 1) }
     {
         let mut steps = Steps::<L>::new(blank);
         self.pulses_to_rise_counted(&mut steps)
@@ -211,7 +213,7 @@ impl Pit {
     /// many they are.
     pub fn pulses_to_rise_counted<L: Ledger>(&self, steps: &mut Steps<L>) -> Option<u32>
         ensures rise { IsNextRise self.now result }
-        ensures bound { IfSome result (λ n. n ≤ 131073) }
+        ensures bound { IfSome result (λ n. n ≤ 2 * most_count + 1) }
         ensures steps { steps.new ≤ steps.old + 3 }
     {
         self.counter0.pulses_to_rise(true, steps)

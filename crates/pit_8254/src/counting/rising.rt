@@ -1,8 +1,8 @@
 //! How far the next rise of OUT is. It is found as a run of pulses is made, by jumps over quiet pulses and a period.
-ghost use Rattle.std.specs.Prelude.{◌≡◌, ◌+◌, ◌<◌, ◌≤◌, IfSome};
+ghost use Rattle.std.specs.Prelude.{◌≡◌, ◌+◌, ◌*◌, ◌<◌, ◌≤◌, IfSome};
 ghost use Rattle.pit_8254.specs.Quiet.{most_count};
 ghost use Rattle.pit_8254.specs.Runs.{IsSettled};
-ghost use Rattle.pit_8254.specs.NextRise.{IsFirstRise, IsNextEdge};
+ghost use Rattle.pit_8254.specs.NextRise.{IsFirstRise, IsNextPulseEdge};
 
 use super::Counter;
 use super::running::{EVERY_PULSE, Run};
@@ -21,7 +21,7 @@ impl Counter {
     /// `settled_to_rise` finds. None where it never does.
     pub(crate) fn pulses_to_rise<L: Ledger>(&self, gate: bool, steps: &mut Steps<L>) -> Option<u32>
         ensures rise { IsFirstRise gate self.now result }
-        ensures bound { IfSome result (λ n. n ≤ 131073) }
+        ensures bound { IfSome result (λ n. n ≤ 2 * most_count + 1) }
         ensures steps { steps.new ≤ steps.old + 3 }
     {
         let mut counter = self.copy();
@@ -38,7 +38,7 @@ impl Counter {
     fn settled_to_rise<L: Ledger>(&mut self, gate: bool, steps: &mut Steps<L>) -> Option<u32>
         requires settled { IsSettled self.old.mode gate self.old }
         ensures rise { IsFirstRise gate self.old result }
-        ensures bound { IfSome result (λ n. n ≤ 131072) }
+        ensures bound { IfSome result (λ n. n ≤ 2 * most_count) }
         ensures steps { steps.new ≤ steps.old + 2 }
     {
         let periodic = self.mode.is_periodic();
@@ -58,7 +58,7 @@ impl Counter {
 
     /// Goes on past the quiet pulses to the next edge. None where all pulses that come are quiet.
     fn next_edge<L: Ledger>(&mut self, gate: bool, steps: &mut Steps<L>) -> Option<Edge>
-        ensures edge { IsNextEdge gate self.old self.new result }
+        ensures edge { IsNextPulseEdge gate self.old self.new result }
         ensures bound { IfSome result (λ edge. edge.pulses ≤ most_count) }
         ensures element { self.new.element ≤ most_count }
         ensures steps { steps.new ≤ steps.old + 1 }

@@ -1,4 +1,4 @@
-use Rattle.std.proofs.Common.{rules, ◌≡◌, ◌≢◌, ◌<◌, ◌≤◌, ◌+◌, ◌∙◌, arith, sym}
+use Rattle.std.proofs.Common.{rules, ◌≢◌, ◌<◌, ◌∙◌, arith, sym}
 use Rattle.pit_8254.specs.Quiet.{most_count, every_pulse, quiet_pulses}
 use Rattle.pit_8254.proofs.Rising.{never, few_quiet, edge_state}
 use Rattle.pit_8254.proofs.counting.Counter.next_edge.Goals as goal
