@@ -188,8 +188,8 @@ impl Pit {
         }
     }
 
-    /// How many pulses until OUT of counter 0 next rises, if nothing is written before: at the last of them it goes from
-    /// 0 to 1, and at none before it. None where it never does. At most twice the largest count, 65,536, and one more.
+    /// How many pulses until OUT of counter 0 next rises, if nothing is written before: at the last of them it goes
+    /// from 0 to 1, and at none before it. None where it never does. At most 131,073: twice the largest count, and one.
     pub fn pulses_to_rise(&self) -> Option<u32>
         ensures rise { IsNextRise self.now result }
         ensures bound { IfSome result (λ n. n ≤ 2 * most_count + 1) }
