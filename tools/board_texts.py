@@ -1,13 +1,16 @@
 """What the tools share: the registers by name, the lines of a log, and how the program is called."""
+import argparse
 import pathlib
 import re
+import signal
 import subprocess
 import sys
 from dataclasses import dataclass
 from typing import Iterator, NoReturn, Optional
 
+signal.signal(signal.SIGPIPE, signal.SIG_DFL)  # a reader that goes ends the tool, as in `tools/compare .. | head`
+
 ROOT = pathlib.Path(__file__).resolve().parent.parent
-PROGRAM = ROOT / "board"
 
 WIDTHS = {"b": 1, "w": 2, "d": 4, "q": 8}
 LETTERS = {width: letter for letter, width in WIDTHS.items()}
@@ -41,6 +44,17 @@ OF_FUNCTION = {
     "01.1": [("IDETIM", 0x40, 2)],
 }
 FUNCTIONS = {"00.0": "host bridge", "01.0": "ISA bridge", "01.1": "IDE"}
+# How a register that denies an access would let it in.
+HINTS = {
+    "SMRAM": "SMRAME, bit 3, opens A0000 to BFFFF in SMM, and with DOPEN, bit 6, everywhere; DCLS, bit 5, to code alone",
+    "FDHC": "bits 7:6 are 01 for the hole at 512 KiB, 10 for that at 15 MiB, 00 for none",
+    "DRB7": "DRAM ends at this number times 8 MiB",
+    "XBCS": "bit 6 selects E0000 to EFFFF and FFFE0000 to FFFEFFFF, bit 7 FFF80000 to FFFDFFFF, bit 2 writes to the ROM, "
+    "bit 1 ports 60 and 64, bit 0 ports 70 and 71",
+    "IDETIM": "bit 15 enables the channel of the disk",
+    "command": "bit 0 enables ports, bit 1 memory",
+    "expansion ROM base": "bit 0 enables the ROM",
+}
 OTHER_DENIALS = {
     "confadd": "the configuration address at port 0CF8 is not enabled: its bit 31 is 0",
     "none": "no register keeps it out: nobody is there",
@@ -54,6 +68,18 @@ def register_name(register: str) -> str:
         if first <= offset < first + count:
             return name
     return "a register that this board does not have"
+
+
+def hint(register: str) -> str:
+    """Which bits of a register that denies an access would let it in."""
+    name = register_name(register)
+    if re.fullmatch("PAM[1-6]", name):
+        first = 0xB8000 + 0x8000 * int(name[3])
+        return "; ".join(
+            f"bit {bit} opens {at:05X} to {at + 0x3FFF:05X} for reads and fetches, bit {bit + 1} for writes"
+            for at, bit in ((first, 0), (first + 0x4000, 4))
+        )
+    return HINTS.get(name, "")
 
 
 def owner(register: str) -> str:
@@ -136,35 +162,47 @@ def reply_texts(entry: Entry) -> list[str]:
 
 
 BYTES_OF = {"01.1.40": 2}  # a register of two bytes that a denial names by its first
+REGISTER = re.compile(r"[0-9A-F]{2}\.[0-7]\.[0-9A-F]{2}")
+ENABLE, HARD = 4, 2  # the bits of the reset control register
 
 
 def register_behind(reply: tuple[str, str]) -> Optional[str]:
     """The register that decided a reply: the one that denied it, or else the one that was accessed."""
     target, denial = reply
-    if re.fullmatch(r"[0-9A-F]{2}\.\d\.[0-9A-F]{2}", denial):
+    if REGISTER.fullmatch(denial):
         return denial
     return target.partition(":")[2] if target.startswith("config:") else None
 
 
-def writer(reply: tuple[str, str], before: list[Entry]) -> Optional[Entry]:
-    """The last write of the register that decided a reply, among the entries before it, or None. A hard reset writes
-    all registers. This is a walk back through the log; a command of the program that tells it could stand here."""
-    register = register_behind(reply)
-    if register is None:
-        return None
-    first = int(register[5:], 16)
-    wanted = range(first, first + BYTES_OF.get(register, 1))
-    for entry in reversed(before):
+class Writers:
+    """The last write of each register of configuration space, as entries of a log are noted one after another. A hard
+    reset writes all. A command of the program that tells who made a register so could stand for this."""
+
+    def __init__(self):
+        self.last: dict[str, dict[int, Entry]] = {}  # by function and offset
+        self.reset: Optional[Entry] = None
+        self.reset_control = 0
+
+    def note(self, entry: Entry) -> None:
         words = entry.words
-        if words[0] != "out":
-            continue
-        if entry.target == "reset" and int(words[3], 16) & 6 == 6:
-            return entry
-        if entry.target.startswith(f"config:{register[:5]}"):
-            offset = int(entry.target[-2:], 16)
-            if any(it in wanted for it in range(offset, offset + WIDTHS[words[1]])):
-                return entry
-    return None
+        if words[0] == "out" and entry.target.startswith("config:"):
+            function, offset = entry.target[7:11], int(entry.target[12:], 16)
+            written = self.last.setdefault(function, {})
+            written.update((it, entry) for it in range(offset, offset + WIDTHS[words[1]]))
+        elif words[0] == "out" and entry.target == "reset":
+            value, before = int(words[3], 16), self.reset_control
+            self.reset_control = value
+            if value & ENABLE and value & HARD and not before & ENABLE:
+                self.last, self.reset, self.reset_control = {}, entry, 0
+
+    def of(self, reply: tuple[str, str]) -> Optional[Entry]:
+        """The last write of the register that decided a reply, or None where there is none."""
+        register = register_behind(reply)
+        if register is None:
+            return None
+        written, first = self.last.get(register[:4], {}), int(register[5:], 16)
+        found = [written[it] for it in range(first, first + BYTES_OF.get(register, 1)) if it in written]
+        return max(found, key=lambda entry: entry.number, default=self.reset)
 
 
 # ---- the program and the files
@@ -176,12 +214,26 @@ def stop(status: int, why: str) -> NoReturn:
     sys.exit(status)
 
 
-def run_board(program: pathlib.Path, folder: pathlib.Path, *words: str) -> subprocess.CompletedProcess:
-    """Runs the program in the folder where the images lie."""
-    try:
-        return subprocess.run([program, *words], cwd=folder, capture_output=True, text=True)
-    except OSError as fault:
-        stop(4, f"the program {program} does not run: {fault.strerror}")
+class Board:
+    """The program, run in the folder where the images lie."""
+
+    def __init__(self, words: argparse.Namespace):
+        self.program = words.program.resolve()
+        self.folder = (words.images or words.script.parent).resolve()
+
+    @staticmethod
+    def add_words(about: argparse.ArgumentParser) -> None:
+        about.add_argument("--images", type=pathlib.Path, metavar="FOLDER", help="where the ROM and the disk lie, if not "
+                           "beside the script")
+        about.add_argument("--program", type=pathlib.Path, default=ROOT / "board", help="stands for ./board of this "
+                           "repository")
+
+    def run(self, command: str, *files: pathlib.Path) -> subprocess.CompletedProcess:
+        words = [command, *(str(file.resolve()) for file in files)]
+        try:
+            return subprocess.run([self.program, *words], cwd=self.folder, capture_output=True, text=True)
+        except OSError as fault:
+            stop(4, f"the program {self.program} does not run: {fault.strerror}")
 
 
 def text_of(file: pathlib.Path) -> str:
