@@ -41,7 +41,7 @@ OF_FUNCTION = {
         ("SMRAM", 0x72, 1),
     ],
     "01.0": [("XBCS", 0x4E, 2), *((f"PIRQRC{letter}", 0x60 + k, 1) for k, letter in enumerate("ABCD"))],
-    "01.1": [("IDETIM", 0x40, 2)],
+    "01.1": [("BMIBA", 0x20, 4), ("IDETIM", 0x40, 2)],
 }
 FUNCTIONS = {"00.0": "host bridge", "01.0": "ISA bridge", "01.1": "IDE"}
 # How a register that denies an access would let it in.

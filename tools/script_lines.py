@@ -50,9 +50,7 @@ def word_of(line: str) -> str:
     """The word that says what kind of line it is, as far as that can be seen."""
     words = line.split()
     first = words[0].lower() if words else ""
-    if first in SETUP or first in STATEMENTS:
-        return first
-    return words[1].lower() if len(words) > 1 else first
+    return words[1].lower() if len(words) > 1 and re.match("[-+]?[0-9]", first) else first
 
 
 def fields_after(line: str) -> list[str]:
@@ -140,7 +138,7 @@ def word_cause(line: str) -> Optional[str]:
     if words and words[0].lower() in STATEMENTS:
         return "the number of the processor is missing before the statement"
     word = word_of(line)
-    if word in FORMS and word not in words:
+    if any(it != it.lower() and it.lower() in (*FORMS, *DIGITS, "smm", "vga", "plain") for it in words):
         return "words are written in lower-case letters"
     if len(words) > 1 and words[0].isdecimal() and word in SETUP:
         return f"`{word}` is no statement, and has no number before it"
@@ -163,18 +161,20 @@ CAUSES: list[Callable[[str], Optional[str]]] = [
     of("[\x80-\xff\x00-\x08]", "a character stands in it that is not ASCII, as a space that does not break"),
     of(r".\s*(#|//|;)", "a comment stands on the line: it needs a line of its own, which begins with #"),
     of("^(//|;|--)", "a comment begins with #"),
+    of("^#|^$", "a comment or an empty line stands before `board 1`"),
     name_cause,
     of("0[xX]", "0x stands before a number: the digits alone"),
     of(r"\b[0-9A-Fa-f]+[hH]\b", "an h stands after a number: the digits alone"),
     of(",", "a comma stands in it: fields are separated by one space"),
-    of("^board ", "`board` stands in the first line alone, as `board 1` or `board 2`"),
+    of(r"^board\b", "`board` stands in the first line alone, as `board 1` or `board 2`"),
     word_cause,
     width_cause,
-    of(r"moment .*\d (\d\d):|moment .*(Z|[+-]\d\d:?\d\d|\.\d+)$",
-       "a moment is written with a T and to the second, and has neither zone nor fraction"),
+    of(" moment .", "a moment has two digits each of month, day, hour, minute and second, a T, and no zone or fraction"),
     count_cause,
     digits_cause,
     decimal_cause,
+    of(r"^\d+ [rf] ", "a read ends with its address, or with smm"),
+    of("^card ", "a card is vga or plain, with at most six bases, each as mK or iK, and then in version 2 at most one xK"),
 ]
 VERSION_2 = [
     of(r"^\d+ [rfw] q ", "the width q is of version 2: begin with `board 2`"),
@@ -183,7 +183,7 @@ VERSION_2 = [
 
 
 def cause(line: str, version: int) -> Optional[str]:
-    """The first of the usual causes that holds of a line with reason 3, or None."""
+    """The first of the usual causes that holds of a line with reason 3 or 1, or None."""
     return next((text for find in CAUSES + VERSION_2 * (version == 1) if (text := find(line))), None)
 
 
