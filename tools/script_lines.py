@@ -151,6 +151,11 @@ def of(pattern: str, text: str) -> Callable[[str], Optional[str]]:
     return lambda line: text if re.search(pattern, line) else None
 
 
+# These hold of lines that version 2 has, where the version is 1.
+VERSION_2: list[Callable[[str], Optional[str]]] = [
+    of(r"^\d+ [rfw] q [0-9A-Fa-f]{8}( [0-9A-Fa-f]{16})?( smm)?$", "the width q is of version 2: begin with `board 2`"),
+    of(r"^card \d+ (vga|plain)( [mi]\d+)* x\d+$", "xK is of version 2: begin with `board 2`"),
+]
 CAUSES: list[Callable[[str], Optional[str]]] = [
     of("\r$", "a carriage return stands at its end (CRLF): tr -d '\\r' takes all of them away"),
     of("^\xef\xbb\xbf|^\xff\xfe|^\xfe\xff", "a byte order mark stands before it: save the file without one"),
@@ -173,18 +178,14 @@ CAUSES: list[Callable[[str], Optional[str]]] = [
     count_cause,
     digits_cause,
     decimal_cause,
+    *VERSION_2,
     of(r"^\d+ [rf] ", "a read ends with its address, or with smm"),
     of("^card ", "a card is vga or plain, with at most six bases, each as mK or iK, and then in version 2 at most one xK"),
 ]
-VERSION_2 = [
-    of(r"^\d+ [rfw] q ", "the width q is of version 2: begin with `board 2`"),
-    of(r"^card .* x\d+$", "xK is of version 2: begin with `board 2`"),
-]
-
-
 def cause(line: str, version: int) -> Optional[str]:
     """The first of the usual causes that holds of a line with reason 3 or 1, or None."""
-    return next((text for find in CAUSES + VERSION_2 * (version == 1) if (text := find(line))), None)
+    finds = [find for find in CAUSES if version == 1 or find not in VERSION_2]
+    return next((text for find in finds if (text := find(line))), None)
 
 
 def right_lines(line: str) -> list[str]:

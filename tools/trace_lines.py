@@ -149,6 +149,7 @@ HEX = "(?:0x)?([0-9A-Fa-f]{1,16})"
 GIVEN = f"(?: = {HEX})?(?: # (.+))?"
 READ = rf"(\d) (in|r|f) ([bwdq]) {HEX}( smm)?{GIVEN}"
 WRITTEN = rf"(\d) (out|w) ([bwdq]) {HEX} {HEX}( smm)?(?: # (.+))?"
+LAST_CPU = 7
 SIZES = {"b": 1, "w": 2, "d": 4, "q": 8}
 
 
@@ -187,7 +188,9 @@ def plain_other(number: int, word: str, line: str) -> Event:
 
 
 def check_range(event: Event) -> None:
-    """Refuses a place or a value that has more bits than there are."""
+    """Refuses a processor, a place or a value that is more than there can be."""
+    if event.cpu > LAST_CPU:
+        raise Broken(f"processor {event.cpu}, and a script has no more than {LAST_CPU}")
     last = 0xFFFF if event.is_port else 0xFFFF_FFFF
     if event.place + event.size - 1 > last:
         raise Broken("past the last port or address")
