@@ -46,11 +46,11 @@ OF_FUNCTION = {
 FUNCTIONS = {"00.0": "host bridge", "01.0": "ISA bridge", "01.1": "IDE"}
 # How a register that denies an access would let it in.
 HINTS = {
-    "SMRAM": "SMRAME, bit 3, opens A0000 to BFFFF in SMM, and with DOPEN, bit 6, everywhere; DCLS, bit 5, to code alone",
+    "SMRAM": "SMRAME, bit 3, opens A0000 to BFFFF in SMM, with DOPEN, bit 6, everywhere; DCLS, bit 5, to code alone",
     "FDHC": "bits 7:6 are 01 for the hole at 512 KiB, 10 for that at 15 MiB, 00 for none",
     "DRB7": "DRAM ends at this number times 8 MiB",
-    "XBCS": "bit 6 selects E0000 to EFFFF and FFFE0000 to FFFEFFFF, bit 7 FFF80000 to FFFDFFFF, bit 2 writes to the ROM, "
-    "bit 1 ports 60 and 64, bit 0 ports 70 and 71",
+    "XBCS": "bit 6 selects E0000 to EFFFF and FFFE0000 to FFFEFFFF, bit 7 FFF80000 to FFFDFFFF, "
+    "bit 2 writes to the ROM, bit 1 ports 60 and 64, bit 0 ports 70 and 71",
     "IDETIM": "bit 15 enables the channel of the disk",
     "command": "bit 0 enables ports, bit 1 memory",
     "expansion ROM base": "bit 0 enables the ROM",
@@ -223,10 +223,10 @@ class Board:
 
     @staticmethod
     def add_words(about: argparse.ArgumentParser) -> None:
-        about.add_argument("--images", type=pathlib.Path, metavar="FOLDER", help="where the ROM and the disk lie, if not "
-                           "beside the script")
-        about.add_argument("--program", type=pathlib.Path, default=ROOT / "board", help="stands for ./board of this "
-                           "repository")
+        images = "where the ROM and the disk lie, if not beside the script"
+        program = "stands for ./board of this repository"
+        about.add_argument("--images", type=pathlib.Path, metavar="FOLDER", help=images)
+        about.add_argument("--program", type=pathlib.Path, default=ROOT / "board", help=program)
 
     def run(self, command: str, *files: pathlib.Path) -> subprocess.CompletedProcess:
         words = [command, *(str(file.resolve()) for file in files)]

@@ -34,15 +34,25 @@ REASONS = {
     4: "a setup line stands after the first `phase`, or a statement before it",
     5: "a setup line of its kind came before; of `card` one of the same device",
     6: "here a phase begins or the file ends, and `cpus`, `memory` or `rom` is missing",
-    7: "a number is out of its range, or the calendar has no such moment: cpus 1 to 8, memory 1 to 64, card and wire 2 to "
-       "9, mK 4 to 24, iK 2 to 8, xK 11 to 24, pulse 1 to 1,000,000, irq 1, 3 to 7, 9 to 12 or 15, a level 0 or 1, bad 0 "
-       "to 65,535, a year 1980 to 2099",
-    8: "the address or the port is no multiple of the width, or a wide access passes FFFFFFFF; `board 2` lets memory be "
-       "accessed anywhere, but not ports",
+    7: "a number is out of its range, or the calendar has no such moment: cpus 1 to 8, memory 1 to 64, card and wire 2 "
+    "to 9, mK 4 to 24, iK 2 to 8, xK 11 to 24, pulse 1 to 1,000,000, irq 1, 3 to 7, 9 to 12 or 15, a level 0 or 1, "
+    "bad 0 to 65,535, a year 1980 to 2099",
+    8: "the address or the port is no multiple of the width, or a wide access passes FFFFFFFF; `board 2` lets memory "
+    "be accessed anywhere, but not ports",
     9: "the processor is not below `cpus`, or `wire` names a device without a card",
     10: "with it there are more than 250,000 statements, 1,000 phases, 100,000,000 pulses, or 64 MiB behind bases",
 }
 
+# How many fields follow a word, at least and at most.
+FIELDS = {
+    **dict.fromkeys(("phase", "ack"), (0,)),
+    **dict.fromkeys(("cpus", "memory", "rom", "disk", "pulse", "moment", "bad"), (1,)),
+    **dict.fromkeys(("in", "wire", "irq"), (2,)),
+    **dict.fromkeys(("r", "f", "look"), (2, 3)),
+    "w": (3, 4),
+    "out": (3,),
+    "card": (2, 9),
+}
 DIGITS = {"b": 2, "w": 4, "d": 8, "q": 16}
 
 
@@ -81,14 +91,11 @@ def digits_cause(line: str) -> Optional[str]:
 def count_cause(line: str) -> Optional[str]:
     """That a field is missing or one too many."""
     word, fields = word_of(line), fields_after(line)
-    most = {"r": 3, "f": 3, "w": 4, "in": 2, "out": 3, "look": 3, "ack": 0, "pulse": 1, "moment": 1, "wire": 2,
-            "irq": 2, "bad": 1, "cpus": 1, "memory": 1, "rom": 1, "disk": 1, "phase": 0, "card": 9}
-    least = {"r": 2, "f": 2, "w": 3, "look": 2, "card": 2}
-    if word not in most:
+    if word not in FIELDS:
         return None
-    if len(fields) < least.get(word, most[word]):
+    if len(fields) < FIELDS[word][0]:
         return f"a field of `{word}` is missing"
-    return f"`{word}` has a field too many" if len(fields) > most[word] else None
+    return f"`{word}` has a field too many" if len(fields) > FIELDS[word][-1] else None
 
 
 def name_cause(line: str) -> Optional[str]:
@@ -174,13 +181,13 @@ CAUSES: list[Callable[[str], Optional[str]]] = [
     of(r"^board\b", "`board` stands in the first line alone, as `board 1` or `board 2`"),
     word_cause,
     width_cause,
-    of(" moment .", "a moment has two digits each of month, day, hour, minute and second, a T, and no zone or fraction"),
+    of(" moment .", "a moment is written YYYY-MM-DDTHH:MM:SS, with a T and with no zone or fraction"),
     count_cause,
     digits_cause,
     decimal_cause,
     *VERSION_2,
     of(r"^\d+ [rf] ", "a read ends with its address, or with smm"),
-    of("^card ", "a card is vga or plain, with at most six bases, each as mK or iK, and then in version 2 at most one xK"),
+    of("^card ", "a card is vga or plain, with at most six bases, each mK or iK, and in version 2 one xK at the end"),
 ]
 def cause(line: str, version: int) -> Optional[str]:
     """The first of the usual causes that holds of a line with reason 3 or 1, or None."""

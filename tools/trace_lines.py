@@ -49,8 +49,10 @@ def fields(pattern: str, line: str, what: str) -> tuple[str, ...]:
 # ---- QEMU: -trace 'memory_region_ops_*' -trace 'pci_cfg_*' -trace 'pic_*', best with -msg timestamp=on
 
 STAMP = r"(?:\d+@(\d+\.\d+):)?"
-OPERATION = r"memory_region_ops_(read|write) cpu (-?\d+) mr 0x[0-9a-f]+ addr (0x[0-9a-f]+) value (0x[0-9a-f]+) " \
+OPERATION = (
+    r"memory_region_ops_(read|write) cpu (-?\d+) mr 0x[0-9a-f]+ addr (0x[0-9a-f]+) value (0x[0-9a-f]+) "
     r"size ([1248]) name '([^']*)'"
+)
 FUNCTION = r"pci_cfg_(?:read|write) (\S+) ([0-9a-f]{2}:[0-9a-f]{2}\.[0-7]) @0x[0-9a-f]+ (?:->|<-) 0x[0-9a-f]+"
 SET_IRQ = r"pic_set_irq master ([01]) irq ([0-7]) level ([01])"
 INTERRUPT = r"pic_interrupt irq (\d+) intno (\d+)"
@@ -88,9 +90,9 @@ def qemu_access(is_read: bool, cpu: int, place: int, value: int, size: int, name
 
 
 # ---- KVM: the tracepoints kvm_pio, kvm_mmio, kvm_set_irq and kvm_inj_virq, as ftrace, `perf script` and `perf trace
-# --libtraceevent_print` print them
+# --libtraceevent_print` print them: `kvm_pio: ..`, `kvm:kvm_pio: ..` and `kvm:kvm_pio(..)`
 
-TRACEPOINT = re.compile(r".*?\b(?:kvm:)?(kvm_(?:pio|mmio|set_irq|inj_virq)):\s*(.*?)\s*")
+TRACEPOINT = re.compile(r".*?\b(?:kvm:)?(kvm_(?:pio|mmio|set_irq|inj_virq))(?::\s*(.*?)|\((.*?)\s*\))\s*")
 PIO = r"pio_(read|write) at (0x[0-9a-f]+) size ([124]) count (\d+) val (0x[0-9a-f]+)(?: \(\.\.\.\))?"
 MMIO = r"mmio (read|write|unsatisfied-read) len ([1-8]) gpa (0x[0-9a-f]+) val (0x[0-9a-f]+)"
 KVM_IRQ = r"gsi (\d+) level ([01]) source \d+"
@@ -98,8 +100,8 @@ INJECTED = r"(?:IRQ (0x[0-9a-f]+)|irq (\d+))( \[reinjected\])?"
 
 
 class Kvm:
-    """Reads lines of the kernel's tracepoints. A processor is that of `CPU N/KVM`, or else the next number for each task
-    that is seen."""
+    """Reads lines of the kernel's tracepoints. A processor is that of `CPU N/KVM`, or else each task that is seen has
+    the next number."""
 
     def __init__(self):
         self.tasks: dict[str, int] = {}
@@ -109,10 +111,11 @@ class Kvm:
             return None
         match = TRACEPOINT.fullmatch(line)
         if match is None:
-            if not re.search(r"\b\w+:\s", line):
+            if not re.search(r"\b\w+(:\s|\()", line):
                 raise Broken("not the form of a tracepoint")
             return None
-        event = self.event(*match.groups())
+        name, rest, in_brackets = match.groups()
+        event = self.event(name, in_brackets if rest is None else rest)
         if event is None:
             return None
         return replace(event, line=number, cpu=self.processor(line) if event.word not in ("line", "ack") else 0)
