@@ -8,8 +8,6 @@ import sys
 from dataclasses import dataclass
 from typing import Iterator, NoReturn, Optional
 
-signal.signal(signal.SIGPIPE, signal.SIG_DFL)  # a reader that goes ends the tool, as in `tools/compare .. | head`
-
 ROOT = pathlib.Path(__file__).resolve().parent.parent
 
 WIDTHS = {"b": 1, "w": 2, "d": 4, "q": 8}
@@ -43,7 +41,7 @@ OF_FUNCTION = {
     "01.0": [("XBCS", 0x4E, 2), *((f"PIRQRC{letter}", 0x60 + k, 1) for k, letter in enumerate("ABCD"))],
     "01.1": [("BMIBA", 0x20, 4), ("IDETIM", 0x40, 2)],
 }
-FUNCTIONS = {"00.0": "host bridge", "01.0": "ISA bridge", "01.1": "IDE"}
+FUNCTIONS = {"00.0": "the host bridge", "01.0": "the ISA bridge", "01.1": "the IDE function"}
 # How a register that denies an access would let it in.
 HINTS = {
     "SMRAM": "SMRAME, bit 3, opens A0000 to BFFFF in SMM, with DOPEN, bit 6, everywhere; DCLS, bit 5, to code alone",
@@ -62,12 +60,12 @@ OTHER_DENIALS = {
 
 
 def register_name(register: str) -> str:
-    """The name of a register that is written as 00.0.5B. One that has none is one that reads 00 and ignores writes."""
+    """The name of a register that is written as 00.0.5B, or nothing where no table has one."""
     function, offset = register[:4], int(register[5:], 16)
     for name, first, count in OF_FUNCTION.get(function, []) + ANY_FUNCTION:
         if first <= offset < first + count:
             return name
-    return "a register that this board does not have"
+    return ""
 
 
 def hint(register: str) -> str:
@@ -84,7 +82,7 @@ def hint(register: str) -> str:
 
 def owner(register: str) -> str:
     """Whose register it is."""
-    return FUNCTIONS.get(register[:4], f"card {int(register[:2], 16)}")
+    return FUNCTIONS.get(register[:4], f"the card {int(register[:2], 16)}")
 
 
 # ---- the log
@@ -140,9 +138,14 @@ def entries(log: str) -> Iterator[Entry]:
         yield entry
 
 
-def register_text(register: str) -> str:
-    """A register with its name and its owner."""
-    return f"{register}, {register_name(register)} of the {owner(register)}"
+def register_text(register: str, count: int = 1) -> str:
+    """A register, or so many bytes from it on, with their names and their owner."""
+    function, first = register[:5], int(register[5:], 16)
+    last = min(first + count, 0x100) - 1
+    names = dict.fromkeys(register_name(f"{function}{offset:02X}") for offset in range(first, last + 1))
+    named = ", ".join(name for name in names if name) or "reserved"
+    upto = f" to {last:02X}" if count > 1 else ""
+    return f"{register}{upto}, {named} of {owner(register)}"
 
 
 def reply_texts(entry: Entry) -> list[str]:
@@ -152,7 +155,7 @@ def reply_texts(entry: Entry) -> list[str]:
         kind, _, register = target.partition(":")
         text = f"answered by {target}" if target != "abort" else "answered by nobody"
         if kind == "config":
-            text = f"answered by register {register_text(register)}"
+            text = f"answered by {register_text(register, WIDTHS[entry.words[1]])}"
         if denial in OTHER_DENIALS:
             text += f": {OTHER_DENIALS[denial]}"
         elif denial != "-":
@@ -234,6 +237,11 @@ class Board:
             return subprocess.run([self.program, *words], cwd=self.folder, capture_output=True, text=True)
         except OSError as fault:
             stop(4, f"the program {self.program} does not run: {fault.strerror}")
+
+
+def end_with_reader() -> None:
+    """Lets a reader that goes end the tool, as in `tools/compare .. | head`."""
+    signal.signal(signal.SIGPIPE, signal.SIG_DFL)
 
 
 def text_of(file: pathlib.Path) -> str:
