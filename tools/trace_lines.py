@@ -1,6 +1,7 @@
 """What monitors print of their accesses, line by line: QEMU's trace, the kernel's tracepoints of KVM, and a plain form
 for all others. Each reader gives the events of its lines. What a line tells is taken as it stands here; what the board
 makes of it is decided in from-trace."""
+import datetime
 import re
 from dataclasses import dataclass, replace
 from typing import Callable, Iterator, Optional
@@ -186,8 +187,19 @@ def plain_other(number: int, word: str, line: str) -> Event:
         return Event(number, "pulse", cpu, count)
     if word == "moment":
         cpu, moment = fields(r"(\d) moment (\d{4}-\d\d-\d\dT\d\d:\d\d:\d\d)", line, "moment")
+        check_moment(moment)
         return Event(number, "moment", int(cpu), text=moment)
     raise Broken("none of in, out, r, f, w, ack, irq, pulse, moment")
+
+
+def check_moment(text: str) -> None:
+    """Refuses what is no moment of the calendar from 1980 to 2099, as a script does."""
+    try:
+        moment = datetime.datetime.fromisoformat(text)
+    except ValueError as why:
+        raise Broken(f"no moment: {why}") from None
+    if not 1980 <= moment.year <= 2099:
+        raise Broken("no moment from 1980 to 2099")
 
 
 def check_range(event: Event) -> None:
