@@ -143,7 +143,7 @@ def register_text(register: str, count: int = 1) -> str:
     function, first = register[:5], int(register[5:], 16)
     last = min(first + count, 0x100) - 1
     names = dict.fromkeys(register_name(f"{function}{offset:02X}") for offset in range(first, last + 1))
-    named = ", ".join(name for name in names if name) or "reserved"
+    named = ", ".join(name for name in names if name) or "a reserved register"
     upto = f" to {last:02X}" if count > 1 else ""
     return f"{register}{upto}, {named} of {owner(register)}"
 
@@ -223,6 +223,9 @@ class Board:
     def __init__(self, words: argparse.Namespace):
         self.program = words.program.resolve()
         self.folder = (words.images or words.script.parent).resolve()
+        # where it has to be built it says so itself, meanwhile
+        if self.program == ROOT / "board" and self.run("--version", stderr=None).returncode:
+            stop(4, f"the program {self.program} is not built")
 
     @staticmethod
     def add_words(about: argparse.ArgumentParser) -> None:
@@ -231,10 +234,10 @@ class Board:
         about.add_argument("--images", type=pathlib.Path, metavar="FOLDER", help=images)
         about.add_argument("--program", type=pathlib.Path, default=ROOT / "board", help=program)
 
-    def run(self, command: str, *files: pathlib.Path) -> subprocess.CompletedProcess:
-        words = [command, *(str(file.resolve()) for file in files)]
+    def run(self, command: str, *files: pathlib.Path, stderr=subprocess.PIPE) -> subprocess.CompletedProcess:
+        words = [self.program, command, *(file.resolve() for file in files)]
         try:
-            return subprocess.run([self.program, *words], cwd=self.folder, capture_output=True, text=True)
+            return subprocess.run(words, cwd=self.folder, stdout=subprocess.PIPE, stderr=stderr, text=True)
         except OSError as fault:
             stop(4, f"the program {self.program} does not run: {fault.strerror}")
 
