@@ -1,0 +1,231 @@
+"""What monitors print of their accesses, line by line: QEMU's trace, the kernel's tracepoints of KVM, and a plain form
+for all others. Each reader gives the events of its lines. What a line tells is taken as it stands here; what the board
+makes of it is decided in from-trace."""
+import datetime
+import re
+from dataclasses import dataclass, replace
+from typing import Callable, Iterator, Optional
+
+
+class Broken(Exception):
+    """A line is not what its form asks."""
+
+
+@dataclass
+class Event:
+    """What one line of a trace tells."""
+
+    line: int  # its number in the trace, from 1
+    word: str  # in, out, r, f, w, line, ack, pulse, moment; or `function`, which names a function of PCI
+    cpu: int = 0  # the processor, or -1 where it was none
+    place: int = 0  # the port or the address, the number of the line, the vector, the pulses
+    size: int = 1  # in bytes
+    value: Optional[int] = None  # what was written or read; the level. None where the trace does not tell it
+    name: str = ""  # what the monitor calls the device
+    text: str = ""  # the moment, or the function as 00:01.3
+    smm: bool = False
+    second: Optional[float] = None  # since 1970, where the trace has it
+    count: int = 1  # how often, in an access of a string instruction, of which the first value alone is told
+
+    @property
+    def is_read(self) -> bool:
+        return self.word in ("in", "r", "f")
+
+    @property
+    def is_port(self) -> bool:
+        return self.word in ("in", "out")
+
+
+Reader = Callable[[int, str], Optional[Event]]
+
+
+def fields(pattern: str, line: str, what: str) -> tuple[str, ...]:
+    """The parts of a line that has to have a form."""
+    match = re.fullmatch(pattern, line)
+    if match is None:
+        raise Broken(f"not the form of {what}")
+    return match.groups()
+
+
+# ---- QEMU: -trace 'memory_region_ops_*' -trace 'pci_cfg_*' -trace 'pic_*', best with -msg timestamp=on
+
+STAMP = r"(?:\d+@(\d+\.\d+):)?"
+OPERATION = (
+    r"memory_region_ops_(read|write) cpu (-?\d+) mr 0x[0-9a-f]+ addr (0x[0-9a-f]+) value (0x[0-9a-f]+) "
+    r"size ([1248]) name '([^']*)'"
+)
+FUNCTION = r"pci_cfg_(?:read|write) (\S+) ([0-9a-f]{2}:[0-9a-f]{2}\.[0-7]) @0x[0-9a-f]+ (?:->|<-) 0x[0-9a-f]+"
+SET_IRQ = r"pic_set_irq master ([01]) irq ([0-7]) level ([01])"
+INTERRUPT = r"pic_interrupt irq (\d+) intno (\d+)"
+
+
+def qemu(number: int, line: str) -> Optional[Event]:
+    """A line of QEMU's log of trace events. Other events, and lines that no event begins, tell nothing."""
+    second, rest = fields(STAMP + "(.*)", line, "a trace event")
+    if not re.match(r"[a-z0-9_]+ ", rest):
+        raise Broken("not the form of a trace event")
+    event = qemu_event(rest)
+    return event and replace(event, line=number, second=float(second) if second else None)
+
+
+def qemu_event(rest: str) -> Optional[Event]:
+    if rest.startswith("memory_region_ops_"):
+        what, cpu, place, value, size, name = fields(OPERATION, rest, "memory_region_ops_read and _write")
+        return qemu_access(what == "read", int(cpu), int(place, 16), int(value, 16), int(size), name)
+    if rest.startswith("pci_cfg_"):
+        name, function = fields(FUNCTION, rest, "pci_cfg_read and _write")
+        return Event(0, "function", name=name, text=function)
+    if rest.startswith("pic_set_irq "):
+        master, line, level = map(int, fields(SET_IRQ, rest, "pic_set_irq"))
+        return Event(0, "line", place=line + 8 * (1 - master), value=level)
+    if rest.startswith("pic_interrupt "):
+        _, vector = fields(INTERRUPT, rest, "pic_interrupt")
+        return Event(0, "ack", value=int(vector))
+    return None
+
+
+def qemu_access(is_read: bool, cpu: int, place: int, value: int, size: int, name: str) -> Event:
+    """A port lies below 10000h, and what shows there is never memory, as main memory has no operations."""
+    words = ("in", "out") if place < 0x10000 else ("r", "w")
+    return Event(0, words[0 if is_read else 1], cpu, place, size, value % (1 << 8 * size), name)
+
+
+# ---- KVM: the tracepoints kvm_pio, kvm_mmio, kvm_set_irq and kvm_inj_virq, as ftrace, `perf script` and `perf trace
+# --libtraceevent_print` print them: `kvm_pio: ..`, `kvm:kvm_pio: ..` and `kvm:kvm_pio(..)`
+
+TRACEPOINT = re.compile(r".*?\b(?:kvm:)?(kvm_(?:pio|mmio|set_irq|inj_virq))(?::\s*(.*?)|\((.*?)\s*\))\s*")
+PIO = r"pio_(read|write) at (0x[0-9a-f]+) size ([124]) count (\d+) val (0x[0-9a-f]+)(?: \(\.\.\.\))?"
+MMIO = r"mmio (read|write|unsatisfied-read) len ([1-8]) gpa (0x[0-9a-f]+) val (0x[0-9a-f]+)"
+KVM_IRQ = r"gsi (\d+) level ([01]) source \d+"
+INJECTED = r"(?:IRQ (0x[0-9a-f]+)|irq (\d+))( \[reinjected\])?"
+
+
+class Kvm:
+    """Reads lines of the kernel's tracepoints. A processor is that of `CPU N/KVM`, or else each task that is seen has
+    the next number."""
+
+    def __init__(self):
+        self.tasks: dict[str, int] = {}
+
+    def __call__(self, number: int, line: str) -> Optional[Event]:
+        if line.startswith("#"):
+            return None
+        match = TRACEPOINT.fullmatch(line)
+        if match is None:
+            if not re.search(r"\b\w+(:\s|\()", line):
+                raise Broken("not the form of a tracepoint")
+            return None
+        name, rest, in_brackets = match.groups()
+        event = self.event(name, in_brackets if rest is None else rest)
+        if event is None:
+            return None
+        return replace(event, line=number, cpu=self.processor(line) if event.word not in ("line", "ack") else 0)
+
+    def processor(self, line: str) -> int:
+        named = re.search(r"CPU (\d+)/KVM", line)
+        if named:
+            return int(named[1])
+        task = re.match(r"\s*(\S+)", line)[1]
+        return self.tasks.setdefault(task, len(self.tasks))
+
+    @staticmethod
+    def event(name: str, rest: str) -> Optional[Event]:
+        if name == "kvm_pio":
+            what, port, size, count, value = fields(PIO, rest, "kvm_pio")
+            word = "in" if what == "read" else "out"
+            return Event(0, word, 0, int(port, 16), int(size), int(value, 16), count=int(count))
+        if name == "kvm_mmio":
+            what, size, address, value = fields(MMIO, rest, "kvm_mmio")
+            word = {"read": "r", "write": "w", "unsatisfied-read": ""}[what]
+            return Event(0, word, 0, int(address, 16), int(size), int(value, 16)) if word else None
+        if name == "kvm_set_irq":
+            line, level = map(int, fields(KVM_IRQ, rest, "kvm_set_irq"))
+            return Event(0, "line", place=line, value=level)
+        if rest.startswith("Soft/INTn "):
+            return None
+        new, old, again = fields(INJECTED, rest, "kvm_inj_virq")
+        return None if again else Event(0, "ack", value=int(new, 16) if new else int(old))
+
+
+# ---- the plain form: a statement of a script, what it read, and whose it was
+
+HEX = "(?:0x)?([0-9A-Fa-f]{1,16})"
+GIVEN = f"(?: = {HEX})?(?: # (.+))?"
+READ = rf"(\d) (in|r|f) ([bwdq]) {HEX}( smm)?{GIVEN}"
+WRITTEN = rf"(\d) (out|w) ([bwdq]) {HEX} {HEX}( smm)?(?: # (.+))?"
+LAST_CPU = 7
+SIZES = {"b": 1, "w": 2, "d": 4, "q": 8}
+
+
+def plain(number: int, line: str) -> Optional[Event]:
+    """`CPU STATEMENT [= VALUE] [# NAME]`, with hexadecimal numbers of any length."""
+    if not line or line.startswith("#"):
+        return None
+    word = (line.split(" ") + [""])[1]
+    if word in ("in", "r", "f"):
+        cpu, word, size, place, smm, value, name = fields(READ, line, "a read")
+        given = int(value, 16) if value else None
+        event = Event(number, word, int(cpu), int(place, 16), SIZES[size], given, name or "", smm=bool(smm))
+    elif word in ("out", "w"):
+        cpu, word, size, place, value, smm, name = fields(WRITTEN, line, "a write")
+        event = Event(number, word, int(cpu), int(place, 16), SIZES[size], int(value, 16), name or "", smm=bool(smm))
+    else:
+        return plain_other(number, word, line)
+    check_range(event)
+    return event
+
+
+def plain_other(number: int, word: str, line: str) -> Event:
+    if word == "ack":
+        cpu, vector = fields(rf"(\d) ack(?: = {HEX})?", line, "ack")
+        return Event(number, "ack", int(cpu), value=int(vector, 16) if vector else None)
+    if word == "irq":
+        cpu, place, level = map(int, fields(r"(\d) irq (\d{1,4}) ([01])", line, "irq"))
+        return Event(number, "line", cpu, place, value=level)
+    if word == "pulse":
+        cpu, count = map(int, fields(r"(\d) pulse (\d{1,7})", line, "pulse"))
+        return Event(number, "pulse", cpu, count)
+    if word == "moment":
+        cpu, moment = fields(r"(\d) moment (\d{4}-\d\d-\d\dT\d\d:\d\d:\d\d)", line, "moment")
+        check_moment(moment)
+        return Event(number, "moment", int(cpu), text=moment)
+    raise Broken("none of in, out, r, f, w, ack, irq, pulse, moment")
+
+
+def check_moment(text: str) -> None:
+    """Refuses what is no moment of the calendar from 1980 to 2099, as a script does."""
+    try:
+        moment = datetime.datetime.fromisoformat(text)
+    except ValueError as why:
+        raise Broken(f"no moment: {why}") from None
+    if not 1980 <= moment.year <= 2099:
+        raise Broken("no moment from 1980 to 2099")
+
+
+def check_range(event: Event) -> None:
+    """Refuses a processor, a place or a value that is more than there can be."""
+    if event.cpu > LAST_CPU:
+        raise Broken(f"processor {event.cpu}, and a script has no more than {LAST_CPU}")
+    last = 0xFFFF if event.is_port else 0xFFFF_FFFF
+    if event.place + event.size - 1 > last:
+        raise Broken("past the last port or address")
+    if event.value is not None and event.value >> 8 * event.size:
+        raise Broken("a value of more bytes than are accessed")
+    if event.is_port and event.size == 8:
+        raise Broken("a port of eight bytes")
+
+
+READERS: dict[str, Callable[[], Reader]] = {"qemu": lambda: qemu, "kvm": Kvm, "plain": lambda: plain}
+
+
+def events(form: str, lines: list[str]) -> Iterator[Event]:
+    """The events of a trace. Raises Broken with the number of the first line that is broken."""
+    reader = READERS[form]()
+    for number, line in enumerate(lines, 1):
+        try:
+            event = reader(number, line) if line.strip() or form == "plain" else None
+            if event is not None:
+                check_range(event)
+                yield event
+        except Broken as why:
+            raise Broken(f"line {number}: {why}") from None
