@@ -8,5 +8,5 @@ mod stores;
 
 pub use cut::{Cycle, cycles_of};
 pub use join::{read_cycles, write_cycles};
-pub use memory::{decoded, read, write};
+pub use memory::{decoded, read, target_in, write};
 pub use stores::Stores;

@@ -33,7 +33,7 @@ pub fn decoded(map: &MapRegs, rom: &[u8], access: &Access) -> Part
 }
 
 /// What an access to an area reaches: the ROM of so many bytes and the cards by the address modulo their size.
-fn target_in(map: &MapRegs, rom: &[u8], area: Area, addr: u32) -> Target
+pub fn target_in(map: &MapRegs, rom: &[u8], area: Area, addr: u32) -> Target
     requires cards { AreCards map.now.cards.items }
     requires rom { IsRomSize (length rom.now) }
     ensures target { (setup : Setup) → setup.cards ≡ cards_of map.now.cards.items → setup.rom ≡ rom.now
