@@ -1,5 +1,7 @@
 -- The store that a transfer works on, and the definition of a transfer over its bytes.
 use Rattle.std.specs.Prelude.{ℕ, ◌≡◌, Bool, true, false, List, length}
+use Rattle.board_base.specs.declared.access.Kind.{Kind}
+use Rattle.board_base.specs.declared.target.Area.{Area}
 use Rattle.device_spec.specs.Ata.State.{sectors_of}
 use Rattle.board_spec.specs.Setup.{Setup, IsCardList, IsRomSize, installed}
 use Rattle.board_spec.specs.Decode.{Bytes, is_smram_range}
@@ -7,6 +9,7 @@ use Rattle.board_spec.specs.Stored.{Cell, DramCell, CardCell}
 use Rattle.dram_store.specs.Dram.{dram_at}
 use Rattle.pci_bars.specs.Contents.{IsBaseNumber, held, held_byte, HaveSizes}
 use Rattle.addr_decode.specs.MapRegs.{StandsFor, map_bytes}
+use Rattle.addr_decode.specs.Master.{master_area}
 use Rattle.board_core.specs.declared.store.Store.{Store}
 use Rattle.bus_master.specs.Cells.{Cells}
 use Rattle.bus_master.specs.Registers.{Master}
@@ -35,6 +38,13 @@ pub record IsStoreOf (setup : Setup) (bytes : Bytes) (store : Store) : Type 0 wh
 -- some board has it
 abbrev pub IsSound : Store → Type 0
 IsSound store = (setup : Setup) × (bytes : Bytes) × IsStoreOf setup bytes store
+
+-- of such a board an access of the bus master reaches this area
+pub record IsReached (store : Store) (area : Area) (addr : ℕ) (kind : Kind) : Type 0 where
+  pub setup : Setup
+  pub bytes : Bytes
+  pub of : IsStoreOf setup bytes store
+  pub reached : area ≡ master_area setup bytes addr kind
 
 -- the registers, the ROM and the drive are as before, and there are as many bytes and sectors
 pub record HasSameShape (old new : Store) : Type 0 where

@@ -7,7 +7,7 @@ use Rattle.board_spec.specs.Setup.{Setup}
 use Rattle.board_spec.specs.Decode.{Bytes}
 use Rattle.bus_master.specs.declared.done.End.{End}
 use Rattle.bus_master.specs.declared.direction.Direction.{Direction}
-use Rattle.bus_master.specs.Transfer.{Moving, Place, medium_of, next_sector, next_word, words_moved}
+use Rattle.bus_master.specs.Transfer.{Moving, Place, end_of, medium_of, next_sector, words_moved}
 use Rattle.bus_master.specs.Stores.{cells_of, IsCell}
 
 -- accesses are aligned, and regions hold whole words
@@ -26,12 +26,19 @@ end_in (Err end) = Some end
 pub record StandsAt (moving : Moving) (store : Store) (place : Place) (end : Option End) : Type 0 where
   pub cells : (cell : Cell) → IsCell cell → cells_of store cell ≡ moving.cells cell
   pub medium : medium_of store.disk ≡ moving.medium
-  pub place : place ≡ moving.place
-  pub end : end ≡ moving.end
+  pub come : place ≡ moving.place
+  pub ends : end ≡ moving.end
+
+-- and that is all: it ended so
+pub record IsDone (moving : Moving) (store : Store) (place : Place) (end : End) : Type 0 where
+  pub cells : (cell : Cell) → IsCell cell → cells_of store cell ≡ moving.cells cell
+  pub medium : medium_of store.disk ≡ moving.medium
+  pub come : place ≡ moving.place
+  pub ends : end ≡ end_of moving
 
 -- a sector that was begun is there
 abbrev pub HasSector : (lba : ℕ) → Store → Place → Type 0
-HasSector lba store place = next_word place ≢ 0 → next_sector lba place < sectors_of (medium_of store.disk)
+HasSector lba store place = place.moved % 512 ≢ 0 → next_sector lba place < sectors_of (medium_of store.disk)
 
 -- a step moved some words of the definition, at most so many. It tells how many, unless the transfer ended
 pub record CameOn (setup : Setup) (bytes : Bytes) (direction : Direction) (lba most : ℕ) (moving : Moving) (store : Store)

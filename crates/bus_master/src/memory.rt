@@ -2,23 +2,38 @@
 
 ghost use Rattle.std.specs.Prelude.{◌≡◌, ◌%◌, ◌<◌, ◌≤◌, length};
 ghost use Rattle.board_base.specs.Access.{bytes_of, largest_of};
-ghost use Rattle.board_base.specs.declared.access.Width.{Width};
+ghost use Rattle.board_base.specs.declared.access.Kind.{Kind};
 ghost use Rattle.device_spec.specs.Ata.State.{sectors_of, word_at};
 ghost use Rattle.ata_pio.specs.Words.{is_readable, with_word};
 ghost use Rattle.board_spec.specs.Setup.{Setup, installed};
+ghost use Rattle.board_spec.specs.Decode.{Bytes};
 ghost use Rattle.board_spec.specs.Stored.{Cell};
+ghost use Rattle.addr_decode.specs.Master.{master_area};
 ghost use Rattle.board_stores.specs.Targets.{IsHeld};
 ghost use Rattle.bus_master.specs.Cells.{value_in, put_in};
-ghost use Rattle.bus_master.specs.Transfer.{medium_of, with_medium};
-ghost use Rattle.bus_master.specs.Stores.{cells_of, HasSameShape, IsCell};
+ghost use Rattle.bus_master.specs.Transfer.{master_target, master_value, medium_of, with_medium};
+ghost use Rattle.bus_master.specs.Stores.{cells_of, HasSameShape, IsCell, IsReached, IsStoreOf};
 
 use ata_pio::Ata;
-use board_base::{Target, Width};
+use board_base::{Area, Target, Width};
 use board_core::Store;
 use board_spec::wide::read_at;
+use board_stores::target_in;
+
+/// What a read of the bus master gives that reaches this area.
+pub(crate) fn read(store: &Store, area: Area, addr: u32, width: Width) -> u32
+    requires reached { IsReached store.now area addr Kind.Read }
+    requires aligned { addr % bytes_of width ≡ 0 }
+    ensures value { (setup : Setup) (bytes : Bytes) → IsStoreOf setup bytes store.now
+        → area ≡ master_area setup bytes addr Kind.Read
+        → result ≡ master_value setup bytes (cells_of store.now) addr width }
+{
+    let target = target_in(&store.regs, &store.rom, area, addr);
+    read_from(store, target, addr, width)
+}
 
 /// What a read gives that has this target.
-pub(crate) fn read(store: &Store, target: Target, addr: u32, width: Width) -> u32
+fn read_from(store: &Store, target: Target, addr: u32, width: Width) -> u32
     requires held { IsHeld store.now.rom.items store.now.contents target width }
     requires aligned { addr % bytes_of width ≡ 0 }
     ensures value { (setup : Setup) → store.now.rom.items ≡ setup.rom
@@ -32,8 +47,23 @@ pub(crate) fn read(store: &Store, target: Target, addr: u32, width: Width) -> u3
     }
 }
 
-/// Writes a value that fits the width where this target keeps it. A write to the ROM or to nobody is lost.
-pub(crate) fn write(store: &mut Store, target: Target, addr: u32, width: Width, value: u32)
+/// Writes a value that fits the width where the bus master reaches this area. A write to the ROM or to nobody is lost.
+pub(crate) fn write(store: &mut Store, area: Area, addr: u32, width: Width, value: u32)
+    requires reached { IsReached store.old area addr Kind.Write }
+    requires aligned { addr % bytes_of width ≡ 0 }
+    requires fits { value ≤ largest_of width }
+    ensures put { (setup : Setup) (bytes : Bytes) → IsStoreOf setup bytes store.old
+        → area ≡ master_area setup bytes addr Kind.Write → (cell : Cell) → IsCell cell → cells_of store.new cell
+        ≡ put_in setup (master_target setup bytes Kind.Write addr) addr width value (cells_of store.old) cell }
+    ensures shape { HasSameShape store.old store.new }
+    ensures disk { store.new.disk ≡ store.old.disk }
+{
+    let target = target_in(&store.regs, &store.rom, area, addr);
+    write_to(store, target, addr, width, value);
+}
+
+/// Writes a value that fits the width where this target keeps it.
+fn write_to(store: &mut Store, target: Target, addr: u32, width: Width, value: u32)
     requires held { IsHeld store.old.rom.items store.old.contents target width }
     requires aligned { addr % bytes_of width ≡ 0 }
     requires fits { value ≤ largest_of width }

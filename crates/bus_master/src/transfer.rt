@@ -49,10 +49,7 @@ impl BusMaster {
             × (store.new.disk ≡ with_medium other.disk (transfer_of setup bytes self.old lba count other).medium) }
     {
         let mut under_way = UnderWay::begin(self.table);
-        let end = match under_way.move_words(store, self.direction(), lba, SECTOR_WORDS * count) {
-            Err(end) => end,
-            Ok(()) => under_way.end(),
-        };
+        let end = under_way.transfer(store, self.direction(), lba, SECTOR_WORDS * count);
         self.end_transfer(end, under_way.table());
         Done {
             end,

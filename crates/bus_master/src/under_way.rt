@@ -1,6 +1,6 @@
 //! A transfer under way.
 
-ghost use Rattle.std.specs.Prelude.{ℕ, ◌≡◌, ◌≢◌, ◌<◌, ◌≤◌, ◌+◌, ◌*◌, ◌%◌, ◌^◌, ◌&&◌, None, IfOk};
+ghost use Rattle.std.specs.Prelude.{ℕ, ◌≡◌, ◌≢◌, ◌<◌, ◌≤◌, ◌+◌, ◌*◌, ◌%◌, ◌^◌, ◌&&◌, None, if◌then◌else◌, IfOk};
 ghost use Rattle.board_base.specs.declared.access.Kind.{Kind};
 ghost use Rattle.board_base.specs.declared.access.Width.{Width};
 ghost use Rattle.device_spec.specs.Ata.State.{sectors_of, word_at};
@@ -11,27 +11,28 @@ ghost use Rattle.board_spec.specs.Stored.{Cell};
 ghost use Rattle.pci_bars.specs.Cards.{AreFitted};
 ghost use Rattle.addr_decode.specs.MapRegs.{StandsFor, map_bytes};
 ghost use Rattle.addr_decode.specs.Master.{master_area, master_denial};
+ghost use Rattle.bus_master.specs.declared.done.End.{End};
 ghost use Rattle.bus_master.specs.declared.direction.Direction.{Direction};
 ghost use Rattle.bus_master.specs.Cells.{put_in};
-ghost use Rattle.bus_master.specs.Transfer.{Moving, abort_in, address_after, descriptor_read, end_of, first_place, is_used_up, kind_of, master_target, master_value, medium_of, moved_on, next_sector, next_word, ready_for, sector_tested, size_of, with_region, word_moved, words_moved};
-ghost use Rattle.bus_master.specs.Stores.{cells_of, HasSameShape, IsCell, IsSound, IsStoreOf};
-ghost use Rattle.bus_master.specs.UnderWay.{CameOn, end_in, HasSector, StandsAt};
+ghost use Rattle.bus_master.specs.Transfer.{Moving, abort_in, address_after, descriptor_read, first_place, is_used_up, kind_of, master_target, master_value, medium_of, moved_on, next_sector, next_word, ready_for, sector_tested, size_of, with_region, word_moved, words_moved};
+ghost use Rattle.bus_master.specs.Stores.{cells_of, HasSameShape, IsCell, IsReached, IsSound, IsStoreOf};
+ghost use Rattle.bus_master.specs.UnderWay.{CameOn, end_in, HasSector, IsDone, StandsAt};
 
 use crate::direction::Direction;
 use crate::done::End;
 use crate::memory::{is_readable, read, set_word, word, write};
 use addr_decode::{MapRegs, decode_master};
-use ata_pio::Ata;
 use board_base::{Area, Denial, Kind, Width};
 use board_core::Store;
 use board_spec::bits::is_set;
-use board_stores::target_in;
 use std::marker::Model;
 
 /// How many bytes a sector has.
 const SECTOR_BYTES: u32 = 512;
 /// How many bytes a word has.
 const WORD_BYTES: u32 = 2;
+/// How many values a word can have.
+const WORD_VALUES: u32 = 0x1_0000;
 /// How many bytes a descriptor has: a doubleword for the base of a region, and one for its count.
 const DESCRIPTOR_BYTES: u32 = 8;
 /// Where the count stands in a descriptor.
@@ -95,8 +96,7 @@ fn read_doubleword(store: &Store, addr: u32) -> Result<u32, End>
         ≡ abort_in (master_area setup bytes addr Kind.Read) addr (master_denial setup bytes addr Kind.Read) }
 {
     let area = answering(&store.regs, addr, Kind::Read)?;
-    let target = target_in(&store.regs, &store.rom, area, addr);
-    Ok(read(store, target, addr, Width::Four))
+    Ok(read(store, area, addr, Width::Four))
 }
 
 impl UnderWay {
@@ -129,21 +129,44 @@ impl UnderWay {
     }
 
     /// Whether the last region is used up.
-    pub(crate) fn is_over(&self) -> bool
+    fn is_over(&self) -> bool
         ensures over { result ≡ (is_used_up self.now && self.now.is_last) }
     {
         self.left == 0 && self.is_last
     }
 
     /// How a transfer ends that has moved all its words.
-    pub(crate) fn end(&self) -> End
-        ensures end { (moving : Moving) → moving.place ≡ self.now → moving.end ≡ None → end_of moving ≡ result }
+    fn end(&self) -> End
+        ensures end { result ≡ (if is_used_up self.now && self.now.is_last then End.Exact else End.Longer) }
     {
         if self.is_over() { End::Exact } else { End::Longer }
     }
 
-    /// Moves so many words, at most 65,536, to or from the sectors from one on.
-    pub(crate) fn move_words(
+    /// Moves so many words, at most 65,536, to or from the sectors from one on, and tells how it ended.
+    pub(crate) fn transfer(
+        &mut self,
+        store: &mut Store,
+        direction: Direction,
+        lba: u32,
+        words: u32,
+    ) -> End
+        requires sound { IsSound store.old }
+        requires begins { self.old.moved ≡ 0 }
+        requires lba { lba < 2 ^ 28 }
+        requires words { words ≤ 0x1_0000 }
+        ensures moved { (setup : Setup) (bytes : Bytes) (moving : Moving) → IsStoreOf setup bytes store.old
+            → StandsAt moving store.old self.old None
+            → IsDone (words_moved setup bytes direction lba words moving) store.new self.new result }
+        ensures shape { HasSameShape store.old store.new }
+    {
+        match self.move_words(store, direction, lba, words) {
+            Ok(()) => self.end(),
+            Err(end) => end,
+        }
+    }
+
+    /// Moves so many words. Refused where the transfer ends before.
+    fn move_words(
         &mut self,
         store: &mut Store,
         direction: Direction,
@@ -159,8 +182,10 @@ impl UnderWay {
             → StandsAt (words_moved setup bytes direction lba words moving) store.new self.new (end_in result) }
         ensures shape { HasSameShape store.old store.new }
     {
-        while self.moved < WORD_BYTES * words {
-            self.move_some(store, direction, lba, words - self.moved / WORD_BYTES)?;
+        let bytes = WORD_BYTES * words;
+        while self.moved < bytes {
+            let most = (bytes - self.moved) / WORD_BYTES;
+            self.move_some(store, direction, lba, most)?;
         }
         Ok(())
     }
@@ -209,7 +234,7 @@ impl UnderWay {
         if self.is_over() {
             return Err(End::Shorter);
         }
-        self.test_sector(&store.disk, lba)?;
+        self.test_sector(store, lba)?;
         if self.left == 0 {
             self.read_descriptor(store)?;
         }
@@ -217,17 +242,23 @@ impl UnderWay {
     }
 
     /// Refused where the next word is the first of a sector that does not exist or is bad.
-    fn test_sector(&self, disk: &Option<Ata>, lba: u32) -> Result<(), End>
+    fn test_sector(&self, store: &Store, lba: u32) -> Result<(), End>
         requires lba { lba < 2 ^ 28 }
         requires moved { self.now.moved < 0x2_0000 }
-        ensures end { (moving : Moving) → moving.place ≡ self.now → moving.medium ≡ medium_of disk.now
-            → moving.end ≡ None → end_in result ≡ (sector_tested lba moving).end }
+        requires sector { HasSector lba store.now self.now }
+        ensures tested { (moving : Moving) → StandsAt moving store.now self.now None
+            → StandsAt (sector_tested lba moving) store.now self.now (end_in result) }
+        ensures sector { IfOk result (λ done. next_sector lba self.now < sectors_of (medium_of store.now.disk)) }
     {
         let sector = lba + self.moved / SECTOR_BYTES;
-        if self.moved % SECTOR_BYTES == 0 && !is_readable(disk, sector) {
-            return Err(End::Sector { lba: sector });
+        if self.moved % SECTOR_BYTES != 0 {
+            return Ok(());
         }
-        Ok(())
+        if is_readable(&store.disk, sector) {
+            Ok(())
+        } else {
+            Err(End::Sector { lba: sector })
+        }
     }
 
     /// Reads the next descriptor of the table. Refused with Abort where nobody answers for one of its halves; then the
@@ -274,8 +305,7 @@ impl UnderWay {
 
     /// Moves the next word, which is in this area.
     fn move_word(&mut self, store: &mut Store, area: Area, direction: Direction, lba: u32)
-        requires sound { (setup : Setup) × (bytes : Bytes) × IsStoreOf setup bytes store.old
-            × (area ≡ master_area setup bytes self.old.addr (kind_of direction)) }
+        requires reached { IsReached store.old area self.old.addr (kind_of direction) }
         requires left { self.old.left ≢ 0 }
         requires lba { lba < 2 ^ 28 }
         requires moved { self.old.moved < 0x2_0000 }
@@ -298,8 +328,7 @@ impl UnderWay {
 
 /// Copies one word between an address, which is even and in this area, and a sector that exists.
 fn copy_word(store: &mut Store, area: Area, addr: u32, direction: Direction, sector: u32, i: u32)
-    requires sound { (setup : Setup) × (bytes : Bytes) × IsStoreOf setup bytes store.old
-        × (area ≡ master_area setup bytes addr (kind_of direction)) }
+    requires reached { IsReached store.old area addr (kind_of direction) }
     requires aligned { addr % 2 ≡ 0 }
     requires sector { sector < sectors_of (medium_of store.old.disk) }
     requires word { i < 256 }
@@ -314,15 +343,14 @@ fn copy_word(store: &mut Store, area: Area, addr: u32, direction: Direction, sec
     ensures cells { direction ≡ Direction.ToDisk → (cell : Cell) → cells_of store.new cell ≡ cells_of store.old cell }
     ensures shape { HasSameShape store.old store.new }
 {
-    let target = target_in(&store.regs, &store.rom, area, addr);
     match direction {
         Direction::ToMemory => {
             let value = word(&store.disk, sector, i);
-            write(store, target, addr, Width::Two, value.into());
+            write(store, area, addr, Width::Two, value.into());
         }
         Direction::ToDisk => {
-            let value = read(store, target, addr, Width::Two) as u16;
-            set_word(&mut store.disk, sector, i, value);
+            let value = read(store, area, addr, Width::Two) % WORD_VALUES;
+            set_word(&mut store.disk, sector, i, value as u16);
         }
     }
 }

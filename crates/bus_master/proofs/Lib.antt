@@ -1,0 +1,4 @@
+pub mod HeldTargets
+pub mod StepLemmas
+pub mod WordLemmas
+pub mod SmramLemmas
