@@ -20,7 +20,7 @@ use Rattle.bus_master.specs.declared.done.End.{End}
 use Rattle.bus_master.specs.declared.direction.Direction.{Direction}
 use Rattle.bus_master.specs.declared.direction.Direction.TheVariants.{ToMemory, ToDisk}
 use Rattle.bus_master.specs.Cells.{Cells, put_in}
-use Rattle.bus_master.specs.Transfer.{Moving, Place, ◌and_then◌, abort_in, address_after, answered, kind_of, master_target, master_value, medium_of, moved_on, next_moved, next_sector, next_word, ready_for, region_found, sector_tested, table_tested, with_medium, word_moved, words_moved}
+use Rattle.bus_master.specs.Transfer.{Moving, Place, ◌and_then◌, abort_in, address_after, answered, is_used_up, kind_of, master_target, master_value, medium_of, moved_on, next_moved, next_sector, next_word, ready_for, region_found, sector_tested, table_tested, with_medium, word_moved, words_moved}
 use Rattle.bus_master.specs.Stores.{cells_of, HasSameShape, IsCell, IsStoreOf}
 use Rattle.bus_master.specs.UnderWay.{CameOn, HasSector, StandsAt}
 use Rattle.bus_master.proofs.HeldTargets.{master_value_same}
@@ -86,7 +86,10 @@ module _ {setup : Setup} {bytes : Bytes} {store : Store} (of : IsStoreOf setup b
   written put disk =
       subst (λ (m : Moving). StandsAt (word_moved setup bytes ToMemory lba m) new (moved_on place) None) (moving_is is)
       (record {
-        cells = λ cell there. put cell there ∙ put_same _ _ cell there;
+        cells = λ cell there.
+            put cell there
+            ∙ put_same (master_target setup bytes Kind.Write place.addr)
+            (word_at (medium_of store.disk) (next_sector lba place) (next_word place)) cell there;
         medium = ap medium_of disk;
         come = refl;
         ends = refl;
@@ -125,84 +128,155 @@ module _ {setup : Setup} {bytes : Bytes} {store : Store} (of : IsStoreOf setup b
   word_stands ToMemory area aligned reached memory disk word cells = written (memory refl reached) (disk refl)
   word_stands ToDisk area aligned reached memory disk word cells = set_on_disk aligned (word refl reached) (cells refl)
 
--- ---- a transfer that has ended moves no more
+module _ (setup : Setup) (bytes : Bytes) (direction : Direction) (lba : ℕ) where
+  -- ---- a transfer that has ended moves no more
 
-stays : (setup : Setup) (bytes : Bytes) (direction : Direction) (lba : ℕ) (moving : Moving) (end : End) → Some end ≡ moving.end →
-    next_moved setup bytes direction lba moving ≡ moving
-unfolding next_moved ready_for
-stays setup bytes direction lba moving end is =
-    let first = skipped moving table_tested end is in
-    let second = skipped moving (sector_tested lba) end is in
-    let third = skipped moving (region_found setup bytes) end is in
-    let fourth = skipped moving (λ ready. answered setup bytes (kind_of direction) ready.place.addr ready) end is in
-    let fifth = skipped moving (word_moved setup bytes direction lba) end is in
-    rw (first, second, third, fourth) fifth
+  stays : (moving : Moving) (end : End) → Some end ≡ moving.end → next_moved setup bytes direction lba moving ≡ moving
+  unfolding next_moved ready_for
+  stays moving end is =
+      rw (
+        skipped moving table_tested end is,
+        skipped moving (sector_tested lba) end is,
+        skipped moving (region_found setup bytes) end is,
+        skipped moving (λ ready. answered setup bytes (kind_of direction) ready.place.addr ready) end is,
+        skipped moving (word_moved setup bytes direction lba) end is,
+      ) refl
 
-words_stay : (setup : Setup) (bytes : Bytes) (direction : Direction) (lba words : ℕ) (moving : Moving) (end : End) →
-    Some end ≡ moving.end → words_moved setup bytes direction lba words moving ≡ moving
-unfolding words_moved
-words_stay setup bytes direction lba zero moving end is = refl
-words_stay setup bytes direction lba (suc words) moving end is =
-    ap (next_moved setup bytes direction lba) (words_stay setup bytes direction lba words moving end is)
-    ∙ stays setup bytes direction lba moving end is
+  words_stay : (words : ℕ) (moving : Moving) (end : End) → Some end ≡ moving.end →
+      words_moved setup bytes direction lba words moving ≡ moving
+  unfolding words_moved
+  words_stay zero moving end is = refl
+  words_stay (suc words) moving end is =
+      ap (next_moved setup bytes direction lba) (words_stay words moving end is) ∙ stays moving end is
 
-words_add : (setup : Setup) (bytes : Bytes) (direction : Direction) (lba more words : ℕ) (moving : Moving) →
-    words_moved setup bytes direction lba (more + words) moving
-    ≡ words_moved setup bytes direction lba more (words_moved setup bytes direction lba words moving)
-unfolding words_moved
-words_add setup bytes direction lba zero words moving = refl
-words_add setup bytes direction lba (suc more) words moving =
-    ap (λ n. words_moved setup bytes direction lba n moving) (plus_suc more words)
-    ∙ ap (next_moved setup bytes direction lba) (words_add setup bytes direction lba more words moving)
-  where
-    plus_suc : (more words : ℕ) → suc more + words ≡ suc (more + words)
-    plus_suc more words = omega arith
+  words_add : (more words : ℕ) (moving : Moving) →
+      words_moved setup bytes direction lba (more + words) moving
+      ≡ words_moved setup bytes direction lba more (words_moved setup bytes direction lba words moving)
+  unfolding words_moved
+  words_add zero words moving = ap (λ n. words_moved setup bytes direction lba n moving) (none words)
+    where
+      none : (words : ℕ) → 0 + words ≡ words
+      none words = omega arith
+  words_add (suc more) words moving =
+      ap (λ n. words_moved setup bytes direction lba n moving) (one more words)
+      ∙ ap (next_moved setup bytes direction lba) (words_add more words moving)
+    where
+      one : (more words : ℕ) → suc more + words ≡ suc (more + words)
+      one more words = omega arith
 
--- the words so far and then some more
-pub came_further : {setup : Setup} {bytes : Bytes} {direction : Direction} {lba most : ℕ} {moving : Moving} {store : Store}
-    {old new : Place} (words : ℕ) →
-    CameOn setup bytes direction lba most (words_moved setup bytes direction lba words moving) store old new None →
-    old.moved ≡ 2 * words →
-    StandsAt (words_moved setup bytes direction lba (new.moved / 2) moving) store new None
-came_further {setup} {bytes} {direction} {lba} {most} {moving} {store} {old} {new} words on count =
-    let total : new.moved / 2 ≡ on.words + words = omega (arith, on.moved refl, count) in
-    subst (λ (m : Moving). StandsAt m store new None)
-    (sym (ap (λ n. words_moved setup bytes direction lba n moving) total ∙ words_add setup bytes direction lba on.words words moving))
-    on.stands
+  module _ {most : ℕ} {store : Store} {old new : Place} (words : ℕ) (moving : Moving) where
+    -- the words so far and then some more
+    pub came_further : CameOn setup bytes direction lba most (words_moved setup bytes direction lba words moving) store old new None →
+        old.moved ≡ 2 * words → StandsAt (words_moved setup bytes direction lba (new.moved / 2) moving) store new None
+    came_further on count =
+        let total : new.moved / 2 ≡ on.words + words = omega (arith, on.moved refl, count) in
+        subst (λ (m : Moving). StandsAt m store new None)
+        (sym (ap (λ n. words_moved setup bytes direction lba n moving) total ∙ words_add on.words words moving)) on.stands
 
--- or an end, after which no more words are moved
-pub came_to_end : {setup : Setup} {bytes : Bytes} {direction : Direction} {lba most : ℕ} {moving : Moving} {store : Store}
-    {old new : Place} (words total : ℕ) (end : End) →
-    CameOn setup bytes direction lba most (words_moved setup bytes direction lba words moving) store old new (Some end) →
-    words + most ≤ total →
-    StandsAt (words_moved setup bytes direction lba total moving) store new (Some end)
-came_to_end {setup} {bytes} {direction} {lba} {most} {moving} {store} {old} {new} words total end on few =
-    let count : total - (on.words + words) + (on.words + words) ≡ total = omega (arith, on.few, few) in
-    let here : Moving = words_moved setup bytes direction lba (on.words + words) moving in
-    let is_here : here ≡ words_moved setup bytes direction lba on.words (words_moved setup bytes direction lba words moving) =
-    words_add setup bytes direction lba on.words words moving in
-    let ended : Some end ≡ here.end = on.stands.ends ∙ ap (λ (m : Moving). m.end) (sym is_here) in
-    let all : words_moved setup bytes direction lba total moving ≡ here =
-    ap (λ n. words_moved setup bytes direction lba n moving) (sym count)
-    ∙ words_add setup bytes direction lba (total - (on.words + words)) (on.words + words) moving
-    ∙ words_stay setup bytes direction lba (total - (on.words + words)) here end ended in
-    subst (λ (m : Moving). StandsAt m store new (Some end)) (sym (all ∙ is_here)) on.stands
+    -- or an end, after which no more words are moved
+    pub came_to_end : (total : ℕ) (end : End) →
+        CameOn setup bytes direction lba most (words_moved setup bytes direction lba words moving) store old new (Some end) →
+        words + most ≤ total → StandsAt (words_moved setup bytes direction lba total moving) store new (Some end)
+    came_to_end total end on few =
+        let count : total ≡ total - (on.words + words) + (on.words + words) = omega (arith, on.few, few) in
+        let here : Moving = words_moved setup bytes direction lba (on.words + words) moving in
+        let is_here : here ≡ words_moved setup bytes direction lba on.words (words_moved setup bytes direction lba words moving) =
+        words_add on.words words moving in
+        let ended : Some end ≡ here.end = on.stands.ends ∙ ap (λ (m : Moving). m.end) (sym is_here) in
+        let all : words_moved setup bytes direction lba total moving ≡ here =
+        ap (λ n. words_moved setup bytes direction lba n moving) count
+        ∙ words_add (total - (on.words + words)) (on.words + words) moving
+        ∙ words_stay (total - (on.words + words)) here end ended in
+        subst (λ (m : Moving). StandsAt m store new (Some end)) (sym (all ∙ is_here)) on.stands
 
--- ---- words of one stretch
+  -- ---- words of one stretch
 
--- what a word needs, and whether somebody answers
-pub reached_by : Setup → Bytes → Direction → (lba : ℕ) → Moving → Moving
-reached_by setup bytes direction lba moving =
-    ready_for setup bytes lba moving
-    and_then (λ ready. answered setup bytes (kind_of direction) ready.place.addr ready)
+  -- what a word needs, and whether somebody answers
+  unfoldable pub reached_by : Moving → Moving
+  reached_by moving =
+      ready_for setup bytes lba moving
+      and_then (λ ready. answered setup bytes (kind_of direction) ready.place.addr ready)
 
--- so many words of a stretch, whose first is ready
-pub came : Setup → Bytes → Direction → (lba : ℕ) → ℕ → Moving → Moving
-came setup bytes direction lba zero moving = reached_by setup bytes direction lba moving
-came setup bytes direction lba (suc words) moving = words_moved setup bytes direction lba (suc words) moving
+  -- so many words of a stretch, whose first is ready
+  unfoldable pub came : ℕ → Moving → Moving
+  came zero moving = reached_by moving
+  came (suc words) moving = words_moved setup bytes direction lba (suc words) moving
+
+  module _ (cells : Cells) (medium : Medium) (place : Place) where
+    abbrev here : Moving
+    here = record { cells = cells; medium = medium; place = place; end = None }
+
+    table_left : is_used_up place ≡ false → table_tested here ≡ here
+    unfolding table_tested
+    table_left left = rw left refl
+
+    sector_left : (next_word place == 0) ≡ false → sector_tested lba here ≡ here
+    unfolding sector_tested
+    sector_left within = rw within refl
+
+    region_left : is_used_up place ≡ false → region_found setup bytes here ≡ here
+    unfolding region_found
+    region_left left = rw left refl
+
+    answer_left : None ≡ abort_in (master_area setup bytes place.addr (kind_of direction)) place.addr
+        (master_denial setup bytes place.addr (kind_of direction)) →
+        answered setup bytes (kind_of direction) place.addr here ≡ here
+    unfolding answered
+    answer_left answers = ap (λ (end : Option End). record here { end = end }) (sym answers)
+
+    next_word_is : is_used_up place ≡ false → (next_word place == 0) ≡ false →
+        None ≡ abort_in (master_area setup bytes place.addr (kind_of direction)) place.addr
+        (master_denial setup bytes place.addr (kind_of direction)) →
+        next_moved setup bytes direction lba here ≡ word_moved setup bytes direction lba here
+    unfolding next_moved ready_for
+    next_word_is left within answers =
+        rw (table_left left, sector_left within, region_left left, answer_left answers) refl
+
+  module _ {store : Store} {place : Place} (moving : Moving) (is : StandsAt moving store place None) where
+    -- within a stretch nothing comes before a word
+    next_in_stretch : place.left ≢ 0 → place.moved % 2 ≡ 0 → place.moved % 512 ≢ 0 →
+        None ≡ abort_in (master_area setup bytes place.addr (kind_of direction)) place.addr
+        (master_denial setup bytes place.addr (kind_of direction)) →
+        next_moved setup bytes direction lba moving ≡ word_moved setup bytes direction lba moving
+    next_in_stretch left whole within answers =
+        subst (λ (m : Moving). next_moved setup bytes direction lba m ≡ word_moved setup bytes direction lba m) (moving_is is)
+        (next_word_is moving.cells (medium_of store.disk) place (ne_eqb place.left 0 left)
+        (ne_eqb (place.moved % 512 / 2) 0 (λ (e : place.moved % 512 / 2 ≡ 0). within (omega (arith, e, whole)))) answers)
+
+  -- the first word of a stretch, where all before it went well
+  first_in_stretch : {store : Store} {place : Place} (moving : Moving) → StandsAt (reached_by moving) store place None →
+      next_moved setup bytes direction lba moving ≡ word_moved setup bytes direction lba (reached_by moving)
+  unfolding next_moved reached_by
+  first_in_stretch moving is = taken (reached_by moving) (word_moved setup bytes direction lba) is.ends
+
+  pub came_on : {store new : Store} {place after : Place} (words : ℕ) (moving : Moving) →
+      StandsAt (came words moving) store place None →
+      (1 ≤ words → place.left ≢ 0) → place.moved % 2 ≡ 0 → (1 ≤ words → place.moved % 512 ≢ 0) →
+      None ≡ abort_in (master_area setup bytes place.addr (kind_of direction)) place.addr
+      (master_denial setup bytes place.addr (kind_of direction)) →
+      StandsAt (word_moved setup bytes direction lba (came words moving)) new after None →
+      StandsAt (came (words + 1) moving) new after None
+  unfolding words_moved came
+  came_on {store} {new} {place} {after} zero moving is left whole within answers next =
+      subst (λ (m : Moving). StandsAt m new after None) (sym (first_in_stretch moving is)) next
+  came_on {store} {new} {place} {after} (suc words) moving is left whole within answers next =
+      subst (λ (m : Moving). StandsAt m new after None)
+      (sym (ap (λ n. came n moving) (one_more words)
+      ∙ next_in_stretch (came (suc words) moving) is (left (omega arith)) whole (within (omega arith)) answers))
+      next
+    where
+      one_more : (words : ℕ) → suc words + 1 ≡ suc (suc words)
+      one_more words = omega arith
+
+  -- a stretch of at least one word is so many words
+  pub came_words : (words : ℕ) (moving : Moving) → 1 ≤ words →
+      came words moving ≡ words_moved setup bytes direction lba words moving
+  unfolding came
+  came_words zero moving some = absurd (omega arith)
+  came_words (suc words) moving some = refl
 
 -- somebody answers in an area wherever in it the access is
-answers_in : (area : Area) (addr other : ℕ) (denial denial' : Option Denial) → None ≡ abort_in area addr denial →
+pub answers_in : (area : Area) (addr other : ℕ) (denial denial' : Option Denial) → None ≡ abort_in area addr denial →
     None ≡ abort_in area other denial'
 answers_in (Dram row) addr other denial denial' is = refl
 answers_in (Shadow row) addr other denial denial' is = refl
@@ -211,12 +285,17 @@ answers_in Rom addr other denial denial' is = refl
 answers_in (Card dev base) addr other denial denial' is = refl
 answers_in NobodysArea addr other denial denial' is = absurd (cc)
 
-module _ {setup : Setup} {bytes : Bytes} {store : Store} {place : Place} {moving : Moving} (is : StandsAt moving store place None)
-    (direction : Direction) (lba : ℕ) where
-  goes_on_moving : place.left ≢ 0 → place.moved % 2 ≡ 0 → place.moved % 512 ≢ 0 →
-      None ≡ abort_in (master_area setup bytes place.addr (kind_of direction)) place.addr
-      (master_denial setup bytes place.addr (kind_of direction)) →
-      next_moved setup bytes direction lba moving ≡ word_moved setup bytes direction lba moving
-  unfolding next_moved ready_for table_tested sector_tested region_found answered
-  goes_on_moving left whole within answers =
-      ?
+-- where a stretch has come after so many of its words
+abbrev pub place_after : ℕ → Place → Place
+place_after words place = record place {
+  addr = address_after place.addr (2 * words);
+  left = place.left - 2 * words;
+  moved = place.moved + 2 * words;
+}
+
+pub place_on : (words : ℕ) (place : Place) → moved_on (place_after words place) ≡ place_after (words + 1) place
+place_on words place =
+    let addr : address_after (address_after place.addr (2 * words)) 2 ≡ address_after place.addr (2 * (words + 1)) = omega arith in
+    let left : place.left - 2 * words - 2 ≡ place.left - 2 * (words + 1) = omega arith in
+    let moved : place.moved + 2 * words + 2 ≡ place.moved + 2 * (words + 1) = omega arith in
+    rw (addr, left, moved) refl
