@@ -1,5 +1,5 @@
 -- Words one after another.
-use Rattle.std.proofs.Common.{◌≡◌, ◌≢◌, ℕ, zero, suc, ◌+◌, ◌-◌, ◌*◌, ◌/◌, ◌%◌, ◌≤◌, ◌<◌, Bool, true, false, not, ◌&&◌, List, Option, Some, None, is_some, unwrap_or, inl, inr, refl, sym, ap, subst, ◌∙◌, arith}
+use Rattle.std.proofs.Common.{◌≡◌, ◌≢◌, ℕ, zero, suc, ◌+◌, ◌-◌, ◌*◌, ◌/◌, ◌%◌, ◌≤◌, ◌<◌, Bool, true, false, not, ◌&&◌, List, Option, Some, None, is_some, unwrap_or, inl, inr, refl, sym, ap, subst, ◌∙◌, arith, lit≤}
 use Rattle.std.specs.Prelude.{◌==◌, if◌then◌else◌}
 use Rattle.std.proofs.lemmas.Bool.{cases_Bool, ne_eqb, and_left}
 use Rattle.board_base.specs.declared.access.Kind.{Kind}
@@ -202,6 +202,41 @@ module _ (setup : Setup) (bytes : Bytes) (direction : Direction) (lba : ℕ) whe
   came zero moving = reached_by moving
   came (suc words) moving = words_moved setup bytes direction lba (suc words) moving
 
+  module _ {store : Store} {place : Place} (moving : Moving) where
+    pub ends_before : {end : End} → StandsAt (ready_for setup bytes lba moving) store place (Some end) →
+        StandsAt (words_moved setup bytes direction lba 1 moving) store place (Some end)
+    unfolding words_moved next_moved
+    ends_before is =
+        stands_skipped (word_moved setup bytes direction lba)
+        (stands_skipped (λ ready. answered setup bytes (kind_of direction) ready.place.addr ready) is)
+
+    module _ (ready : StandsAt (ready_for setup bytes lba moving) store place None) where
+      pub reached_stands : (end : Option End) → end ≡ abort_in (master_area setup bytes place.addr (kind_of direction)) place.addr
+          (master_denial setup bytes place.addr (kind_of direction)) →
+          StandsAt (reached_by moving) store place end
+      unfolding reached_by
+      reached_stands end ends =
+          stands_taken (λ ready. answered setup bytes (kind_of direction) ready.place.addr ready) ready
+          (answered_stands ready setup bytes (kind_of direction) (ready_for setup bytes lba moving).place.addr end
+          (ends
+          ∙ ap (λ (p : Place). abort_in (master_area setup bytes p.addr (kind_of direction)) p.addr
+          (master_denial setup bytes p.addr (kind_of direction))) ready.come))
+
+      pub ends_unanswered : {end : End} → Some end ≡ abort_in (master_area setup bytes place.addr (kind_of direction)) place.addr
+          (master_denial setup bytes place.addr (kind_of direction)) →
+          StandsAt (words_moved setup bytes direction lba 1 moving) store place (Some end)
+      unfolding words_moved next_moved reached_by
+      ends_unanswered {end} ends = stands_skipped (word_moved setup bytes direction lba) (reached_stands (Some end) ends)
+
+    pub came_first : {end : Option End} → StandsAt (reached_by moving) store place end → StandsAt (came 0 moving) store place end
+    unfolding came
+    came_first is = is
+
+    pub one_word : {old : Place} {most : ℕ} {end : End} → 1 ≤ most →
+        StandsAt (words_moved setup bytes direction lba 1 moving) store place (Some end) →
+        CameOn setup bytes direction lba most moving store old place (Some end)
+    one_word some is = record { words = 1; some = lit≤ tt; few = some; stands = is; moved = λ none. absurd (cc) }
+
   module _ (cells : Cells) (medium : Medium) (place : Place) where
     abbrev here : Moving
     here = record { cells = cells; medium = medium; place = place; end = None }
@@ -285,17 +320,20 @@ answers_in Rom addr other denial denial' is = refl
 answers_in (Card dev base) addr other denial denial' is = refl
 answers_in NobodysArea addr other denial denial' is = absurd (cc)
 
--- where a stretch has come after so many of its words
-abbrev pub place_after : ℕ → Place → Place
-place_after words place = record place {
-  addr = address_after place.addr (2 * words);
-  left = place.left - 2 * words;
-  moved = place.moved + 2 * words;
-}
+pub address_on : (addr i : ℕ) → address_after (address_after addr 2) (2 * i) ≡ address_after addr (2 * (i + 1))
+address_on addr i = omega arith
 
-pub place_on : (words : ℕ) (place : Place) → moved_on (place_after words place) ≡ place_after (words + 1) place
-place_on words place =
-    let addr : address_after (address_after place.addr (2 * words)) 2 ≡ address_after place.addr (2 * (words + 1)) = omega arith in
-    let left : place.left - 2 * words - 2 ≡ place.left - 2 * (words + 1) = omega arith in
-    let moved : place.moved + 2 * words + 2 ≡ place.moved + 2 * (words + 1) = omega arith in
-    rw (addr, left, moved) refl
+pub same_answers : (area one other : Area) (addr addr' : ℕ) (denial denial' : Option Denial) → area ≡ one → area ≡ other →
+    None ≡ abort_in one addr denial → None ≡ abort_in other addr' denial'
+same_answers area one other addr addr' denial denial' is_one is_other answers =
+    subst (λ (a : Area). None ≡ abort_in a addr' denial') is_other
+    (answers_in area addr addr' denial denial' (subst (λ (a : Area). None ≡ abort_in a addr denial) (sym is_one) answers))
+
+-- ---- a stretch lies within a sector
+
+module _ (moved words done : ℕ) (whole : moved % 2 ≡ 0) (within : moved % 512 / 2 + words ≤ 256) (below : done < words) where
+  pub inside_sector : 1 ≤ done → (moved + 2 * done) % 512 ≢ 0
+  inside_sector some = λ e. omega (arith, whole, within, below, some, e)
+
+  pub same_sector : (moved + 2 * done) / 512 ≡ moved / 512
+  same_sector = omega (arith, whole, within, below)

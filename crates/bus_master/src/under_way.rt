@@ -300,7 +300,10 @@ impl UnderWay {
             → master_area setup bytes (address_after self.now.addr (2 * i)) (kind_of direction)
             ≡ master_area setup bytes self.now.addr (kind_of direction) }
     {
-        1
+        let in_sector = (SECTOR_BYTES - self.moved % SECTOR_BYTES) / WORD_BYTES;
+        let in_region = self.left / WORD_BYTES;
+        let in_area = words_in_area(regs, self.addr);
+        most.min(in_sector).min(in_region).min(in_area)
     }
 
     /// Moves the next word, which is in this area.
@@ -353,6 +356,17 @@ fn copy_word(store: &mut Store, area: Area, addr: u32, direction: Direction, sec
             set_word(&mut store.disk, sector, i, value as u16);
         }
     }
+}
+
+/// How many words from an address on lie in one area. At least one, since areas begin at even addresses.
+fn words_in_area(regs: &MapRegs, addr: u32) -> u32
+    requires cards { AreFitted regs.now.cards.items }
+    requires aligned { addr % 2 ≡ 0 }
+    ensures some { 1 ≤ result }
+    ensures area { (setup : Setup) (bytes : Bytes) (kind : Kind) (i : ℕ) → StandsFor setup bytes (map_bytes regs.now)
+        → i < result → master_area setup bytes (address_after addr (2 * i)) kind ≡ master_area setup bytes addr kind }
+{
+    1
 }
 
 /// The bytes of a region with this count.
