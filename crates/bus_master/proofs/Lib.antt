@@ -2,3 +2,4 @@ pub mod HeldTargets
 pub mod StepLemmas
 pub mod WordLemmas
 pub mod SmramLemmas
+pub mod TransferLemmas

@@ -164,6 +164,11 @@ module _ (setup : Setup) (bytes : Bytes) (direction : Direction) (lba : ℕ) whe
       one : (more words : ℕ) → suc more + words ≡ suc (more + words)
       one more words = omega arith
 
+  pub no_words : {store : Store} {place : Place} (moving : Moving) → StandsAt moving store place None →
+      StandsAt (words_moved setup bytes direction lba 0 moving) store place None
+  unfolding words_moved
+  no_words moving is = is
+
   module _ {most : ℕ} {store : Store} {old new : Place} (words : ℕ) (moving : Moving) where
     -- the words so far and then some more
     pub came_further : CameOn setup bytes direction lba most (words_moved setup bytes direction lba words moving) store old new None →

@@ -117,6 +117,7 @@ impl UnderWay {
     /// The address of the next descriptor.
     pub(crate) fn table(&self) -> u32
         ensures table { result ≡ self.now.table }
+        ensures aligned { result % 4 ≡ 0 }
     {
         self.table
     }
@@ -206,6 +207,9 @@ impl UnderWay {
         ensures moved { (setup : Setup) (bytes : Bytes) (moving : Moving) → IsStoreOf setup bytes store.old
             → StandsAt moving store.old self.old None
             → CameOn setup bytes direction lba most moving store.new self.old self.new (end_in result) }
+        ensures some { IfOk result (λ done. self.old.moved < self.new.moved) }
+        ensures most { IfOk result (λ done. self.new.moved ≤ self.old.moved + 2 * most) }
+        ensures whole { IfOk result (λ done. self.new.moved % 2 ≡ 0) }
         ensures sector { HasSector lba store.new self.new }
         ensures shape { HasSameShape store.old store.new }
     {

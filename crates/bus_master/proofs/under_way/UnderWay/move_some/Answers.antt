@@ -100,3 +100,16 @@ returns-clause-moved c = λ setup bytes moving of is.
           (on.stands setup bytes moving of is);
       moved = λ none. omega (arith, on.moved, c.in_ok-make_ready.ensures.moved);
     }
+
+pub returns-clause-some : goal.returns-clause-some
+returns-clause-some c =
+    omega (arith, c.loop.invariant.moved, c.in_ok-make_ready.ensures.moved, c.stretch-words.ensures.some, c.loop-test.false)
+
+pub returns-clause-most : goal.returns-clause-most
+returns-clause-most c =
+    omega (arith, c.loop.invariant.moved, c.in_ok-make_ready.ensures.moved, c.stretch-words.ensures.most, c.loop.auto.counter-end)
+
+pub returns-clause-whole : goal.returns-clause-whole
+returns-clause-whole c =
+    let view = ap (λ (p : Place). p.moved) c.self.view_is in
+    omega (arith, c.loop.invariant.moved, view, c.self.invariant.moved)
