@@ -3,3 +3,4 @@ pub mod StepLemmas
 pub mod WordLemmas
 pub mod SmramLemmas
 pub mod TransferLemmas
+pub mod AreaLemmas

@@ -21,10 +21,11 @@ ghost use Rattle.bus_master.specs.UnderWay.{CameOn, end_in, HasSector, IsDone, S
 use crate::direction::Direction;
 use crate::done::End;
 use crate::memory::{is_readable, read, set_word, word, write};
-use addr_decode::{MapRegs, decode_master};
+use addr_decode::{MapRegs, decode_master, next_edge};
 use board_base::{Area, Denial, Kind, Width};
 use board_core::Store;
 use board_spec::bits::is_set;
+use board_spec::range::SMRAM_RANGE;
 use std::marker::Model;
 
 /// How many bytes a sector has.
@@ -362,15 +363,19 @@ fn copy_word(store: &mut Store, area: Area, addr: u32, direction: Direction, sec
     }
 }
 
-/// How many words from an address on lie in one area. At least one, since areas begin at even addresses.
+/// How many words from an address on lie in one area: up to the next edge of the memory map. In the range of SMRAM, of
+/// which the edges say what processors reach, only the first is known to.
 fn words_in_area(regs: &MapRegs, addr: u32) -> u32
     requires cards { AreFitted regs.now.cards.items }
-    requires aligned { addr % 2 ≡ 0 }
     ensures some { 1 ≤ result }
     ensures area { (setup : Setup) (bytes : Bytes) (kind : Kind) (i : ℕ) → StandsFor setup bytes (map_bytes regs.now)
         → i < result → master_area setup bytes (address_after addr (2 * i)) kind ≡ master_area setup bytes addr kind }
 {
-    1
+    if SMRAM_RANGE.contains(addr) {
+        return 1;
+    }
+    let end = next_edge(regs, addr).unwrap_or(u32::MAX);
+    ((end - addr) / WORD_BYTES).max(1)
 }
 
 /// The bytes of a region with this count.
