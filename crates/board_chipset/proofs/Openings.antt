@@ -1,0 +1,40 @@
+-- A disk that was opened has whole sectors, and a card is found by its device number.
+use Rattle.std.proofs.Common.{◌≡◌, ℕ, ◌/◌, Option, Some, None, List, [], ◌∷◌, length, refl, inl, inr, subst, arith}
+use Rattle.std.specs.Prelude.{◌↔◌, Result, Ok, Err, ◌==◌, is_some, find}
+use Rattle.std.specs.List.{list_any}
+use Rattle.std.proofs.lemmas.Bool.{cases_Bool}
+use Rattle.std.proofs.lemmas.Bool.Decides.{nat_tests}
+use Rattle.board_spec.specs.Setup.{FittedCard, IsDisk}
+use Rattle.ata_pio.specs.declared.ata.AtaOpen.{AtaOpen}
+use Rattle.device_spec.specs.Ata.State.{is_disk_length}
+use Rattle.board_devices.proofs.DeviceLemmas.{refused_length}
+
+disk_fits : (bytes : Option (List ℕ)) → ¬ ¬ IsDisk bytes → IsDisk bytes
+disk_fits None opened = tt
+disk_fits (Some bytes) opened =
+    elim (cases_Bool (is_disk_length (length bytes))) [
+      | inl whole ↦ (
+        length bytes / 512,
+        grind (arith, nat_tests),
+        grind (arith, nat_tests),
+        grind (arith, nat_tests),
+      )
+      | inr broken ↦ absurd (opened (refused_length (length bytes) broken))
+    ]
+
+pub disk_opened : {T : Type 0} (bytes shown : Option (List ℕ)) (result : Result T AtaOpen) (devices : T) →
+    (result ≡ Err AtaOpen.BadLength) ↔ ¬ IsDisk shown →
+    result ≡ Ok devices → shown ≡ bytes → IsDisk bytes
+disk_opened bytes shown result devices bad opened same =
+    subst IsDisk same (disk_fits shown (λ none. let no : result ≡ Err AtaOpen.BadLength = bad.1 none in cc))
+
+-- ---- the card at a device number
+
+pub any_found : (dev : ℕ) (cards : List FittedCard) →
+    list_any (λ card. card.dev == dev) cards ≡ is_some (find (λ card. card.dev == dev) cards)
+any_found dev [] = refl
+any_found dev (card ∷ later) =
+    elim (cases_Bool (card.dev == dev)) [
+      | inl here ↦ rw here refl
+      | inr there ↦ rw there (any_found dev later)
+    ]

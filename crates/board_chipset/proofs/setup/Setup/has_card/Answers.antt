@@ -1,0 +1,15 @@
+use Rattle.std.proofs.Common.{◌≡◌, ◌∙◌, ap}
+use Rattle.std.specs.Prelude.{◌==◌}
+use Rattle.std.specs.List.{list_any}
+use Rattle.board_spec.specs.Setup.{FittedCard, Setup}
+use Rattle.board_chipset.proofs.Openings.{any_found}
+use Rattle.board_chipset.proofs.setup.Setup.has_card.Goals as goal
+
+pub returns : goal.returns
+returns c = record {
+  card =
+      c.any_card.ensures.any
+      ∙ ap (list_any (λ (card : FittedCard). card.dev == c.args.dev)) c.deref.ensures.value
+      ∙ ap (λ (setup : Setup). list_any (λ (card : FittedCard). card.dev == c.args.dev) setup.cards) c.self.view_is
+      ∙ any_found c.args.dev c.args.self.now.cards;
+}

@@ -1,0 +1,47 @@
+//! The bytes that a chipset holds, out.
+
+ghost use Rattle.std.specs.Prelude.{◌≡◌, List, option_map};
+ghost use Rattle.board_spec.specs.declared.event.Entry.{Entry};
+ghost use Rattle.board_spec.specs.Devices.{clock_of, disk_of};
+ghost use Rattle.dram_store.specs.Dram.{IsDramOf};
+ghost use Rattle.pci_bars.specs.Contents.{IsContentsOf};
+ghost use Rattle.board_chipset.specs.Chipset.{IsLeftBy};
+
+use crate::chipset::Chipset;
+use ata_pio::Ata;
+use cmos_clock::CLOCK_BYTES;
+use dram_store::Dram;
+use pci_bars::Contents;
+
+impl Chipset {
+    /// The DRAM, whose bytes can be read in stretches, and each MiB in place where something was written to it.
+    pub fn dram(&self) -> &Dram
+        ensures dram { (history : List Entry) → IsLeftBy self.now history
+            → IsDramOf self.now.setup history result.now }
+    {
+        &self.state.stores.dram
+    }
+
+    /// The bytes of the windows of the cards.
+    pub fn contents(&self) -> &Contents
+        ensures contents { (history : List Entry) → IsLeftBy self.now history
+            → IsContentsOf self.now.setup history result.now }
+    {
+        &self.state.stores.contents
+    }
+
+    /// The disk, where one is fitted: its sectors in place.
+    pub fn disk(&self) -> Option<&Ata>
+        ensures disk { (history : List Entry) → IsLeftBy self.now history
+            → option_map (λ disk. disk.now) result ≡ disk_of self.now.setup history }
+    {
+        self.state.devices.disk()
+    }
+
+    /// The bytes of the clock's RAM, by address.
+    pub fn clock_bytes(&self) -> &[u8; CLOCK_BYTES]
+        ensures bytes { (history : List Entry) → IsLeftBy self.now history → result.now ≡ (clock_of history).bytes }
+    {
+        self.state.devices.clock_bytes()
+    }
+}

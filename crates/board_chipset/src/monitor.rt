@@ -1,0 +1,89 @@
+//! What a monitor asks of a chipset between two steps, and the door for events that nothing was proved of.
+
+ghost use Rattle.std.specs.Prelude.{◌≡◌, ◌≤◌, ◌<◌, ◌↔◌, true, false, List, ◌∷◌, IfSome, IfOk, IfErr, OnErr, IsTrue, IsErr};
+ghost use Rattle.board_base.specs.declared.target.Dev.TheVariants.{Spurious};
+ghost use Rattle.board_spec.specs.declared.event.Entry.{Entry};
+ghost use Rattle.board_spec.specs.InRange.{IsInRange};
+ghost use Rattle.board_spec.specs.Answer.{IsAnswer};
+ghost use Rattle.board_spec.specs.Devices.{timer_of};
+ghost use Rattle.board_spec.specs.Interrupts.{acknowledged_by};
+ghost use Rattle.board_spec.specs.MapWrites.{version_of};
+ghost use Rattle.board_spec.specs.Registers.{is_hard_reset};
+ghost use Rattle.pit_8254.specs.NextRise.{IsNextRise};
+ghost use Rattle.board_devices.specs.Outside.{is_interrupting};
+ghost use Rattle.board_chipset.specs.Chipset.{IsLeftBy};
+ghost use Rattle.board_chipset.specs.OutOfRange.{IsFault};
+ghost use Rattle.board_chipset.specs.Resets.{reset_of};
+ghost use Rattle.board_chipset.specs.Versions.{version_count, AreLastChanged, IsAnswerModulo};
+
+use crate::chipset::Chipset;
+use crate::in_range::{OutOfRange, test};
+use crate::reset_control::{ResetKind, reset_of};
+use board_spec::{Event, Reply};
+use map_builder::Changed;
+
+impl Chipset {
+    /// Whether an event is in range: what a bus can ask, or what the world outside can do.
+    pub fn is_in_range(&self, event: &Event) -> bool
+        ensures in_range { IsTrue result ↔ IsInRange self.now.setup event.now }
+    {
+        test(&self.setup, event).is_ok()
+    }
+
+    /// Does an event as `step` does it. Refused exactly where the event is out of range, with the first field that is;
+    /// then nothing has changed.
+    pub fn ask(&mut self, event: &Event) -> Result<Reply, OutOfRange>
+        ensures refused { IsErr result ↔ ¬ IsInRange self.old.setup event.now }
+        ensures fault { IfErr result (λ fault. IsFault self.old.setup event.now fault) }
+        ensures unchanged { OnErr result (self.new ≡ self.old) }
+        ensures setup { self.new.setup ≡ self.old.setup }
+        ensures answer { IfOk result (λ reply. (history : List Entry) → IsLeftBy self.old history
+            → IsAnswerModulo self.old.setup history event.now reply) }
+        ensures exact { IfOk result (λ reply. (history : List Entry) → IsLeftBy self.old history
+            → version_of self.old.setup history < version_count
+            → IsAnswer self.old.setup history event.now reply) }
+        ensures left { IfOk result (λ reply. (history : List Entry) (entry : Entry) → IsLeftBy self.old history
+            → entry.event ≡ event.now → entry.reply ≡ reply → IsLeftBy self.new (entry ∷ history)) }
+    {
+        test(&self.setup, event)?;
+        Ok(self.step(event))
+    }
+
+    /// Whether the interrupt controllers assert INT, so that a processor may acknowledge.
+    pub fn interrupt(&self) -> bool
+        ensures interrupt { (history : List Entry) → IsLeftBy self.now history
+            → result ≡ is_interrupting self.now.setup history }
+        ensures spurious { (history : List Entry) → IsLeftBy self.now history
+            → (result ≡ false) ↔ (acknowledged_by self.now.setup history ≡ Spurious 0) }
+    {
+        self.state.devices.interrupt()
+    }
+
+    /// The reset that an event would make now, by a write of reset control, port CF9h: none, a soft one, which is of the
+    /// processor alone, or a hard one, which resets the chipset too.
+    pub fn reset_of(&self, event: &Event) -> ResetKind
+        ensures kind { (history : List Entry) → IsLeftBy self.now history → result ≡ reset_of history event.now }
+        ensures hard { (history : List Entry) → IsLeftBy self.now history
+            → (result ≡ ResetKind.Hard) ↔ (is_hard_reset history event.now ≡ true) }
+    {
+        reset_of(&self.state.registers.control, event)
+    }
+
+    /// The windows that the last change of the memory map changed, in rising order and apart: an address beside them has
+    /// the areas that it had before. None before the first change.
+    pub fn changed(&self) -> &[Changed]
+        ensures changed { (history : List Entry) → IsLeftBy self.now history
+            → AreLastChanged self.now.setup history result.now }
+    {
+        self.map().changed()
+    }
+
+    /// How many pulses of the timer's clock, at most 131,073, until line 0 next rises. None where it never does unless
+    /// something is written before.
+    pub fn pulses_to_rise(&self) -> Option<u32>
+        ensures rise { (history : List Entry) → IsLeftBy self.now history → IsNextRise (timer_of history) result }
+        ensures bound { IfSome result (λ n. n ≤ 131_073) }
+    {
+        self.state.devices.pulses_to_rise()
+    }
+}
