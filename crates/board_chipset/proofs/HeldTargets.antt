@@ -35,7 +35,7 @@ use Rattle.board_chipset.proofs.Reach.{IsReached}
 -- ---- memory
 
 -- a card answers where one of its windows claims the address
-abbrev IsClaim : Option Window → ℕ → ℕ → Type 0
+abbrev pub IsClaim : Option Window → ℕ → ℕ → Type 0
 IsClaim claim dev base = (window : Window) × (claim ≡ Some window) × (window.dev ≡ dev) × (window.base ≡ base)
 
 last_line : (claim : Option Window) (dev base : ℕ) →
@@ -43,7 +43,7 @@ last_line : (claim : Option Window) (dev base : ℕ) →
 last_line None dev base is = cc
 last_line (Some window) dev base is = (window, refl, cc, cc)
 
-claim_line :
+pub claim_line :
     (smram shadow dram rom : Bool) (row : ℕ) (claim : Option Window) (dev base : ℕ) →
     first_of
     (line_where smram SmramArea ∷ line_where shadow (ShadowArea row) ∷ line_where dram (DramArea row)
@@ -71,7 +71,7 @@ claimed setup bytes addr kind smm dev base is =
     (unwrap_or (row_of bytes addr) 0) (memory_claim setup bytes addr) dev base is
 
 -- an aligned access ends within the ROM
-rom_within : (addr size : ℕ) (width : Width) → IsRomSize size → addr % bytes_of width ≡ 0 →
+pub rom_within : (addr size : ℕ) (width : Width) → IsRomSize size → addr % bytes_of width ≡ 0 →
     addr % size + bytes_of width ≤ size
 rom_within addr size One (inl is) aligned = rw is (omega arith)
 rom_within addr size Two (inl is) aligned = rw is (omega arith)
@@ -86,7 +86,7 @@ rom_within addr size One (inr (inr (inr is))) aligned = rw is (omega arith)
 rom_within addr size Two (inr (inr (inr is))) aligned = rw is (omega arith)
 rom_within addr size Four (inr (inr (inr is))) aligned = rw is (omega arith)
 
-lies_in_base :
+pub lies_in_base :
     (setup : Setup) (contents : List (List ℕ)) (window : Window) (dev base place : ℕ) (width : Width) →
     IsSized setup window → window.dev ≡ dev →
     window.base ≡ base → LiesIn contents window.dev window.base (place % 2 ^ window.bits) width →

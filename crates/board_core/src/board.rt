@@ -3,7 +3,7 @@
 ghost use Rattle.std.specs.Prelude.{◌≡◌, ◌-◌, ◌+◌, ◌++◌, ◌<◌, ◌≤◌, ◌↔◌, ℕ, List, [], ◌∷◌, length, max, slice_index, Err, IsTrue, IfOk, OnOk, OnErr};
 ghost use Rattle.board_spec.specs.declared.event.Entry.{Entry};
 ghost use Rattle.board_spec.specs.Limits.{most_card_memory, entry_limit};
-ghost use Rattle.board_spec.specs.Setup.{IsCardList, IsDisk, IsRomSize, memory_of_cards};
+ghost use Rattle.board_spec.specs.Setup.{IsCardList, IsDisk, IsRomSize, IsSetup, memory_of_cards};
 ghost use Rattle.board_spec.specs.InRange.{IsInRange};
 ghost use Rattle.board_spec.specs.Answer.{IsAnswer};
 ghost use Rattle.board_spec.specs.Legal.{IsLegal, next_entry};
@@ -160,6 +160,7 @@ impl Board {
         ensures contents { IsContentsOf self.setup self.entries result.contents }
         ensures rom { result.rom.items ≡ self.setup.rom }
         ensures disk { result.disk ≡ disk_of self.setup self.entries }
+        ensures fits { IsSetup self.setup }
     {
         let Board { chipset, .. } = self;
         chipset.into_store()

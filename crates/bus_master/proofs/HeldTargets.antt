@@ -1,0 +1,109 @@
+-- What a bus master reaches has the bytes that it asks for.
+use Rattle.std.proofs.Common.{◌≡◌, ◌≢◌, ℕ, ◌+◌, ◌%◌, ◌≤◌, ◌<◌, false, not, ◌&&◌, List, length, sym, refl, arith, Bool, ap}
+use Rattle.std.specs.Prelude.{is_some, unwrap_or}
+use Rattle.board_base.specs.Access.{bytes_of}
+use Rattle.board_base.specs.declared.access.Kind.{Kind}
+use Rattle.board_base.specs.declared.access.Width.{Width}
+use Rattle.board_base.specs.declared.access.Width.TheVariants.{One, Two, Four}
+use Rattle.board_base.specs.declared.target.Area.{Area}
+use Rattle.board_base.specs.declared.target.Area.TheVariants.{Dram as DramArea, Shadow as ShadowArea, Smram as SmramArea, Rom as RomArea, Card as CardArea, Abort as AbortArea}
+use Rattle.board_base.specs.declared.target.Target.{Target}
+use Rattle.board_base.specs.declared.target.Target.TheVariants.{Dram, Shadow, Smram, Rom, Card, Device, Config, Abort}
+use Rattle.board_spec.specs.Setup.{Setup}
+use Rattle.board_spec.specs.Bits.{wide}
+use Rattle.board_spec.specs.Ranges.{lies_in, upper_memory}
+use Rattle.board_spec.specs.RegisterNames.{fdhc, xbcs}
+use Rattle.board_spec.specs.Decode.{Bytes, row_of, hole_of, is_in, is_smram_range, is_shadowed, is_rom_selected, memory_claim}
+use Rattle.board_spec.specs.Answer.{target_at}
+use Rattle.board_spec.specs.Stored.{Cell, DramCell, CardCell}
+use Rattle.pci_bars.specs.Cards.{AreFitted}
+use Rattle.pci_bars.proofs.WindowLemmas.{IsSized, memory_claim_sized, lies_in_window}
+use Rattle.addr_decode.specs.Master.{master_area}
+use Rattle.addr_decode.proofs.CardLemmas.{fitted_list}
+use Rattle.board_stores.specs.Targets.{IsHeld}
+use Rattle.board_core.specs.declared.store.Store.{Store}
+use Rattle.board_core.proofs.HeldTargets.{IsClaim, claim_line, rom_within, lies_in_base}
+use Rattle.bus_master.specs.Cells.{Cells, value_in}
+use Rattle.bus_master.specs.Transfer.{master_target, master_value}
+use Rattle.bus_master.specs.Stores.{IsCell, IsReached, IsStoreOf}
+
+claimed : (setup : Setup) (bytes : Bytes) (addr : ℕ) (kind : Kind) (dev base : ℕ) →
+    master_area setup bytes addr kind ≡ CardArea dev base → IsClaim (memory_claim setup bytes addr) dev base
+unfolding master_area
+claimed setup bytes addr kind dev base is =
+    claim_line
+    (is_smram_range addr && is_some (row_of bytes addr) && false)
+    (is_some (row_of bytes addr) && is_shadowed bytes addr kind)
+    (not (lies_in upper_memory addr) && is_some (row_of bytes addr) && not (is_in (hole_of (bytes fdhc)) addr))
+    (is_rom_selected (bytes xbcs) addr)
+    (unwrap_or (row_of bytes addr) 0) (memory_claim setup bytes addr) dev base is
+
+module _ {setup : Setup} {bytes : Bytes} {store : Store} (is : IsStoreOf setup bytes store) where
+  pub cards_fitted : AreFitted store.regs.cards.items
+  cards_fitted = fitted_list store.regs.cards.items setup.cards (sym is.registers.cards.0) is.cards
+
+  held_in : (addr : ℕ) (width : Width) (area : Area) → addr % bytes_of width ≡ 0 →
+      ((dev base : ℕ) → area ≡ CardArea dev base → IsClaim (memory_claim setup bytes addr) dev base) →
+      IsHeld setup.rom store.contents (target_at setup area addr) width
+  held_in addr width RomArea aligned claim = rom_within addr (length setup.rom) width is.rom_size aligned
+  held_in addr width (CardArea dev base) aligned claim =
+      let by = claim dev base refl in
+      let sized : IsSized setup by.0 =
+      memory_claim_sized setup bytes store.regs.cards.items addr by.0 cards_fitted.each is.registers.cards by.1 in
+      lies_in_base setup store.contents by.0 dev base addr width sized by.2 by.3
+      (lies_in_window setup store.contents by.0 addr width sized is.contents aligned)
+  held_in addr width _ aligned claim = tt
+
+  pub held : (addr : ℕ) (kind : Kind) (width : Width) → addr % bytes_of width ≡ 0 →
+      IsHeld store.rom.items store.contents (master_target setup bytes kind addr) width
+  held addr kind width aligned =
+      rw is.rom
+      (held_in addr width (master_area setup bytes addr kind) aligned
+      (λ dev base card. claimed setup bytes addr kind dev base card))
+
+-- ---- a read looks at bytes that there can be alone
+
+pub wide_same : (f g : ℕ → ℕ) (from : ℕ) (width : Width) →
+    ((at : ℕ) → from ≤ at → at < from + bytes_of width → f at ≡ g at) → wide f from width ≡ wide g from width
+wide_same f g from One same = same from (omega arith) (omega arith)
+wide_same f g from Two same =
+    rw (same from (omega arith) (omega arith), same (from + 1) (omega arith) (omega arith)) refl
+wide_same f g from Four same =
+    rw (
+      same from (omega arith) (omega arith),
+      same (from + 1) (omega arith) (omega arith),
+      same (from + 2) (omega arith) (omega arith),
+      same (from + 3) (omega arith) (omega arith),
+    ) refl
+
+value_same : (setup : Setup) (rom : List ℕ) (contents : List (List ℕ)) (cells other : Cells) (target : Target) (addr : ℕ)
+    (width : Width) →
+    ((cell : Cell) → IsCell cell → cells cell ≡ other cell) → IsHeld rom contents target width →
+    value_in setup cells target addr width ≡ value_in setup other target addr width
+value_same setup rom contents cells other (Dram row) addr width same held =
+    wide_same (λ at. cells (DramCell at)) (λ at. other (DramCell at)) addr width (λ at from below. same (DramCell at) tt)
+value_same setup rom contents cells other (Shadow row) addr width same held =
+    wide_same (λ at. cells (DramCell at)) (λ at. other (DramCell at)) addr width (λ at from below. same (DramCell at) tt)
+value_same setup rom contents cells other Smram addr width same held =
+    wide_same (λ at. cells (DramCell at)) (λ at. other (DramCell at)) addr width (λ at from below. same (DramCell at) tt)
+value_same setup rom contents cells other (Rom off) addr width same held = refl
+value_same setup rom contents cells other (Card dev base off) addr width same held =
+    wide_same (λ at. cells (CardCell dev base at)) (λ at. other (CardCell dev base at)) off width
+    (λ at from below. same (CardCell dev base at) held.number)
+value_same setup rom contents cells other (Device dev) addr width same held = refl
+value_same setup rom contents cells other (Config reg) addr width same held = refl
+value_same setup rom contents cells other Abort addr width same held = refl
+
+pub master_value_same : {setup : Setup} {bytes : Bytes} {store : Store} → IsStoreOf setup bytes store →
+    (cells other : Cells) (addr : ℕ) (width : Width) → addr % bytes_of width ≡ 0 →
+    ((cell : Cell) → IsCell cell → cells cell ≡ other cell) →
+    master_value setup bytes cells addr width ≡ master_value setup bytes other addr width
+master_value_same {setup} {bytes} {store} is cells other addr width aligned same =
+    value_same setup store.rom.items store.contents cells other (master_target setup bytes Kind.Read addr) addr width same
+    (held is addr Kind.Read width aligned)
+
+pub held_at : {store : Store} {area : Area} {addr : ℕ} {kind : Kind} (reached : IsReached store area addr kind) (width : Width) →
+    addr % bytes_of width ≡ 0 → (target : Target) → target ≡ target_at reached.setup area addr →
+    IsHeld store.rom.items store.contents target width
+held_at {store} {area} {addr} {kind} reached width aligned target is =
+    rw (is, reached.reached) (held reached.of addr kind width aligned)

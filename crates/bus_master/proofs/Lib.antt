@@ -1,0 +1,6 @@
+pub mod HeldTargets
+pub mod StepLemmas
+pub mod WordLemmas
+pub mod SmramLemmas
+pub mod TransferLemmas
+pub mod AreaLemmas

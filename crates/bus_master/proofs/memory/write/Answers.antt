@@ -1,0 +1,18 @@
+use Rattle.std.proofs.Common.{refl, sym, ◌∙◌}
+use Rattle.bus_master.proofs.HeldTargets.{cards_fitted, held_at}
+use Rattle.bus_master.proofs.memory.write.Goals as goal
+
+pub target_in-target-requires-clause-cards : goal.target_in-target-requires-clause-cards
+target_in-target-requires-clause-cards c = (cards_fitted c.requires.reached.of).each
+
+pub write_to-requires-clause-held : goal.write_to-requires-clause-held
+write_to-requires-clause-held c =
+    let reached = c.requires.reached in
+    held_at reached c.args.width c.requires.aligned c.target_in-target.result
+    (c.target_in-target.ensures.target reached.setup reached.of.registers.cards.0
+    (sym reached.of.rom ∙ sym c.deref.ensures.value))
+
+pub returns-clause-put : goal.returns-clause-put
+returns-clause-put c = λ setup bytes of reached cell there.
+    c.write_to.ensures.put setup of.memory cell there
+    ∙ rw (c.target_in-target.ensures.target setup of.registers.cards.0 (sym of.rom ∙ sym c.deref.ensures.value), reached) refl

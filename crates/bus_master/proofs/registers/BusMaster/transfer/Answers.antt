@@ -1,0 +1,65 @@
+use Rattle.std.proofs.Common.{◌≡◌, ℕ, ◌%◌, Option, sym, ap, ◌∙◌}
+use Rattle.device_spec.specs.Ata.State.{Disk, Medium}
+use Rattle.board_spec.specs.Setup.{Setup}
+use Rattle.board_spec.specs.Decode.{Bytes}
+use Rattle.board_spec.specs.Stored.{DramCell}
+use Rattle.board_core.specs.declared.store.Store.{Store}
+use Rattle.bus_master.specs.Registers.{Master}
+use Rattle.bus_master.specs.Transfer.{Moving, Place, done_of, first_place, with_medium}
+use Rattle.bus_master.specs.Stores.{IsStoreOf, transfer_of}
+use Rattle.bus_master.specs.UnderWay.{IsDone}
+use Rattle.bus_master.proofs.TransferLemmas.{all_moved, disk_is, done_is, same_transfer, smram_kept}
+use Rattle.bus_master.proofs.WordLemmas.{same_store}
+use Rattle.bus_master.proofs.registers.BusMaster.transfer.Goals as goal
+
+abbrev of_store : (c : goal.After-moved) → Setup → Bytes → Moving
+of_store c setup bytes = transfer_of setup bytes c.args.self.now c.args.lba c.args.count c.args.store.now
+
+abbrev of_other : (c : goal.After-moved) → Setup → Bytes → Store → Moving
+of_other c setup bytes other = transfer_of setup bytes c.args.self.now c.args.lba c.args.count other
+
+moved : (c : goal.After-moved) (setup : Setup) (bytes : Bytes) → IsStoreOf setup bytes c.args.store.now →
+    IsDone (of_store c setup bytes) c.transfer-end.new.store c.transfer-end.new.self c.transfer-end.result
+moved c setup bytes of =
+    all_moved setup bytes c.args.self.now c.args.lba c.args.count c.direction.result
+    (c.begin-under_way.ensures.first ∙ ap (λ (master : Master). first_place master.table) c.self.view_is)
+    c.direction.ensures.direction (λ moving is. c.transfer-end.ensures.moved setup bytes moving of is)
+
+pub returns-clause-done : goal.returns-clause-done
+returns-clause-done c = λ setup bytes of. done_is (moved c setup bytes of) c.moved.ensures.moved
+
+pub returns-clause-registers : goal.returns-clause-registers
+returns-clause-registers c = λ setup bytes of.
+    let is = moved c setup bytes of in
+    c.end_transfer.ensures.ended (of_store c setup bytes) (sym is.ends)
+    (ap (λ (place : Place). place.table) (sym is.come) ∙ sym c.table.ensures.table)
+
+pub returns-clause-disk : goal.returns-clause-disk
+returns-clause-disk c = λ setup bytes of. disk_is (moved c setup bytes of) c.transfer-end.ensures.shape
+
+pub returns-clause-cells : goal.returns-clause-cells
+returns-clause-cells c = λ setup bytes cell of there. (moved c setup bytes of).cells cell there
+
+pub returns-clause-sound : goal.returns-clause-sound
+returns-clause-sound c =
+    let sound = c.requires.sound in (sound.0, sound.1, same_store sound.2 c.transfer-end.ensures.shape)
+
+aligned : (c : goal.After-moved) → c.args.self.now.table % 4 ≡ 0
+aligned c = rw (ap (λ (master : Master). master.table) c.self.view_is) at c.self.invariant
+
+pub returns-clause-smram : goal.returns-clause-smram
+returns-clause-smram c = λ addr inside.
+    let sound = c.requires.sound in
+    (moved c sound.0 sound.1 sound.2).cells (DramCell addr) tt
+    ∙ smram_kept sound.0 sound.1 c.args.self.now c.args.lba c.args.count c.args.store.now (aligned c) addr inside
+
+pub returns-clause-hidden : goal.returns-clause-hidden
+returns-clause-hidden c = λ setup bytes other of differs.
+    let is = moved c setup bytes of in
+    let hidden = same_transfer setup bytes c.args.self.now c.args.lba c.args.count c.args.store.now (aligned c) differs in
+    let medium = ap (λ (moving : Moving). moving.medium) hidden in (
+      done_is is c.moved.ensures.moved ∙ sym (ap done_of hidden),
+      disk_is is c.transfer-end.ensures.shape
+          ∙ ap (λ (m : Medium). with_medium c.args.store.now.disk m) (sym medium)
+          ∙ ap (λ (disk : Option Disk). with_medium disk (of_other c setup bytes other).medium) (sym differs.disk),
+    )

@@ -1,0 +1,32 @@
+-- The bytes behind the addresses, read and written by target, whatever keeps them.
+use Rattle.std.specs.Prelude.{ℕ, Bool, true, nat_lt, if◌then◌else◌, slice_index, unwrap_or}
+use Rattle.board_base.specs.declared.access.Width.{Width}
+use Rattle.board_base.specs.declared.target.Target.{Target}
+use Rattle.board_base.specs.declared.target.Target.TheVariants.{Dram, Shadow, Smram, Rom, Card}
+use Rattle.board_base.specs.Access.{largest_of}
+use Rattle.board_spec.specs.Setup.{Setup, installed}
+use Rattle.board_spec.specs.Bits.{wide}
+use Rattle.board_spec.specs.Stored.{Cell, DramCell, CardCell, byte_put}
+
+-- what each byte of the DRAM and of the cards reads
+abbrev pub Cells : Type 0
+Cells = Cell → ℕ
+
+-- what a read of memory gives that has this target. Nobody's reads give all ones
+abbrev pub value_in : Setup → Cells → Target → (addr : ℕ) → Width → ℕ
+value_in setup cells (Dram row) addr width = wide (λ at. cells (DramCell at)) addr width
+value_in setup cells (Shadow row) addr width = wide (λ at. cells (DramCell at)) addr width
+value_in setup cells Smram addr width = wide (λ at. cells (DramCell at)) addr width
+value_in setup cells (Rom off) addr width = wide (slice_index setup.rom) off width
+value_in setup cells (Card dev base off) addr width = wide (λ at. cells (CardCell dev base at)) off width
+value_in setup cells _ addr width = largest_of width
+
+-- DRAM past the installed memory keeps nothing
+abbrev pub is_kept : Setup → Cell → Bool
+is_kept setup (DramCell addr) = nat_lt addr (installed setup)
+is_kept setup (CardCell dev base off) = true
+
+-- what they read after a write that has this target
+abbrev pub put_in : Setup → Target → (addr : ℕ) → Width → (value : ℕ) → Cells → Cells
+put_in setup target addr width value cells cell =
+    if is_kept setup cell then unwrap_or (byte_put target addr width value cell) (cells cell) else cells cell

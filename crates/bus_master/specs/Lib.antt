@@ -1,0 +1,5 @@
+pub mod Registers
+pub mod Cells
+pub mod Transfer
+pub mod Stores
+pub mod UnderWay

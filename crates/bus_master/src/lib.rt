@@ -1,0 +1,12 @@
+//! The bus master of the IDE function: its registers, and transfers between the disk and memory without a processor.
+#![tactic(auto)]
+
+mod direction;
+mod done;
+mod memory;
+mod registers;
+mod transfer;
+mod under_way;
+
+pub use done::{Done, End};
+pub use registers::BusMaster;

@@ -1,0 +1,93 @@
+//! Transfers between the disk and memory.
+
+ghost use Rattle.std.specs.Prelude.{ℕ, ◌≡◌, ◌<◌, ◌≤◌, ◌^◌, true, ◌%◌};
+ghost use Rattle.board_spec.specs.Setup.{Setup};
+ghost use Rattle.board_spec.specs.Decode.{Bytes, is_smram_range};
+ghost use Rattle.board_spec.specs.Stored.{Cell};
+ghost use Rattle.dram_store.specs.Dram.{dram_at};
+ghost use Rattle.bus_master.specs.Registers.{is_started, Master};
+ghost use Rattle.bus_master.specs.Transfer.{direction_of, done_of, end_of, master_after, Moving, status_bits, with_medium};
+ghost use Rattle.bus_master.specs.Stores.{cells_of, DiffersInSmramAlone, HasSameShape, IsCell, IsSound, IsStoreOf, transfer_of};
+
+use crate::direction::Direction;
+use crate::done::{Done, End};
+use crate::registers::{BusMaster, DIRECTION};
+use crate::under_way::UnderWay;
+use board_core::Store;
+use board_spec::bits::is_set;
+
+/// How many words a sector has.
+const SECTOR_WORDS: u32 = 256;
+
+impl BusMaster {
+    /// Moves `count` sectors, 1 to 256, from `lba` on, which is below 2^28, between the disk and the regions of the
+    /// table, where start is 1 (82371SB, 2.7). Words go in rising order, and each reaches what a bus master reaches at
+    /// its address. Ends early with Shorter where the table has too few bytes, with Abort where nobody answers, and with
+    /// Sector before the first word of a sector that does not exist or is bad. It takes no memory.
+    pub fn transfer(&mut self, store: &mut Store, lba: u32, count: u32) -> Done
+        requires started { is_started self.old ≡ true }
+        requires some { 1 ≤ count }
+        requires most { count ≤ 256 }
+        requires lba { lba < 2 ^ 28 }
+        requires sound { IsSound store.old }
+        ensures done { (setup : Setup) (bytes : Bytes) → IsStoreOf setup bytes store.old
+            → result ≡ done_of (transfer_of setup bytes self.old lba count store.old) }
+        ensures registers { (setup : Setup) (bytes : Bytes) → IsStoreOf setup bytes store.old
+            → self.new ≡ master_after self.old (transfer_of setup bytes self.old lba count store.old) }
+        ensures disk { (setup : Setup) (bytes : Bytes) → IsStoreOf setup bytes store.old
+            → store.new.disk ≡ with_medium store.old.disk (transfer_of setup bytes self.old lba count store.old).medium }
+        ensures cells { (setup : Setup) (bytes : Bytes) (cell : Cell) → IsStoreOf setup bytes store.old → IsCell cell
+            → cells_of store.new cell ≡ (transfer_of setup bytes self.old lba count store.old).cells cell }
+        ensures shape { HasSameShape store.old store.new }
+        ensures sound { IsSound store.new }
+        // Whatever SMRAM's register says, no byte of it changes.
+        ensures smram { (addr : ℕ) → is_smram_range addr ≡ true → dram_at store.new.dram addr ≡ dram_at store.old.dram addr }
+        // And nothing of it is told: with other bytes there the transfer does the same.
+        ensures hidden { (setup : Setup) (bytes : Bytes) (other : Store) → IsStoreOf setup bytes store.old
+            → DiffersInSmramAlone store.old other
+            → (result ≡ done_of (transfer_of setup bytes self.old lba count other))
+            × (store.new.disk ≡ with_medium other.disk (transfer_of setup bytes self.old lba count other).medium) }
+    {
+        let mut under_way = UnderWay::begin(self.table);
+        let end = under_way.transfer(store, self.direction(), lba, SECTOR_WORDS * count);
+        self.end_transfer(end, under_way.table());
+        Done {
+            end,
+            moved: under_way.moved(),
+        }
+    }
+
+    /// Which way the command tells words to move.
+    fn direction(&self) -> Direction
+        ensures direction { result ≡ direction_of self.now }
+    {
+        if is_set(self.command.into(), DIRECTION) {
+            Direction::ToMemory
+        } else {
+            Direction::ToDisk
+        }
+    }
+
+    /// Clears start, tells in the status how the transfer ended, and moves the table pointer.
+    fn end_transfer(&mut self, end: End, table: u32)
+        requires aligned { table % 4 ≡ 0 }
+        ensures ended { (moving : Moving) → end_of moving ≡ end → moving.place.table ≡ table
+            → self.new ≡ master_after self.old moving }
+    {
+        self.command = self.command / 2 * 2;
+        self.status = self.status / 8 * 8 + status_bits(end);
+        self.table = table;
+    }
+}
+
+/// What bits 2 to 0 of the status tell of an end: interrupt, error, active.
+fn status_bits(end: End) -> u8
+    ensures bits { result ≡ status_bits end }
+{
+    match end {
+        End::Exact => 0b100,
+        End::Longer => 0b101,
+        End::Shorter => 0b000,
+        End::Abort { .. } | End::Sector { .. } => 0b010,
+    }
+}
