@@ -1,0 +1,4 @@
+pub mod Names
+pub mod Uart
+pub mod Reads
+pub mod Writes
