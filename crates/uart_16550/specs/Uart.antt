@@ -1,6 +1,6 @@
 -- A 16550 as a machine: its state, the interrupt that it asks for, and the register at each offset.
 -- The line rate is not modelled: a byte is sent as soon as it is written.
-use Rattle.std.specs.Prelude.{ℕ, ◌+◌, ◌*◌, ◌^◌, ◌==◌, Bool, true, false, not, ◌&&◌, ◌||◌, nat_le, if◌then◌else◌, List, [], ◌∷◌, ◌++◌, length, Option, Some, None, is_some, find}
+use Rattle.std.specs.Prelude.{ℕ, ◌^◌, ◌==◌, Bool, true, false, not, ◌&&◌, ◌||◌, nat_le, if◌then◌else◌, List, [], ◌∷◌, ◌++◌, length, Option, is_some, find}
 use Rattle.board_spec.specs.Bits.{is_bit}
 use Rattle.uart_16550.specs.declared.interrupt.Interrupt.{Interrupt}
 use Rattle.uart_16550.specs.declared.interrupt.Interrupt.TheVariants.{LineStatus, DataAvailable, TransmitterEmpty, ModemStatus}

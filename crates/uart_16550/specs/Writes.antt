@@ -1,5 +1,5 @@
 -- What a write to a 16550 leaves, and the byte that it sends.
-use Rattle.std.specs.Prelude.{ℕ, ◌%◌, ◌==◌, Bool, true, false, not, ◌&&◌, ◌||◌, if◌then◌else◌, List, [], Option, Some, None}
+use Rattle.std.specs.Prelude.{ℕ, ◌%◌, ◌==◌, Bool, true, false, not, ◌&&◌, ◌||◌, if◌then◌else◌, [], Option, Some, None}
 use Rattle.board_spec.specs.Bits.{is_bit}
 use Rattle.uart_16550.specs.declared.modem.ModemLines.{ModemLines}
 use Rattle.uart_16550.specs.declared.modem.ModemChanges.{ModemChanges}

@@ -1,7 +1,8 @@
 //! The chip.
 
-ghost use Rattle.std.specs.Prelude.{◌≡◌, ◌<◌, true, false, [], not, ◌==◌, length};
+ghost use Rattle.std.specs.Prelude.{◌≡◌, ◌<◌, true, false, [], ◌++◌, not, ◌==◌, length};
 ghost use Rattle.uart_16550.specs.Uart.{uart_at_reset, no_changes, is_dlab, is_loopback, is_full, has_room, received, is_told, is_raised, pending, is_interrupting};
+ghost use Rattle.uart_16550.specs.Calls.{bytes_taken, keeps_queue};
 ghost use Rattle.uart_16550.specs.Reads.{iir_of, lsr_of, msr_of, after_identity, value_of, after_value, byte_read, after_read};
 ghost use Rattle.uart_16550.specs.Writes.{looped, thr_written, ier_written, is_emptying, fcr_written, mcr_written, with_value, after_write, byte_sent};
 
@@ -173,6 +174,8 @@ impl Uart {
         requires off { off < 8 }
         ensures value { result ≡ byte_read self.old off }
         ensures after { self.new ≡ after_read self.old off }
+        // What was taken, and what is left, is what was there.
+        ensures order { bytes_taken self.old off result ++ self.new.queue ≡ self.old.queue }
     {
         let register = ReadRegister::at(off, self.is_dlab());
         self.read(register)
@@ -233,6 +236,7 @@ impl Uart {
         requires off { off < 8 }
         ensures sent { result ≡ byte_sent self.old off byte }
         ensures after { self.new ≡ after_write self.old off byte }
+        ensures order { keeps_queue self.old off byte ≡ true → self.new.queue ≡ self.old.queue }
     {
         let register = WriteRegister::at(off, self.is_dlab());
         let sent = register == WriteRegister::Thr && !self.is_loopback();
