@@ -10,13 +10,12 @@ use Rattle.board_spec.specs.declared.event.Reply.{Reply}
 use Rattle.board_spec.specs.declared.event.Entry.{Entry}
 use Rattle.board_spec.specs.declared.event.Statement.{Statement}
 use Rattle.board_spec.specs.Setup.{Setup}
-use Rattle.board_spec.specs.Answer.{IsAnswer}
 use Rattle.board_spec.specs.Devices.{line_set, irq_of}
 use Rattle.board_spec.specs.Legal.{IsLegal, next_entry}
 use Rattle.board_spec.specs.Orders.{statement_of, statements_of}
 use Rattle.uart_16550.specs.declared.com1.Com1.{Com1}
 use Rattle.uart_16550.specs.Com1.{com1_irq, com1_actor, level_of, asked_event, line_change, change_asked, com1_after, asked, uart_access}
-use Rattle.uart_16550.specs.Serial.{SetsLine, GoesOn, IsLeftAt, IsLeftAfter}
+use Rattle.uart_16550.specs.Serial.{SetsLine, GoesOn, AreAnswered, AnsweredIsLegal, IsLeftAt, IsLeftAfter}
 
 -- a processor is not the port
 pub other_actor : (actor : ℕ) (event : Event) → actor < com1_actor → actor ≡ com1_actor → SetsLine event
@@ -36,8 +35,14 @@ goes_on_twice before middle after first second one two = record {
       ∙ ap (λ (list : List Statement). first ++ list) two.same);
 }
 
-legal_as : (setup other : Setup) (history : List Entry) → setup ≡ other → IsLegal other history → IsLegal setup history
-legal_as setup other history same legal = rw same legal
+answered_as : (is_answer : Setup → List Entry → Event → Reply → Type 0) (setup other : Setup) (history : List Entry) →
+    setup ≡ other → AreAnswered (is_answer other) history → AreAnswered (is_answer setup) history
+answered_as is_answer setup other history same answered = rw same answered
+
+pub answered_is_legal : AnsweredIsLegal
+answered_is_legal setup [] answered = tt
+answered_is_legal setup (entry ∷ before) answered =
+    (record { number = answered.0.number; answer = answered.0.answer }, answered_is_legal setup before answered.1)
 
 -- ---- an event that is no access at a port and no level of a line is for the board alone
 
@@ -116,25 +121,27 @@ is_plain (BadSector sector) no_port no_line = record {
 abbrev pub with_level : Com1 → Bool → Com1
 with_level com1 on = record com1 { script_level = on }
 
-module _ {B : Type 0} (left_by : B → List Entry → Type 0) (setup_of : B → Setup) where
+module _ {B : Type 0} (is_answer : Setup → List Entry → Event → Reply → Type 0) (setup_of : B → Setup)
+    (left_by : B → List Entry → Type 0) where
   -- nothing happened yet
-  pub fresh_left : (board : B) → left_by board [] → IsLeftAt left_by setup_of board false []
+  pub fresh_left : (board : B) → left_by board [] → IsLeftAt is_answer setup_of left_by board false []
   unfolding irq_of
-  fresh_left board left = record { left = left; legal = tt; level_is = refl; own = tt }
+  fresh_left board left = record { left = left; answered = tt; level_is = refl; own = tt }
 
   -- the board does one event
   pub one_step : (old new : B) (level next : Bool) (history : List Entry) (actor : ℕ) (event : Event) (reply : Reply) →
-      IsLeftAt left_by setup_of old level history → setup_of new ≡ setup_of old →
-      IsAnswer (setup_of old) history event reply → left_by new (next_entry history actor event reply ∷ history) →
+      IsLeftAt is_answer setup_of left_by old level history → setup_of new ≡ setup_of old →
+      is_answer (setup_of old) history event reply → left_by new (next_entry history actor event reply ∷ history) →
       unwrap_or (line_set com1_irq event) level ≡ next → (actor ≡ com1_actor → SetsLine event) →
-      IsLeftAfter left_by setup_of new next history (record { actor = actor; event = event } ∷ [])
+      IsLeftAfter is_answer setup_of left_by new next history (record { actor = actor; event = event } ∷ [])
   unfolding irq_of
   one_step old new level next history actor event reply left_at same answer left is own = record {
     after = next_entry history actor event reply ∷ history;
     left_at = record {
       left = left;
-      legal = legal_as (setup_of new) (setup_of old) (next_entry history actor event reply ∷ history) same
-          (record { number = refl; answer = answer }, left_at.legal);
+      answered =
+          answered_as is_answer (setup_of new) (setup_of old) (next_entry history actor event reply ∷ history) same
+          (record { number = refl; answer = answer }, left_at.answered);
       level_is = ap (unwrap_or (line_set com1_irq event)) left_at.level_is ∙ is;
       own = (own, left_at.own);
     };
@@ -143,10 +150,10 @@ module _ {B : Type 0} (left_by : B → List Entry → Type 0) (setup_of : B → 
 
   -- the same under another name of the event
   pub one_step_as : (old new : B) (level next : Bool) (history : List Entry) (actor : ℕ) (event name : Event) (reply : Reply) →
-      IsLeftAt left_by setup_of old level history → setup_of new ≡ setup_of old →
-      IsAnswer (setup_of old) history event reply → left_by new (next_entry history actor event reply ∷ history) →
+      IsLeftAt is_answer setup_of left_by old level history → setup_of new ≡ setup_of old →
+      is_answer (setup_of old) history event reply → left_by new (next_entry history actor event reply ∷ history) →
       unwrap_or (line_set com1_irq event) level ≡ next → actor < com1_actor → event ≡ name →
-      IsLeftAfter left_by setup_of new next history (record { actor = actor; event = name } ∷ [])
+      IsLeftAfter is_answer setup_of left_by new next history (record { actor = actor; event = name } ∷ [])
   one_step_as old new level next history actor event name reply left_at same answer left is below named =
       rw (← named)
       (one_step old new level next history actor event reply left_at same answer left is (other_actor actor event below))
@@ -154,10 +161,10 @@ module _ {B : Type 0} (left_by : B → List Entry → Type 0) (setup_of : B → 
   -- the script gives line 4 a level
   pub level_given : (old new : B) (com1 : Com1) (irq : ℕ) (on level : Bool) (history : List Entry) (actor : ℕ) (reply : Reply) →
       irq ≡ com1_irq → level ≡ level_of (with_level com1 on) →
-      IsLeftAt left_by setup_of old (level_of com1) history → setup_of new ≡ setup_of old →
-      IsAnswer (setup_of old) history (Line irq level) reply → left_by new (next_entry history actor (Line irq level) reply ∷ history) →
+      IsLeftAt is_answer setup_of left_by old (level_of com1) history → setup_of new ≡ setup_of old →
+      is_answer (setup_of old) history (Line irq level) reply → left_by new (next_entry history actor (Line irq level) reply ∷ history) →
       actor < com1_actor →
-      IsLeftAfter left_by setup_of new (level_of (with_level com1 on)) history
+      IsLeftAfter is_answer setup_of left_by new (level_of (with_level com1 on)) history
       (record { actor = actor; event = asked_event com1 (Line irq on) } ∷ [])
   level_given old new com1 irq on level history actor reply is level_is left_at same answer left below =
       one_step_as old new (level_of com1) (level_of (with_level com1 on)) history actor (Line irq level)
@@ -166,10 +173,10 @@ module _ {B : Type 0} (left_by : B → List Entry → Type 0) (setup_of : B → 
   -- the script gives another line a level
   pub other_given : (old new : B) (com1 : Com1) (irq : ℕ) (on : Bool) (history : List Entry) (actor : ℕ) (reply : Reply) →
       (irq ≡ com1_irq → ⊥) →
-      IsLeftAt left_by setup_of old (level_of com1) history → setup_of new ≡ setup_of old →
-      IsAnswer (setup_of old) history (Line irq on) reply → left_by new (next_entry history actor (Line irq on) reply ∷ history) →
+      IsLeftAt is_answer setup_of left_by old (level_of com1) history → setup_of new ≡ setup_of old →
+      is_answer (setup_of old) history (Line irq on) reply → left_by new (next_entry history actor (Line irq on) reply ∷ history) →
       actor < com1_actor →
-      IsLeftAfter left_by setup_of new (level_of com1) history
+      IsLeftAfter is_answer setup_of left_by new (level_of com1) history
       (record { actor = actor; event = asked_event com1 (Line irq on) } ∷ [])
   other_given old new com1 irq on history actor reply other left_at same answer left below =
       let is_other : (irq == com1_irq) ≡ false = ne_eqb irq com1_irq other in
@@ -178,10 +185,10 @@ module _ {B : Type 0} (left_by : B → List Entry → Type 0) (setup_of : B → 
 
   -- the board does something, and then something more
   pub then_more : (middle new : B) (level next : Bool) (before : List Entry) (first second : List Statement) →
-      IsLeftAfter left_by setup_of middle level before first →
-      ((history : List Entry) → IsLeftAt left_by setup_of middle level history →
-      IsLeftAfter left_by setup_of new next history second) →
-      IsLeftAfter left_by setup_of new next before (first ++ second)
+      IsLeftAfter is_answer setup_of left_by middle level before first →
+      ((history : List Entry) → IsLeftAt is_answer setup_of left_by middle level history →
+      IsLeftAfter is_answer setup_of left_by new next history second) →
+      IsLeftAfter is_answer setup_of left_by new next before (first ++ second)
   then_more middle new level next before first second one two =
       let last = two one.after one.left_at in
       record {
@@ -192,13 +199,13 @@ module _ {B : Type 0} (left_by : B → List Entry → Type 0) (setup_of : B → 
 
   -- the board does an access, and then hears of the line what is new
   pub accessed : (old middle new : B) (com1 next : Com1) (history : List Entry) (actor : ℕ) (access : PortAccess) (reply : Reply)
-      (was now : Bool) → IsLeftAt left_by setup_of old (level_of com1) history → setup_of middle ≡ setup_of old →
-      IsAnswer (setup_of old) history (Port access) reply →
+      (was now : Bool) → IsLeftAt is_answer setup_of left_by old (level_of com1) history → setup_of middle ≡ setup_of old →
+      is_answer (setup_of old) history (Port access) reply →
       left_by middle (next_entry history actor (Port access) reply ∷ history) → actor < com1_actor →
       was ≡ level_of com1 → now ≡ level_of next →
-      ((after : List Entry) → IsLeftAt left_by setup_of middle was after →
-      IsLeftAfter left_by setup_of new now after (line_change was now)) →
-      IsLeftAfter left_by setup_of new (level_of next) history
+      ((after : List Entry) → IsLeftAt is_answer setup_of left_by middle was after →
+      IsLeftAfter is_answer setup_of left_by new now after (line_change was now)) →
+      IsLeftAfter is_answer setup_of left_by new (level_of next) history
       (record { actor = actor; event = Port access } ∷ change_asked com1 next)
   accessed old middle new com1 next history actor access reply was now left_at same answer left below was_is now_is moved =
       then_more middle new (level_of com1) (level_of next) history (record { actor = actor; event = Port access } ∷ [])
@@ -209,9 +216,9 @@ module _ {B : Type 0} (left_by : B → List Entry → Type 0) (setup_of : B → 
 
   -- the board does an event that is for it alone
   pub plain_step : (old new : B) (com1 : Com1) (history : List Entry) (actor : ℕ) (event : Event) (resets : Bool) (reply : Reply) →
-      IsPlain event → IsLeftAt left_by setup_of old (level_of com1) history → setup_of new ≡ setup_of old →
-      IsAnswer (setup_of old) history event reply → left_by new (next_entry history actor event reply ∷ history) →
-      actor < com1_actor → IsLeftAfter left_by setup_of new (level_of com1) history (asked actor resets event com1)
+      IsPlain event → IsLeftAt is_answer setup_of left_by old (level_of com1) history → setup_of new ≡ setup_of old →
+      is_answer (setup_of old) history event reply → left_by new (next_entry history actor event reply ∷ history) →
+      actor < com1_actor → IsLeftAfter is_answer setup_of left_by new (level_of com1) history (asked actor resets event com1)
   plain_step old new com1 history actor event resets reply plain left_at same answer left below =
       rw (plain.alone actor resets com1)
       (one_step old new (level_of com1) (level_of com1) history actor event reply left_at same answer left

@@ -1,12 +1,14 @@
 -- A board with a serial port, and how it stands to the histories of its board.
-use Rattle.std.specs.Prelude.{◌≡◌, Bool, List, [], ◌∷◌, ◌++◌}
+use Rattle.std.specs.Prelude.{ℕ, ◌≡◌, ◌+◌, Bool, List, [], ◌∷◌, ◌++◌, length}
 use Rattle.board_spec.specs.declared.event.Event.{Event}
 use Rattle.board_spec.specs.declared.event.Event.TheVariants.{Line}
+use Rattle.board_spec.specs.declared.event.Reply.{Reply}
 use Rattle.board_spec.specs.declared.event.Entry.{Entry}
 use Rattle.board_spec.specs.declared.event.Statement.{Statement}
 use Rattle.board_spec.specs.Setup.{Setup}
 use Rattle.board_spec.specs.Devices.{irq_of}
-use Rattle.board_spec.specs.Legal.{IsLegal}
+use Rattle.board_spec.specs.Answer.{IsAnswer}
+use Rattle.board_spec.specs.Legal.{entries_by, IsLegal}
 use Rattle.board_spec.specs.Orders.{statements_of}
 use Rattle.uart_16550.specs.declared.com1.Com1.{Com1}
 use Rattle.uart_16550.specs.Com1.{com1_irq, com1_actor, level_of}
@@ -35,13 +37,27 @@ pub record GoesOn (before : List Entry) (statements : List Statement) (after : L
   pub grows : after ≡ more ++ before
   pub same : statements_of more ≡ statements
 
--- of a kind of board: by which histories one is left, and its setup
-module _ {B : Type 0} (left_by : B → List Entry → Type 0) (setup_of : B → Setup) where
-  -- this history left the board: each reply is the answer, line 4 was given this level last, and what the port moved by
+-- an entry is the next of a history: its number is one more than its processor's entries, and its reply is an answer
+pub record IsNextBy (is_answer : List Entry → Event → Reply → Type 0) (before : List Entry) (entry : Entry) : Type 0 where
+  pub number : entry.seq ≡ length (entries_by entry.actor before) + 1
+  pub answer : is_answer before entry.event entry.reply
+
+-- each entry is the next of those before it. Where answers are those of a board the history is legal (`law_legal`)
+abbrev pub AreAnswered : (List Entry → Event → Reply → Type 0) → List Entry → Type 0
+AreAnswered is_answer [] = Unit {0}
+AreAnswered is_answer (entry ∷ before) = IsNextBy is_answer before entry × AreAnswered is_answer before
+
+abbrev pub AnsweredIsLegal : Type 0
+AnsweredIsLegal = (setup : Setup) (history : List Entry) → AreAnswered (IsAnswer setup) history → IsLegal setup history
+
+-- of a kind of board: what is an answer, the setup of one, and which histories leave it
+module _ {B : Type 0} (is_answer : Setup → List Entry → Event → Reply → Type 0) (setup_of : B → Setup)
+    (left_by : B → List Entry → Type 0) where
+  -- this history left the board: each reply is an answer, line 4 was given this level last, and what the port moved by
   -- itself was that line
   pub record IsLeftAt (board : B) (level : Bool) (history : List Entry) : Type 0 where
     pub left : left_by board history
-    pub legal : IsLegal (setup_of board) history
+    pub answered : AreAnswered (is_answer (setup_of board)) history
     pub level_is : irq_of history com1_irq ≡ level
     pub own : AreOwn history
 

@@ -6,7 +6,6 @@ ghost use Rattle.board_spec.specs.declared.event.Entry.{Entry};
 ghost use Rattle.board_spec.specs.declared.event.Event.TheVariants.{Port, Line};
 ghost use Rattle.board_spec.specs.declared.event.Reply.{Reply};
 ghost use Rattle.board_spec.specs.InRange.{IsInRange, IsBusAccess, is_free_line};
-ghost use Rattle.board_spec.specs.Answer.{IsAnswer};
 ghost use Rattle.board_spec.specs.Registers.{is_hard_reset};
 ghost use Rattle.uart_16550.specs.declared.com1.SerialReply.TheVariants.{Board};
 ghost use Rattle.uart_16550.specs.Uart.{has_room, received, is_interrupting};
@@ -39,7 +38,7 @@ impl<B: SteppedBoard> Model for SerialBoard<B> {
     ghost view = { λ serial. record { board = serial.board; com1 = serial.com1 } };
 
     ghost invariant = { λ serial.
-        (history : List Entry) × IsLeftBy B.is_left_by B.setup (record { board = serial.board; com1 = serial.com1 }) history };
+        (history : List Entry) × IsLeftBy B.is_answer B.setup B.is_left_by (record { board = serial.board; com1 = serial.com1 }) history };
 }
 
 impl<B: SteppedBoard> SerialBoard<B> {
@@ -68,8 +67,8 @@ impl<B: SteppedBoard> SerialBoard<B> {
         ensures setup { B.setup self.new.board ≡ B.setup self.old.board }
         ensures spare { (n : ℕ) → B.has_room self.old.board (n + 1) → B.has_room self.new.board n }
         ensures com1 { self.new.com1 ≡ record self.old.com1 { uart = received self.old.com1.uart byte } }
-        ensures history { (history : List Entry) → IsLeftBy B.is_left_by B.setup self.old history
-            → IsAfter B.is_left_by B.setup self.new history (change_asked self.old.com1 self.new.com1) }
+        ensures history { (history : List Entry) → IsLeftBy B.is_answer B.setup B.is_left_by self.old history
+            → IsAfter B.is_answer B.setup B.is_left_by self.new history (change_asked self.old.com1 self.new.com1) }
     {
         let old = self.com1.level();
         self.com1.uart.receive(byte);
@@ -88,12 +87,12 @@ impl<B: SteppedBoard> SerialBoard<B> {
         ensures uart { (access : PortAccess) → uart_access event.now ≡ Some access
             → result ≡ uart_reply access self.old.com1.uart }
         ensures board { uart_access event.now ≡ None → (reply : Reply) × (result ≡ Board reply)
-            × ((history : List Entry) → IsLeftBy B.is_left_by B.setup self.old history
-            → IsAnswer (B.setup self.old.board) history (asked_event self.old.com1 event.now) reply) }
-        ensures com1 { (history : List Entry) → IsLeftBy B.is_left_by B.setup self.old history
+            × ((history : List Entry) → IsLeftBy B.is_answer B.setup B.is_left_by self.old history
+            → B.is_answer (B.setup self.old.board) history (asked_event self.old.com1 event.now) reply) }
+        ensures com1 { (history : List Entry) → IsLeftBy B.is_answer B.setup B.is_left_by self.old history
             → self.new.com1 ≡ com1_after (is_hard_reset history event.now) event.now self.old.com1 }
-        ensures history { (history : List Entry) → IsLeftBy B.is_left_by B.setup self.old history
-            → IsAfter B.is_left_by B.setup self.new history
+        ensures history { (history : List Entry) → IsLeftBy B.is_answer B.setup B.is_left_by self.old history
+            → IsAfter B.is_answer B.setup B.is_left_by self.new history
             (asked actor (is_hard_reset history event.now) event.now self.old.com1) }
     {
         match event {
@@ -117,8 +116,8 @@ impl<B: SteppedBoard> SerialBoard<B> {
         ensures spare { (n : ℕ) → B.has_room self.old.board (n + 1) → B.has_room self.new.board n }
         ensures reply { result ≡ uart_reply access.now self.old.com1.uart }
         ensures com1 { self.new.com1 ≡ com1_after false (Port access.now) self.old.com1 }
-        ensures history { (history : List Entry) → IsLeftBy B.is_left_by B.setup self.old history
-            → IsAfter B.is_left_by B.setup self.new history (change_asked self.old.com1 self.new.com1) }
+        ensures history { (history : List Entry) → IsLeftBy B.is_answer B.setup B.is_left_by self.old history
+            → IsAfter B.is_answer B.setup B.is_left_by self.new history (change_asked self.old.com1 self.new.com1) }
     {
         let old = self.com1.level();
         let reply = self.com1.access(access);
@@ -134,12 +133,12 @@ impl<B: SteppedBoard> SerialBoard<B> {
         requires spare { B.has_room self.old.board 2 }
         ensures setup { B.setup self.new.board ≡ B.setup self.old.board }
         ensures spare { (n : ℕ) → B.has_room self.old.board (n + 2) → B.has_room self.new.board n }
-        ensures answer { (history : List Entry) → IsLeftBy B.is_left_by B.setup self.old history
-            → IsAnswer (B.setup self.old.board) history (Port access.now) result }
-        ensures com1 { (history : List Entry) → IsLeftBy B.is_left_by B.setup self.old history
+        ensures answer { (history : List Entry) → IsLeftBy B.is_answer B.setup B.is_left_by self.old history
+            → B.is_answer (B.setup self.old.board) history (Port access.now) result }
+        ensures com1 { (history : List Entry) → IsLeftBy B.is_answer B.setup B.is_left_by self.old history
             → self.new.com1 ≡ com1_after (is_hard_reset history (Port access.now)) (Port access.now) self.old.com1 }
-        ensures history { (history : List Entry) → IsLeftBy B.is_left_by B.setup self.old history
-            → IsAfter B.is_left_by B.setup self.new history
+        ensures history { (history : List Entry) → IsLeftBy B.is_answer B.setup B.is_left_by self.old history
+            → IsAfter B.is_answer B.setup B.is_left_by self.new history
             (record { actor = actor; event = Port access.now } ∷ change_asked self.old.com1 self.new.com1) }
     {
         let resets = self.board.resets_hard(access);
@@ -159,11 +158,11 @@ impl<B: SteppedBoard> SerialBoard<B> {
         requires spare { B.has_room self.old.board 1 }
         ensures setup { B.setup self.new.board ≡ B.setup self.old.board }
         ensures spare { (n : ℕ) → B.has_room self.old.board (n + 1) → B.has_room self.new.board n }
-        ensures answer { (history : List Entry) → IsLeftBy B.is_left_by B.setup self.old history
-            → IsAnswer (B.setup self.old.board) history (asked_event self.old.com1 (Line irq on)) result }
+        ensures answer { (history : List Entry) → IsLeftBy B.is_answer B.setup B.is_left_by self.old history
+            → B.is_answer (B.setup self.old.board) history (asked_event self.old.com1 (Line irq on)) result }
         ensures com1 { self.new.com1 ≡ com1_after false (Line irq on) self.old.com1 }
-        ensures history { (history : List Entry) → IsLeftBy B.is_left_by B.setup self.old history
-            → IsAfter B.is_left_by B.setup self.new history (asked actor false (Line irq on) self.old.com1) }
+        ensures history { (history : List Entry) → IsLeftBy B.is_answer B.setup B.is_left_by self.old history
+            → IsAfter B.is_answer B.setup B.is_left_by self.new history (asked actor false (Line irq on) self.old.com1) }
     {
         if irq == COM1_IRQ {
             self.com1.script_level = on;
@@ -176,7 +175,7 @@ impl<B: SteppedBoard> SerialBoard<B> {
     /// The board.
     pub fn board(&self) -> &B
         ensures board { result.now ≡ self.now.board }
-        ensures left { (history : List Entry) × IsLeftBy B.is_left_by B.setup self.now history }
+        ensures left { (history : List Entry) × IsLeftBy B.is_answer B.setup B.is_left_by self.now history }
     {
         &self.board
     }

@@ -5,7 +5,8 @@ ghost use Rattle.board_spec.specs.declared.event.Entry.{Entry};
 ghost use Rattle.board_spec.specs.declared.event.Event.TheVariants.{Port};
 ghost use Rattle.board_spec.specs.Setup.{Setup};
 ghost use Rattle.board_spec.specs.InRange.{IsInRange};
-ghost use Rattle.board_spec.specs.Answer.{IsAnswer};
+ghost use Rattle.board_spec.specs.declared.event.Event.{Event};
+ghost use Rattle.board_spec.specs.declared.event.Reply.{Reply};
 ghost use Rattle.board_spec.specs.Legal.{next_entry};
 ghost use Rattle.board_spec.specs.Registers.{is_hard_reset};
 ghost use Rattle.uart_16550.specs.Resets.{is_reset};
@@ -20,6 +21,9 @@ pub trait SteppedBoard {
     // What it is fitted with.
     ghost setup: { Self → Setup };
 
+    // A reply to an event after a history is an answer of such boards.
+    ghost is_answer: { Setup → List Entry → Event → Reply → Type 0 };
+
     // It is as this history, the newest entry first, leaves a board.
     ghost is_left_by: { Self → List Entry → Type 0 };
 
@@ -33,7 +37,7 @@ pub trait SteppedBoard {
         ensures setup { setup self.new ≡ setup self.old }
         ensures room { (n : ℕ) → has_room self.old (n + 1) → has_room self.new n }
         ensures answer { (history : List Entry) → is_left_by self.old history
-            → IsAnswer (setup self.old) history event.now result }
+            → is_answer (setup self.old) history event.now result }
         ensures left { (history : List Entry) → is_left_by self.old history
             → is_left_by self.new (next_entry history actor event.now result ∷ history) };
 
@@ -59,9 +63,12 @@ fn is_reset(change: Option<MapChange>) -> bool
 
 impl SteppedBoard for Board {
     ghost use Rattle.std.specs.Prelude.{◌≡◌, ◌≤◌, ℕ, List};
+    ghost use Rattle.board_spec.specs.Answer.{IsAnswer};
     ghost use Rattle.std.proofs.Math.Nat.{le_trans, le-add_right};
 
     ghost setup = { λ board. board.setup };
+
+    ghost is_answer = { IsAnswer };
 
     ghost is_left_by = { λ board history. board.entries ≡ history };
 
