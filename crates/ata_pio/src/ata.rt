@@ -1,8 +1,8 @@
 //! The disk as its ports show it.
 
-ghost use Rattle.std.specs.Prelude.{◌≡◌, ◌<◌, ◌↔◌, length, false, IsTrue, IfOk};
-ghost use Rattle.device_spec.specs.Ata.State.{is_disk_length, power_on, is_interrupt, sectors_of, word_at};
-ghost use Rattle.ata_pio.specs.Words.{is_readable, with_word};
+ghost use Rattle.std.specs.Prelude.{◌≡◌, ◌+◌, ◌<◌, ◌≤◌, ◌↔◌, length, false, IsTrue, IfOk};
+ghost use Rattle.device_spec.specs.Ata.State.{is_disk_length, power_on, is_interrupt, sectors_of, word_at, sector_bytes};
+ghost use Rattle.ata_pio.specs.Words.{is_readable, with_word, with_bytes};
 ghost use Rattle.device_spec.specs.Ata.Steps.{is_ata_port, read_of, after_read, after_write, after_reset, after_bad, word_of, word_read, word_written, register_of, register_read, byte_written};
 
 use crate::controller::Controller;
@@ -151,6 +151,39 @@ impl Ata {
         ensures after { self.new ≡ record self.old { medium = with_word self.old.medium lba i word } }
     {
         self.sectors.set_word(lba, i as u8, word);
+    }
+
+    /// The 512 bytes of a sector that exists, bad or not.
+    pub fn sector(&self, lba: u32) -> &[u8]
+        requires sector { lba < sectors_of self.now.medium }
+        ensures bytes { result.now ≡ sector_bytes self.now.medium lba }
+    {
+        self.sectors.sector(lba)
+    }
+
+    /// Sets bytes of a sector that exists, from byte `place` of it on, where they end within the sector. Nothing else
+    /// changes: a sector that is bad stays so.
+    pub fn set_bytes(&mut self, lba: u32, place: u32, bytes: &[u8])
+        requires sector { lba < sectors_of self.old.medium }
+        requires fits { place + length bytes.now ≤ 512 }
+        ensures after { self.new ≡ record self.old { medium = with_bytes self.old.medium lba place bytes.now } }
+    {
+        self.sectors.set_bytes(lba, place, bytes);
+    }
+
+    /// The bytes of all sectors, one after another from sector 0 on, as they are kept. Nothing is copied.
+    pub fn bytes(&self) -> &[u8]
+        ensures bytes { result.now ≡ self.now.medium.bytes }
+    {
+        self.sectors.bytes()
+    }
+
+    /// The bytes of all sectors, one after another from sector 0 on. All else is given up, and nothing is copied.
+    pub fn into_bytes(self) -> Vec<u8>
+        ensures bytes { result.items ≡ self.medium.bytes }
+    {
+        let Ata { sectors, .. } = self;
+        sectors.into_bytes()
     }
 
     /// Reads a word at the data port.

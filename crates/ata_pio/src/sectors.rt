@@ -1,9 +1,9 @@
 //! The sectors of a disk: their bytes, and which of them are bad.
 
 ghost use Rattle.std.specs.Prelude.{◌≡◌, ◌+◌, ◌*◌, ◌<◌, ◌≤◌, length, vec_len, IsTrue, IfOk};
-ghost use Rattle.device_spec.specs.Ata.State.{is_disk_length, power_on, sectors_of, word_at, stored, marked};
+ghost use Rattle.device_spec.specs.Ata.State.{is_disk_length, power_on, sectors_of, word_at, sector_bytes, stored, marked};
 ghost use Rattle.device_spec.specs.Ata.Commands.{found, readable};
-ghost use Rattle.ata_pio.specs.Words.{is_readable, with_word};
+ghost use Rattle.ata_pio.specs.Words.{is_readable, with_word, with_bytes};
 
 use crate::fault::Fault;
 use byteorder::{ByteOrder, LittleEndian};
@@ -94,6 +94,40 @@ impl Sectors {
         let at = sector as usize * SECTOR_BYTES + 2 * word as usize;
         self.bytes[at] = (value % 256) as u8;
         self.bytes[at + 1] = (value / 256) as u8;
+    }
+
+    /// The bytes of a sector.
+    pub fn sector(&self, sector: u32) -> &[u8]
+        requires { sector < sectors_of (medium_of self.now) }
+        ensures bytes { result.now ≡ sector_bytes (medium_of self.now) sector }
+    {
+        let at = sector as usize * SECTOR_BYTES;
+        &self.bytes[at..at + SECTOR_BYTES]
+    }
+
+    /// Sets bytes of a sector, from a place in it on. Nothing else changes.
+    pub fn set_bytes(&mut self, sector: u32, place: u32, bytes: &[u8])
+        requires there { sector < sectors_of (medium_of self.old) }
+        requires fits { place + length bytes.now ≤ 512 }
+        ensures set { medium_of self.new ≡ with_bytes (medium_of self.old) sector place bytes.now }
+    {
+        let at = sector as usize * SECTOR_BYTES + place as usize;
+        self.bytes[at..at + bytes.len()].copy_from_slice(bytes);
+    }
+
+    /// The bytes of all sectors.
+    pub fn bytes(&self) -> &[u8]
+        ensures bytes { result.now ≡ (medium_of self.now).bytes }
+    {
+        &self.bytes
+    }
+
+    /// The bytes of all sectors. The marks are given up.
+    pub fn into_bytes(self) -> Vec<u8>
+        ensures bytes { result.items ≡ (medium_of self).bytes }
+    {
+        let Sectors { bytes, .. } = self;
+        bytes
     }
 
     /// Whether there is a sector of this number and it is not bad.

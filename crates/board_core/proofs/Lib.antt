@@ -1,13 +1,1 @@
-pub mod Reach
-pub mod Effects
-pub mod MapVersions
-pub mod RegisterSteps
-pub mod StoreSteps
-pub mod HeldTargets
-pub mod ChipsetSteps
-pub mod WideSteps
-pub mod PortSteps
-pub mod OutsideSteps
-pub mod MemorySteps
 pub mod Boards
-pub mod ChangeSteps

@@ -1,61 +1,16 @@
--- What a board keeps of its history: the registers, the bytes behind its addresses, and the devices.
+-- What a board keeps: its history, the chipset that the history left, and the numbers of entries.
 use Rattle.std.specs.Prelude.{ℕ, ◌≡◌, ◌+◌, ◌<◌, List, length, slice_index}
-use Rattle.board_spec.specs.declared.event.Event.{Event}
 use Rattle.board_spec.specs.declared.event.Entry.{Entry}
-use Rattle.board_spec.specs.Setup.{Setup, IsSetup}
-use Rattle.board_spec.specs.InRange.{IsInRange}
+use Rattle.board_spec.specs.Setup.{Setup}
 use Rattle.board_spec.specs.Legal.{entries_by, IsLegal}
-use Rattle.board_spec.specs.Registers.{reset_control, config_address, byte_of}
-use Rattle.board_spec.specs.MapWrites.{version_of}
-use Rattle.board_spec.specs.Decode.{Bytes}
-use Rattle.board_spec.specs.FlatMap.{IsFlatMapOf}
-use Rattle.addr_decode.specs.MapRegs.{StandsFor}
-use Rattle.map_builder.specs.Map.{Mapped}
 use Rattle.board_spec.specs.Limits.{entry_limit}
-use Rattle.config_regs.specs.Config.{AreKeptOf}
-use Rattle.board_stores.specs.Puts.{HasStores}
-use Rattle.board_devices.specs.Devices.{AreDevicesOf}
-use Rattle.board_core.specs.declared.registers.Registers.{Registers}
-use Rattle.board_core.specs.declared.chipset.Chipset.{Chipset}
+use Rattle.board_chipset.specs.Chipset.{Running, IsLeftBy}
 
--- the ranges of a map are the flat map of every board that has its registers
-abbrev pub IsFlat : Mapped → Type 0
-IsFlat map = (setup : Setup) (bytes : Bytes) → StandsFor setup bytes map.regs → IsFlatMapOf setup bytes map.ranges
-
--- the registers after a history: the configuration address, the reset control, those in configuration space, and
--- the memory map of those on which it depends
-pub record HasRegisters (setup : Setup) (history : List Entry) (registers : Registers) : Type 0 where
-  pub address : registers.address ≡ config_address history
-  pub control : registers.control ≡ reset_control history
-  pub kept : AreKeptOf setup (byte_of setup history) registers.map.regs registers.south
-  pub version : registers.map.version ≡ version_of setup history
-  pub flat : IsFlat registers.map
-
-pub record IsChipsetOf (setup : Setup) (history : List Entry) (chipset : Chipset) : Type 0 where
-  pub fits : IsSetup setup
-  pub registers : HasRegisters setup history chipset.registers
-  pub stores : HasStores setup history chipset.stores
-  pub devices : AreDevicesOf setup history chipset.devices
-
--- a chipset of some board and some history, to which there is room to add
-pub record IsChipset (chipset : Chipset) (rom : List ℕ) : Type 0 where
-  pub setup : Setup
-  pub history : List Entry
-  pub few : length history < entry_limit
-  pub of : IsChipsetOf setup history chipset
-  pub image : setup.rom ≡ rom
-
--- an event is in range for such a board
-pub record CanDo (chipset : Chipset) (rom : List ℕ) (event : Event) : Type 0 where
-  pub kept : IsChipset chipset rom
-  pub in_range : IsInRange kept.setup event
-
--- and with the number of each processor's entries, and room for more
-pub record IsKept (setup : Setup) (history : List Entry) (spare : ℕ) (chipset : Chipset)
-    (counts : List ℕ) : Type 0 where
+-- the history left the chipset, with the number of each processor's entries, and room for more
+pub record IsKept (chipset : Running) (history : List Entry) (spare : ℕ) (counts : List ℕ) : Type 0 where
   pub room : length history + spare < entry_limit
-  pub legal : IsLegal setup history
-  pub board : IsChipsetOf setup history chipset
+  pub legal : IsLegal chipset.setup history
+  pub left : IsLeftBy chipset history
   pub counted : (actor : ℕ) → actor < 256 → slice_index counts actor ≡ length (entries_by actor history)
 
 -- what a board is seen as: its setup, its history with the newest entry first, and the room for more

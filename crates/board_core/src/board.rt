@@ -15,32 +15,22 @@ ghost use Rattle.addr_decode.specs.MapRegs.{StandsFor, map_bytes};
 ghost use Rattle.dram_store.specs.Dram.{IsDramOf};
 ghost use Rattle.pci_bars.specs.Contents.{IsContentsOf};
 ghost use Rattle.board_spec.specs.Devices.{disk_of};
-ghost use Rattle.board_core.specs.Kept.{CanDo, IsChipsetOf};
+ghost use Rattle.board_chipset.specs.declared.setup.BoardOpen.{BoardOpen};
 ghost use Rattle.board_core.specs.Steps.{AreInRange};
 
-use crate::chipset::Chipset;
-use crate::registers::Registers;
-use crate::setup::{BoardOpen, Setup};
-use crate::store::Store;
-use crate::{looks, memory, outside, ports, wide};
 use access_history::History;
 use addr_decode::MapChange;
 use board_base::NoMemory;
-use board_devices::Devices;
+use board_chipset::{BoardOpen, Chipset, Setup, Store};
 use board_spec::limits::ACTORS;
 use board_spec::{Entry, Event, Reply, Statement};
-use board_stores::Stores;
 use map_builder::FlatMap;
 use std::alloc::Global;
 use std::marker::Model;
 
-/// The sizes in bytes that a BIOS ROM can have.
-const ROM_SIZES: [usize; 4] = [0x1_0000, 0x2_0000, 0x4_0000, 0x8_0000];
-
 /// A board. Contracts see its setup, its history and the room for more entries.
 #[derive(Drop)]
 pub struct Board {
-    setup: Setup,
     chipset: Chipset,
     history: History,
     /// How many entries each processor has.
@@ -53,20 +43,13 @@ impl Model for Board {
     ghost Value = { Standing };
 
     ghost view = { λ board. record {
-      setup = board.setup;
+      setup = board.chipset.setup;
       entries = board.history.entries;
       spare = board.history.spare;
     } };
 
     ghost invariant = { λ board.
-        IsKept board.setup board.history.entries board.history.spare board.chipset board.counts };
-}
-
-/// Whether a BIOS ROM can have this many bytes: 64, 128, 256 or 512 KiB.
-pub fn is_rom_size(size: usize) -> bool
-    ensures size { IsTrue result ↔ IsRomSize size }
-{
-    ROM_SIZES.contains(&size)
+        IsKept board.chipset board.history.entries board.history.spare board.counts };
 }
 
 /// No entries yet.
@@ -74,25 +57,6 @@ fn no_entries() -> [u32; ACTORS]
     ensures none { (actor : ℕ) → slice_index result actor ≡ 0 }
 {
     [0; ACTORS]
-}
-
-/// Does an event, and tells the reply.
-fn perform(chipset: &mut Chipset, rom: &[u8], event: &Event) -> Reply
-    requires can { CanDo chipset.old rom.now event.now }
-    ensures answer { (setup : Setup) (history : List Entry) → IsChipsetOf setup history chipset.old
-        → setup.rom ≡ rom.now
-        → IsAnswer setup history event.now result }
-    ensures board { (setup : Setup) (history : List Entry) (entry : Entry)
-        → IsChipsetOf setup history chipset.old → setup.rom ≡ rom.now
-        → entry.event ≡ event.now → entry.reply ≡ result → IsChipsetOf setup (entry ∷ history) chipset.new }
-{
-    match event {
-        Event::Memory(access) => memory::access(chipset, rom, access),
-        Event::Wide(access) => wide::access(chipset, rom, access),
-        Event::Port(access) => ports::access(chipset, access),
-        Event::Look { kind, addr, smm } => looks::look(chipset, *kind, *addr, *smm),
-        _ => outside::answer(chipset, event),
-    }
 }
 
 impl Board {
@@ -108,19 +72,9 @@ impl Board {
         ensures bad_rom { (result ≡ Err BoardOpen.BadRom) ↔ ¬ IsRomSize (length setup.rom) }
         ensures bad_disk { (result ≡ Err BoardOpen.BadDisk) ↔ IsRomSize (length setup.rom) × ¬ IsDisk setup.disk }
     {
-        if !is_rom_size(setup.rom().len()) {
-            return Err(BoardOpen::BadRom);
-        }
-        let devices = Devices::open(alloc, setup.disk())?;
-        let stores = Stores::open(alloc, setup.mib, &setup.cards)?;
-        let registers = Registers::new(&setup.cards);
+        let chipset = Chipset::open(alloc, setup)?;
         Ok(Board {
-            setup,
-            chipset: Chipset {
-                registers,
-                stores,
-                devices,
-            },
+            chipset,
             history: History::new(alloc),
             counts: no_entries(),
         })
@@ -146,7 +100,7 @@ impl Board {
           spare = self.old.spare - 1;
         } }
     {
-        let reply = perform(&mut self.chipset, self.setup.rom(), event);
+        let reply = self.chipset.step(event);
         let seq = self.counts[usize::from(actor)] + 1;
         self.counts[usize::from(actor)] = seq;
         self.history.push(Entry {
@@ -172,7 +126,7 @@ impl Board {
             self.step(statement.actor, &statement.event);
         }
         // The check knows what always holds of a board where a field is used.
-        let _ = &self.setup;
+        let _ = &self.chipset;
     }
 
     /// What was asked and replied so far: each reply is the answer of the definitions, and each
@@ -189,20 +143,14 @@ impl Board {
     pub fn map_change(&self, event: &Event) -> Option<MapChange>
         ensures change { result ≡ map_change_of self.now.setup self.now.entries event.now }
     {
-        match event {
-            Event::Port(access) => {
-                let disk = self.chipset.devices.has_disk();
-                self.chipset.registers.map_change(access, disk)
-            }
-            _ => None,
-        }
+        self.chipset.map_change(event)
     }
 
     /// What the board is fitted with.
     pub fn setup(&self) -> &Setup
         ensures setup { result.now ≡ self.now.setup }
     {
-        &self.setup
+        self.chipset.setup()
     }
 
     /// The registers and bytes that the history left. It takes no memory.
@@ -213,20 +161,8 @@ impl Board {
         ensures rom { result.rom.items ≡ self.setup.rom }
         ensures disk { result.disk ≡ disk_of self.setup self.entries }
     {
-        let regs = self.chipset.registers.regs().copy();
-        let Board { setup, chipset, .. } = self;
-        let Chipset {
-            stores,
-            devices,
-            ..
-        } = chipset;
-        Store {
-            regs,
-            dram: stores.dram,
-            contents: stores.contents,
-            rom: setup.rom,
-            disk: devices.into_disk(),
-        }
+        let Board { chipset, .. } = self;
+        chipset.into_store()
     }
 
     /// The memory map of the registers as they stand. Its version is the number of map writes so far: the stores to a
@@ -236,6 +172,6 @@ impl Board {
         ensures map { IsFlatMapOf self.now.setup (byte_of self.now.setup self.now.entries) result.now.ranges }
         ensures version { result.now.version ≡ version_of self.now.setup self.now.entries }
     {
-        &self.chipset.registers.map
+        self.chipset.map()
     }
 }

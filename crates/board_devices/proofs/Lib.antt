@@ -1,2 +1,3 @@
 pub mod DeviceLemmas
 mod PulseLemmas
+pub mod OutsideLemmas

@@ -3,3 +3,4 @@ pub mod Events
 pub mod Steps
 pub mod Laws
 pub mod PulsedPair
+pub mod Outside

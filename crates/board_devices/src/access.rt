@@ -116,7 +116,7 @@ impl Devices {
 
     /// Writes a port of a device.
     #[tactic(auto, unfolding(crate::specs::Steps::after_write))]
-    fn write_port(&mut self, dev: Dev, access: &PortAccess)
+    pub(crate) fn write_port(&mut self, dev: Dev, access: &PortAccess)
         requires port { is_port_of dev access.now.port (bytes_of access.now.width) ≡ true }
         requires fits { access.now.value ≤ largest_of access.now.width }
         ensures after { self.new ≡ after_write dev access.now self.old }

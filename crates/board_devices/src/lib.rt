@@ -6,6 +6,7 @@
 mod access;
 mod devices;
 mod lines;
+mod monitor;
 mod outside;
 mod system;
 

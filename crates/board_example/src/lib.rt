@@ -7,7 +7,7 @@ ghost use Rattle.board_base.specs.declared.access.Width.{Width};
 ghost use Rattle.board_spec.specs.declared.event.Event.{Event};
 ghost use Rattle.board_spec.specs.Setup.{IsRomSize};
 ghost use Rattle.board_spec.specs.Answer.{IsAnswer};
-ghost use Rattle.board_core.specs.declared.setup.BoardOpen.{BoardOpen};
+ghost use Rattle.board_chipset.specs.declared.setup.BoardOpen.{BoardOpen};
 
 use board_base::{Access, Kind, Width};
 use board_core::{Board, BoardOpen, Setup};

@@ -11,8 +11,8 @@ use Rattle.script_spec.specs.ScriptText.{Script as Said, IsScriptText}
 use Rattle.make_script.specs.MakeText.{setup_lines, opening_lines, round_lines, lines_of_rounds, make_lines, make_text}
 use Rattle.make_script.specs.Images.{rom_image, disk_image}
 use Rattle.make_script.specs.MadeScript.{made_setup}
-use Rattle.board_core.specs.declared.setup.BoardOpen.{BoardOpen}
-use Rattle.board_core.specs.declared.setup.BoardOpen.TheVariants.{BadRom, BadDisk}
+use Rattle.board_chipset.specs.declared.setup.BoardOpen.{BoardOpen}
+use Rattle.board_chipset.specs.declared.setup.BoardOpen.TheVariants.{BadRom, BadDisk}
 use Rattle.board_run.specs.Texts.{HasSummary, IsMakeText, made_setup_of}
 use Rattle.board_run.specs.Statuses.{IsNotOpened}
 

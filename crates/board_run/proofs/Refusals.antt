@@ -7,8 +7,8 @@ use Rattle.script_spec.specs.ScriptText.{Script as Said, IsScriptText, IsScriptB
 use Rattle.script_text.specs.declared.fault.ScriptFault.{ScriptFault}
 use Rattle.script_text.specs.declared.fault.ScriptFault.TheVariants.{Bad as BadLine, NoMemory as NoMemoryForScript}
 use Rattle.script_text.specs.Faults.{OnBad}
-use Rattle.board_core.specs.declared.setup.BoardOpen.{BoardOpen}
-use Rattle.board_core.specs.declared.setup.BoardOpen.TheVariants.{BadRom, BadDisk, NoMemory as NoMemoryForBoard}
+use Rattle.board_chipset.specs.declared.setup.BoardOpen.{BoardOpen}
+use Rattle.board_chipset.specs.declared.setup.BoardOpen.TheVariants.{BadRom, BadDisk, NoMemory as NoMemoryForBoard}
 use Rattle.board_run.specs.declared.status.Which.{Which}
 use Rattle.board_run.specs.declared.status.Which.TheVariants.{Script, Rom, Disk, Log}
 use Rattle.board_run.specs.declared.status.Status.{Status}

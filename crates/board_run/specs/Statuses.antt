@@ -7,8 +7,8 @@ use Rattle.script_text.specs.declared.fault.ScriptFault.{ScriptFault}
 use Rattle.script_text.specs.declared.fault.ScriptFault.TheVariants.{Bad as BadLine, NoMemory as NoMemoryForScript}
 use Rattle.log_check.specs.declared.fault.CheckFault.{CheckFault}
 use Rattle.log_check.specs.declared.fault.CheckFault.TheVariants.{Differs as DiffersAtLine, NoMemory as NoMemoryForCheck}
-use Rattle.board_core.specs.declared.setup.BoardOpen.{BoardOpen}
-use Rattle.board_core.specs.declared.setup.BoardOpen.TheVariants.{BadRom, BadDisk, NoMemory as NoMemoryForBoard}
+use Rattle.board_chipset.specs.declared.setup.BoardOpen.{BoardOpen}
+use Rattle.board_chipset.specs.declared.setup.BoardOpen.TheVariants.{BadRom, BadDisk, NoMemory as NoMemoryForBoard}
 use Rattle.board_run.specs.declared.status.Which.{Which}
 use Rattle.board_run.specs.declared.status.Which.TheVariants.{Rom, Disk}
 use Rattle.board_run.specs.declared.status.Status.{Status}

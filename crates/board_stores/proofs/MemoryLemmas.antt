@@ -1,5 +1,8 @@
 -- What an access to memory reaches.
-use Rattle.std.proofs.Common.{◌≡◌, List, ◌∙◌, refl, map}
+use Rattle.std.proofs.Common.{◌≡◌, ℕ, List, ◌∙◌, refl, map}
+use Rattle.board_base.specs.declared.access.Width.{Width}
+use Rattle.board_base.specs.declared.target.Target.{Target}
+use Rattle.board_base.specs.declared.target.Target.TheVariants.{Dram, Shadow, Smram, Rom, Card, Device, Config, Abort}
 use Rattle.board_base.specs.declared.access.Access.{Access}
 use Rattle.board_spec.specs.declared.event.Entry.{Entry}
 use Rattle.board_spec.specs.declared.event.Part.{Part}
@@ -7,6 +10,8 @@ use Rattle.board_spec.specs.Setup.{Setup}
 use Rattle.board_spec.specs.Registers.{byte_of}
 use Rattle.board_spec.specs.Answer.{part_answer}
 use Rattle.board_stores.specs.Targets.{part_in}
+use Rattle.board_stores.specs.Values.{value_in, value_with}
+use Rattle.board_stores.specs.declared.stores.Stores.{Stores}
 
 -- by the register bytes after a history it is the answer to the part
 part_known : (setup : Setup) (history : List Entry) (access : Access) →
@@ -23,3 +28,16 @@ pub parts_answered :
     (setup : Setup) (history : List Entry) (parts : List Access) (answers : List Part) →
     answers ≡ map (part_in setup (byte_of setup history)) parts → answers ≡ map (part_answer setup history) parts
 parts_answered setup history parts answers is = is ∙ λ k. map (λ access. part_known setup history access k) parts
+
+-- a target that is not the ROM has its value in the stores
+pub beside_rom :
+    (stores : Stores) (rom : List ℕ) (target : Target) (place : ℕ) (width : Width) →
+    ((off : ℕ) → target ≡ Rom off → ⊥) → value_in stores target place width ≡ value_with stores rom target place width
+beside_rom stores rom (Dram row) place width other = refl
+beside_rom stores rom (Shadow row) place width other = refl
+beside_rom stores rom Smram place width other = refl
+beside_rom stores rom (Rom off) place width other = absurd (other off refl)
+beside_rom stores rom (Card dev base off) place width other = refl
+beside_rom stores rom (Device dev) place width other = refl
+beside_rom stores rom (Config reg) place width other = refl
+beside_rom stores rom Abort place width other = refl

@@ -2,3 +2,5 @@ pub mod Targets
 pub mod Puts
 pub mod Ready
 pub mod Cycles
+pub mod Values
+pub mod PortCycles

@@ -10,6 +10,7 @@ ghost use Rattle.addr_decode.specs.MapRegs.{StandsFor, map_bytes};
 ghost use Rattle.board_stores.specs.Puts.{HasStores, ArePut};
 ghost use Rattle.board_stores.specs.Ready.{IsReady};
 ghost use Rattle.board_stores.specs.Targets.{part_in};
+ghost use Rattle.board_stores.specs.Values.{value_with};
 
 use crate::stores::Stores;
 use addr_decode::{MapRegs, decode};
@@ -33,7 +34,7 @@ pub fn decoded(map: &MapRegs, rom: &[u8], access: &Access) -> Part
 }
 
 /// What an access to an area reaches: the ROM of so many bytes and the cards by the address modulo their size.
-fn target_in(map: &MapRegs, rom: &[u8], area: Area, addr: u32) -> Target
+pub fn target_in(map: &MapRegs, rom: &[u8], area: Area, addr: u32) -> Target
     requires cards { AreCards map.now.cards.items }
     requires rom { IsRomSize (length rom.now) }
     ensures target { (setup : Setup) → setup.cards ≡ cards_of map.now.cards.items → setup.rom ≡ rom.now
@@ -52,6 +53,7 @@ fn target_in(map: &MapRegs, rom: &[u8], area: Area, addr: u32) -> Target
 /// What a read with this answer gives.
 pub fn read(stores: &Stores, rom: &[u8], access: &Access, answer: &Part) -> u32
     requires ready { IsReady rom.now stores.now.contents access.now answer.now }
+    ensures stands { result ≡ value_with stores.now rom.now answer.now.target access.now.addr access.now.width }
     ensures value { (setup : Setup) (history : List Entry) → HasStores setup history stores.now → setup.rom ≡ rom.now
         → result ≡ value_at setup history answer.now.target access.now.addr access.now.width }
 {

@@ -6,6 +6,7 @@ ghost use Rattle.board_spec.specs.Setup.{Setup, IsCardList};
 ghost use Rattle.board_spec.specs.Stored.{byte_put};
 ghost use Rattle.board_spec.specs.Answer.{value_at};
 ghost use Rattle.board_stores.specs.Targets.{IsStored};
+ghost use Rattle.board_stores.specs.Values.{value_in};
 ghost use Rattle.board_stores.specs.Puts.{HasStores, ArePut};
 
 use board_base::{NoMemory, Target, Width};
@@ -38,6 +39,7 @@ impl Stores {
     pub fn read(&self, target: Target, place: u32, width: Width) -> u32
         requires stored { IsStored self.now.contents target width }
         requires aligned { place % bytes_of width ≡ 0 }
+        ensures stands { result ≡ value_in self.now target place width }
         ensures value { (setup : Setup) (history : List Entry) → HasStores setup history self.now
             → result ≡ value_at setup history target place width }
     {

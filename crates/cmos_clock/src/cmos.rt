@@ -1,8 +1,9 @@
 //! The clock: its ports, its time, its alarm and its interrupt line.
-ghost use Rattle.std.specs.Prelude.{◌≡◌};
+ghost use Rattle.std.specs.Prelude.{◌≡◌, ◌<◌};
 ghost use Rattle.device_spec.specs.Clock.{after_moment, after_read, after_reset, after_write, alarm_fits, alarm_rings, control_of, data_byte, flags_byte, interrupt_line, power_on, put, read_value, store, time_bytes, without_flags};
 ghost use Rattle.board_base.specs.Calendar.{IsMoment};
 ghost use Rattle.device_spec.specs.Told.{civil_time};
+ghost use Rattle.cmos_clock.specs.Outside.{with_byte};
 
 use crate::control::Control;
 use crate::register::{
@@ -12,8 +13,8 @@ use crate::register::{
 use board_base::Moment;
 use std::marker::Model;
 
-/// The bytes of the clock.
-const SIZE: usize = 128;
+/// How many bytes the clock has: its time, its registers and its memory.
+pub const CLOCK_BYTES: usize = 128;
 
 /// What a read of a port gives where nothing answers.
 const NOTHING: u8 = 0xFF;
@@ -47,7 +48,7 @@ const ANY_TIME: u8 = 0xC0;
 #[derive(Drop)]
 pub struct Cmos {
     index: u8,
-    bytes: [u8; SIZE],
+    bytes: [u8; CLOCK_BYTES],
     alarm_flag: bool,
     update_flag: bool,
 }
@@ -74,7 +75,7 @@ impl Cmos {
     pub fn new() -> Cmos
         ensures state { result ≡ power_on }
     {
-        let mut bytes = [0; SIZE];
+        let mut bytes = [0; CLOCK_BYTES];
         bytes[REGISTER_A] = DIVIDER_32768_HZ;
         bytes[REGISTER_B] = POWER_ON_CONTROL;
         Cmos {
@@ -145,6 +146,33 @@ impl Cmos {
         self.clear_flags();
     }
 
+    /// The bytes by address, as they are kept. A read of the flags of register C and of register D gives other bytes.
+    pub fn bytes(&self) -> &[u8; CLOCK_BYTES]
+        ensures bytes { result.now ≡ self.now.bytes }
+    {
+        &self.bytes
+    }
+
+    /// The index: the address that port 71h reads and writes, 0 to 127.
+    pub fn index(&self) -> u8
+        ensures index { result ≡ self.now.index }
+        ensures bound { result < 128 }
+    {
+        self.index
+    }
+
+    /// Writes the byte at an address below 128, as a processor would, and leaves the index. So registers A and B take
+    /// what a write changes of them, and C and D nothing.
+    pub fn set_byte(&mut self, address: u8, byte: u8)
+        requires address { address < 128 }
+        ensures state { self.new ≡ with_byte self.old address byte }
+    {
+        let index = self.index;
+        self.index = address;
+        self.write_data(byte);
+        self.index = index;
+    }
+
     /// Clears the flags of register C.
     fn clear_flags(&mut self)
         ensures state { self.new ≡ without_flags self.old }
@@ -206,7 +234,7 @@ impl Cmos {
 
 /// Stores the time and the calendar in the format of register B.
 #[tactic(auto, using(board_base::proofs::CalendarLemmas::weekday_of_bound, board_base::proofs::CalendarLemmas::days_in_month_bound))]
-fn put_time(bytes: &mut [u8; SIZE], control: Control, m: Moment)
+fn put_time(bytes: &mut [u8; CLOCK_BYTES], control: Control, m: Moment)
     requires { IsMoment m }
     ensures bytes { bytes.new ≡ put (time_bytes control.byte (civil_time m)) bytes.old }
 {
@@ -220,7 +248,7 @@ fn put_time(bytes: &mut [u8; SIZE], control: Control, m: Moment)
 }
 
 /// Whether the time of day fits its three alarm bytes.
-fn rings(bytes: &[u8; SIZE]) -> bool
+fn rings(bytes: &[u8; CLOCK_BYTES]) -> bool
     ensures value { result ≡ alarm_rings bytes.now }
 {
     fits(bytes[SECOND_ALARM], bytes[SECOND])

@@ -5,4 +5,4 @@ mod cmos;
 mod control;
 mod register;
 
-pub use cmos::Cmos;
+pub use cmos::{CLOCK_BYTES, Cmos};

@@ -154,3 +154,22 @@ fn writes_and_a_reset(rt: HostRuntime) {
         assert_eq!(rt; read(&mut clock, address), want, "at {address}");
     }
 }
+
+#[test]
+fn bytes_go_in_and_out(rt: HostRuntime) {
+    let mut clock = Cmos::new();
+    clock.port_write(INDEX, 0x33);
+    for (address, want, _) in WRITTEN {
+        clock.set_byte(address & 0x7F, 0xFF);
+        assert_eq!(rt; clock.index(), 0x33);
+        let kept = if address == 0x0D { 0 } else { want };
+        assert_eq!(rt;
+            clock.bytes().get(usize::from(address)),
+            Some(&kept),
+            "at {address}"
+        );
+        assert_eq!(rt; read(&mut clock, address), want, "at {address}");
+        clock.port_write(INDEX, 0x33);
+    }
+    assert_eq!(rt; clock.bytes().len(), 128);
+}

@@ -480,3 +480,21 @@ fn identify(rt: HostRuntime) -> Result<(), Fail> {
     }
     Ok(())
 }
+
+#[test]
+fn bytes_are_moved_beside_the_ports(rt: HostRuntime) -> Result<(), Fail> {
+    let mut disk = disk_of(rt.alloc(), 2)?;
+    disk.mark_bad(1);
+    assert_eq!(rt; disk.sectors(), 2);
+    assert!(rt; disk.readable(0) && !disk.readable(1) && !disk.readable(2));
+    disk.set_word(1, 255, 0xABCD);
+    disk.set_bytes(1, 509, &[1, 2]);
+    assert_eq!(rt; disk.word(1, 254), 0x0102);
+    assert_eq!(rt; disk.word(1, 255), 0xAB02);
+    assert_eq!(rt; disk.sector(1).get(508..512), Some(&[2, 1, 2, 0xAB][..]));
+    assert!(rt; !disk.readable(1));
+    assert_eq!(rt; disk.bytes().len(), 1024);
+    let bytes = disk.into_bytes();
+    assert_eq!(rt; bytes.get(1020..), Some(&[2, 1, 2, 0xAB][..]));
+    Ok(())
+}

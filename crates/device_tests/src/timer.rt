@@ -189,3 +189,104 @@ fn many_pulses_are_single_ones(rt: HostRuntime) {
         }
     }
 }
+
+/// A row of a script on counter 0, whose gate is always 1: the control words and the counts to write, how many pulses
+/// then come, and how many come after them until OUT next rises.
+type RiseRow<'a> = (&'a [u8], &'a [u8], u32, Option<u32>);
+
+fn rises_in(rt: &impl Abort, rows: &[RiseRow]) {
+    let mut pit = Pit::new();
+    for (at, &(words, counts, pulses, to_rise)) in rows.iter().enumerate() {
+        for word in words {
+            pit.port_write(CONTROL_WORD, *word);
+        }
+        for count in counts {
+            pit.port_write(COUNTER_0, *count);
+        }
+        let _ = pit.pulses(pulses);
+        assert_eq!(rt; pit.pulses_to_rise(), to_rise, "at row {at}");
+    }
+}
+
+#[test]
+fn a_counter_rises_once_or_never(rt: HostRuntime) {
+    rises_in(
+        &rt,
+        &[
+            // at reset no count was written
+            (&[], &[], 0, None),
+            (&[], &[], 5, None),
+            // mode 0: a load and the count, and never again until the next count
+            (&[0x10], &[], 0, None),
+            (&[], &[3], 0, Some(4)),
+            (&[], &[], 1, Some(3)),
+            (&[], &[], 2, Some(1)),
+            (&[], &[], 1, None),
+            (&[], &[], 100, None),
+            (&[], &[2], 0, Some(3)),
+            // mode 0 stops between the two bytes of a count
+            (&[0x30], &[2], 0, None),
+            (&[], &[0], 0, Some(3)),
+            // a count of 0 is 65,536, or 10,000 in decimal
+            (&[0x10], &[0], 0, Some(65_537)),
+            (&[0x11], &[0], 0, Some(10_001)),
+            (&[0x11], &[0x12], 0, Some(13)),
+            // modes 1 and 5 wait for a rise of the gate
+            (&[0x12], &[3], 0, None),
+            (&[], &[], 9, None),
+            (&[0x1A], &[3], 0, None),
+            (&[], &[], 9, None),
+            // mode 4: OUT is 0 for the one pulse after the count
+            (&[0x18], &[3], 0, Some(5)),
+            (&[], &[], 4, Some(1)),
+            (&[], &[], 1, None),
+            (&[], &[2], 0, Some(4)),
+            (&[0x18], &[1], 2, Some(1)),
+            (&[], &[5], 0, Some(1)),
+            (&[], &[], 1, Some(6)),
+        ],
+    );
+}
+
+#[test]
+fn a_period_ends_with_a_rise(rt: HostRuntime) {
+    rises_in(
+        &rt,
+        &[
+            // mode 2: a load, and then every third pulse
+            (&[0x14], &[3], 0, Some(4)),
+            (&[], &[], 1, Some(3)),
+            (&[], &[], 2, Some(1)),
+            (&[], &[], 1, Some(3)),
+            // a new count waits for the end of the period
+            (&[], &[5], 0, Some(3)),
+            (&[], &[], 3, Some(5)),
+            (&[0x14], &[4], 2, Some(3)),
+            // a count of 1 is taken as 2, and one of 0 as 65,536
+            (&[0x14], &[1], 0, Some(3)),
+            (&[], &[], 1, Some(2)),
+            (&[], &[], 1, Some(1)),
+            (&[0x14], &[0], 0, Some(65_537)),
+            (&[0x15], &[0x10], 0, Some(11)),
+            (&[], &[], 5, Some(6)),
+            (&[0x34], &[0xE8], 0, None),
+            (&[], &[0x03], 0, Some(1001)),
+            // mode 3 with an even count
+            (&[0x16], &[4], 0, Some(5)),
+            (&[], &[], 2, Some(3)),
+            (&[], &[], 1, Some(2)),
+            (&[], &[], 2, Some(4)),
+            // with an odd count, whose first half is longer
+            (&[0x16], &[5], 0, Some(6)),
+            (&[], &[], 3, Some(3)),
+            (&[], &[], 1, Some(2)),
+            (&[], &[], 2, Some(5)),
+            // a new count waits for the end of the half
+            (&[], &[6], 0, Some(6)),
+            (&[], &[], 6, Some(6)),
+            (&[0x16], &[1], 0, Some(3)),
+            (&[0x16], &[0], 0, Some(65_537)),
+            (&[0x17], &[7], 0, Some(8)),
+        ],
+    );
+}

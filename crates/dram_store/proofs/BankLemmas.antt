@@ -3,12 +3,9 @@ use Rattle.std.proofs.Common.{◌≡◌, ℕ, ◌+◌, ◌-◌, ◌&&◌, List, 
 use Rattle.std.specs.Prelude.{slice_index, nat_le, nat_lt, if◌then◌else◌}
 use Rattle.std.proofs.lemmas.List.{length-replicate, get_or_append_left, get_or-append_right, get_or_past, get_or-replicate}
 use Rattle.std.proofs.lemmas.Bool.{cases_lt}
-use Rattle.board_base.specs.declared.access.Width.{Width}
-use Rattle.board_base.specs.Access.{bytes_of}
-use Rattle.board_spec.specs.Bits.{byte}
-use Rattle.dram_store.specs.Bank.{bank_size, bank_of}
+use Rattle.dram_store.specs.Bank.{bank_size, bank_of, IsPut}
 
-zero_at : (count at : ℕ) → slice_index (replicate count 0) at ≡ 0
+pub zero_at : (count at : ℕ) → slice_index (replicate count 0) at ≡ 0
 zero_at count at =
     elim (cases_lt at count) [
       | inl below ↦ get_or-replicate count at 0 0 below
@@ -25,17 +22,11 @@ same_byte kept count at =
           ∙ zero_at count (at - length kept) ∙ sym (get_or_past kept at 0 above)
     ]
 
--- a value put into a list of bytes
-abbrev pub IsPut : List ℕ → ℕ → Width → ℕ → List ℕ → Type 0
-IsPut old from width value new =
-    (at : ℕ) → slice_index new at
-    ≡ (if nat_le from at && nat_lt at (from + bytes_of width) then byte value (at - from) else slice_index old at)
-
--- so many more bytes are kept, and then a value is put into the kept ones
-pub put_in_kept : (kept new : List ℕ) (count from : ℕ) (width : Width) (value : ℕ) →
-    IsPut (kept ++ replicate count 0) from width value new → IsPut (bank_of kept) from width value (bank_of new)
-put_in_kept kept new count from width value put at =
+-- so many more bytes are kept, and then bytes are put into the kept ones
+pub put_in_kept : (kept new : List ℕ) (count from size : ℕ) (put : ℕ → ℕ) →
+    IsPut (kept ++ replicate count 0) from size put new → IsPut (bank_of kept) from size put (bank_of new)
+put_in_kept kept new count from size put is at =
     rw (same_byte new (bank_size - length new) at, same_byte kept (bank_size - length kept) at)
-    (put at
-    ∙ ap (λ b. if nat_le from at && nat_lt at (from + bytes_of width) then byte value (at - from) else b)
+    (is at
+    ∙ ap (λ b. if nat_le from at && nat_lt at (from + size) then put (at - from) else b)
     (same_byte kept count at))

@@ -1,5 +1,5 @@
 -- The bytes of banks that follow one another.
-use Rattle.std.proofs.Common.{◌≡◌, ◌≢◌, ℕ, suc, ◌+◌, ◌-◌, ◌*◌, ◌/◌, ◌%◌, ◌<◌, true, false, ◌&&◌, List, [], ◌∷◌, length, set, replicate, inl, inr, ◌∙◌, refl, ap, arith}
+use Rattle.std.proofs.Common.{◌≡◌, ◌≢◌, ℕ, suc, ◌+◌, ◌-◌, ◌*◌, ◌/◌, ◌%◌, ◌<◌, ◌≤◌, true, false, ◌&&◌, List, [], ◌∷◌, length, set, replicate, inl, inr, ◌∙◌, refl, ap, arith}
 use Rattle.std.specs.Prelude.{slice_index, nat_le, nat_lt, All}
 use Rattle.std.specs.List.{concat}
 use Rattle.std.proofs.Math.ListN.{get_or}
@@ -11,11 +11,9 @@ use Rattle.std.proofs.lemmas.Bool.Decides.{nat_tests}
 use Rattle.board_base.specs.declared.access.Width.{Width}
 use Rattle.board_base.specs.declared.access.Width.TheVariants.{One, Two, Four}
 use Rattle.board_base.specs.Access.{bytes_of}
-use Rattle.board_spec.specs.Bits.{byte, wide}
-use Rattle.dram_store.specs.Bank.{bank_size, IsBank, IsZero}
-use Rattle.dram_store.specs.Dram.{dram_at}
-use Rattle.dram_store.proofs.BankLemmas.{IsPut}
-use Rattle.dram_store.proofs.DramLemmas.{IsWritten}
+use Rattle.board_spec.specs.Bits.{wide}
+use Rattle.dram_store.specs.Bank.{bank_size, IsBank, IsZero, IsPut}
+use Rattle.dram_store.specs.Dram.{dram_at, IsWritten}
 
 -- the bank of an address, empty past the last, and the banks with another in its place
 abbrev pub bank_at : List (List ℕ) → ℕ → List ℕ
@@ -73,18 +71,23 @@ is_written_here addr at count here =
     rw (from, to) refl
 
 -- no place of another bank is written
-not_written_there : (addr at : ℕ) (width : Width) → addr % bytes_of width ≡ 0 → at / bank_size ≢ addr / bank_size →
-    (nat_le addr at && nat_lt at (addr + bytes_of width)) ≡ false
-not_written_there addr at One aligned there = grind (arith, nat_tests)
-not_written_there addr at Two aligned there = grind (arith, nat_tests)
-not_written_there addr at Four aligned there = grind (arith, nat_tests)
+not_written_there : (addr at count : ℕ) → addr % bank_size + count ≤ bank_size → at / bank_size ≢ addr / bank_size →
+    (nat_le addr at && nat_lt at (addr + count)) ≡ false
+not_written_there addr at count fits there = grind (arith, nat_tests)
+
+-- bytes of an aligned value lie in one bank
+pub aligned_fits : (addr : ℕ) (width : Width) → addr % bytes_of width ≡ 0 →
+    addr % bank_size + bytes_of width ≤ bank_size
+aligned_fits addr One aligned = omega arith
+aligned_fits addr Two aligned = omega arith
+aligned_fits addr Four aligned = omega arith
 
 put_byte :
-    (banks : List (List ℕ)) (new : List ℕ) (addr : ℕ) (width : Width) (value : ℕ) → All IsBank banks → IsBank new →
-    addr / bank_size < length banks → addr % bytes_of width ≡ 0 →
-    IsPut (bank_at banks addr) (addr % bank_size) width value new →
-    IsPut (concat banks) addr width value (concat (with_bank banks addr new))
-put_byte banks new addr width value each is inside aligned put at =
+    (banks : List (List ℕ)) (new : List ℕ) (addr count : ℕ) (put : ℕ → ℕ) → All IsBank banks → IsBank new →
+    addr / bank_size < length banks → addr % bank_size + count ≤ bank_size →
+    IsPut (bank_at banks addr) (addr % bank_size) count put new →
+    IsPut (concat banks) addr count put (concat (with_bank banks addr new))
+put_byte banks new addr count put each is inside fits is_put at =
     let all : All IsBank (with_bank banks addr new) = All-set IsBank banks (addr / bank_size) new is each in
     let old_byte = bank_byte banks at each in
     let new_byte = bank_byte (with_bank banks addr new) at all in
@@ -93,34 +96,34 @@ put_byte banks new addr width value each is inside aligned put at =
           let apart : at % bank_size - addr % bank_size ≡ at - addr = omega arith in
           let found : bank_at (with_bank banks addr new) addr ≡ new =
           get_or-set_same banks (addr / bank_size) new [] inside in
-          let written = put (at % bank_size) in
-          rw (new_byte, old_byte, here, found, ← is_written_here addr at (bytes_of width) here, ← apart) written
+          let written = is_put (at % bank_size) in
+          rw (new_byte, old_byte, here, found, ← is_written_here addr at count here, ← apart) written
       | inr there ↦
           let kept : bank_at (with_bank banks addr new) at ≡ bank_at banks at =
           get_or-set_other banks (addr / bank_size) (at / bank_size) new [] there in
-          rw (new_byte, old_byte, not_written_there addr at width aligned there, kept) refl
+          rw (new_byte, old_byte, not_written_there addr at count fits there, kept) refl
     ]
 
 pub changed :
-    (banks : List (List ℕ)) (new : List ℕ) (addr : ℕ) (width : Width) (value : ℕ) → All IsBank banks → IsBank new →
-    addr / bank_size < length banks → addr % bytes_of width ≡ 0 →
-    IsPut (bank_at banks addr) (addr % bank_size) width value new →
-    IsWritten (concat banks) addr width value (concat (with_bank banks addr new))
-changed banks new addr width value each is inside aligned put at =
+    (banks : List (List ℕ)) (new : List ℕ) (addr count : ℕ) (put : ℕ → ℕ) → All IsBank banks → IsBank new →
+    addr / bank_size < length banks → addr % bank_size + count ≤ bank_size →
+    IsPut (bank_at banks addr) (addr % bank_size) count put new →
+    IsWritten (concat banks) addr count put (concat (with_bank banks addr new))
+changed banks new addr count put each is inside fits is_put at =
     let same = same_length banks addr new each is in
     elim (cases_lt at (length (concat banks))) [
       | inl within ↦
           let exists : nat_lt at (length (concat banks)) ≡ true = lt-ltb _ _ within in
-          rw (same, exists, and-true (nat_le addr at && nat_lt at (addr + bytes_of width)))
-          (put_byte banks new addr width value each is inside aligned put at)
+          rw (same, exists, and-true (nat_le addr at && nat_lt at (addr + count)))
+          (put_byte banks new addr count put each is inside fits is_put at)
       | inr past ↦
           let nowhere : nat_lt at (length (concat banks)) ≡ false = le-ltb _ _ past in
-          rw (same, nowhere, and_right (nat_le addr at && nat_lt at (addr + bytes_of width)) false refl) refl
+          rw (same, nowhere, and_right (nat_le addr at && nat_lt at (addr + count)) false refl) refl
     ]
 
 -- ---- a value that is read from the bank of its address
 
-byte_at : (banks : List (List ℕ)) (addr at place : ℕ) → All IsBank banks → addr / bank_size < length banks →
+pub byte_at : (banks : List (List ℕ)) (addr at place : ℕ) → All IsBank banks → addr / bank_size < length banks →
     at / bank_size ≡ addr / bank_size → at % bank_size ≡ place →
     slice_index (bank_at banks addr) place ≡ dram_at (concat banks) at
 byte_at banks addr at place each inside here is =

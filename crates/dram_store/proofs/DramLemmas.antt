@@ -13,15 +13,7 @@ use Rattle.board_spec.specs.declared.event.Entry.{Entry}
 use Rattle.board_spec.specs.Setup.{Setup, installed}
 use Rattle.board_spec.specs.Bits.{byte, wide}
 use Rattle.board_spec.specs.Stored.{DramCell, stored_of, byte_put, entry_put, dram_byte}
-use Rattle.dram_store.specs.Dram.{dram_at, IsDramOf}
-
--- the bytes of a DRAM after a value was written to it from an address on, as `write` says
-abbrev pub IsWritten : List ℕ → ℕ → Width → ℕ → List ℕ → Type 0
-IsWritten old addr width value new =
-    (at : ℕ) → dram_at new at
-    ≡
-    (if nat_le addr at && nat_lt at (addr + bytes_of width) && nat_lt at (length old) then byte value (at - addr) else
-    dram_at old at)
+use Rattle.dram_store.specs.Dram.{dram_at, IsDramOf, IsWritten}
 
 pub fresh : (setup : Setup) (dram : List ℕ) → dram ≡ replicate (installed setup) 0 → IsDramOf setup [] dram
 unfolding stored_of
@@ -79,7 +71,7 @@ here dram at within = let exists : nat_lt at (length dram) ≡ true = lt-ltb _ _
 
 -- what `write` says of the bytes
 pub put_written :
-    (old new : List ℕ) (addr : ℕ) (width : Width) (value : ℕ) → IsWritten old addr width value new →
+    (old new : List ℕ) (addr : ℕ) (width : Width) (value : ℕ) → IsWritten old addr (bytes_of width) (byte value) new →
     length new ≡ length old →
     HasPut (λ at. byte_put (Dram 0) addr width value (DramCell at)) old new
 put_written old new addr width value is_written same = record {
@@ -90,10 +82,9 @@ put_written old new addr width value is_written same = record {
       ∙ put_cell old addr width value at (slice_index old at) within refl;
 }
 
--- a value written past the end is lost
-pub lost :
-    (dram : List ℕ) (addr : ℕ) (width : Width) (value : ℕ) → length dram ≤ addr → IsWritten dram addr width value dram
-lost dram addr width value past at = grind (arith, nat_tests)
+-- what is written past the end is lost
+pub lost : (dram : List ℕ) (addr count : ℕ) (put : ℕ → ℕ) → length dram ≤ addr → IsWritten dram addr count put dram
+lost dram addr count put past at = grind (arith, nat_tests)
 
 -- ---- one entry more
 
@@ -113,7 +104,7 @@ put_by_entry setup history entry old new kept has = record {
 pub stored :
     (setup : Setup) (history : List Entry) (entry : Entry) (old : List ℕ) (addr : ℕ) (width : Width) (value : ℕ)
     (new : List ℕ) →
-    IsWritten old addr width value new → length new ≡ length old → IsDramOf setup history old →
+    IsWritten old addr (bytes_of width) (byte value) new → length new ≡ length old → IsDramOf setup history old →
     ((at : ℕ) → entry_put entry.event entry.reply (DramCell at) ≡ byte_put (Dram 0) addr width value (DramCell at)) →
     IsDramOf setup (entry ∷ history) new
 stored setup history entry old addr width value new is_written same kept put =

@@ -1,3 +1,4 @@
 pub mod BankLemmas
 pub mod ConcatLemmas
 pub mod DramLemmas
+pub mod StretchLemmas

@@ -1,5 +1,5 @@
 -- A bank is the list of its bytes, which are a mebibyte in pages of 64 KiB.
-use Rattle.std.specs.Prelude.{ℕ, ◌≡◌, ◌≤◌, ◌+◌, ◌-◌, ◌*◌, ◌/◌, ◌%◌, List, ◌++◌, length, replicate, slice_index}
+use Rattle.std.specs.Prelude.{ℕ, ◌≡◌, ◌≤◌, ◌+◌, ◌-◌, ◌*◌, ◌/◌, ◌%◌, ◌&&◌, nat_le, nat_lt, if◌then◌else◌, List, ◌++◌, length, replicate, slice_index}
 
 abbrev pub bank_size : ℕ
 bank_size = 0x10_0000
@@ -27,3 +27,9 @@ pub record IsKept (kept capacity : ℕ) : Type 0 where
 -- where the page of a place ends, and the next begins
 abbrev pub page_end : ℕ → ℕ
 page_end at = (at / page_size + 1) * page_size
+
+-- so many bytes were put into a list from a place on: each is byte k of what was put, all others are as before
+abbrev pub IsPut : (old : List ℕ) → (from count : ℕ) → (put : ℕ → ℕ) → (new : List ℕ) → Type 0
+IsPut old from count put new =
+    (at : ℕ) → slice_index new at
+    ≡ (if nat_le from at && nat_lt at (from + count) then put (at - from) else slice_index old at)

@@ -1,5 +1,5 @@
 -- The DRAM is the list of its bytes, from address 0 on.
-use Rattle.std.specs.Prelude.{ℕ, ◌≡◌, ◌≤◌, ◌<◌, nat_lt, if◌then◌else◌, List, All, length, slice_index}
+use Rattle.std.specs.Prelude.{ℕ, ◌≡◌, ◌+◌, ◌-◌, ◌≤◌, ◌<◌, ◌&&◌, nat_le, nat_lt, if◌then◌else◌, List, All, length, slice_index}
 use Rattle.board_spec.specs.declared.event.Entry.{Entry}
 use Rattle.board_spec.specs.Setup.{Setup, installed}
 use Rattle.board_spec.specs.Stored.{DramCell, stored_of}
@@ -13,6 +13,15 @@ pub record AreBanks (banks : List (List ℕ)) : Type 0 where
 -- the byte at an address, FFh at and past the end
 abbrev pub dram_at : List ℕ → ℕ → ℕ
 dram_at dram addr = if nat_lt addr (length dram) then slice_index dram addr else 0xFF
+
+-- so many bytes were written from an address on: each that is installed is byte k of what was written, all others are
+-- as before
+abbrev pub IsWritten : (old : List ℕ) → (addr count : ℕ) → (written : ℕ → ℕ) → (new : List ℕ) → Type 0
+IsWritten old addr count written new =
+    (at : ℕ) → dram_at new at
+    ≡
+    (if nat_le addr at && nat_lt at (addr + count) && nat_lt at (length old) then written (at - addr) else
+    dram_at old at)
 
 -- these are the bytes of the DRAM after a history
 pub record IsDramOf (setup : Setup) (history : List Entry) (dram : List ℕ) : Type 0 where

@@ -1,8 +1,8 @@
 //! A mebibyte of the DRAM, of which only the bytes up to the highest page written are kept.
-ghost use Rattle.std.specs.Prelude.{◌≡◌, ◌≤◌, ◌<◌, ◌+◌, ◌-◌, ◌%◌, ◌&&◌, ℕ, ◌++◌, nat_le, nat_lt, if◌then◌else◌, length, replicate, slice_index, vec_capacity, IfOk};
+ghost use Rattle.std.specs.Prelude.{◌≡◌, ◌≤◌, ◌<◌, ◌+◌, ◌-◌, ◌%◌, ℕ, ◌++◌, length, replicate, slice_index, vec_capacity, IfOk};
 ghost use Rattle.board_base.specs.Access.{bytes_of, largest_of};
 ghost use Rattle.board_spec.specs.Bits.{byte, wide};
-ghost use Rattle.dram_store.specs.Bank.{IsBank, IsZero, bank_size, page_end};
+ghost use Rattle.dram_store.specs.Bank.{IsBank, IsZero, IsPut, bank_of, bank_size, page_end};
 
 use board_base::{NoMemory, Width};
 use board_spec::wide::{read_at, write_at};
@@ -66,11 +66,45 @@ impl Bank {
         requires aligned { at % bytes_of width ≡ 0 }
         requires fits { value ≤ largest_of width }
         ensures length { length self.new ≡ length self.old }
-        ensures bytes { (k : ℕ) → slice_index self.new k
-            ≡ (if nat_le at k && nat_lt k (at + bytes_of width) then byte value (k - at) else slice_index self.old k) }
+        ensures bytes { IsPut self.old at (bytes_of width) (byte value) self.new }
     {
         keep_page(&mut self.kept, at);
         write_at(&mut self.kept, at, width, value);
+    }
+}
+
+impl Bank {
+    /// The bytes that are kept, from the first place on. Those after them are 0.
+    pub(crate) fn kept(&self) -> &[u8]
+        ensures bytes { bank_of result.now ≡ self.now }
+        ensures within { length result.now ≤ bank_size }
+    {
+        &self.kept
+    }
+
+    /// Copies the bytes from a place on.
+    pub(crate) fn read_bytes(&self, at: usize, into: &mut [u8])
+        requires inside { at + length into.old ≤ bank_size }
+        ensures length { length into.new ≡ length into.old }
+        ensures bytes { (k : ℕ) → k < length into.old → slice_index into.new k ≡ slice_index self.now (at + k) }
+    {
+        let from = at.min(self.kept.len());
+        let count = (self.kept.len() - from).min(into.len());
+        into[..count].copy_from_slice(&self.kept[from..from + count]);
+        into[count..].fill(0);
+    }
+
+    /// Replaces the bytes from a place on.
+    pub(crate) fn write_bytes(&mut self, at: usize, bytes: &[u8])
+        requires inside { at + length bytes.now ≤ bank_size }
+        ensures length { length self.new ≡ length self.old }
+        ensures bytes { IsPut self.old at (length bytes.now) (slice_index bytes.now) self.new }
+    {
+        if bytes.is_empty() {
+            return;
+        }
+        keep_page(&mut self.kept, at + (bytes.len() - 1));
+        self.kept[at..at + bytes.len()].copy_from_slice(bytes);
     }
 }
 

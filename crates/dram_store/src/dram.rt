@@ -1,17 +1,22 @@
 //! The installed DRAM: a bank for each MiB.
-ghost use Rattle.std.specs.Prelude.{◌≡◌, ◌≤◌, ◌<◌, ◌+◌, ◌-◌, ◌*◌, ◌%◌, ◌&&◌, nat_le, nat_lt, if◌then◌else◌, ℕ, List, [], ◌∷◌, length, replicate, IfOk};
+ghost use Rattle.std.specs.Prelude.{◌≡◌, ◌≤◌, ◌<◌, ◌+◌, ◌*◌, ◌%◌, ℕ, List, [], ◌∷◌, length, replicate, slice_index, IfOk, OnOk, OnErr, IfSome, None};
 ghost use Rattle.board_base.specs.Access.{bytes_of, largest_of};
 ghost use Rattle.board_base.specs.declared.target.Target.TheVariants.{Dram as DramTarget};
 ghost use Rattle.board_spec.specs.declared.event.Entry.{Entry};
 ghost use Rattle.board_spec.specs.Setup.{Setup, installed};
 ghost use Rattle.board_spec.specs.Bits.{byte, wide};
 ghost use Rattle.board_spec.specs.Stored.{DramCell, byte_put, entry_put, dram_byte};
-ghost use Rattle.dram_store.specs.Dram.{dram_at, IsDramOf};
+ghost use Rattle.dram_store.specs.Bank.{bank_size};
+ghost use Rattle.dram_store.specs.Dram.{dram_at, IsDramOf, IsWritten};
 
 use crate::bank::{BANK, Bank};
 use board_base::{NoMemory, Width};
 use std::alloc::Global;
 use std::marker::Model;
+
+/// Bytes do not all lie in the installed memory.
+#[derive(Clone, Copy, PartialEq, Eq, Debug)]
+pub struct PastTheEnd;
 
 /// The installed DRAM, in whole MiB, up to 64. Contracts see the list of its bytes.
 #[derive(Drop)]
@@ -67,9 +72,7 @@ impl Dram {
     pub fn write(&mut self, addr: u32, width: Width, value: u32)
         requires aligned { addr % bytes_of width ≡ 0 }
         requires fits { value ≤ largest_of width }
-        ensures bytes { (at : ℕ) → dram_at self.new at
-            ≡ (if nat_le addr at && nat_lt at (addr + bytes_of width) && nat_lt at (length self.old)
-            then byte value (at - addr) else dram_at self.old at) }
+        ensures bytes { IsWritten self.old addr (bytes_of width) (byte value) self.new }
         ensures size { length self.new ≡ length self.old }
         ensures stored { (setup : Setup) (history : List Entry) (entry : Entry) → IsDramOf setup history self.old
             → ((at : ℕ) → entry_put entry.event entry.reply (DramCell at)
@@ -79,6 +82,102 @@ impl Dram {
         if let Some(bank) = self.banks.get_mut(addr as usize / BANK) {
             bank.write(addr as usize % BANK, width, value);
         }
+    }
+}
+
+impl Dram {
+    /// How many bytes are installed.
+    pub fn size(&self) -> usize
+        ensures size { result ≡ length self.now }
+    {
+        self.banks.len() * BANK
+    }
+
+    /// The bytes of a MiB that are kept, from its first on: those after them are 0, and are not filled in for this.
+    /// None past the installed memory.
+    pub fn kept(&self, mib: usize) -> Option<&[u8]>
+        ensures none { result ≡ None → length self.now ≤ mib * bank_size }
+        ensures some { IfSome result (λ kept. (mib + 1) * bank_size ≤ length self.now) }
+        ensures within { IfSome result (λ kept. length kept.now ≤ bank_size) }
+        ensures bytes { IfSome result (λ kept. (at : ℕ) → at < bank_size
+            → slice_index self.now (mib * bank_size + at) ≡ slice_index kept.now at) }
+    {
+        match self.banks.get(mib) {
+            Some(bank) => Some(bank.kept()),
+            None => None,
+        }
+    }
+
+    /// Copies the bytes from an address on, as reads of one byte each would give them.
+    pub fn read_bytes(&self, addr: u32, into: &mut [u8])
+        ensures length { length into.new ≡ length into.old }
+        ensures bytes { (k : ℕ) → k < length into.old → slice_index into.new k ≡ dram_at self.now (addr + k) }
+    {
+        let mut done = 0;
+        while done < into.len() {
+            done += self.read_front((addr as usize).saturating_add(done), &mut into[done..]);
+        }
+    }
+
+    /// Copies the bytes from an address on up to the end of its MiB, and tells how many they are.
+    fn read_front(&self, at: usize, into: &mut [u8]) -> usize
+        requires some { 0 < length into.old }
+        ensures some { 0 < result }
+        ensures within { result ≤ length into.old }
+        ensures length { length into.new ≡ length into.old }
+        ensures bytes { (k : ℕ) → k < result → slice_index into.new k ≡ dram_at self.now (at + k) }
+        ensures others { (k : ℕ) → result ≤ k → slice_index into.new k ≡ slice_index into.old k }
+    {
+        let count = (BANK - at % BANK).min(into.len());
+        let front = &mut into[..count];
+        match self.banks.get(at / BANK) {
+            Some(bank) => bank.read_bytes(at % BANK, front),
+            None => front.fill(0xFF),
+        }
+        count
+    }
+
+    /// Replaces the bytes from an address on, as writes of one byte each would.
+    pub fn write_bytes(&mut self, addr: u32, bytes: &[u8])
+        ensures bytes { IsWritten self.old addr (length bytes.now) (slice_index bytes.now) self.new }
+        ensures size { length self.new ≡ length self.old }
+    {
+        let mut done = 0;
+        while done < bytes.len() {
+            done += self.write_front((addr as usize).saturating_add(done), &bytes[done..]);
+        }
+    }
+
+    /// Replaces the bytes from an address on up to the end of its MiB, and tells how many they are.
+    fn write_front(&mut self, at: usize, bytes: &[u8]) -> usize
+        requires some { 0 < length bytes.now }
+        ensures some { 0 < result }
+        ensures within { result ≤ length bytes.now }
+        ensures bytes { IsWritten self.old at result (slice_index bytes.now) self.new }
+        ensures size { length self.new ≡ length self.old }
+    {
+        let count = (BANK - at % BANK).min(bytes.len());
+        if let Some(bank) = self.banks.get_mut(at / BANK) {
+            bank.write_bytes(at % BANK, &bytes[..count]);
+        }
+        count
+    }
+
+    /// Puts bytes into the memory from an address on, for a loader. Refused where they do not all lie in the
+    /// installed memory, and then nothing changed. It takes no memory.
+    pub fn load(&mut self, addr: u32, bytes: &[u8]) -> Result<(), PastTheEnd>
+        ensures fits { OnOk result (addr + length bytes.now ≤ length self.old) }
+        ensures bytes { OnOk result (IsWritten self.old addr (length bytes.now) (slice_index bytes.now) self.new) }
+        ensures size { length self.new ≡ length self.old }
+        ensures refused { OnErr result (length self.old < addr + length bytes.now) }
+        ensures same { OnErr result (self.new ≡ self.old) }
+    {
+        let size = self.size();
+        if size < addr as usize || size - (addr as usize) < bytes.len() {
+            return Err(PastTheEnd);
+        }
+        self.write_bytes(addr, bytes);
+        Ok(())
     }
 }
 

@@ -4,4 +4,4 @@
 mod bank;
 mod dram;
 
-pub use dram::Dram;
+pub use dram::{Dram, PastTheEnd};

@@ -7,26 +7,29 @@ use Rattle.board_base.specs.declared.access.Width.{Width}
 use Rattle.board_base.specs.declared.target.Reg.{Reg}
 use Rattle.board_spec.specs.declared.map_change.MapChange.{MapChange}
 use Rattle.board_spec.specs.declared.map_change.MapChange.TheVariants.{Store, Reset}
-use Rattle.board_spec.specs.Setup.{Setup}
+use Rattle.board_spec.specs.Setup.{Setup, IsCardList}
+use Rattle.board_spec.specs.Ranges.{largest_top}
 use Rattle.board_spec.specs.MapWrites.{touches_map, reg_after}
 use Rattle.board_base.specs.Access.{bytes_of}
-use Rattle.board_spec.specs.Decode.{Bytes}
+use Rattle.board_spec.specs.Decode.{Bytes, top_of}
 use Rattle.board_spec.specs.FlatMap.{address_count, six_areas, MapRange, Tiles, IsFlatMapOf}
 use Rattle.pci_bars.specs.Cards.{AreFitted, cards_of}
 use Rattle.addr_decode.specs.MapRegs.{MapBytes, StandsFor}
 use Rattle.addr_decode.specs.Edges.{edges_after}
 use Rattle.map_builder.specs.declared.range.Changed.{Changed}
-use Rattle.map_builder.specs.Map.{HasBoard, IsMapOf}
+use Rattle.map_builder.specs.Map.{next_version, HasBoard, IsMapOf}
+use Rattle.board_spec.specs.Limits.{entry_limit}
 use Rattle.map_builder.specs.Build.{IsMapWhere, IsBeside}
 use Rattle.map_builder.specs.Sorted.{sorted, Rise, rows_in}
+use Rattle.map_builder.specs.Applied.{AreChanged}
 use Rattle.map_builder.specs.Changed.{after, bounds, is_fixed, windows_of, windows_covered, changed_windows, most_rows}
 use Rattle.map_builder.specs.Rows.{stores_rows, AreMoved}
 use Rattle.map_builder.specs.Unchanged.{IsHeldAt, IsSameByte}
 use Rattle.map_builder.proofs.FindLemmas.{tiles_below}
 use Rattle.map_builder.proofs.OutsideLemmas.{Outside, and_no}
 use Rattle.map_builder.proofs.BoundsLemmas.{covered_ordered, changed_ordered, bounds_twice}
-use Rattle.map_builder.proofs.SortedLemmas.{rise_sorted, outside_sorted, rows_few, sorted_twice}
-use Rattle.map_builder.proofs.MovedRows.{rows_keep, moved_rise, moved_few}
+use Rattle.map_builder.proofs.SortedLemmas.{rise_sorted, outside_sorted, beside_sorted, rows_few, sorted_twice}
+use Rattle.map_builder.proofs.MovedRows.{rows_keep, moved_rise, moved_within, moved_few}
 use Rattle.map_builder.proofs.UnchangedLemmas.{same_bytes, unchanged_keep}
 use Rattle.map_builder.proofs.KeptStores.{top_after, changes_keep}
 use Rattle.map_builder.proofs.SameBoards.{boards_same, untouched_areas}
@@ -207,39 +210,76 @@ build_few setup bytes change all windows old_rows new_rows false all_is none oth
           rw (others refl not ∙ all_is) (rows_few setup new (changed_windows setup bytes change) (changed_ordered setup bytes change))
     ]
 
+-- beside them each address keeps its areas
+build_keeps : (old new : MapBytes) (setup : Setup) (bytes : Bytes) (change : MapChange) (addr : ℕ) → IsCardList setup.cards → top_of bytes ≤ largest_top →
+    StandsFor setup bytes old → StandsFor setup (after setup change bytes) new → (all windows : List Changed) (kept : Bool) →
+    sorted all ≡ sorted (changed_windows setup bytes change) → (kept ≡ true → KeepsByte old new change) →
+    (kept ≡ false → stores_rows change ≡ false → windows ≡ sorted all) → (kept ≡ false → stores_rows change ≡ true → AreMoved old.drb new.drb windows) →
+    addr < address_count → IsBeside windows addr → six_areas setup (after setup change bytes) addr ≡ six_areas setup bytes addr
+build_keeps old new setup bytes change addr cards top stands now all windows kept all_is same others rows address out =
+    elim (cases_Bool kept) [
+      | inl is_kept ↦
+          let byte = same is_kept in
+          unchanged_keep setup bytes change addr byte.byte cards (byte.before setup bytes stands) (byte.later setup (after setup change bytes) now)
+      | inr not_kept ↦
+          elim (cases_Bool (stores_rows change)) [
+            | inl is ↦ rows_keep old new setup bytes change addr is cards stands now ((rows not_kept is).beside addr out)
+            | inr not ↦
+                changes_keep setup bytes change addr cards top address
+                (outside_sorted addr (changed_windows setup bytes change) (subst (Outside addr) (others not_kept not ∙ all_is) out))
+          ]
+    ]
+
 -- beside them the ranges are a map of the new registers
 pub build_beside : (old new : MapBytes) (change : MapChange) (ranges : List MapRange) (is_map : IsMapOf old ranges) →
     StandsFor is_map.board.setup (after is_map.board.setup change is_map.board.bytes) new → (all windows : List Changed) (kept : Bool) →
     sorted all ≡ sorted (changed_windows is_map.board.setup is_map.board.bytes change) → (kept ≡ true → KeepsByte old new change) →
     (kept ≡ false → stores_rows change ≡ false → windows ≡ sorted all) → (kept ≡ false → stores_rows change ≡ true → AreMoved old.drb new.drb windows) → IsMapWhere new (IsBeside windows) ranges
-build_beside old new change ranges is_map stands all windows kept all_is same others rows = record {
-  tiles = is_map.tiles;
-  least = (is_map.map is_map.board.setup is_map.board.bytes is_map.board.stands).least;
-  right = λ setup bytes now k d within. record {
-    at_each = λ addr low high out. still_right old new change ranges is_map stands (IsBeside windows) keeps setup bytes now k d within addr low high out;
-  };
-}
-  where
-    keeps : (addr : ℕ) → addr < address_count → IsBeside windows addr →
-        six_areas is_map.board.setup (after is_map.board.setup change is_map.board.bytes) addr ≡ six_areas is_map.board.setup is_map.board.bytes addr
-    keeps addr address out =
-        elim (cases_Bool kept) [
-          | inl is_kept ↦
-              let byte = same is_kept in
-              unchanged_keep is_map.board.setup is_map.board.bytes change addr byte.byte is_map.board.cards
-              (byte.before is_map.board.setup is_map.board.bytes is_map.board.stands)
-              (byte.later is_map.board.setup (after is_map.board.setup change is_map.board.bytes) stands)
-          | inr not_kept ↦
-              elim (cases_Bool (stores_rows change)) [
-                | inl is ↦
-                    rows_keep old new is_map.board.setup is_map.board.bytes change addr is is_map.board.cards is_map.board.stands stands
-                    ((rows not_kept is).beside addr out)
-                | inr not ↦
-                    changes_keep is_map.board.setup is_map.board.bytes change addr is_map.board.cards is_map.board.top address
-                    (outside_sorted addr (changed_windows is_map.board.setup is_map.board.bytes change)
-                    (subst (Outside addr) (others not_kept not ∙ all_is) out))
-              ]
-        ]
+build_beside old new change ranges is_map stands all windows kept all_is same others rows =
+    let board = is_map.board in
+    record {
+      tiles = is_map.tiles;
+      least = (is_map.map board.setup board.bytes board.stands).least;
+      right = λ setup bytes now k d within. record {
+        at_each = λ addr low high out.
+            still_right old new change ranges is_map stands (IsBeside windows)
+            (λ addr address out.
+            build_keeps old new board.setup board.bytes change addr board.cards board.top board.stands stands all windows kept all_is same others rows address out)
+            setup bytes now k d within addr low high out;
+      };
+    }
+
+-- they lie in those that change
+build_within : (setup : Setup) (bytes : Bytes) (change : MapChange) (addr : ℕ) (all windows : List Changed) (old_rows new_rows : List ℕ) (kept : Bool) →
+    sorted all ≡ sorted (changed_windows setup bytes change) → (kept ≡ true → windows ≡ []) →
+    (kept ≡ false → stores_rows change ≡ false → windows ≡ sorted all) → (kept ≡ false → stores_rows change ≡ true → AreMoved old_rows new_rows windows) →
+    IsBeside (changed_windows setup bytes change) addr → IsBeside windows addr
+build_within setup bytes change addr all windows old_rows new_rows true all_is none others rows out = rw (none refl) tt
+build_within setup bytes change addr all windows old_rows new_rows false all_is none others rows out =
+    elim (cases_Bool (stores_rows change)) [
+      | inl is ↦ moved_within setup bytes change old_rows new_rows windows addr is (rows refl is) out
+      | inr not ↦
+          subst (Outside addr) (sym (others refl not ∙ all_is)) (beside_sorted addr (changed_windows setup bytes change) out)
+    ]
+
+-- so they are what a change changed, of each board that has the registers
+pub are_changed : (old new : MapBytes) (change : MapChange) (board : HasBoard old) → StandsFor board.setup (after board.setup change board.bytes) new →
+    (all windows : List Changed) (kept : Bool) →
+    ((setup : Setup) (bytes : Bytes) → StandsFor setup bytes old → sorted all ≡ sorted (changed_windows setup bytes change)) →
+    (kept ≡ true → KeepsByte old new change) → (kept ≡ true → windows ≡ []) →
+    (kept ≡ false → stores_rows change ≡ false → windows ≡ sorted all) → (kept ≡ false → stores_rows change ≡ true → AreMoved old.drb new.drb windows) →
+    (setup : Setup) (bytes : Bytes) → StandsFor setup bytes old → StandsFor setup (after setup change bytes) new → AreChanged setup bytes change windows
+are_changed old new change board stands all windows kept all_is same none others rows setup bytes here now =
+    let same_all = all_is setup bytes here in
+    record {
+      rise = build_rise setup bytes change all windows old.drb new.drb kept same_all none others rows;
+      beside = λ addr address out.
+          sym (boards_same new board.setup setup (after board.setup change board.bytes) (after setup change bytes) board.cards stands now addr)
+          ∙ build_keeps old new board.setup board.bytes change addr board.cards board.top board.stands stands all windows kept
+          (all_is board.setup board.bytes board.stands) same others rows address out
+          ∙ boards_same old board.setup setup board.bytes bytes board.cards board.stands here addr;
+      within = λ addr out. build_within setup bytes change addr all windows old.drb new.drb kept same_all none others rows out;
+    }
 
 -- a change that covers no byte on which the map depends leaves the map
 pub untouched_map : (old new : MapBytes) (change : MapChange) (ranges : List MapRange) (is_map : IsMapOf old ranges) →
@@ -259,3 +299,7 @@ pub touched_alike : (regs : MapBytes) (board : HasBoard regs) (setup : Setup) (r
     touched ≡ touches_map setup (Store reg width value)
 touched_alike regs board setup reg width value touched same is =
     is ∙ touched_by_cards board.setup setup reg width value (board.stands.cards.0 ∙ sym same)
+
+-- below the limit of a history's entries the next version is one more
+pub next_below : (version : ℕ) → version < entry_limit → next_version version ≡ version + 1
+next_below version below = omega (arith, below)

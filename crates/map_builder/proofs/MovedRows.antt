@@ -1,7 +1,7 @@
 -- What a store to the boundaries of the rows of DRAM moves, and that no more rows are looked up for it than the bound says.
 use Rattle.std.proofs.Common.{◌≡◌, ℕ, zero, suc, ◌⊎◌, Bool, ◌+◌, ◌-◌, ◌*◌, ◌<◌, ◌≤◌, inl, inr, true, false, List, [], ◌∷◌, ◌++◌, take, refl, sym, ◌∙◌, ap, subst, arith, lit<}
 use Rattle.std.specs.Prelude.{◌==◌, nat_lt, if◌then◌else◌, Option, None, min, max, slice_index, find, flat_map}
-use Rattle.std.specs.List.{list_any}
+use Rattle.std.specs.List.{AllByRecursion, list_any}
 use Rattle.std.proofs.lemmas.Bool.{cases_Bool, cases_lt, false≢true}
 use Rattle.std.proofs.lemmas.Bool.Decides.{nat_tests}
 use Rattle.board_base.specs.declared.access.Width.{Width}
@@ -19,7 +19,7 @@ use Rattle.board_spec.specs.FlatMap.{six_areas}
 use Rattle.addr_decode.specs.MapRegs.{MapBytes, StandsFor}
 use Rattle.addr_decode.specs.Edges.{edges_of, edges_after}
 use Rattle.map_builder.specs.declared.range.Changed.{Changed}
-use Rattle.map_builder.specs.Changed.{from_to, windows_of, windows_covered, bridge_windows, after, changed_windows, is_above_first, is_inside, edges_inside, is_window, count_of}
+use Rattle.map_builder.specs.Changed.{from_to, windows_of, windows_covered, bridge_windows, after, changed_windows, is_above_first, is_inside, edges_inside, is_window, count_of, IsOutside}
 use Rattle.map_builder.specs.Rows.{stores_rows, is_below, IsHidden, StaysOrHidden, RowStays, IsInRows, AreMoved}
 use Rattle.map_builder.specs.Sorted.{Rise, rows_in}
 use Rattle.map_builder.proofs.KeptLemmas.{is_boundary, areas_same, row_window}
@@ -207,6 +207,21 @@ moved_few setup bytes new change old_rows new_rows [] rows moved = omega arith
 moved_few setup bytes new change old_rows new_rows (window ∷ []) rows moved =
     omega (arith, few_in_rows setup new window (changed_windows setup bytes change) moved.each.0 (begins setup bytes change rows))
 moved_few setup bytes new change old_rows new_rows (window ∷ other ∷ later) rows moved = absurd (omega (arith, moved.one))
+
+-- what moves lies in the windows that change
+past_rows : (addr : ℕ) (window : Changed) → IsInRows window → IsOutside addr (from_to 0 0x7F7F_FFFF) → IsOutside addr window
+past_rows addr window within (inl below) = absurd (omega (arith, below))
+past_rows addr window within (inr above) = inr (let high = within.1 in omega (arith, high, above))
+
+pub moved_within : (setup : Setup) (bytes : Bytes) (change : MapChange) (old_rows new_rows : List ℕ) (windows : List Changed) (addr : ℕ) →
+    stores_rows change ≡ true → AreMoved old_rows new_rows windows → AllByRecursion (IsOutside addr) (changed_windows setup bytes change) →
+    AllByRecursion (IsOutside addr) windows
+moved_within setup bytes change old_rows new_rows [] addr rows moved out = tt
+moved_within setup bytes change old_rows new_rows (window ∷ []) addr rows moved out =
+    let begin = begins setup bytes change rows in
+    let first : AllByRecursion (IsOutside addr) (from_to 0 0x7F7F_FFFF ∷ begin.rest) = rw begin.is at out in
+    (past_rows addr window moved.each.0 first.0, tt)
+moved_within setup bytes change old_rows new_rows (window ∷ other ∷ later) addr rows moved out = absurd (omega (arith, moved.one))
 
 -- ---- one row after the other, as the code takes them
 

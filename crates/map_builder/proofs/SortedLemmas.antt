@@ -84,6 +84,36 @@ outside_sorted addr [] out = tt
 outside_sorted addr (window ∷ later) out =
     let parts = outside_with addr window (sorted later) out in (parts.0, outside_sorted addr later parts.1)
 
+-- an interval of two that overlap holds no other address
+beside_both : (addr : ℕ) (other window : Changed) → window.lo ≤ other.hi → other.lo ≤ window.hi → IsOutside addr other →
+    IsOutside addr window → IsOutside addr (both other window)
+beside_both addr other window low high (inl before) (inl below) = inl (omega (arith, before, below))
+beside_both addr other window low high (inl before) (inr above) = absurd (omega (arith, low, high, before, above))
+beside_both addr other window low high (inr after) (inl below) = absurd (omega (arith, low, high, after, below))
+beside_both addr other window low high (inr after) (inr above) = inr (omega (arith, after, above))
+
+beside_with : (addr : ℕ) (window : Changed) (windows : List Changed) → IsOutside addr window → Outside addr windows → Outside addr (with_window window windows)
+unfolding with_window
+beside_with addr window [] here out = (here, tt)
+beside_with addr window (other ∷ later) here out =
+    elim (cases_Bool (nat_lt other.hi window.lo)) [
+      | inl before ↦ rw before (out.0, beside_with addr window later here out.1)
+      | inr not_before ↦
+          elim (cases_Bool (nat_lt window.hi other.lo)) [
+            | inl behind ↦ rw (not_before, behind) (here, beside_with addr other later out.0 out.1)
+            | inr overlap ↦
+                let low : window.lo ≤ other.hi = grind (arith, nat_tests) in
+                let high : other.lo ≤ window.hi = grind (arith, nat_tests) in
+                rw (not_before, overlap) (beside_with addr (both other window) later (beside_both addr other window low high out.0 here) out.1)
+          ]
+    ]
+
+-- an address beside windows is beside them when they are sorted
+pub beside_sorted : (addr : ℕ) (windows : List Changed) → Outside addr windows → Outside addr (sorted windows)
+unfolding sorted
+beside_sorted addr [] out = tt
+beside_sorted addr (window ∷ later) out = beside_with addr window (sorted later) out.0 (beside_sorted addr later out.1)
+
 inside_both : (addr : ℕ) (other window : Changed) → window.lo ≤ other.hi → other.lo ≤ window.hi → is_above_first addr (both other window) ≡ true →
     (is_above_first addr other ≡ true) ⊎ (is_above_first addr window ≡ true)
 inside_both addr other window low high is =

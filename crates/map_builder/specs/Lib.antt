@@ -1,10 +1,10 @@
 pub mod Map
 pub mod Find
 pub mod Changed
-pub mod Applied
 pub mod Sorted
 pub mod Rows
 pub mod Unchanged
 pub mod Build
 pub mod Held
+pub mod Applied
 pub mod Laws

@@ -1,18 +1,25 @@
 -- The memory map as the crate keeps it: the registers, the ranges and the version.
-use Rattle.std.specs.Prelude.{ℕ, ◌^◌, ◌<◌, ◌≤◌, List, length, All, slice_index}
+use Rattle.std.specs.Prelude.{ℕ, ◌+◌, ◌%◌, ◌^◌, ◌<◌, ◌≤◌, List, length, All, slice_index}
 use Rattle.board_spec.specs.Setup.{Setup, IsCardList}
 use Rattle.board_spec.specs.Ranges.{largest_top}
 use Rattle.board_spec.specs.Decode.{Bytes, top_of}
 use Rattle.board_spec.specs.FlatMap.{MapRange, Tiles, IsFlatMapOf}
 use Rattle.pci_bars.specs.Cards.{CardBytes, AreFitted}
 use Rattle.addr_decode.specs.MapRegs.{MapBytes, StandsFor}
+use Rattle.map_builder.specs.declared.range.Changed.{Changed}
 use Rattle.map_builder.specs.declared.range.Range.{Range}
 
--- the registers that the map depends on, its ranges, and how many changes it has had
+-- the registers that the map depends on, its ranges, how many changes it has had, modulo 2^32, and the windows that the
+-- last of them changed
 pub record Mapped : Type 0 where
   pub regs : MapBytes
   pub ranges : List MapRange
   pub version : ℕ
+  pub changed : List Changed
+
+-- the version after one more change
+abbrev pub next_version : ℕ → ℕ
+next_version version = (version + 1) % 2 ^ 32
 
 abbrev pub range_of : Range → MapRange
 range_of range = record { lo = range.lo; hi = range.hi; areas = range.row.areas }

@@ -1,7 +1,6 @@
 //! The memory map as one list of ranges.
-ghost use Rattle.std.specs.Prelude.{◌≡◌, ◌≤◌, ◌<◌, ◌+◌, false, if◌then◌else◌, length, map};
+ghost use Rattle.std.specs.Prelude.{◌≡◌, ◌≤◌, ◌<◌, ◌+◌, true, false, if◌then◌else◌, [], length, map};
 ghost use Rattle.board_base.specs.declared.access.Kind.{Kind};
-ghost use Rattle.board_spec.specs.Limits.{entry_limit};
 ghost use Rattle.board_spec.specs.Setup.{Setup};
 ghost use Rattle.board_spec.specs.declared.map_change.MapChange.TheVariants.{Store};
 ghost use Rattle.board_spec.specs.MapWrites.{touches_map};
@@ -10,9 +9,9 @@ ghost use Rattle.board_spec.specs.Decode.{Bytes};
 ghost use Rattle.board_spec.specs.FlatMap.{Tiles, IsFlatMapOf, IsSpan};
 ghost use Rattle.pci_bars.specs.Cards.{AreCardsOf, AreFitted, cards_of};
 ghost use Rattle.addr_decode.specs.MapRegs.{StandsFor, map_bytes};
-ghost use Rattle.map_builder.specs.Map.{range_of, most_ranges, HasBoard, IsMapOf};
+ghost use Rattle.map_builder.specs.Map.{range_of, most_ranges, next_version, HasBoard, IsMapOf};
 ghost use Rattle.map_builder.specs.Changed.{most_rows};
-ghost use Rattle.map_builder.specs.Applied.{IsApplied};
+ghost use Rattle.map_builder.specs.Applied.{AreChanged, IsApplied};
 
 use crate::build::{CAPACITY, Ranges, ranges_of, rebuild};
 use crate::changed::{Covered, keeps_windows, push_again, push_covered};
@@ -41,7 +40,7 @@ pub struct FlatMap {
     before: [Range; CAPACITY],
     /// Room for the windows of a change.
     windows: Covered,
-    /// Room for those in which the ranges are built anew.
+    /// Those in which the ranges were built anew by the last change.
     chosen: Windows,
     version: u32,
 }
@@ -53,7 +52,7 @@ impl Model for FlatMap {
 
     ghost Value = { Mapped };
 
-    ghost view = { λ flat. record { regs = map_bytes flat.regs; ranges = map range_of flat.ranges.items; version = flat.version } };
+    ghost view = { λ flat. record { regs = map_bytes flat.regs; ranges = map range_of flat.ranges.items; version = flat.version; changed = flat.chosen.items } };
 
     ghost invariant = { λ flat. IsMapOf (map_bytes flat.regs) (map range_of flat.ranges.items) };
 }
@@ -64,6 +63,7 @@ impl FlatMap {
         requires cards { AreFitted regs.cards.items }
         ensures regs { result.regs ≡ map_bytes regs }
         ensures version { result.version ≡ 0 }
+        ensures changed { result.changed ≡ [] }
         ensures map { (setup : Setup) (bytes : Bytes) → StandsFor setup bytes result.regs → IsFlatMapOf setup bytes result.ranges }
         ensures few { length result.ranges ≤ most_ranges }
     {
@@ -85,23 +85,27 @@ impl FlatMap {
     {
         let mut ranges = FixedList::new();
         ranges.extend(self.ranges.as_slice());
+        let mut chosen = FixedList::new();
+        chosen.extend(self.chosen.as_slice());
         FlatMap {
             regs: self.regs.copy(),
             ranges,
             before: [Range::default(); CAPACITY],
             windows: FixedList::new(),
-            chosen: FixedList::new(),
+            chosen,
             version: self.version,
         }
     }
 
-    /// Becomes equal to another map. Of the ranges it copies only those that there are.
+    /// Becomes equal to another map. Of the ranges and windows it copies only those that there are.
     pub fn copy_from(&mut self, other: &FlatMap)
         ensures copied { self.new ≡ other.now }
     {
         self.regs = other.regs.copy();
         self.ranges.truncate(0);
         self.ranges.extend(other.ranges.as_slice());
+        self.chosen.truncate(0);
+        self.chosen.extend(other.chosen.as_slice());
         self.version = other.version;
     }
 
@@ -124,11 +128,19 @@ impl FlatMap {
         &self.regs
     }
 
-    /// How many changes the map has had since it was built.
+    /// How many changes the map has had since it was built, modulo 2^32.
     pub fn version(&self) -> u32
         ensures version { result ≡ self.now.version }
     {
         self.version
+    }
+
+    /// The windows that the last change changed, in rising order and apart: an address beside them has the areas that it
+    /// had before. None before the first change, and where the registers kept what they held.
+    pub fn changed(&self) -> &[Changed]
+        ensures windows { result.now ≡ self.now.changed }
+    {
+        self.chosen.as_slice()
     }
 
     /// The longest interval round an address in which this kind of access has one area, and that area.
@@ -139,11 +151,10 @@ impl FlatMap {
         span_of(self.ranges.as_slice(), addr, kind, smm)
     }
 
-    /// Makes a change of the registers, which raises the version by one, and tells the bounds of the addresses whose
-    /// areas it may change: the least first and the greatest last address of the windows that the registers govern
+    /// Makes a change of the registers, which raises the version by one modulo 2^32, keeps the windows that changed for
+    /// `changed`, and tells the bounds of the addresses whose areas it may change: the least first and the greatest last address of the windows that the registers govern
     /// which it covers. Both are 0 where there is no such window, and then no area changes (`law_changed_bounds`).
     pub fn apply(&mut self, change: &MapChange) -> Changed
-        requires version { self.old.version < entry_limit }
         ensures applied { IsApplied self.old self.new change.now result }
     {
         self.apply_uncounted::<Brand>(change, Blank::new(1))
@@ -154,7 +165,6 @@ impl FlatMap {
         requires name { blank.name ≡ L.name }
         requires parts { blank.parts ≡ L.parts }
         requires some_part { 0 < L.parts }
-        requires version { self.old.version < entry_limit }
         ensures applied { IsApplied self.old self.new change.now result }
     {
         let mut steps = Steps::<L>::new(blank);
@@ -164,7 +174,6 @@ impl FlatMap {
     /// Makes a change as `apply` does, and counts each row that is looked up as a step: at most one for each window, and one
     /// for each edge that lies inside the windows after the change.
     pub fn apply_counted<L: Ledger>(&mut self, change: &MapChange, steps: &mut Steps<L>) -> Changed
-        requires version { self.old.version < entry_limit }
         ensures applied { IsApplied self.old self.new change.now result }
         ensures rows { (setup : Setup) (bytes : Bytes) → StandsFor setup bytes self.old.regs
             → steps.new ≤ steps.old + most_rows setup bytes change.now }
@@ -192,21 +201,26 @@ impl FlatMap {
             self.chosen.as_slice(),
             steps,
         );
-        self.version += 1;
+        self.version = self.version.wrapping_add(1);
         bounds_of(self.windows.as_slice()).unwrap_or(NOTHING)
     }
 
     /// Stores the bytes of a value in rising offset. Where they cover a byte that the map depends on, this is a change
     /// as `apply` makes it. Else only registers of a card change, and neither the ranges nor the version.
     pub fn store(&mut self, reg: Reg, width: Width, value: u32)
-        requires version { self.old.version < entry_limit }
         ensures stands { (setup : Setup) (bytes : Bytes) → StandsFor setup bytes self.old.regs
             → StandsFor setup (λ r. changed_byte setup (Store reg width value) r (bytes r)) self.new.regs }
         ensures cards { (setup : Setup) (bytes : Bytes) → AreCardsOf setup bytes self.old.regs.cards
             → AreCardsOf setup (λ r. changed_byte setup (Store reg width value) r (bytes r)) self.new.regs.cards }
         ensures same_cards { cards_of self.new.regs.cards ≡ cards_of self.old.regs.cards }
         ensures version { (setup : Setup) → setup.cards ≡ cards_of self.old.regs.cards
-            → self.new.version ≡ self.old.version + (if touches_map setup (Store reg width value) then 1 else 0) }
+            → self.new.version
+            ≡ (if touches_map setup (Store reg width value) then next_version self.old.version else self.old.version) }
+        ensures windows { (setup : Setup) (bytes : Bytes) → StandsFor setup bytes self.old.regs
+            → touches_map setup (Store reg width value) ≡ true
+            → AreChanged setup bytes (Store reg width value) self.new.changed }
+        ensures same_windows { (setup : Setup) → setup.cards ≡ cards_of self.old.regs.cards
+            → touches_map setup (Store reg width value) ≡ false → self.new.changed ≡ self.old.changed }
         ensures map { (setup : Setup) (bytes : Bytes) → StandsFor setup bytes self.new.regs
             → IsFlatMapOf setup bytes self.new.ranges }
     {
@@ -227,6 +241,7 @@ impl FlatMap {
             → AreCardsOf setup (λ r. changed_byte setup change.now r (bytes r)) self.new.regs.cards }
         ensures same_cards { cards_of self.new.regs.cards ≡ cards_of self.old.regs.cards }
         ensures version { self.new.version ≡ self.old.version }
+        ensures windows { self.new.changed ≡ self.old.changed }
         ensures map { (setup : Setup) (bytes : Bytes) → StandsFor setup bytes self.new.regs
             → IsFlatMapOf setup bytes self.new.ranges }
     {

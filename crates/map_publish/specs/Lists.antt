@@ -19,6 +19,7 @@ no_map = record {
   regs = record { drb = []; fdhc = 0; pam = []; smram = 0; xbcs = 0; cards = [] };
   ranges = [];
   version = 0;
+  changed = [];
 }
 
 abbrev pub opened_in : Mark → Mapped

@@ -1,9 +1,9 @@
 //! Maps after a reset and after changes, a table a test.
 
-ghost use Rattle.std.specs.Prelude.{◌≡◌, ◌<◌, ◌+◌};
-ghost use Rattle.board_spec.specs.Limits.{entry_limit};
+ghost use Rattle.std.specs.Prelude.{◌≡◌};
 ghost use Rattle.board_spec.specs.Setup.{IsCard};
 ghost use Rattle.pci_bars.specs.Cards.{AreFitted};
+ghost use Rattle.map_builder.specs.Map.{next_version};
 
 use crate::made;
 use addr_decode::{MapChange, MapRegs};
@@ -29,8 +29,7 @@ fn counted<L: Ledger>(map: &mut FlatMap, change: &MapChange, blank: Blank) -> Ch
     requires name { blank.name ≡ L.name }
     requires parts { blank.parts ≡ L.parts }
     requires some_part { 0 < L.parts }
-    requires version { map.old.version < entry_limit }
-    ensures version { map.new.version ≡ map.old.version + 1 }
+    ensures version { map.new.version ≡ next_version map.old.version }
 {
     let mut steps = Steps::<L>::new(blank);
     map.apply_counted(change, &mut steps)
@@ -248,4 +247,56 @@ fn stores_count_map_writes(rt: HostRuntime) {
     for (card, (line, rom)) in map.regs().cards.iter().zip(expected) {
         assert_eq!(rt; (card.line, card.rom), (line, rom));
     }
+}
+
+/// The windows that changes change, in rising order: what is told of each change stands until the next.
+#[test]
+fn changed_windows_are_those_of_the_last_change(rt: HostRuntime) {
+    let mut map = FlatMap::from_scratch(board());
+    assert_eq!(rt; map.changed().len(), 0);
+    let none: &[(u32, u32)] = &[];
+    for (dev, off, width, value, windows) in [
+        // PAM0 governs the system BIOS, PAM1 two windows of 16 KiB, and PAM1 and PAM2 together four of them.
+        (0, 0x59, Width::One, 0x30, &[(0x000F_0000, 0x000F_FFFF)][..]),
+        (0, 0x5A, Width::One, 0x11, &[(0x000C_0000, 0x000C_7FFF)]),
+        (0, 0x5A, Width::One, 0x11, none),
+        (
+            0,
+            0x5A,
+            Width::Two,
+            0x2222,
+            &[(0x000C_0000, 0x000C_7FFF), (0x000C_8000, 0x000C_FFFF)],
+        ),
+        // FDHC governs both holes.
+        (
+            0,
+            0x68,
+            Width::One,
+            0x80,
+            &[(0x0008_0000, 0x0009_FFFF), (0x00F0_0000, 0x00FF_FFFF)],
+        ),
+        // A memory base that is moved leaves its old window and covers its new one.
+        (
+            2,
+            0x10,
+            Width::Four,
+            0xE000_0000,
+            &[(0x0000_0000, 0x000F_FFFF), (0xE000_0000, 0xE00F_FFFF)],
+        ),
+        // The last boundary from 8 MiB to 16 MiB.
+        (0, 0x67, Width::One, 0x02, &[(0x0080_0000, 0x00FF_FFFF)]),
+        // An interrupt line is no map write: the windows are still those of the boundary.
+        (2, 0x3C, Width::One, 0x0B, &[(0x0080_0000, 0x00FF_FFFF)]),
+    ] {
+        map.store(Reg { dev, fun: 0, off }, width, value);
+        let copy = map.copy();
+        for changed in [map.changed(), copy.changed()] {
+            assert_eq!(rt; changed.len(), windows.len(), "at {off}");
+            for (window, (lo, hi)) in changed.iter().zip(windows) {
+                assert_eq!(rt; (window.lo, window.hi), (*lo, *hi), "at {off}");
+            }
+        }
+    }
+    map.apply(&MapChange::Reset);
+    assert_eq!(rt; map.changed(), [Changed { lo: 0, hi: 0xFFFF_FFFF }]);
 }

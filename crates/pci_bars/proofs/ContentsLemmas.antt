@@ -1,9 +1,9 @@
 -- The bytes behind the bases: as they begin, and after a write.
-use Rattle.std.proofs.Common.{◌≡◌, ◌≢◌, ℕ, ◌+◌, ◌-◌, ◌/◌, ◌%◌, ◌<◌, ◌≤◌, true, false, ◌&&◌, List, [], ◌∷◌, map, Vec, Global, length, get_or, set, replicate, inl, inr, ◌∙◌, refl, sym, ap, arith, get_or-set_same, get_or-set_other}
+use Rattle.std.proofs.Common.{◌≡◌, ◌≢◌, ℕ, ◌+◌, ◌-◌, ◌/◌, ◌%◌, ◌<◌, ◌≤◌, true, false, ◌&&◌, List, [], ◌∷◌, map, Vec, Global, length, get_or, set, take, drop, ◌++◌, replicate, inl, inr, ◌∙◌, refl, sym, ap, arith, get_or-set_same, get_or-set_other, length-append, length-drop, length-take-le}
 use Rattle.std.specs.Prelude.{◌==◌, nat_le, nat_lt, find, if◌then◌else◌, slice_index, unwrap_or, vec_len}
 use Rattle.std.specs.Vec.{with_items}
 use Rattle.std.proofs.lemmas.Bool.{and_from, and_left, and_right, eq-eqb, ne_eqb, le-leb, lt-leb, lt-ltb, le-ltb, cases_lt, cases_eq}
-use Rattle.std.proofs.lemmas.List.{get_or-replicate, get_or_past, set_past, length-replicate, length-map, map-set, get_or-map, with_items_is}
+use Rattle.std.proofs.lemmas.List.{get_or-replicate, get_or_past, set_past, length-replicate, length-map, map-set, get_or-map, with_items_is, drop-drop}
 use Rattle.board_base.specs.declared.access.Width.{Width}
 use Rattle.board_base.specs.declared.target.Target.TheVariants.{Card}
 use Rattle.board_base.specs.Access.{bytes_of}
@@ -281,3 +281,41 @@ lists-at buffers slot buffer within is =
     get_or-map (λ (buffer : Vec ℕ Global). buffer.items) buffers slot buffer []
     (omega (arith, length-map buffers (λ (buffer : Vec ℕ Global). buffer.items)))
     ∙ ap (λ (found : Vec ℕ Global). found.items) (sym is)
+
+-- ---- a stretch of bytes that is copied into a base
+
+-- how the bytes of a base are written over from an offset on
+abbrev pub stretch : (now copied : List ℕ) → (off count : ℕ) → List ℕ
+stretch now copied off count = take off now ++ (copied ++ drop (off + count - off) (drop off now))
+
+pub stretch_length : (now bytes copied : List ℕ) (off : ℕ) → off + length bytes ≤ length now → copied ≡ bytes →
+    length (stretch now copied off (length bytes)) ≡ length now
+stretch_length now bytes copied off fits is =
+    let size : off + length bytes - off ≡ length bytes = omega arith in
+    rw (size, is)
+    (omega (
+      arith,
+      fits,
+      length-append (take off now) (bytes ++ drop (length bytes) (drop off now)),
+      length-append bytes (drop (length bytes) (drop off now)),
+      length-take-le off now (omega (arith, fits)),
+      length-drop (length bytes) (drop off now),
+      length-drop off now,
+    ))
+
+pub stretch_here :
+    (contents : List (List ℕ)) (dev base off : ℕ) (now bytes copied : List ℕ) →
+    slot_number dev base < length contents → held contents dev base ≡ now → copied ≡ bytes →
+    held (set contents (slot_number dev base) (stretch now copied off (length bytes))) dev base
+    ≡ take off (held contents dev base) ++ (bytes ++ drop (off + length bytes) (held contents dev base))
+stretch_here contents dev base off now bytes copied within old is =
+    let size : off + length bytes - off ≡ length bytes = omega arith in
+    get_or-set_same contents (slot_number dev base) (stretch now copied off (length bytes)) [] within
+    ∙ rw (size, is, drop-drop (length bytes) off now, old) refl
+
+pub stretch_beside :
+    (contents : List (List ℕ)) (dev base d b : ℕ) (new : List ℕ) → IsBaseNumber dev base → IsBaseNumber d b →
+    (d ≡ dev → b ≡ base → ⊥) → held (set contents (slot_number dev base) new) d b ≡ held contents d b
+stretch_beside contents dev base d b new place other apart =
+    get_or-set_other contents (slot_number dev base) (slot_number d b) new []
+    (λ same. let both = same_slot dev base d b place other same in apart both.0 both.1)

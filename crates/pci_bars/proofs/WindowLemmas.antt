@@ -9,14 +9,13 @@ use Rattle.board_spec.specs.Setup.{Base, MemoryBase, IoBase, FittedCard, Setup, 
 use Rattle.board_base.specs.declared.access.Width.{Width}
 use Rattle.board_base.specs.declared.access.Width.TheVariants.{One, Two, Four}
 use Rattle.board_base.specs.Access.{bytes_of}
-use Rattle.board_spec.specs.declared.event.Entry.{Entry}
 use Rattle.board_spec.specs.Answer.{window_bits, bits_of_base}
 use Rattle.board_spec.specs.Decode.{Bytes, Window, is_covered, rom_window_of, is_rom_on, io_windows, is_enabled_for, memory_claim, io_claim, base_value}
 use Rattle.pci_bars.specs.declared.claims.Windows.{Windows}
 use Rattle.pci_bars.specs.declared.claims.Windows.TheVariants.{Memory, UnselectedRom, Ports}
 use Rattle.pci_bars.specs.Cards.{CardBytes, DecodesAs, AreCards, AreDecoded, cards_of}
 use Rattle.pci_bars.specs.Bases.{base_size}
-use Rattle.pci_bars.specs.Contents.{IsBaseNumber, LiesIn, IsContentsOf, kept_size}
+use Rattle.pci_bars.specs.Contents.{IsBaseNumber, LiesIn, HaveSizes, kept_size}
 use Rattle.pci_bars.proofs.BaseLemmas.{is_base}
 use Rattle.pci_bars.proofs.ClaimLemmas.{window_in, base_windows, rom_windows, vga_windows, windows_in, same_windows, io_windows_are}
 
@@ -222,15 +221,15 @@ fits_window place bits width above aligned =
 
 -- an access that a window claims lies in the contents of its base
 pub lies_in_window :
-    (setup : Setup) (history : List Entry) (contents : List (List ℕ)) (window : Window) (place : ℕ) (width : Width) →
+    (setup : Setup) (contents : List (List ℕ)) (window : Window) (place : ℕ) (width : Width) →
     IsSized setup window →
-    IsContentsOf setup history contents → place % bytes_of width ≡ 0 →
+    HaveSizes setup contents → place % bytes_of width ≡ 0 →
     LiesIn contents window.dev window.base (place % 2 ^ window.bits) width
-lies_in_window setup history contents window place width sized is aligned =
+lies_in_window setup contents window place width sized sizes aligned =
     record {
       number = sized.number;
       fits =
           λ not_rom.
-          rw (is.sizes window.dev window.base sized.number ∙ sized.size not_rom)
+          rw (sizes window.dev window.base sized.number ∙ sized.size not_rom)
           (fits_window place window.bits width sized.least aligned);
     }

@@ -37,10 +37,14 @@ pub record LiesIn (contents : List (List ℕ)) (dev base off : ℕ) (width : Wid
   pub number : IsBaseNumber dev base
   pub fits : base ≢ rom_base → off + bytes_of width ≤ length (held contents dev base)
 
+-- of each base of the setup's cards as many bytes are kept as it has
+abbrev pub HaveSizes : Setup → (contents : List (List ℕ)) → Type 0
+HaveSizes setup contents =
+    (dev base : ℕ) → IsBaseNumber dev base → length (held contents dev base) ≡ kept_size (card_at setup dev) base
+
 -- each base of the setup's cards has its size, and holds what the last write in a history left there, or the
 -- fixed bytes of an expansion ROM
 pub record IsContentsOf (setup : Setup) (history : List Entry) (contents : List (List ℕ)) : Type 0 where
-  pub sizes : (dev base : ℕ) → IsBaseNumber dev base →
-      length (held contents dev base) ≡ kept_size (card_at setup dev) base
+  pub sizes : HaveSizes setup contents
   pub bytes : (dev base off : ℕ) → IsBaseNumber dev base → off < kept_size (card_at setup dev) base →
       held_byte contents dev base off ≡ card_byte history dev base off

@@ -1,5 +1,5 @@
 //! The bytes behind the bases of the cards.
-ghost use Rattle.std.specs.Prelude.{◌≡◌, ◌≢◌, ◌≤◌, ◌<◌, ◌==◌, ℕ, List, [], ◌∷◌, All, find, length, IfOk, unwrap_or};
+ghost use Rattle.std.specs.Prelude.{◌≡◌, ◌≢◌, ◌≤◌, ◌<◌, ◌+◌, ◌++◌, ◌==◌, ℕ, List, [], ◌∷◌, All, find, length, take, drop, IfOk, unwrap_or};
 ghost use Rattle.board_base.specs.declared.access.Width.{Width};
 ghost use Rattle.board_base.specs.declared.target.Target.TheVariants.{Card};
 ghost use Rattle.board_base.specs.Access.{largest_of};
@@ -112,6 +112,30 @@ impl Contents {
                 value,
             );
         }
+    }
+}
+
+impl Contents {
+    /// Copies the bytes from an offset on in a base, which is no expansion ROM.
+    pub fn read_bytes(&self, dev: u8, base: u8, off: u32, into: &mut [u8])
+        requires number { IsBaseNumber dev base }
+        requires within { off + length into.old ≤ length (held self.now dev base) }
+        ensures bytes { into.new ≡ take (length into.old) (drop off (held self.now dev base)) }
+    {
+        let from = off as usize;
+        into.copy_from_slice(&self.buffers[slot_of(dev, base)][from..from + into.len()]);
+    }
+
+    /// Replaces the bytes from an offset on in a base, which is no expansion ROM.
+    pub fn write_bytes(&mut self, dev: u8, base: u8, off: u32, bytes: &[u8])
+        requires number { IsBaseNumber dev base }
+        requires within { off + length bytes.now ≤ length (held self.old dev base) }
+        ensures here { held self.new dev base ≡ take off (held self.old dev base)
+            ++ (bytes.now ++ drop (off + length bytes.now) (held self.old dev base)) }
+        ensures others { (d b : ℕ) → IsBaseNumber d b → (d ≡ dev → b ≡ base → ⊥) → held self.new d b ≡ held self.old d b }
+    {
+        let from = off as usize;
+        self.buffers[slot_of(dev, base)][from..from + bytes.len()].copy_from_slice(bytes);
     }
 }
 

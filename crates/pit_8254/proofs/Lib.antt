@@ -4,3 +4,4 @@ mod Periods
 mod Quiet
 mod Runs
 mod Settled
+mod Rising

@@ -1,5 +1,5 @@
 -- Whole periods.
-use Rattle.std.proofs.Common.{◌≡◌, ℕ, zero, suc, ◌+◌, ◌-◌, ◌*◌, ◌/◌, ◌%◌, ◌<◌, ◌≤◌, Bool, true, false, inl, inr, refl, sym, subst, arith}
+use Rattle.std.proofs.Common.{◌≡◌, ℕ, zero, suc, ◌+◌, ◌-◌, ◌*◌, ◌/◌, ◌%◌, ◌<◌, ◌≤◌, Bool, true, false, Some, inl, inr, refl, sym, subst, arith}
 use Rattle.std.proofs.Math.Nat.{suc-mul, zero-mul}
 use Rattle.std.proofs.Math.Bool.{and-false}
 use Rattle.std.proofs.lemmas.Bool.{cases_lt, true≢false}
@@ -9,6 +9,7 @@ use Rattle.device_spec.specs.PitPeriods.{IsAtLoad}
 use Rattle.device_spec.proofs.PitPeriods.{rate_repeats, square_repeats}
 use Rattle.pit_8254.specs.Quiet.{rises_of}
 use Rattle.pit_8254.specs.Runs.{IsPart, IsAtPeriod}
+use Rattle.pit_8254.specs.NextRise.{IsFirstRise}
 use Rattle.pit_8254.specs.declared.counting.running.Run.{Run}
 use Rattle.pit_8254.proofs.Runs.{pulses_of-add, rises_of-add}
 
@@ -39,6 +40,7 @@ one_rise gate j a c is =
 
 record Period (gate : Bool) (c : CounterState) : Type 0 where
   again : pulses_of gate c.in_use c ≡ c
+  not_yet : rises_of gate (c.in_use - 1) c ≡ 0
   once : rises_of gate c.in_use c ≡ 1
 
 to_period : (gate : Bool) (a : ℕ) (c : CounterState) → IsPeriod gate c.in_use a c → Period gate c
@@ -47,6 +49,7 @@ to_period gate a c is =
     let more : c.in_use ≡ suc (c.in_use - 1) = omega arith in
     record {
       again = is.again;
+      not_yet = none_yet gate c.in_use a c is (c.in_use - 1) (omega arith);
       once =
           subst (λ (m : ℕ). rises_of gate m c ≡ 1) (sym more)
           (one_rise gate (c.in_use - 1) a c (subst (λ (m : ℕ). IsPeriod gate m a c) more is));
@@ -78,6 +81,13 @@ one_period HardwareStrobe c periodic least load = absurd (true≢false (sym peri
 
 its_period : (gate : Bool) (c : CounterState) → IsAtPeriod gate c → Period gate c
 its_period gate c is = rw is.gate_on (one_period c.mode c is.periodic is.least is.load)
+
+-- from its first pulse on, OUT rises at its end
+pub period_rises : (gate : Bool) (c : CounterState) → IsAtPeriod gate c → IsFirstRise gate c (Some c.in_use)
+period_rises gate c is =
+    let one = its_period gate c is in
+    let least = is.least in
+    (omega arith, one.not_yet, one.once)
 
 -- ---- many periods
 

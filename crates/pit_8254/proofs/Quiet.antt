@@ -56,7 +56,7 @@ lowered_few notation k e h =
     let test : nat_lt e k ≡ false = grind (arith, nat_tests) in
     rw test refl
 
-end_out : (c : CounterState) (e : ℕ) → c.out ≡ true → count_to_end (with_element c e) ≡ with_element c (low c.notation e)
+pub end_out : (c : CounterState) (e : ℕ) → c.out ≡ true → count_to_end (with_element c e) ≡ with_element c (low c.notation e)
 unfolding count_to_end count_down
 end_out c e h = rw h (same_cond CounterState _ _)
 
@@ -64,7 +64,7 @@ end_early : (c : CounterState) (e : ℕ) → (low c.notation e == 0) ≡ false �
 unfolding count_to_end count_down
 end_early c e h = rw h refl
 
-strobe_past : (c : CounterState) (e : ℕ) → c.expired ≡ true → count_to_strobe (with_element c e) ≡ with_element c (low c.notation e)
+pub strobe_past : (c : CounterState) (e : ℕ) → c.expired ≡ true → count_to_strobe (with_element c e) ≡ with_element c (low c.notation e)
 unfolding count_to_strobe count_down
 strobe_past c e h = rw (h, and-false (low c.notation e == 0)) refl
 
@@ -80,7 +80,7 @@ reload_counts c e h =
     let next_not : (e - 1 == 1) ≡ false = grind (arith, nat_tests) in
     rw (one_not, zero_not, next_not) refl
 
-half_counts : (c : CounterState) (e : ℕ) → (e == half_end c) ≡ false → count_half (with_element c e) ≡ with_element c (e - 2)
+pub half_counts : (c : CounterState) (e : ℕ) → (e == half_end c) ≡ false → count_half (with_element c e) ≡ with_element c (e - 2)
 unfolding count_half
 half_counts c e h = rw h refl
 
@@ -89,24 +89,28 @@ half_counts c e h = rw h refl
 before_zero : (e j : ℕ) → j < e / 2 + e % 2 → (e - 2 * j == 0) ≡ false
 before_zero e j h = let more : 0 < e - 2 * j = omega arith in grind (arith, nat_tests)
 
+-- an odd CE, and CE 0, pass 2 by
+pub past_two : (e j : ℕ) → (e % 2 == 0 && nat_lt 0 e) ≡ false → (e - 2 * j == 2) ≡ false
+past_two e j odd = elim (cases_Bool (e % 2 == 0)) [
+  | inl whole ↦
+      let none : nat_lt 0 e ≡ false = rw whole at odd in
+      let zero_is : e ≡ 0 = grind (arith, nat_tests) in
+      rw zero_is (grind (arith, nat_tests))
+  | inr half ↦
+      let one : e % 2 ≡ 1 = grind (arith, nat_tests) in
+      elim (cases_Bool (e - 2 * j == 2)) [
+        | inl there ↦ let two : e - 2 * j ≡ 2 = grind (arith, nat_tests) in absurd (omega arith)
+        | inr not_there ↦ not_there
+      ]
+]
+
 before_two : (e j : ℕ) → j < pulses_in_half 2 e → (e - 2 * j == 2) ≡ false
 before_two e j h = elim (cases_Bool (e % 2 == 0 && nat_lt 0 e)) [
   | inl even ↦
       let sooner : j < e / 2 - 1 = rw even at h in
       let more : 2 < e - 2 * j = omega arith in
       grind (arith, nat_tests)
-  | inr odd ↦ elim (cases_Bool (e % 2 == 0)) [
-    | inl whole ↦
-        let none : nat_lt 0 e ≡ false = rw whole at odd in
-        let zero_is : e ≡ 0 = grind (arith, nat_tests) in
-        rw zero_is (grind (arith, nat_tests))
-    | inr half ↦
-        let one : e % 2 ≡ 1 = grind (arith, nat_tests) in
-        elim (cases_Bool (e - 2 * j == 2)) [
-          | inl there ↦ let two : e - 2 * j ≡ 2 = grind (arith, nat_tests) in absurd (omega arith)
-          | inr not_there ↦ not_there
-        ]
-  ]
+  | inr odd ↦ past_two e j odd
 ]
 
 before_half : (odd : Bool) (e j : ℕ) → j < pulses_in_half (cond odd 0 2) e → (e - 2 * j == cond odd 0 2) ≡ false
@@ -115,7 +119,7 @@ before_half false e j h = before_two e j h
 
 -- ---- one quiet pulse of a counter that counts
 
-lowers : (c : CounterState) (j : ℕ) (d : CounterState) → d ≡ with_element c (low c.notation (lowered c.notation j c.element)) →
+pub lowers : (c : CounterState) (j : ℕ) (d : CounterState) → d ≡ with_element c (low c.notation (lowered c.notation j c.element)) →
     d ≡ with_element c (lowered c.notation (suc j) c.element)
 lowers c j d is = is ∙ ap (with_element c) (lowered_more c.notation j c.element)
 
@@ -170,7 +174,7 @@ no_rise : (level : Bool) → rise level level ≡ 0
 no_rise true = refl
 no_rise false = refl
 
-runs_quiet : (gate : Bool) (c : CounterState) (f : ℕ → ℕ) (n : ℕ) → f 0 ≡ c.element →
+pub runs_quiet : (gate : Bool) (c : CounterState) (f : ℕ → ℕ) (n : ℕ) → f 0 ≡ c.element →
     ((j : ℕ) → j < n → pulse gate (with_element c (f j)) ≡ with_element c (f (suc j))) →
     (k : ℕ) → k ≤ n → Quietly gate k c (with_element c (f k))
 unfolding pulses_of rises_of
@@ -182,7 +186,7 @@ runs_quiet gate c f n start next (suc k) h =
       rose = rw (before.rose, before.state, next k (omega arith)) (omega (arith, no_rise c.out));
     }
 
-first_element_after : (mode : Mode) (notation : Notation) (e : ℕ) → element_after mode notation 0 e ≡ e
+pub first_element_after : (mode : Mode) (notation : Notation) (e : ℕ) → element_after mode notation 0 e ≡ e
 first_element_after TerminalCount notation e = lowered_few notation 0 e (omega arith) ∙ omega arith
 first_element_after OneShot notation e = lowered_few notation 0 e (omega arith) ∙ omega arith
 first_element_after RateGenerator notation e = lowered_few notation 0 e (omega arith) ∙ omega arith

@@ -1,3 +1,4 @@
 pub mod View
 pub mod Quiet
 pub mod Runs
+pub mod NextRise

@@ -14,6 +14,19 @@ abbrev pub HasCount : Mode → Option ℕ → (asked started : Bool) → Type 0
 HasCount mode None asked started = (asked ≡ false) × (started ≡ false)
 HasCount mode (Some n) asked started = least_count mode ≤ n
 
+-- no count is above 65,536, which is M in binary
+abbrev pub most_count : ℕ
+most_count = 65536
+
+abbrev pub IsFew : Option ℕ → Type 0
+IsFew None = Unit {0}
+IsFew (Some n) = n ≤ most_count
+
+pub record IsBounded (element in_use : ℕ) (count : Option ℕ) : Type 0 where
+  pub of_element : element ≤ most_count
+  pub of_use : in_use ≤ most_count
+  pub of_count : IsFew count
+
 -- ---- pulses
 
 -- a pulse is quiet where it changes nothing but CE

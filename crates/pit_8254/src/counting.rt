@@ -5,6 +5,7 @@ ghost use Rattle.pit_8254.specs.View.{mode_view, access_view, notation_view, lat
 ghost use Rattle.pit_8254.specs.Quiet.{least_count};
 
 mod pulsing;
+mod rising;
 mod running;
 
 use crate::latch::CountLatch;
@@ -36,7 +37,7 @@ pub struct Counter {
 impl Model for Counter {
     ghost use Rattle.device_spec.specs.Pit.{CounterState};
     ghost use Rattle.pit_8254.specs.View.{mode_view, access_view, notation_view, latch_view};
-    ghost use Rattle.pit_8254.specs.Quiet.{HasCount};
+    ghost use Rattle.pit_8254.specs.Quiet.{HasCount, IsBounded};
 
     ghost Value = { CounterState };
 
@@ -60,7 +61,8 @@ impl Model for Counter {
       trigger = c.trigger;
     } };
 
-    ghost invariant = { λ c. HasCount (mode_view c.mode) c.count c.load_asked c.started };
+    ghost invariant = { λ c.
+        HasCount (mode_view c.mode) c.count c.load_asked c.started × IsBounded c.element c.in_use c.count };
 }
 
 impl Counter {
@@ -283,6 +285,7 @@ impl Counter {
     fn count_of_bytes(&self, low: u8, high: u8) -> u32
         ensures count { result ≡ count_of_bytes self.now.mode self.now.notation low high }
         ensures least { least_count self.now.mode ≤ result }
+        ensures most { result ≤ 65536 }
     {
         let notation = self.notation;
         let number = notation.byte_value(low) + notation.byte_values() * notation.byte_value(high);

@@ -3,8 +3,9 @@
 //! `device_spec` describes the chip in the terms of its datasheet, and each call of a `Pit` is one step of it.
 #![tactic(auto)]
 
-ghost use Rattle.std.specs.Prelude.{◌≡◌, ◌+◌, ◌<◌, ◌≤◌};
+ghost use Rattle.std.specs.Prelude.{◌≡◌, ◌+◌, ◌<◌, ◌≤◌, IfSome};
 ghost use Rattle.device_spec.specs.Pit.{IsTimerPort, reset, port_read, port_write, read_back_chosen, write_control, set_gate2, out_of, pulses, rises};
+ghost use Rattle.pit_8254.specs.NextRise.{IsNextRise};
 
 mod counting;
 mod latch;
@@ -184,6 +185,36 @@ impl Pit {
             rose,
             out0: self.counter0.out(),
         }
+    }
+
+    /// How many pulses until OUT of counter 0 next rises, if nothing is written before. None where it never does.
+    pub fn pulses_to_rise(&self) -> Option<u32>
+        ensures rise { IsNextRise self.now result }
+        ensures bound { IfSome result (λ n. n ≤ 131073) }
+    {
+        self.pulses_to_rise_by::<Brand>(Blank::new(1))
+    }
+
+    /// The same, for the ledger that a blank opens.
+    fn pulses_to_rise_by<L: Ledger>(&self, blank: Blank) -> Option<u32>
+        requires name { blank.name ≡ L.name }
+        requires parts { blank.parts ≡ L.parts }
+        requires some_part { 0 < L.parts }
+        ensures rise { IsNextRise self.now result }
+        ensures bound { IfSome result (λ n. n ≤ 131073) }
+    {
+        let mut steps = Steps::<L>::new(blank);
+        self.pulses_to_rise_counted(&mut steps)
+    }
+
+    /// How many pulses until OUT of counter 0 next rises, as `pulses_to_rise` says, in at most three steps however
+    /// many they are.
+    pub fn pulses_to_rise_counted<L: Ledger>(&self, steps: &mut Steps<L>) -> Option<u32>
+        ensures rise { IsNextRise self.now result }
+        ensures bound { IfSome result (λ n. n ≤ 131073) }
+        ensures steps { steps.new ≤ steps.old + 3 }
+    {
+        self.counter0.pulses_to_rise(true, steps)
     }
 
     /// The level of OUT of counter 0, 1 or 2.

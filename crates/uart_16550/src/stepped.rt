@@ -13,6 +13,7 @@ ghost use Rattle.uart_16550.specs.Resets.{is_reset};
 
 use addr_decode::MapChange;
 use board_base::PortAccess;
+use board_chipset::Chipset;
 use board_core::Board;
 use board_spec::{Event, Reply};
 
@@ -83,4 +84,30 @@ impl SteppedBoard for Board {
     }
 
     ghost fewer = { λ board n room. le_trans (le-add_right n 1) room };
+}
+
+impl SteppedBoard for Chipset {
+    ghost use Rattle.board_chipset.specs.Chipset.{IsLeftBy};
+    ghost use Rattle.board_chipset.specs.Versions.{IsAnswerModulo};
+
+    ghost setup = { λ chipset. chipset.setup };
+
+    // Looks tell the version of the map modulo 2^32.
+    ghost is_answer = { IsAnswerModulo };
+
+    ghost is_left_by = { IsLeftBy };
+
+    ghost has_room = { λ chipset n. Unit {0} };
+
+    fn step(&mut self, actor: u8, event: &Event) -> Reply {
+        // It keeps no history, and so no numbers of processors.
+        let _ = actor;
+        Chipset::step(self, event)
+    }
+
+    fn resets_hard(&self, access: &PortAccess) -> bool {
+        is_reset(self.map_change(&Event::Port(*access)))
+    }
+
+    ghost fewer = { λ chipset n room. tt };
 }

@@ -12,12 +12,12 @@ use board_base::Steps;
 use std::sync::ledger::Ledger;
 
 /// As many pulses as can be asked for at once.
-const EVERY_PULSE: u32 = u32::MAX;
+pub(super) const EVERY_PULSE: u32 = u32::MAX;
 
 impl Counter {
     /// How many of the pulses that come next change nothing but CE, with the gate at this level.
     #[tactic(auto, using(crate::proofs::Quiet::are_quiet), unfolding(crate::specs::Quiet::quiet_pulses))]
-    fn quiet_pulses(&self, gate: bool) -> u32
+    pub(super) fn quiet_pulses(&self, gate: bool) -> u32
         ensures number { result ≡ quiet_pulses gate self.now }
         ensures quiet { (k : ℕ) → k < result → IsQuiet gate (pulses_of gate k self.now) }
     {
@@ -96,7 +96,7 @@ impl Counter {
 
     /// Takes CE down by this many quiet pulses.
     #[tactic(auto, unfolding(crate::specs::Quiet::after_quiet))]
-    fn pass_quietly(&mut self, gate: bool, pulses: u32)
+    pub(super) fn pass_quietly(&mut self, gate: bool, pulses: u32)
         ensures state { self.new ≡ after_quiet gate pulses self.old }
     {
         if self.counts(gate) {
@@ -137,7 +137,7 @@ impl Counter {
     }
 
     /// Makes one pulse of those that are left.
-    fn step<L: Ledger>(&mut self, gate: bool, run: Run, steps: &mut Steps<L>) -> Run
+    pub(super) fn step<L: Ledger>(&mut self, gate: bool, run: Run, steps: &mut Steps<L>) -> Run
         requires some { 0 < run.left }
         requires room { HasRoom run }
         ensures part { IsPart gate self.old self.new run result }

@@ -4,7 +4,6 @@ use Rattle.map_tests.proofs.flat_map.changes_move_spans.Given as goal
 abbrev pub invariant-loop-change : goal.invariant-loop-change
 invariant-loop-change g l = record {
   fifteen : length l.change-items ≡ 15;
-  map : l.map.version ≡ l.change-index;
   count : l.version ≡ l.change-index;
 }
 

@@ -1,13 +1,12 @@
-use Rattle.std.proofs.Common.{subst}
-use Rattle.board_spec.specs.Registers.{byte_of}
-use Rattle.board_spec.specs.FlatMap.{IsFlatMapOf}
-use Rattle.board_core.specs.Kept.{Standing}
+use Rattle.std.proofs.Common.{◌∙◌, ap, sym}
+use Rattle.board_chipset.proofs.Exact.{few_versions as same_versions}
+use Rattle.board_core.proofs.Boards.{few_versions}
 use Rattle.board_core.proofs.board.Board.map.Goals as goal
 
-pub returns-clause-map : goal.returns-clause-map
-returns-clause-map c =
-    let inside = c.self.inside in
-    let registers = c.self.invariant.board.registers in
-    subst (λ (board : Standing). IsFlatMapOf board.setup
-    (byte_of board.setup board.entries) inside.chipset.registers.map.ranges)
-    c.self.view_is (registers.flat inside.setup (byte_of inside.setup inside.history.entries) registers.kept.map)
+pub returns-clause-version : goal.returns-clause-version
+returns-clause-version c =
+    let board = c.self.inside in
+    let kept = c.self.invariant in
+    rw (← c.self.view_is)
+    (c.map.ensures.version board.history.entries kept.left
+    ∙ same_versions board.chipset.setup board.history.entries (few_versions kept))

@@ -1,6 +1,8 @@
 use Rattle.std.proofs.Common.{◌≡◌, ◌-◌, ◌++◌, length, replicate, ◌∙◌}
 use Rattle.std.specs.Vec.{with_items}
 use Rattle.std.proofs.lemmas.List.{with_items_is}
+use Rattle.board_base.specs.Access.{bytes_of}
+use Rattle.board_spec.specs.Bits.{byte}
 use Rattle.dram_store.specs.Bank.{page_end}
 use Rattle.dram_store.proofs.BankLemmas.{put_in_kept}
 use Rattle.dram_store.proofs.bank.Bank.write.Goals as goal
@@ -14,5 +16,5 @@ returns-clause-bytes c =
     let whole : (with_items c.keep_page.new.kept c.write_at.new.bytes).items ≡ c.write_at.new.bytes =
     with_items_is c.keep_page.new.kept c.write_at.new.bytes (c.write_at.ensures.length ∙ c.deref_mut.ensures.len) in
     rw (whole, ← c.self.view_is)
-    (put_in_kept kept c.write_at.new.bytes count c.args.at c.args.width c.args.value
+    (put_in_kept kept c.write_at.new.bytes count c.args.at (bytes_of c.args.width) (byte c.args.value)
     (rw (← grown) c.write_at.ensures.bytes))

@@ -2,16 +2,19 @@ use Rattle.std.proofs.Common.{◌≡◌, ◌≤◌, ◌<◌, ◌/◌, ℕ, [], l
 use Rattle.std.specs.List.{concat}
 use Rattle.std.proofs.lemmas.List.{get_or_read}
 use Rattle.std.proofs.lemmas.List.Elements.{All-get_or}
+use Rattle.board_base.specs.Access.{bytes_of}
+use Rattle.board_spec.specs.Bits.{byte}
 use Rattle.dram_store.specs.Bank.{bank_size, IsBank}
-use Rattle.dram_store.proofs.ConcatLemmas.{bank_at, banks_length, same_length, changed}
-use Rattle.dram_store.proofs.DramLemmas.{IsWritten, lost, stored}
+use Rattle.dram_store.specs.Dram.{IsWritten}
+use Rattle.dram_store.proofs.ConcatLemmas.{bank_at, banks_length, same_length, changed, aligned_fits}
+use Rattle.dram_store.proofs.DramLemmas.{lost, stored}
 use Rattle.dram_store.proofs.dram.Dram.write.Goals as goal
 use Rattle.dram_store.proofs.dram.Dram.write.Goals.{in-Some, in_default}
 
 -- the bytes after the write, and how many they are
 written :
     (c : goal.Joined-get_mut) →
-    IsWritten c.args.self.now c.args.addr c.args.width c.args.value (concat c.match-get_mut.self-inside.banks.items)
+    IsWritten c.args.self.now c.args.addr (bytes_of c.args.width) (byte c.args.value) (concat c.match-get_mut.self-inside.banks.items)
     × (length (concat c.match-get_mut.self-inside.banks.items) ≡ length c.args.self.now)
 written c =
     let banks = c.self.inside.banks.items in
@@ -24,8 +27,8 @@ written c =
           let is : IsBank w.write.new.self =
           w.write.ensures.length ∙ rw found (All-get_or IsBank banks bank [] inside c.self.invariant.each) in
           rw (w.self-inside-is, ← c.self.view_is) (
-            changed banks w.write.new.self c.args.addr c.args.width c.args.value c.self.invariant.each is inside
-                c.requires.aligned (rw (← found) w.write.ensures.bytes),
+            changed banks w.write.new.self c.args.addr (bytes_of c.args.width) (byte c.args.value) c.self.invariant.each is
+                inside (aligned_fits c.args.addr c.args.width c.requires.aligned) (rw (← found) w.write.ensures.bytes),
             same_length banks c.args.addr w.write.new.self c.self.invariant.each is,
           )
       | in_default w ↦
@@ -33,7 +36,7 @@ written c =
           let past : length (concat banks) ≤ c.args.addr =
           omega (arith, none, banks_length banks c.self.invariant.each) in
           rw (w.self-inside-is, ← c.self.view_is)
-          (lost (concat banks) c.args.addr c.args.width c.args.value past, refl)
+          (lost (concat banks) c.args.addr (bytes_of c.args.width) (byte c.args.value) past, refl)
     ]
 
 pub returns-clause-bytes : goal.returns-clause-bytes

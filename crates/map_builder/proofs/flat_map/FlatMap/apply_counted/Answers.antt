@@ -7,11 +7,11 @@ use Rattle.pci_bars.specs.Cards.{AreCardsOf, cards_of}
 use Rattle.addr_decode.specs.MapRegs.{StandsFor, map_bytes}
 use Rattle.addr_decode.specs.Edges.{edges_after}
 use Rattle.map_builder.specs.declared.range.Changed.{Changed}
-use Rattle.map_builder.specs.Map.{Mapped, range_of}
+use Rattle.map_builder.specs.Map.{Mapped, next_version, range_of}
 use Rattle.map_builder.specs.Changed.{after, bounds, changed_windows, from_to}
 use Rattle.map_builder.specs.Build.{IsMapWhere, IsBeside}
 use Rattle.map_builder.specs.Sorted.{rows_in, sorted, Rise}
-use Rattle.map_builder.proofs.ChangeLemmas.{board_after, build_rise, build_few, build_beside, keeps_byte, pushed_found, AreFound, KeepsByte}
+use Rattle.map_builder.proofs.ChangeLemmas.{board_after, build_rise, build_few, build_beside, are_changed, keeps_byte, pushed_found, AreFound, KeepsByte}
 use Rattle.map_builder.proofs.flat_map.FlatMap.apply_counted.Given.{Over}
 use Rattle.map_builder.proofs.flat_map.FlatMap.apply_counted.Goals.{After-choose_windows}
 use Rattle.map_builder.proofs.flat_map.FlatMap.apply_counted.Goals as goal
@@ -86,11 +86,19 @@ returns-clause-applied g c = record {
   cards = λ setup bytes are.
       c.apply.ensures.cards setup bytes (subst (λ (flat : Mapped). AreCardsOf setup bytes flat.regs.cards) (sym c.self.view_is) are);
   same_cards = c.apply.ensures.same_cards ∙ ap (λ (flat : Mapped). cards_of flat.regs.cards) c.self.view_is;
-  version = ap (λ (flat : Mapped). flat.version + 1) c.self.view_is;
+  version = ap (λ (flat : Mapped). next_version flat.version) c.self.view_is;
   map = c.rebuild.ensures.map;
   changed = λ setup bytes stands.
       let windows = found g (goal.at.returns-clause-applied g c).After-choose_windows setup bytes (stood _ c.args.self.now setup bytes c.self.view_is stands) in
       c.unwrap_or.ensures ∙ ap (λ (it : Option Changed). unwrap_or it (from_to 0 0)) (c.bounds_of.ensures.bounds ∙ ap bounds c.as_slice-3.ensures.items ∙ windows.bounds_same);
+  windows = λ setup bytes stands.
+      let board = c.self.invariant.board in
+      let chosen = (goal.at.returns-clause-applied g c).After-choose_windows in
+      let here = stood _ c.args.self.now setup bytes c.self.view_is stands in
+      are_changed (map_bytes c.self.inside.regs) (map_bytes c.apply.new.self) c.args.change.now board
+      (c.apply.ensures.stands board.setup board.bytes board.stands) c.as_slice.result.now c.choose_windows.new.chosen.items c.is_same_byte-kept.result
+      (sorted_found g chosen) (keeps g chosen) c.choose_windows.ensures.none c.choose_windows.ensures.others c.choose_windows.ensures.rows
+      setup bytes here (c.apply.ensures.stands setup bytes here);
 }
 
 pub returns-clause-rows : goal.returns-clause-rows

@@ -1,0 +1,166 @@
+-- What an access at a port writes, by what it reaches.
+use Rattle.std.proofs.Common.{◌≡◌, ℕ, ◌+◌, ◌%◌, ◌≤◌, true, false, ◌&&◌, List, [], ◌∷◌, Option, Some, None, refl, sym, subst, arith, inl, inr}
+use Rattle.std.specs.Prelude.{◌==◌, unwrap_or, option_map, is_some}
+use Rattle.std.proofs.lemmas.Bool.{cases_Bool, and_parts, cond_both}
+use Rattle.std.proofs.lemmas.Bool.Decides.{nat_tests}
+use Rattle.board_base.specs.declared.access.Width.{Width}
+use Rattle.board_base.specs.declared.access.Width.TheVariants.{One, Two, Four}
+use Rattle.board_base.specs.declared.access.PortAccess.{PortAccess}
+use Rattle.board_base.specs.declared.target.Reg.{Reg}
+use Rattle.board_base.specs.declared.target.Dev.TheVariants.{Confadd as AddressPort, Reset, Keyboard}
+use Rattle.board_base.specs.declared.target.Target.{Target}
+use Rattle.board_base.specs.declared.target.Target.TheVariants.{Card, Device, Config, Abort}
+use Rattle.board_base.specs.Access.{bytes_of, largest_of}
+use Rattle.board_spec.specs.declared.event.Event.TheVariants.{Port}
+use Rattle.board_spec.specs.declared.event.Entry.{Entry}
+use Rattle.board_spec.specs.declared.map_change.MapChange.{MapChange}
+use Rattle.board_spec.specs.declared.map_change.MapChange.TheVariants.{Store}
+use Rattle.board_spec.specs.Setup.{Setup}
+use Rattle.board_spec.specs.PortNames.{config_address_port, reset_control_port}
+use Rattle.board_spec.specs.RegisterTable.{function_exists}
+use Rattle.board_spec.specs.Registers.{kept_address, config_address, is_hard_reset, is_enabled, bus_of, device_of, function_of, register_of, is_config_port, config_register, byte_of}
+use Rattle.cfg_ports.proofs.AddressLemmas.{kept_address-again, kept_address-low_bits, within_space}
+use Rattle.board_chipset.specs.declared.state.State.{State}
+use Rattle.board_chipset.specs.Ports.{reached, Reaching, IsEntryOf, Writes}
+use Rattle.board_chipset.proofs.Reach.{IsBeside, IsReached, reaches}
+
+-- ---- what an access writes
+
+abbrev pub control_at : Target → PortAccess → Option ℕ
+control_at (Device Reset) access = Some access.value
+control_at _ access = None
+
+abbrev pub address_at : Target → PortAccess → Option ℕ
+address_at (Device AddressPort) access = Some access.value
+address_at _ access = None
+
+abbrev pub store_at : Target → PortAccess → Option MapChange
+store_at (Config reg) access = Some (Store reg access.width access.value)
+store_at _ access = None
+
+data_apart : (port : ℕ) → is_config_port port ≡ true →
+    ((port == reset_control_port) ≡ false) × ((port == config_address_port) ≡ false)
+data_apart port is = (grind (arith, nat_tests), grind (arith, nat_tests))
+
+abbrev pub Reached : Setup → List Entry → PortAccess → Target → Type 0
+Reached setup history access target =
+    IsReached setup (byte_of setup history) (config_address history) access.port access.width target
+
+module _ (setup : Setup) (history : List Entry) (access : PortAccess) where
+  pub reads_only : access.write ≡ false → Writes setup history (Port access) None None None
+  reads_only reads = record { control_is = rw reads refl; address_is = rw reads refl; store_is = rw reads refl }
+
+  pub writes_beside : IsBeside setup (config_address history) access.port access.width →
+      Writes setup history (Port access) None None None
+  writes_beside by = record {
+    control_is = elim (cases_Bool access.write)
+        [ inl writes ↦ rw (writes, by.control) refl | inr reads ↦ rw reads refl ];
+    address_is = elim (cases_Bool access.write)
+        [ inl writes ↦ rw (writes, by.address_port) refl | inr reads ↦ rw reads refl ];
+    store_is = cond_both (access.write && is_config_port access.port) _ None
+        (λ (store : Option MapChange). store ≡ None)
+        (λ both. rw (by.config (and_parts access.write _ both).1) refl) (λ _. refl);
+  }
+
+  pub writes_at : (target : Target) → access.write ≡ true → Reached setup history access target →
+      Writes setup history (Port access) (control_at target access) (address_at target access) (store_at target access)
+  writes_at (Device AddressPort) writes at = record {
+    control_is = rw (writes, at.0) refl;
+    address_is = rw (writes, at.0, at.1) refl;
+    store_is = rw (writes, at.0) refl;
+  }
+  writes_at (Device Reset) writes at = record {
+    control_is = rw (writes, at.0, at.1) refl;
+    address_is = rw (writes, at.0) refl;
+    store_is = rw (writes, at.0) refl;
+  }
+  writes_at (Device Keyboard) writes at = writes_beside at
+  writes_at (Device dev) writes at = writes_beside at.0
+  writes_at (Config reg) writes at =
+      let apart = data_apart access.port at.0 in
+      record {
+        control_is = rw (writes, apart.0) refl;
+        address_is = rw (writes, apart.1) refl;
+        store_is = rw (writes, at.0, at.1) refl;
+      }
+  writes_at (Card dev base off) writes at = writes_beside at.0
+  writes_at Abort writes at = writes_beside at
+  writes_at _ writes at = absurd at
+
+pub fits_byte : (width : Width) (value : ℕ) → bytes_of width ≡ 1 → value ≤ largest_of width → value ≤ 0xFF
+fits_byte One value byte fits = fits
+fits_byte Two value byte fits = absurd (omega arith)
+fits_byte Four value byte fits = absurd (omega arith)
+
+-- ---- the configuration address, and the register that it names
+
+low_bits : (written : Option ℕ) (old : ℕ) → old % 4 ≡ 0 → unwrap_or (option_map kept_address written) old % 4 ≡ 0
+low_bits None old is = is
+low_bits (Some value) old is = kept_address-low_bits (kept_address value) (kept_address-again value)
+
+address_low : (history : List Entry) → config_address history % 4 ≡ 0
+unfolding config_address
+address_low [] = refl
+address_low (entry ∷ before) =
+    cond_both (is_hard_reset before entry.event) 0 _ (λ (address : ℕ). address % 4 ≡ 0) (λ _. refl)
+    (λ _. low_bits _ (config_address before) (address_low before))
+
+-- by the parts of the address
+pub record IsNamed (setup : Setup) (address port : ℕ) (reg : Reg) : Type 0 where
+  pub exists' : function_exists setup 0 reg.dev reg.fun ≡ true
+  pub off : reg.off ≡ register_of address + port % 4
+
+named_by : (setup : Setup) (address port : ℕ) (reg : Reg) →
+    function_exists setup (bus_of address) (device_of address) (function_of address) ≡ true →
+    record { dev = device_of address; fun = function_of address; off = register_of address + port % 4 } ≡ reg →
+    IsNamed setup address port reg
+named_by setup address port reg exists' is =
+    record { exists' = rw (← is) (and_parts (bus_of address == 0) _ exists').1; off = rw (← is) refl }
+
+pub named : (setup : Setup) (address port : ℕ) (reg : Reg) → config_register setup address port ≡ Some reg →
+    IsNamed setup address port reg
+named setup address port reg is =
+    let exists' = function_exists setup (bus_of address) (device_of address) (function_of address) in
+    cond_both (is_enabled address && exists') _ _
+    (λ (found : Option Reg). found ≡ Some reg → IsNamed setup address port reg)
+    (λ both same. named_by setup address port reg (and_parts (is_enabled address) _ both).1 (cc))
+    (λ _ none. absurd (cc)) is
+
+-- an access to a register that an address names stays within its function
+pub within_function :
+    (setup : Setup) (history : List Entry) (port : ℕ) (width : Width) (reg : Reg) → port % bytes_of width ≡ 0 →
+    config_register setup (config_address history) port ≡ Some reg → reg.off + bytes_of width ≤ 0x100
+within_function setup history port width reg aligned is =
+    rw ((named setup (config_address history) port reg is).off)
+    (within_space (config_address history) port (register_of (config_address history)) (port % 4) width
+    (address_low history) refl refl aligned)
+
+-- ---- what an entry tells
+
+pub target_reached :
+    (setup : Setup) (history : List Entry) (access : PortAccess) (target : Target) →
+    target ≡ (reached setup history access).target → Reached setup history access target
+target_reached setup history access target is =
+    subst (Reached setup history access) (sym is)
+    (reaches setup (byte_of setup history) (config_address history) (is_some setup.disk) access.port access.width)
+
+pub reached_in :
+    {state : State} {access : PortAccess} {target : Target} → (reaching : Reaching state access target) →
+    Reached reaching.kept.setup reaching.kept.history access target
+reached_in {state} {access} {target} reaching =
+    target_reached reaching.kept.setup reaching.kept.history access target reaching.target_is
+
+pub entry_reached :
+    {setup : Setup} {history : List Entry} {access : PortAccess} {target shown : Target} {entry : Entry} →
+    target ≡ shown →
+    IsEntryOf setup history access target entry → Reached setup history access shown
+entry_reached {setup} {history} {access} same is =
+    subst (Reached setup history access) same (target_reached setup history access _ is.target_is)
+
+pub entry_writes :
+    {setup : Setup} {history : List Entry} {access : PortAccess} {target shown : Target} {entry : Entry} →
+    target ≡ shown →
+    access.write ≡ true → IsEntryOf setup history access target entry →
+    Writes setup history entry.event (control_at shown access) (address_at shown access) (store_at shown access)
+entry_writes {setup} {history} {access} {target} {shown} same writes is =
+    rw (is.event) (writes_at setup history access shown writes (entry_reached same is))

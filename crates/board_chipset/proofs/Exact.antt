@@ -1,0 +1,60 @@
+-- Answers, and answers in which the version of a look is counted modulo 2^32.
+use Rattle.std.proofs.Common.{◌≡◌, ℕ, Bool, ◌%◌, ◌<◌, ◌≤◌, List, length, refl, ◌∙◌, arith}
+use Rattle.board_base.specs.declared.access.Kind.{Kind}
+use Rattle.board_spec.specs.declared.event.Event.{Event}
+use Rattle.board_spec.specs.declared.event.Event.TheVariants.{Memory, Wide, Port, Look as LookAt, Ack, Pulses, Time, Wire, Line, BadSector}
+use Rattle.board_spec.specs.declared.event.Reply.{Reply}
+use Rattle.board_spec.specs.declared.event.Reply.TheVariants.{Bus, Parts, Saw}
+use Rattle.board_spec.specs.declared.event.Entry.{Entry}
+use Rattle.board_spec.specs.Limits.{entry_limit}
+use Rattle.board_spec.specs.Setup.{Setup}
+use Rattle.board_spec.specs.MapWrites.{version_of}
+use Rattle.board_spec.specs.Answer.{IsAnswer}
+use Rattle.board_chipset.specs.Versions.{version_count, IsAnswerModulo}
+use Rattle.board_chipset.proofs.MapVersions.{few_writes}
+
+-- the answer to an event that is no look
+pub modulo : (setup : Setup) (history : List Entry) (event : Event) (reply : Reply) →
+    ((kind : Kind) (addr : ℕ) (smm : Bool) → event ≡ LookAt kind addr smm → ⊥) →
+    IsAnswer setup history event reply → IsAnswerModulo setup history event reply
+modulo setup history (LookAt kind addr smm) reply not is = absurd (not kind addr smm refl)
+modulo setup history (Memory access) reply not is = is
+modulo setup history (Wide access) reply not is = is
+modulo setup history (Port access) reply not is = is
+modulo setup history Ack reply not is = is
+modulo setup history (Pulses count) reply not is = is
+modulo setup history (Time moment) reply not is = is
+modulo setup history (Wire dev on) reply not is = is
+modulo setup history (Line line on) reply not is = is
+modulo setup history (BadSector sector) reply not is = is
+
+-- so few versions are the same modulo 2^32
+pub few_versions : (setup : Setup) (history : List Entry) → version_of setup history < version_count →
+    version_of setup history % version_count ≡ version_of setup history
+few_versions setup history few = omega (arith, few)
+
+pub few_entries : (setup : Setup) (history : List Entry) → length history < entry_limit →
+    version_of setup history < version_count
+few_entries setup history few = omega (arith, few, few_writes setup history)
+
+seen : (setup : Setup) (history : List Entry) (reply : Reply) (kind : Kind) (addr : ℕ) (smm : Bool) →
+    version_of setup history < version_count → IsAnswerModulo setup history (LookAt kind addr smm) reply →
+    IsAnswer setup history (LookAt kind addr smm) reply
+seen setup history (Saw look) kind addr smm few is =
+    record { version = is.version ∙ few_versions setup history few; span = is.span }
+seen setup history (Bus value target denial) kind addr smm few is = absurd is
+seen setup history (Parts parts value) kind addr smm few is = absurd is
+
+pub exactly : (setup : Setup) (history : List Entry) (event : Event) (reply : Reply) →
+    version_of setup history < version_count →
+    IsAnswerModulo setup history event reply → IsAnswer setup history event reply
+exactly setup history (LookAt kind addr smm) reply few is = seen setup history reply kind addr smm few is
+exactly setup history (Memory access) reply few is = is
+exactly setup history (Wide access) reply few is = is
+exactly setup history (Port access) reply few is = is
+exactly setup history Ack reply few is = is
+exactly setup history (Pulses count) reply few is = is
+exactly setup history (Time moment) reply few is = is
+exactly setup history (Wire dev on) reply few is = is
+exactly setup history (Line line on) reply few is = is
+exactly setup history (BadSector sector) reply few is = is

@@ -1,0 +1,145 @@
+-- What an access reaches has the bytes that it asks for.
+use Rattle.std.proofs.Common.{◌≡◌, ℕ, ◌+◌, ◌%◌, ◌^◌, ◌≤◌, Bool, true, false, ◌&&◌, not, List, [], ◌∷◌, length, Option, Some, None, inl, inr, refl, sym, arith}
+use Rattle.std.specs.Prelude.{is_some, unwrap_or, option_map}
+use Rattle.board_base.specs.declared.access.Kind.{Kind}
+use Rattle.board_base.specs.declared.access.Width.{Width}
+use Rattle.board_base.specs.declared.access.Width.TheVariants.{One, Two, Four}
+use Rattle.board_base.specs.declared.access.Access.{Access}
+use Rattle.board_base.specs.declared.target.Dev.{Dev}
+use Rattle.board_base.specs.declared.target.Reg.{Reg}
+use Rattle.board_base.specs.declared.target.Area.{Area}
+use Rattle.board_base.specs.declared.target.Area.TheVariants.{Dram as DramArea, Shadow as ShadowArea, Smram as SmramArea, Rom as RomArea, Card as CardArea, Abort as AbortArea}
+use Rattle.board_base.specs.declared.target.Target.{Target}
+use Rattle.board_base.specs.declared.target.Target.TheVariants.{Device, Config, Card, Abort}
+use Rattle.board_base.specs.Access.{bytes_of}
+use Rattle.board_spec.specs.declared.event.Part.{Part}
+use Rattle.board_spec.specs.declared.event.Entry.{Entry}
+use Rattle.board_spec.specs.Setup.{Setup, IsRomSize}
+use Rattle.board_spec.specs.InRange.{IsBusAccess}
+use Rattle.board_spec.specs.Stored.{is_write}
+use Rattle.board_spec.specs.RegisterNames.{fdhc, smram, xbcs}
+use Rattle.board_spec.specs.Ranges.{lies_in, upper_memory}
+use Rattle.board_spec.specs.Registers.{byte_of, config_address}
+use Rattle.board_spec.specs.Decode.{Bytes, Window, first_of, line_where, card_area, row_of, hole_of, is_in, is_smram_range, is_shadowed, smram_answers, is_rom_selected, memory_claim, area_of}
+use Rattle.board_spec.specs.Answer.{window_bits, target_at, part_answer}
+use Rattle.pci_bars.specs.Cards.{AreFitted}
+use Rattle.pci_bars.specs.Contents.{LiesIn}
+use Rattle.pci_bars.proofs.WindowLemmas.{IsSized, memory_claim_sized, io_claim_sized, lies_in_window}
+use Rattle.addr_decode.proofs.CardLemmas.{fitted_list}
+use Rattle.board_stores.specs.Targets.{IsStored, IsHeld}
+use Rattle.board_stores.specs.Ready.{IsReady}
+use Rattle.board_chipset.specs.declared.state.State.{State}
+use Rattle.board_chipset.specs.Kept.{IsStateOf}
+use Rattle.board_chipset.proofs.Reach.{IsReached}
+
+-- ---- memory
+
+-- a card answers where one of its windows claims the address
+abbrev IsClaim : Option Window → ℕ → ℕ → Type 0
+IsClaim claim dev base = (window : Window) × (claim ≡ Some window) × (window.dev ≡ dev) × (window.base ≡ base)
+
+last_line : (claim : Option Window) (dev base : ℕ) →
+    first_of (option_map card_area claim ∷ []) AbortArea ≡ CardArea dev base → IsClaim claim dev base
+last_line None dev base is = cc
+last_line (Some window) dev base is = (window, refl, cc, cc)
+
+claim_line :
+    (smram shadow dram rom : Bool) (row : ℕ) (claim : Option Window) (dev base : ℕ) →
+    first_of
+    (line_where smram SmramArea ∷ line_where shadow (ShadowArea row) ∷ line_where dram (DramArea row)
+    ∷ line_where rom RomArea ∷ option_map card_area claim ∷ [])
+    AbortArea
+    ≡ CardArea dev base →
+    IsClaim claim dev base
+claim_line true shadow dram rom row claim dev base is = cc
+claim_line false true dram rom row claim dev base is = cc
+claim_line false false true rom row claim dev base is = cc
+claim_line false false false true row claim dev base is = cc
+claim_line false false false false row claim dev base is = last_line claim dev base is
+
+claimed :
+    (setup : Setup) (bytes : Bytes) (addr : ℕ) (kind : Kind) (smm : Bool) (dev base : ℕ) →
+    area_of setup bytes addr kind smm ≡ CardArea dev base →
+    IsClaim (memory_claim setup bytes addr) dev base
+unfolding area_of
+claimed setup bytes addr kind smm dev base is =
+    claim_line
+    (is_smram_range addr && is_some (row_of bytes addr) && smram_answers (bytes smram) kind smm)
+    (is_some (row_of bytes addr) && is_shadowed bytes addr kind)
+    (not (lies_in upper_memory addr) && is_some (row_of bytes addr) && not (is_in (hole_of (bytes fdhc)) addr))
+    (is_rom_selected (bytes xbcs) addr)
+    (unwrap_or (row_of bytes addr) 0) (memory_claim setup bytes addr) dev base is
+
+-- an aligned access ends within the ROM
+rom_within : (addr size : ℕ) (width : Width) → IsRomSize size → addr % bytes_of width ≡ 0 →
+    addr % size + bytes_of width ≤ size
+rom_within addr size One (inl is) aligned = rw is (omega arith)
+rom_within addr size Two (inl is) aligned = rw is (omega arith)
+rom_within addr size Four (inl is) aligned = rw is (omega arith)
+rom_within addr size One (inr (inl is)) aligned = rw is (omega arith)
+rom_within addr size Two (inr (inl is)) aligned = rw is (omega arith)
+rom_within addr size Four (inr (inl is)) aligned = rw is (omega arith)
+rom_within addr size One (inr (inr (inl is))) aligned = rw is (omega arith)
+rom_within addr size Two (inr (inr (inl is))) aligned = rw is (omega arith)
+rom_within addr size Four (inr (inr (inl is))) aligned = rw is (omega arith)
+rom_within addr size One (inr (inr (inr is))) aligned = rw is (omega arith)
+rom_within addr size Two (inr (inr (inr is))) aligned = rw is (omega arith)
+rom_within addr size Four (inr (inr (inr is))) aligned = rw is (omega arith)
+
+lies_in_base :
+    (setup : Setup) (contents : List (List ℕ)) (window : Window) (dev base place : ℕ) (width : Width) →
+    IsSized setup window → window.dev ≡ dev →
+    window.base ≡ base → LiesIn contents window.dev window.base (place % 2 ^ window.bits) width →
+    LiesIn contents dev base (place % 2 ^ window_bits setup dev base) width
+lies_in_base setup contents window dev base place width sized device number lies =
+    rw (← device, ← number, ← sized.bits) lies
+
+module _ {setup : Setup} {history : List Entry} {state : State} (kept : IsStateOf setup history state) where
+  cards_fitted : AreFitted state.registers.map.regs.cards
+  cards_fitted =
+      fitted_list state.registers.map.regs.cards setup.cards (sym kept.registers.kept.cards.0) kept.fits.cards
+
+  held_in :
+      (addr : ℕ) (width : Width) (area : Area) → addr % bytes_of width ≡ 0 →
+      ((dev base : ℕ) → area ≡ CardArea dev base → IsClaim (memory_claim setup (byte_of setup history) addr) dev base) →
+      IsHeld setup.rom state.stores.contents (target_at setup area addr) width
+  held_in addr width RomArea aligned claim = rom_within addr (length setup.rom) width kept.fits.rom aligned
+  held_in addr width (CardArea dev base) aligned claim =
+      let by = claim dev base refl in
+      let sized : IsSized setup by.0 =
+      memory_claim_sized setup (byte_of setup history) state.registers.map.regs.cards addr by.0 cards_fitted.each
+      kept.registers.kept.map.cards by.1 in
+      lies_in_base setup state.stores.contents by.0 dev base addr width sized by.2 by.3
+      (lies_in_window setup state.stores.contents by.0 addr width sized kept.stores.contents.sizes aligned)
+  held_in addr width _ aligned claim = tt
+
+  pub ready :
+      {rom : List ℕ} {access : Access} {answer : Part} → setup.rom ≡ rom →
+      IsBusAccess (is_write access.kind) access.addr access.width access.value →
+      answer ≡ part_answer setup history access →
+      IsReady rom state.stores.contents access answer
+  unfolding part_answer
+  ready {rom} {access} image bus is = record {
+    bus = bus;
+    held = rw (is, ← image)
+        (held_in access.addr access.width (area_of setup (byte_of setup history) access.addr access.kind access.smm)
+        bus.aligned
+        (λ dev base card. claimed setup (byte_of setup history) access.addr access.kind access.smm dev base card));
+  }
+
+  pub stored_target :
+      (port : ℕ) (width : Width) (target : Target) → port % bytes_of width ≡ 0 →
+      IsReached setup (byte_of setup history) (config_address history) port width target →
+      ((dev : Dev) → target ≡ Device dev → ⊥) → ((reg : Reg) → target ≡ Config reg → ⊥) →
+      IsStored state.stores.contents target width
+  stored_target port width (Device dev) aligned is device config = absurd (device dev refl)
+  stored_target port width (Config reg) aligned is device config = absurd (config reg refl)
+  stored_target port width (Card dev base off) aligned is device config =
+      let window : Window = is.1.0 in
+      let sized : IsSized setup window =
+      io_claim_sized setup (byte_of setup history) state.registers.map.regs.cards port window cards_fitted.each
+      kept.registers.kept.map.cards is.1.1 in
+      rw (← is.1.2, ← is.1.3, ← is.1.4)
+      (lies_in_window setup state.stores.contents window port width sized kept.stores.contents.sizes aligned)
+  stored_target port width Abort aligned is device config = tt
+  stored_target port width _ aligned is device config = absurd is

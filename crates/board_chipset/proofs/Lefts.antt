@@ -1,0 +1,28 @@
+-- What a history leaves, in the words that contracts see.
+use Rattle.std.proofs.Common.{◌≡◌, ℕ, List, sym, subst}
+use Rattle.board_spec.specs.declared.event.Event.{Event}
+use Rattle.board_spec.specs.declared.event.Entry.{Entry}
+use Rattle.board_spec.specs.Setup.{Setup}
+use Rattle.board_spec.specs.InRange.{IsInRange}
+use Rattle.board_chipset.specs.declared.state.State.{State}
+use Rattle.board_chipset.specs.Kept.{CanDo, IsStateOf}
+use Rattle.board_chipset.specs.Chipset.{Running, IsLeftBy, IsLeft}
+
+pub left_by : {setup : Setup} {history : List Entry} {state : State} → IsStateOf setup history state →
+    IsLeftBy (record { setup = setup; state = state }) history
+unfolding IsLeftBy
+left_by is = is
+
+-- the state of a chipset, where the chipset is seen as this
+pub state_of : {chipset : Running} {setup : Setup} {state : State} {history : List Entry} →
+    record { setup = setup; state = state } ≡ chipset → IsLeftBy chipset history → IsStateOf setup history state
+unfolding IsLeftBy
+state_of same left = rw (← same) at left
+
+pub can_do : (chipset : Running) (setup : Setup) (state : State) (rom : List ℕ) (event : Event) →
+    record { setup = setup; state = state } ≡ chipset → setup.rom ≡ rom →
+    IsLeft chipset → IsInRange chipset.setup event → CanDo state rom event
+can_do chipset setup state rom event same image (history, left) in_range = record {
+  kept = record { setup = setup; history = history; of = state_of same left; image = image };
+  in_range = subst (λ (it : Running). IsInRange it.setup event) (sym same) in_range;
+}

@@ -1,0 +1,15 @@
+pub mod Reach
+pub mod Effects
+pub mod MapVersions
+pub mod RegisterSteps
+pub mod StoreSteps
+pub mod HeldTargets
+pub mod StateSteps
+pub mod WideSteps
+pub mod PortSteps
+pub mod OutsideSteps
+pub mod MemorySteps
+pub mod ChangeSteps
+pub mod Lefts
+pub mod Openings
+pub mod Exact

@@ -1,0 +1,60 @@
+-- Events for the devices alone: they write no register and store nothing.
+use Rattle.std.proofs.Common.{◌≡◌, ◌≤◌, true, List, [], ◌∷◌, None, refl, sym, ◌∙◌, subst, inl, inr, ℕ}
+use Rattle.std.specs.Prelude.{◌==◌, All, find, is_some}
+use Rattle.std.proofs.lemmas.Bool.{cases_Bool, eqb-true}
+use Rattle.std.proofs.lemmas.List.Elements.{All-head, All-tail}
+use Rattle.board_spec.specs.declared.event.Event.{Event}
+use Rattle.board_spec.specs.declared.event.Event.TheVariants.{Memory, Wide, Port, Look as LookAt}
+use Rattle.board_spec.specs.declared.event.Reply.{Reply}
+use Rattle.board_spec.specs.declared.event.Entry.{Entry}
+use Rattle.board_spec.specs.Setup.{Setup, FittedCard, IsCard, IsSetup, card_at}
+use Rattle.board_spec.specs.Stored.{Cell, entry_put}
+use Rattle.board_devices.specs.Devices.{DevicesValue, AreDevicesOf, AreRoutesOf}
+use Rattle.board_devices.specs.Events.{Asks}
+use Rattle.board_chipset.specs.declared.state.State.{State}
+use Rattle.board_chipset.specs.Kept.{IsStateOf}
+use Rattle.board_chipset.specs.Ports.{Writes}
+use Rattle.board_chipset.specs.Steps.{IsForDevices}
+use Rattle.board_chipset.proofs.StateSteps.{soft, devices_move}
+use Rattle.board_chipset.proofs.RegisterSteps.{writes_none}
+
+puts_nothing : (event : Event) (reply : Reply) (cell : Cell) → IsForDevices event → entry_put event reply cell ≡ None
+puts_nothing (Memory access) reply cell is = absurd is
+puts_nothing (Wide access) reply cell is = absurd is
+puts_nothing (Port access) reply cell is = absurd is
+puts_nothing (LookAt kind addr smm) reply cell is = absurd is
+puts_nothing _ reply cell is = refl
+
+-- the state after such an event, by what it makes of the devices
+pub outside_done :
+    {setup : Setup} {history : List Entry} {entry : Entry} {event : Event} {old : State} {devices : DevicesValue} →
+    entry.event ≡ event → IsForDevices event → IsStateOf setup history old →
+    (Asks history entry event → AreRoutesOf setup (entry ∷ history) old.registers.south.routes →
+    AreDevicesOf setup (entry ∷ history) devices) →
+    IsStateOf setup (entry ∷ history) (record old { devices = devices })
+outside_done {setup} {history} {entry} {event} is for_devices kept after =
+    let none : Writes setup history entry.event None None None =
+    writes_none setup history entry.event (λ access same. subst IsForDevices (sym is ∙ same) for_devices) in
+    devices_move kept none (λ cell. rw is (puts_nothing event entry.reply cell for_devices))
+    (after (record { event_is = is; soft = soft none }))
+
+-- ---- a wire leads from a card that is fitted
+
+pub record IsDevice (dev : ℕ) : Type 0 where
+  pub low : 2 ≤ dev
+  pub high : dev ≤ 9
+
+fitted_in : (cards : List FittedCard) (dev : ℕ) → All IsCard cards →
+    is_some (find (λ card. card.dev == dev) cards) ≡ true → IsDevice dev
+fitted_in [] dev each some = absurd (cc)
+fitted_in (first ∷ later) dev each some =
+    elim (cases_Bool (first.dev == dev)) [
+      | inl here ↦
+          let is = All-head IsCard first later each in
+          let same : first.dev ≡ dev = eqb-true _ _ here in
+          record { low = rw (← same) is.first; high = rw (← same) is.last }
+      | inr not ↦ fitted_in later dev (All-tail IsCard first later each) (rw not at some)
+    ]
+
+pub fitted_device : (setup : Setup) (dev : ℕ) → IsSetup setup → is_some (card_at setup dev) ≡ true → IsDevice dev
+fitted_device setup dev fits some = fitted_in setup.cards dev fits.cards.each some

@@ -1,0 +1,146 @@
+-- The state after an access at a port.
+use Rattle.std.proofs.Common.{◌≡◌, ◌≢◌, ℕ, true, false, List, ◌∷◌, Option, None, refl, ◌∙◌, ap}
+use Rattle.std.proofs.lemmas.Bool.{cond_both}
+use Rattle.board_base.specs.declared.access.Width.{Width}
+use Rattle.board_base.specs.declared.access.PortAccess.{PortAccess}
+use Rattle.board_base.specs.declared.target.Reg.{Reg}
+use Rattle.board_base.specs.declared.target.Dev.{Dev}
+use Rattle.board_base.specs.declared.target.Dev.TheVariants.{Confadd as AddressPort, Reset, Keyboard}
+use Rattle.board_base.specs.declared.target.Target.{Target}
+use Rattle.board_base.specs.declared.target.Target.TheVariants.{Device, Config, Card, Abort}
+use Rattle.board_base.specs.Access.{bytes_of}
+use Rattle.board_spec.specs.declared.event.Entry.{Entry}
+use Rattle.board_spec.specs.declared.event.Reply.{Reply}
+use Rattle.board_spec.specs.Setup.{Setup}
+use Rattle.board_spec.specs.Registers.{config_address, is_hard_reset}
+use Rattle.board_spec.specs.Stored.{Cell, entry_put, byte_put, port_put}
+use Rattle.board_spec.specs.Devices.{device_in, device_reached}
+use Rattle.board_spec.specs.Interrupts.{device_value}
+use Rattle.board_spec.specs.Ports.{Decoded}
+use Rattle.board_spec.specs.Answer.{port_value, bus_reply, port_answer}
+use Rattle.board_devices.specs.Devices.{DevicesValue, AreDevicesOf, AreRoutesOf}
+use Rattle.board_devices.specs.Events.{is_port_of, is_chip, PassesBy, Reaches}
+use Rattle.board_devices.specs.Laws.{LeavesDevices}
+use Rattle.board_stores.specs.declared.stores.Stores.{Stores}
+use Rattle.board_stores.specs.Puts.{ArePut}
+use Rattle.board_chipset.specs.declared.registers.Registers.{Registers}
+use Rattle.board_chipset.specs.declared.state.State.{State}
+use Rattle.board_chipset.specs.Kept.{HasRegisters, IsStateOf}
+use Rattle.board_chipset.specs.Ports.{reached, IsEntryOf, Writes}
+use Rattle.board_chipset.proofs.Reach.{IsBeside}
+use Rattle.board_chipset.proofs.Effects.{Reached, reads_only, writes_beside, entry_reached}
+use Rattle.board_chipset.proofs.StoreSteps.{stores_stay}
+use Rattle.board_chipset.proofs.StateSteps.{soft, state_after, state_put, state_stays, devices_move}
+
+-- ---- targets
+
+abbrev pub IsNoDevice : Target → Type 0
+IsNoDevice target = (dev : Dev) → target ≡ Device dev → ⊥
+
+abbrev pub IsNoRegister : Target → Type 0
+IsNoRegister target = (reg : Reg) → target ≡ Config reg → ⊥
+
+pub no_chip : (target : Target) → IsNoDevice target → is_chip (device_in target) ≡ false
+no_chip (Device dev) none = absurd (none dev refl)
+no_chip _ none = refl
+
+pub beside_of : (setup : Setup) (history : List Entry) (access : PortAccess) (target : Target) → IsNoDevice target →
+    IsNoRegister target →
+    Reached setup history access target → IsBeside setup (config_address history) access.port access.width
+beside_of setup history access (Device dev) device config is = absurd (device dev refl)
+beside_of setup history access (Config reg) device config is = absurd (config reg refl)
+beside_of setup history access (Card dev base off) device config is = is.0
+beside_of setup history access Abort device config is = is
+beside_of setup history access _ device config is = absurd is
+
+-- a device with ports of its own
+pub record IsChipAt (setup : Setup) (history : List Entry) (access : PortAccess) (dev : Dev) : Type 0 where
+  pub beside : IsBeside setup (config_address history) access.port access.width
+  pub port : is_port_of dev access.port (bytes_of access.width) ≡ true
+
+pub chip_at : (setup : Setup) (history : List Entry) (access : PortAccess) (dev : Dev) → dev ≢ AddressPort →
+    dev ≢ Reset → dev ≢ Keyboard →
+    Reached setup history access (Device dev) → IsChipAt setup history access dev
+chip_at setup history access AddressPort address control keyboard is = absurd (address refl)
+chip_at setup history access Reset address control keyboard is = absurd (control refl)
+chip_at setup history access Keyboard address control keyboard is = absurd (keyboard refl)
+chip_at setup history access _ address control keyboard is = record { beside = is.0; port = is.1 }
+
+pub chip_value : (setup : Setup) (history : List Entry) (dev : Dev) (port : ℕ) (width : Width) → dev ≢ AddressPort →
+    dev ≢ Reset → dev ≢ Keyboard →
+    device_value setup history dev port width ≡ port_value setup history dev port width
+chip_value setup history AddressPort port width address control keyboard = absurd (address refl)
+chip_value setup history Reset port width address control keyboard = absurd (control refl)
+chip_value setup history Keyboard port width address control keyboard = absurd (keyboard refl)
+chip_value setup history _ port width address control keyboard = refl
+
+-- ---- the state after an entry
+
+module _ {setup : Setup} {history : List Entry} {access : PortAccess} {target : Target} {entry : Entry} where
+  pub passes : IsEntryOf setup history access target entry → is_chip (device_in target) ≡ false →
+      PassesBy entry.event (device_reached entry.reply)
+  passes is none = rw (is.event, is.reply) none
+
+  puts : IsEntryOf setup history access target entry →
+      (cell : Cell) → entry_put entry.event entry.reply cell ≡ port_put access target cell
+  puts is cell = rw (is.event, is.reply) refl
+
+  pub puts_none : IsEntryOf setup history access target entry →
+      ((cell : Cell) → byte_put target access.port access.width access.value cell ≡ None) →
+      (cell : Cell) → entry_put entry.event entry.reply cell ≡ None
+  puts_none is none cell =
+      puts is cell ∙ cond_both access.write _ None (λ (byte : Option ℕ). byte ≡ None) (λ _. none cell) (λ _. refl)
+
+  -- a read that reaches no chip changes nothing
+  pub read_stays : {state : State} → LeavesDevices → access.write ≡ false → is_chip (device_in target) ≡ false →
+      IsStateOf setup history state → IsEntryOf setup history access target entry →
+      IsStateOf setup (entry ∷ history) state
+  read_stays law reads none kept is =
+      state_stays law kept (rw (is.event) (reads_only setup history access reads)) (passes is none)
+      (λ cell. puts is cell ∙ rw reads refl)
+
+  -- a write behind a base of a card, or to nobody
+  pub write_stored : {old : State} {stores : Stores} → LeavesDevices → access.write ≡ true → IsNoDevice target →
+      IsNoRegister target →
+      ArePut (byte_put target access.port access.width access.value) old.stores stores → IsStateOf setup history old →
+      IsEntryOf setup history access target entry → IsStateOf setup (entry ∷ history) (record old { stores = stores })
+  write_stored law writes device config put kept is =
+      let by = beside_of setup history access target device config (entry_reached refl is) in
+      state_put law kept (rw (is.event) (writes_beside setup history access by)) (passes is (no_chip target device))
+      (λ cell. puts is cell ∙ rw writes refl) put
+
+  -- a write of registers that moves no route
+  pub registers_move : {old : State} {registers : Registers} → LeavesDevices → IsStateOf setup history old →
+      IsEntryOf setup history access target entry → is_chip (device_in target) ≡ false →
+      ((cell : Cell) → byte_put target access.port access.width access.value cell ≡ None) →
+      HasRegisters setup (entry ∷ history) registers → registers.south ≡ old.registers.south →
+      is_hard_reset history entry.event ≡ false →
+      IsStateOf setup (entry ∷ history) (record old { registers = registers })
+  registers_move law kept is none puts has south is_soft =
+      state_after law kept has south (stores_stay kept.stores (puts_none is puts)) (passes is none) is_soft
+
+-- the devices after an access at a chip's port
+pub chip_changed :
+    {setup : Setup} {history : List Entry} {access : PortAccess} {dev : Dev} {entry : Entry} {old : State}
+    {devices : DevicesValue} →
+    IsChipAt setup history access dev → IsStateOf setup history old →
+    IsEntryOf setup history access (Device dev) entry →
+    (Reaches history entry dev access → AreRoutesOf setup (entry ∷ history) old.registers.south.routes →
+    AreDevicesOf setup (entry ∷ history) devices) →
+    IsStateOf setup (entry ∷ history) (record old { devices = devices })
+chip_changed {setup} {history} {access} {dev} {entry} at kept is after =
+    let none : Writes setup history entry.event None None None =
+    rw (is.event) (writes_beside setup history access at.beside) in
+    devices_move kept none (puts_none is (λ cell. refl))
+    (after (record { event = is.event; device = rw (is.reply) refl; soft = soft none }))
+
+-- ---- the reply
+
+pub answer_is :
+    (setup : Setup) (history : List Entry) (access : PortAccess) (decoded : Decoded) (reply : Reply) →
+    decoded ≡ reached setup history access →
+    reply ≡ bus_reply setup history access.write decoded.target decoded.denial access.port access.width →
+    reply ≡ port_answer setup history access
+unfolding port_answer
+answer_is setup history access decoded reply is same =
+    same ∙ ap (λ (d : Decoded). bus_reply setup history access.write d.target d.denial access.port access.width) is

@@ -1,0 +1,75 @@
+-- Wide accesses: their cycles can be done.
+use Rattle.std.proofs.Common.{◌≡◌, ℕ, List, [], ◌∷◌, ◌∙◌, true, false, None, Some, refl, ap, arith}
+use Rattle.std.specs.Prelude.{map, All}
+use Rattle.std.proofs.lemmas.List.Elements.{All-head, All-tail, All-cons}
+use Rattle.board_base.specs.declared.access.WideAccess.{WideAccess}
+use Rattle.board_base.specs.declared.access.Access.{Access}
+use Rattle.board_spec.specs.declared.event.Part.{Part}
+use Rattle.board_spec.specs.declared.event.Parts.{Parts}
+use Rattle.board_spec.specs.WideParts.{parts_of, parts_list, joined}
+use Rattle.board_spec.specs.Stored.{Cell, is_write, parts_put}
+use Rattle.board_spec.specs.declared.event.Entry.{Entry}
+use Rattle.board_spec.specs.Setup.{Setup}
+use Rattle.board_spec.specs.PartLaws.{IsPart, AreParts}
+use Rattle.board_spec.specs.Answer.{part_answer, IsWideAnswer, wide_value, value_at, memory_target}
+use Rattle.board_stores.specs.declared.cut.Cycle.{Cycle}
+use Rattle.board_stores.specs.Ready.{IsReady}
+use Rattle.board_stores.specs.Cycles.{accesses, answers, AreReady}
+use Rattle.board_chipset.specs.declared.state.State.{State}
+use Rattle.board_chipset.specs.Kept.{IsStateOf}
+use Rattle.board_chipset.proofs.HeldTargets.{ready}
+
+-- the cycles of a wide access
+module _
+    {setup : Setup} {history : List Entry} {state : State} {rom : List ℕ} (kept : IsStateOf setup history state)
+    (image : setup.rom ≡ rom) (access : WideAccess) where
+  all_ready : (cycles : List Cycle) → All (IsPart access) (accesses cycles) →
+      answers cycles ≡ map (part_answer setup history) (accesses cycles) → AreReady rom state.stores.contents cycles
+  all_ready [] each is = λ k d within. absurd (omega arith)
+  all_ready (cycle ∷ later) each is =
+      let first = All-head (IsPart access) cycle.access (accesses later) each in
+      let here : cycle.answer ≡ part_answer setup history cycle.access = cc in
+      let rest : answers later ≡ map (part_answer setup history) (accesses later) = cc in
+      All-cons (λ (it : Cycle). IsReady rom state.stores.contents it.access it.answer) cycle later
+      (ready kept image first.legal here)
+      (all_ready later (All-tail (IsPart access) cycle.access (accesses later) each) rest)
+
+  pub cycles_ready : (cycles : List Cycle) → AreParts access (parts_of access) → accesses cycles ≡ parts_of access →
+      answers cycles ≡ map (part_answer setup history) (parts_of access) → AreReady rom state.stores.contents cycles
+  cycles_ready cycles parts is decoded = all_ready cycles (rw is parts.each) (rw is decoded)
+
+pub all_write : (access : WideAccess) (cycles : List Cycle) → is_write access.kind ≡ true →
+    All (IsPart access) (accesses cycles) →
+    All (λ cycle. is_write cycle.access.kind ≡ true) cycles
+all_write access [] writes each = λ k d within. absurd (omega arith)
+all_write access (cycle ∷ later) writes each =
+    let first = All-head (IsPart access) cycle.access (accesses later) each in
+    All-cons (λ (it : Cycle). is_write it.access.kind ≡ true) cycle later (ap is_write first.kind ∙ writes)
+    (all_write access later writes (All-tail (IsPart access) cycle.access (accesses later) each))
+
+-- parts that read put nothing
+pub parts_none : (access : WideAccess) (parts : List Access) (replies : List Part) (cell : Cell) →
+    is_write access.kind ≡ false → All (IsPart access) parts →
+    parts_put parts replies cell ≡ None
+unfolding parts_put
+parts_none access [] replies cell reads each = refl
+parts_none access (part ∷ later) [] cell reads each = refl
+parts_none access (part ∷ later) (reply ∷ replies) cell reads each =
+    let first = All-head (IsPart access) part later each in
+    let here : is_write part.kind ≡ false = ap is_write first.kind ∙ reads in
+    rw (here, parts_none access later replies cell reads (All-tail (IsPart access) part later each)) refl
+
+pub write_answer : (setup : Setup) (history : List Entry) (access : WideAccess) (parts : Parts) →
+    is_write access.kind ≡ true →
+    parts_list parts ≡ map (part_answer setup history) (parts_of access) → IsWideAnswer setup history access None parts
+unfolding wide_value
+write_answer setup history access parts writes each = record { value_is = rw writes refl; each = each }
+
+pub read_answer : (setup : Setup) (history : List Entry) (access : WideAccess) (parts : Parts) (value : ℕ) →
+    is_write access.kind ≡ false →
+    parts_list parts ≡ map (part_answer setup history) (parts_of access) →
+    value ≡ joined (λ part. value_at setup history (memory_target setup history part) part.addr part.width)
+    (parts_of access) →
+    IsWideAnswer setup history access (Some value) parts
+unfolding wide_value
+read_answer setup history access parts value reads each is = record { value_is = rw (reads, is) refl; each = each }

@@ -1,0 +1,36 @@
+use Rattle.std.proofs.Common.{◌≡◌, ◌∙◌, ◌∷◌, sym, refl}
+use Rattle.board_spec.specs.declared.event.Entry.{Entry}
+use Rattle.board_chipset.proofs.Lefts.{can_do, left_by, state_of}
+use Rattle.board_chipset.proofs.Exact.{exactly}
+use Rattle.board_chipset.proofs.chipset.Chipset.step.Goals as goal
+
+pub step-requires : goal.step-requires
+step-requires c = record {
+  can = can_do c.args.self.now c.self.inside.setup c.self.inside.state _ c.args.event.now c.self.view_is
+      (sym c.rom.ensures.bytes) (rw c.self.view_is at c.self.invariant) c.requires.in_range;
+}
+
+pub invariant_of-self : goal.invariant_of-self
+invariant_of-self c =
+    let (history, left) = rw c.self.view_is at c.self.invariant in
+    let entry : Entry = record { actor = 0; seq = 0; event = c.args.event.now; reply = c.step.result } in (
+      entry ∷ history,
+      left_by (c.step.ensures.board c.self.inside.setup history entry (state_of c.self.view_is left)
+          (sym c.rom.ensures.bytes) refl refl),
+    )
+
+pub returns-clause-answer : goal.returns-clause-answer
+returns-clause-answer c = λ history left.
+    rw (← c.self.view_is)
+    (c.step.ensures.answer c.self.inside.setup history (state_of c.self.view_is left) (sym c.rom.ensures.bytes))
+
+pub returns-clause-exact : goal.returns-clause-exact
+returns-clause-exact c = λ history left few.
+    exactly c.args.self.now.setup history c.args.event.now c.step.result few
+    (rw (← c.self.view_is)
+    (c.step.ensures.answer c.self.inside.setup history (state_of c.self.view_is left) (sym c.rom.ensures.bytes)))
+
+pub returns-clause-left : goal.returns-clause-left
+returns-clause-left c = λ history entry left event reply.
+    left_by (c.step.ensures.board c.self.inside.setup history entry (state_of c.self.view_is left)
+    (sym c.rom.ensures.bytes) event reply)

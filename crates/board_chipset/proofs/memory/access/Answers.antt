@@ -1,0 +1,58 @@
+use Rattle.std.proofs.Common.{◌∙◌, refl}
+use Rattle.board_spec.specs.Registers.{byte_of}
+use Rattle.board_stores.proofs.MemoryLemmas.{part_answered}
+use Rattle.board_chipset.proofs.RegisterSteps.{writes_none}
+use Rattle.board_chipset.proofs.StateSteps.{state_put, state_stays}
+use Rattle.board_chipset.proofs.HeldTargets.{ready}
+use Rattle.board_chipset.proofs.MemorySteps.{writes_when, write_answer, read_answer}
+use Rattle.board_chipset.proofs.memory.access.Goals as goal
+
+pub write-requires-clause-ready : goal.write-requires-clause-ready
+write-requires-clause-ready c =
+    let kept = c.requires.kept in
+    let stand = c.regs.ensures.stand kept.setup kept.history kept.of.registers in (
+      c.args.rom.now,
+      ready kept.of kept.image c.requires.bus
+          (part_answered kept.setup kept.history c.args.access.now c.decoded-answer.result
+          (c.decoded-answer.ensures.decoded kept.setup (byte_of kept.setup kept.history) stand kept.image)),
+    )
+
+pub returns-then-is_write-clause-answer : goal.returns-then-is_write-clause-answer
+returns-then-is_write-clause-answer c = λ setup history kept image.
+    write_answer setup history c.args.access.now c.decoded-answer.result
+    (writes_when c.args.access.now.kind c.is_write.result c.is_write.ensures.write ∙ c.if-is_write.true)
+    (part_answered setup history c.args.access.now c.decoded-answer.result
+    (c.decoded-answer.ensures.decoded setup (byte_of setup history) (c.regs.ensures.stand setup history kept.registers)
+    image))
+
+pub returns-then-is_write-clause-board : goal.returns-then-is_write-clause-board
+returns-then-is_write-clause-board c = λ setup history entry kept image event replied.
+    state_put c.law_left_alone.ensures.left kept
+    (writes_none setup history entry.event (λ port is. cc))
+    (rw event tt) (λ cell. rw (event, replied) refl) c.write.ensures.put
+
+pub read-requires : goal.read-requires
+read-requires c =
+    let kept = c.requires.kept in
+    let stand = c.regs.ensures.stand kept.setup kept.history kept.of.registers in
+    record {
+      ready = ready kept.of kept.image c.requires.bus
+          (part_answered kept.setup kept.history c.args.access.now c.decoded-answer.result
+          (c.decoded-answer.ensures.decoded kept.setup (byte_of kept.setup kept.history) stand kept.image));
+    }
+
+pub returns-clause-answer : goal.returns-clause-answer
+returns-clause-answer c = λ setup history kept image.
+    read_answer setup history c.args.access.now c.decoded-answer.result c.read.result
+    (writes_when c.args.access.now.kind c.is_write.result c.is_write.ensures.write ∙ c.if-is_write.false)
+    (part_answered setup history c.args.access.now c.decoded-answer.result
+    (c.decoded-answer.ensures.decoded setup (byte_of setup history) (c.regs.ensures.stand setup history kept.registers)
+    image))
+    (c.read.ensures.value setup history kept.stores image)
+
+pub returns-clause-board : goal.returns-clause-board
+returns-clause-board c = λ setup history entry kept image event replied.
+    let reads = writes_when c.args.access.now.kind c.is_write.result c.is_write.ensures.write ∙ c.if-is_write.false in
+    state_stays c.law_left_alone.ensures.left kept
+    (writes_none setup history entry.event (λ port is. cc))
+    (rw event tt) (λ cell. rw (event, replied, reads) refl)

@@ -1,0 +1,34 @@
+use Rattle.std.proofs.Common.{◌∙◌}
+use Rattle.board_chipset.proofs.OutsideSteps.{outside_done, fitted_device}
+use Rattle.board_chipset.proofs.outside.answer.Goals as goal
+
+pub set_wire-requires : goal.set_wire-requires
+set_wire-requires c =
+    let kept = c.requires.in_range.1.kept in
+    let is = fitted_device kept.setup c.in-Wire.dev kept.of.fits (rw c.in-Wire.is at c.requires.in_range.1.in_range) in
+    record { low = is.low; high = is.high }
+
+pub returns-in-Ack-clause-board : goal.returns-in-Ack-clause-board
+returns-in-Ack-clause-board c = λ setup history entry kept event.
+    outside_done (event ∙ c.in-Ack.is) tt kept (c.acknowledge-vector.ensures.devices setup history entry kept.devices)
+
+pub returns-in-Pulses-clause-board : goal.returns-in-Pulses-clause-board
+returns-in-Pulses-clause-board c = λ setup history entry kept event.
+    outside_done (event ∙ c.in-Pulses.is) tt kept
+    (λ asks _. c.pulses.ensures.devices setup history entry kept.devices asks kept.registers.kept.south.routes)
+
+pub returns-in-Time-clause-board : goal.returns-in-Time-clause-board
+returns-in-Time-clause-board c = λ setup history entry kept event.
+    outside_done (event ∙ c.in-Time.is) tt kept (c.moment.ensures.devices setup history entry kept.devices)
+
+pub returns-in-Wire-clause-board : goal.returns-in-Wire-clause-board
+returns-in-Wire-clause-board c = λ setup history entry kept event.
+    outside_done (event ∙ c.in-Wire.is) tt kept (c.set_wire.ensures.devices setup history entry kept.devices)
+
+pub returns-in-Line-clause-board : goal.returns-in-Line-clause-board
+returns-in-Line-clause-board c = λ setup history entry kept event.
+    outside_done (event ∙ c.in-Line.is) tt kept (c.set_line.ensures.devices setup history entry kept.devices)
+
+pub returns-in-BadSector-clause-board : goal.returns-in-BadSector-clause-board
+returns-in-BadSector-clause-board c = λ setup history entry kept event.
+    outside_done (event ∙ c.in-BadSector.is) tt kept (c.mark_bad.ensures.devices setup history entry kept.devices)

@@ -1,0 +1,42 @@
+use Rattle.std.proofs.Common.{◌∙◌, refl}
+use Rattle.board_chipset.proofs.Effects.{reached_in, entry_reached}
+use Rattle.board_chipset.proofs.PortSteps.{chip_at, chip_value, read_stays, chip_changed}
+use Rattle.board_chipset.proofs.ports.read_device.Goals as goal
+
+pub read-requires-in_default : goal.read-requires-in_default
+read-requires-in_default c =
+    let reaching = c.requires.reaching in
+    record {
+      port = (chip_at reaching.kept.setup reaching.kept.history c.args.access.now c.args.dev
+          c.in_default.not-Confadd c.in_default.not-Reset c.in_default.not-Keyboard
+          (reached_in reaching)).port;
+    }
+
+pub returns-in-Confadd-clause-board : goal.returns-in-Confadd-clause-board
+returns-in-Confadd-clause-board c = λ setup history entry kept is.
+    read_stays c.law_left_alone.ensures.left c.requires.reads (rw c.in-Confadd.is refl) kept is
+
+pub returns-in-Reset-clause-board : goal.returns-in-Reset-clause-board
+returns-in-Reset-clause-board c = λ setup history entry kept is.
+    read_stays c.law_left_alone.ensures.left c.requires.reads (rw c.in-Reset.is refl) kept is
+
+pub returns-in-Keyboard-clause-board : goal.returns-in-Keyboard-clause-board
+returns-in-Keyboard-clause-board c = λ setup history entry kept is.
+    read_stays c.law_left_alone.ensures.left c.requires.reads (rw c.in-Keyboard.is refl) kept is
+
+pub returns-in_default : goal.returns-in_default
+returns-in_default c =
+    let access = c.args.access.now in
+    let dev = c.args.dev in
+    record {
+      value = λ setup history kept.
+          c.read-in_default.ensures.value setup history kept.devices
+          ∙ chip_value setup history dev access.port access.width c.in_default.not-Confadd c.in_default.not-Reset
+          c.in_default.not-Keyboard;
+      board = λ setup history entry kept is.
+          chip_changed
+          (chip_at setup history access dev c.in_default.not-Confadd c.in_default.not-Reset c.in_default.not-Keyboard
+          (entry_reached refl is))
+          kept is (λ reaches. c.read-in_default.ensures.devices setup history entry kept.devices reaches
+          c.requires.reads);
+    }

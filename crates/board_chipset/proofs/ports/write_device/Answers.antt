@@ -1,0 +1,53 @@
+use Rattle.std.proofs.Common.{refl, ap, subst}
+use Rattle.board_base.specs.declared.target.Dev.{Dev}
+use Rattle.board_base.specs.declared.target.Target.TheVariants.{Device}
+use Rattle.board_chipset.specs.Ports.{IsEntryOf}
+use Rattle.board_chipset.proofs.Effects.{reached_in, entry_reached, entry_writes}
+use Rattle.board_chipset.proofs.StateSteps.{soft, state_stays}
+use Rattle.board_chipset.proofs.PortSteps.{chip_at, passes, puts_none, registers_move, chip_changed}
+use Rattle.board_chipset.proofs.ports.write_device.Goals as goal
+
+pub write-requires : goal.write-requires
+write-requires c =
+    let reaching = c.requires.reaching in
+    let access = c.args.access.now in
+    record {
+      port = (chip_at reaching.kept.setup reaching.kept.history access c.args.dev
+          c.in_default.not-Confadd c.in_default.not-Reset c.in_default.not-Keyboard
+          (reached_in reaching)).port;
+      fits = rw c.requires.writes at reaching.bus.fits;
+    }
+
+pub returns-in-Confadd : goal.returns-in-Confadd
+returns-in-Confadd c = record {
+  board = λ setup history entry kept is.
+      let writes = entry_writes (ap (λ (dev : Dev). Device dev) c.in-Confadd.is) c.requires.writes is in
+      registers_move c.law_left_alone.ensures.left kept is (rw c.in-Confadd.is refl) (λ cell. refl)
+      (c.write_address.ensures.registers setup history entry kept.registers writes) c.write_address.ensures.south
+      (soft writes);
+}
+
+pub returns-in-Reset : goal.returns-in-Reset
+returns-in-Reset c = record {
+  board = λ setup history entry kept is.
+      c.write_control.ensures.board setup history entry kept
+      (subst (λ (dev : Dev). IsEntryOf setup history c.args.access.now (Device dev) entry) c.in-Reset.is is);
+}
+
+pub returns-in-Keyboard : goal.returns-in-Keyboard
+returns-in-Keyboard c = record {
+  board = λ setup history entry kept is.
+      state_stays c.law_left_alone.ensures.left kept
+      (entry_writes (ap (λ (dev : Dev). Device dev) c.in-Keyboard.is) c.requires.writes is)
+      (passes is (rw c.in-Keyboard.is refl)) (puts_none is (λ cell. refl));
+}
+
+pub returns-in_default : goal.returns-in_default
+returns-in_default c = record {
+  board = λ setup history entry kept is.
+      chip_changed
+      (chip_at setup history c.args.access.now c.args.dev c.in_default.not-Confadd c.in_default.not-Reset
+      c.in_default.not-Keyboard
+      (entry_reached refl is))
+      kept is (λ reaches. c.write.ensures.devices setup history entry kept.devices reaches c.requires.writes);
+}

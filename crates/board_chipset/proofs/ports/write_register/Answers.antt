@@ -1,0 +1,41 @@
+use Rattle.std.proofs.Common.{◌∷◌, refl, arith}
+use Rattle.board_chipset.specs.Kept.{HasRegisters}
+use Rattle.board_chipset.proofs.Effects.{reached_in, within_function, entry_writes}
+use Rattle.board_chipset.proofs.StoreSteps.{stores_stay}
+use Rattle.board_chipset.proofs.StateSteps.{soft}
+use Rattle.board_chipset.proofs.PortSteps.{passes, puts_none, registers_move}
+use Rattle.board_chipset.proofs.ports.write_register.Goals as goal
+
+pub store-requires : goal.store-requires
+store-requires c =
+    let reaching = c.requires.reaching in
+    let access = c.args.access.now in
+    record {
+      within = within_function reaching.kept.setup reaching.kept.history access.port access.width c.args.reg
+          reaching.bus.aligned (reached_in reaching).1;
+    }
+
+pub returns-then-reg-eq-SOUTH_BRIDGE : goal.returns-then-reg-eq-SOUTH_BRIDGE
+returns-then-reg-eq-SOUTH_BRIDGE c = record {
+  board = λ setup history entry kept is.
+      let writes = entry_writes refl c.requires.writes is in
+      let registers : HasRegisters setup (entry ∷ history) c.store.new.self =
+      c.store.ensures.registers setup history entry kept.registers writes in
+      record {
+        fits = kept.fits;
+        registers = registers;
+        stores = stores_stay kept.stores (puts_none is (λ cell. refl));
+        devices = c.reroute.ensures.devices setup history entry kept.devices
+            (record { passes = passes is refl; soft = soft writes })
+            registers.kept.south.routes;
+      };
+}
+
+pub returns-else-reg-eq-SOUTH_BRIDGE : goal.returns-else-reg-eq-SOUTH_BRIDGE
+returns-else-reg-eq-SOUTH_BRIDGE c = record {
+  board = λ setup history entry kept is.
+      let writes = entry_writes refl c.requires.writes is in
+      registers_move c.law_left_alone.ensures.left kept is refl (λ cell. refl)
+      (c.store.ensures.registers setup history entry kept.registers writes) (c.store.ensures.south (omega arith))
+      (soft writes);
+}

@@ -1,0 +1,52 @@
+use Rattle.std.proofs.Common.{ℕ, ◌∙◌, ap, subst}
+use Rattle.std.specs.Prelude.{if◌then◌else◌, Some, None}
+use Rattle.board_base.specs.declared.target.Target.TheVariants.{Config}
+use Rattle.board_spec.specs.declared.map_change.MapChange.TheVariants.{Reset}
+use Rattle.board_spec.specs.Registers.{is_hard_value}
+use Rattle.board_spec.specs.Ports.{Decoded}
+use Rattle.board_chipset.proofs.Effects.{Reached, target_reached, reads_only, writes_beside, writes_at}
+use Rattle.board_chipset.proofs.PortSteps.{beside_of}
+use Rattle.board_chipset.proofs.ChangeSteps.{changes, by_device}
+use Rattle.board_chipset.proofs.registers.Registers.map_change.Goals as goal
+
+pub returns-then-not-access : goal.returns-then-not-access
+returns-then-not-access c =
+    record {
+      change = λ setup history has fitted. changes
+          (reads_only setup history c.args.access.now c.if-not-access.true);
+    }
+
+pub returns-in-Device : goal.returns-in-Device
+returns-in-Device c = record {
+  change = λ setup history has fitted.
+      let access = c.args.access.now in
+      let at = target_reached setup history access c.decode_port.result.0
+      (ap (λ (decoded : Decoded). decoded.target) (rw fitted at (c.decode_port.ensures.decoded setup history has))) in
+      by_device setup history access c.in-Device.dev c.device_change.result c.if-not-access.false
+      (subst (Reached setup history access) c.in-Device.is at)
+      (λ same. c.device_change.ensures.control same
+      ∙ ap (λ (control : ℕ). if is_hard_value control access.value then Some Reset else None) has.control)
+      c.device_change.ensures.other;
+}
+
+pub returns-in-Config : goal.returns-in-Config
+returns-in-Config c = record {
+  change = λ setup history has fitted.
+      let access = c.args.access.now in
+      let at = target_reached setup history access c.decode_port.result.0
+      (ap (λ (decoded : Decoded). decoded.target) (rw fitted at (c.decode_port.ensures.decoded setup history has))) in
+      c.store_change.ensures.change setup history has
+      ∙ changes
+      (writes_at setup history access (Config c.in-Config.reg) c.if-not-access.false
+      (subst (Reached setup history access) c.in-Config.is at));
+}
+
+pub returns-in_default : goal.returns-in_default
+returns-in_default c = record {
+  change = λ setup history has fitted.
+      let access = c.args.access.now in
+      let at = target_reached setup history access c.decode_port.result.0
+      (ap (λ (decoded : Decoded). decoded.target) (rw fitted at (c.decode_port.ensures.decoded setup history has))) in
+      changes (writes_beside setup history access
+      (beside_of setup history access c.decode_port.result.0 c.in_default.not-Device c.in_default.not-Config at));
+}

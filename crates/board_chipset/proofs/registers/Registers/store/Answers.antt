@@ -1,0 +1,19 @@
+use Rattle.std.proofs.Common.{refl}
+use Rattle.board_spec.specs.Registers.{byte_of}
+use Rattle.board_chipset.proofs.MapVersions.{store_follows}
+use Rattle.board_chipset.proofs.RegisterSteps.{follows}
+use Rattle.board_chipset.proofs.registers.Registers.store.Goals as goal
+
+pub returns-clause-registers : goal.returns-clause-registers
+returns-clause-registers c = λ setup history entry has writes.
+    let bytes = byte_of setup history in
+    follows writes has refl refl
+    (record {
+      map = c.store.ensures.stands setup bytes has.kept.map;
+      cards = c.store.ensures.cards setup bytes has.kept.cards;
+      south = c.store-2.ensures.stored setup bytes has.kept.south;
+    })
+    (c.store.ensures.version setup has.kept.cards.0)
+    (store_follows setup history c.args.reg c.args.width c.args.value
+    (c.store.ensures.windows setup bytes has.kept.map) (c.store.ensures.same_windows setup has.kept.cards.0))
+    c.store.ensures.map

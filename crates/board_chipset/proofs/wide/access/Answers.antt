@@ -1,0 +1,84 @@
+use Rattle.std.proofs.Common.{◌≡◌, ◌∙◌, true, refl}
+use Rattle.board_spec.specs.Stored.{is_write}
+use Rattle.board_spec.specs.WideParts.{parts_of, parts_list}
+use Rattle.board_spec.specs.Registers.{byte_of}
+use Rattle.board_stores.proofs.MemoryLemmas.{parts_answered}
+use Rattle.board_chipset.proofs.RegisterSteps.{writes_none}
+use Rattle.board_chipset.proofs.StateSteps.{state_put, state_stays}
+use Rattle.board_chipset.proofs.MemorySteps.{writes_when}
+use Rattle.board_chipset.proofs.WideSteps.{cycles_ready, all_write, parts_none, write_answer, read_answer}
+use Rattle.board_chipset.proofs.wide.access.Goals as goal
+
+pub write_cycles-requires-clause-ready : goal.write_cycles-requires-clause-ready
+write_cycles-requires-clause-ready c =
+    let kept = c.requires.kept in
+    let decoded = parts_answered kept.setup kept.history (parts_of c.args.access.now) _
+    (c.cycles_of-cut.ensures.decoded kept.setup (byte_of kept.setup kept.history)
+    (c.regs.ensures.stand kept.setup kept.history kept.of.registers) kept.image) in
+    let is = c.as_slice-cycles.ensures.value in (
+      c.args.rom.now,
+      cycles_ready kept.of kept.image c.args.access.now _ (c.law_parts.ensures.cut c.args.access.now c.requires.wide)
+          (rw (← is) at c.cycles_of-cut.ensures.parts) (rw (← is) at decoded),
+    )
+
+pub write_cycles-requires-clause-writes : goal.write_cycles-requires-clause-writes
+write_cycles-requires-clause-writes c =
+    let access = c.args.access.now in
+    let writes : is_write access.kind ≡ true =
+    writes_when access.kind c.is_write.result c.is_write.ensures.write ∙ c.if-is_write.true in
+    let parts = rw (← c.as_slice-cycles.ensures.value) at c.cycles_of-cut.ensures.parts in
+    all_write access c.as_slice-cycles.result.now writes
+    (rw parts (c.law_parts.ensures.cut access c.requires.wide).each)
+
+pub returns-then-is_write-clause-answer : goal.returns-then-is_write-clause-answer
+returns-then-is_write-clause-answer c = λ setup history kept image.
+    let access = c.args.access.now in
+    let decoded = parts_answered setup history (parts_of access) _
+    (c.cycles_of-cut.ensures.decoded setup (byte_of setup history)
+    (c.regs.ensures.stand setup history kept.registers) image) in
+    write_answer setup history access c.parts_of-parts.result
+    (writes_when access.kind c.is_write.result c.is_write.ensures.write ∙ c.if-is_write.true)
+    (c.parts_of-parts.ensures.answers ∙ rw (← c.as_slice-cycles.ensures.value) at decoded)
+
+pub returns-then-is_write-clause-board : goal.returns-then-is_write-clause-board
+returns-then-is_write-clause-board c = λ setup history entry kept image event replied.
+    let parts = rw (← c.as_slice-cycles.ensures.value) at c.cycles_of-cut.ensures.parts in
+    state_put c.law_left_alone.ensures.left kept
+    (writes_none setup history entry.event (λ port is. cc))
+    (rw event tt) (λ cell. rw (event, replied, c.parts_of-parts.ensures.answers, ← parts) refl)
+    c.write_cycles.ensures.put
+
+pub read_cycles-requires-clause-ready : goal.read_cycles-requires-clause-ready
+read_cycles-requires-clause-ready c =
+    let kept = c.requires.kept in
+    let decoded = parts_answered kept.setup kept.history (parts_of c.args.access.now) _
+    (c.cycles_of-cut.ensures.decoded kept.setup (byte_of kept.setup kept.history)
+    (c.regs.ensures.stand kept.setup kept.history kept.of.registers) kept.image) in
+    let is = c.as_slice-cycles.ensures.value in
+    cycles_ready kept.of kept.image c.args.access.now _ (c.law_parts.ensures.cut c.args.access.now c.requires.wide)
+    (rw (← is) at c.cycles_of-cut.ensures.parts) (rw (← is) at decoded)
+
+pub returns-clause-answer : goal.returns-clause-answer
+returns-clause-answer c = λ setup history kept image.
+    let access = c.args.access.now in
+    let is = c.as_slice-cycles.ensures.value in
+    let parts = rw (← is) at c.cycles_of-cut.ensures.parts in
+    let decoded = rw (← is) at
+    (parts_answered setup history (parts_of access) _
+    (c.cycles_of-cut.ensures.decoded setup (byte_of setup history)
+    (c.regs.ensures.stand setup history kept.registers) image)) in
+    read_answer setup history access c.parts_of-parts.result c.read_cycles.result
+    (writes_when access.kind c.is_write.result c.is_write.ensures.write ∙ c.if-is_write.false)
+    (c.parts_of-parts.ensures.answers ∙ decoded)
+    (rw (← parts) (c.read_cycles.ensures.value setup history kept.stores image (rw parts decoded)))
+
+pub returns-clause-board : goal.returns-clause-board
+returns-clause-board c = λ setup history entry kept image event replied.
+    let access = c.args.access.now in
+    state_stays c.law_left_alone.ensures.left kept
+    (writes_none setup history entry.event (λ port is. cc))
+    (rw event tt)
+    (λ cell. rw (event, replied)
+    (parts_none access (parts_of access) (parts_list c.parts_of-parts.result) cell
+    (writes_when access.kind c.is_write.result c.is_write.ensures.write ∙ c.if-is_write.false)
+    (c.law_parts.ensures.cut access c.requires.wide).each))

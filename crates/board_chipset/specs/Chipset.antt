@@ -1,0 +1,18 @@
+-- What contracts see of a chipset. Its history is not kept: it is whatever history leaves a board as the chipset is.
+use Rattle.std.specs.Prelude.{List}
+use Rattle.board_spec.specs.declared.event.Entry.{Entry}
+use Rattle.board_spec.specs.Setup.{Setup}
+use Rattle.board_chipset.specs.declared.state.State.{State}
+use Rattle.board_chipset.specs.Kept.{IsStateOf}
+
+pub record Running : Type 0 where
+  pub setup : Setup
+  pub state : State
+
+-- the chipset is as this history, newest first, leaves a board of its setup
+unfoldable pub IsLeftBy : Running → List Entry → Type 0
+IsLeftBy chipset history = IsStateOf chipset.setup history chipset.state
+
+-- some history left it
+abbrev pub IsLeft : Running → Type 0
+IsLeft chipset = (history : List Entry) × IsLeftBy chipset history

@@ -1,0 +1,50 @@
+-- What a history leaves: the registers, the bytes behind the addresses, and the devices.
+use Rattle.std.specs.Prelude.{ℕ, ◌≡◌, ◌%◌, List}
+use Rattle.board_spec.specs.declared.event.Event.{Event}
+use Rattle.board_spec.specs.declared.event.Entry.{Entry}
+use Rattle.board_spec.specs.Setup.{Setup, IsSetup}
+use Rattle.board_spec.specs.InRange.{IsInRange}
+use Rattle.board_spec.specs.Registers.{reset_control, config_address, byte_of}
+use Rattle.board_spec.specs.MapWrites.{version_of}
+use Rattle.board_spec.specs.Decode.{Bytes}
+use Rattle.board_spec.specs.FlatMap.{IsFlatMapOf}
+use Rattle.addr_decode.specs.MapRegs.{StandsFor}
+use Rattle.map_builder.specs.Map.{Mapped}
+use Rattle.config_regs.specs.Config.{AreKeptOf}
+use Rattle.board_stores.specs.Puts.{HasStores}
+use Rattle.board_devices.specs.Devices.{AreDevicesOf}
+use Rattle.board_chipset.specs.declared.registers.Registers.{Registers}
+use Rattle.board_chipset.specs.declared.state.State.{State}
+use Rattle.board_chipset.specs.Versions.{version_count, AreLastChanged}
+
+-- the ranges of a map are the flat map of every board that has its registers
+abbrev pub IsFlat : Mapped → Type 0
+IsFlat map = (setup : Setup) (bytes : Bytes) → StandsFor setup bytes map.regs → IsFlatMapOf setup bytes map.ranges
+
+-- the registers after a history: the configuration address, the reset control, those in configuration space, and
+-- the memory map of those on which it depends
+pub record HasRegisters (setup : Setup) (history : List Entry) (registers : Registers) : Type 0 where
+  pub address : registers.address ≡ config_address history
+  pub control : registers.control ≡ reset_control history
+  pub kept : AreKeptOf setup (byte_of setup history) registers.map.regs registers.south
+  pub version : registers.map.version ≡ version_of setup history % version_count
+  pub changed : AreLastChanged setup history registers.map.changed
+  pub flat : IsFlat registers.map
+
+pub record IsStateOf (setup : Setup) (history : List Entry) (state : State) : Type 0 where
+  pub fits : IsSetup setup
+  pub registers : HasRegisters setup history state.registers
+  pub stores : HasStores setup history state.stores
+  pub devices : AreDevicesOf setup history state.devices
+
+-- a state of some board and some history
+pub record IsState (state : State) (rom : List ℕ) : Type 0 where
+  pub setup : Setup
+  pub history : List Entry
+  pub of : IsStateOf setup history state
+  pub image : setup.rom ≡ rom
+
+-- an event is in range for such a board
+pub record CanDo (state : State) (rom : List ℕ) (event : Event) : Type 0 where
+  pub kept : IsState state rom
+  pub in_range : IsInRange kept.setup event

@@ -1,0 +1,11 @@
+-- Events for the devices alone.
+use Rattle.board_spec.specs.declared.event.Event.{Event}
+use Rattle.board_spec.specs.declared.event.Event.TheVariants.{Memory, Wide, Port, Look as LookAt}
+
+-- an event is no access and no look: it is for the devices alone
+abbrev pub IsForDevices : Event → Type 0
+IsForDevices (Memory access) = ⊥
+IsForDevices (Wide access) = ⊥
+IsForDevices (Port access) = ⊥
+IsForDevices (LookAt kind addr smm) = ⊥
+IsForDevices _ = Unit {0}

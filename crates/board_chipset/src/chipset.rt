@@ -1,0 +1,140 @@
+//! The chipset: each event is one step, and its reply the answer to the history so far, which is not kept.
+
+ghost use Rattle.std.specs.Prelude.{◌≡◌, ◌<◌, ◌≤◌, ◌%◌, ◌↔◌, List, [], ◌∷◌, length, Err, IfOk};
+ghost use Rattle.board_spec.specs.declared.event.Entry.{Entry};
+ghost use Rattle.board_spec.specs.Limits.{most_card_memory};
+ghost use Rattle.board_spec.specs.Setup.{IsCardList, IsDisk, IsRomSize, memory_of_cards};
+ghost use Rattle.board_spec.specs.InRange.{IsInRange};
+ghost use Rattle.board_spec.specs.Answer.{IsAnswer};
+ghost use Rattle.board_spec.specs.Registers.{byte_of};
+ghost use Rattle.board_spec.specs.MapWrites.{map_change_of, version_of};
+ghost use Rattle.board_spec.specs.FlatMap.{IsFlatMapOf};
+ghost use Rattle.addr_decode.specs.MapRegs.{StandsFor, map_bytes};
+ghost use Rattle.dram_store.specs.Dram.{IsDramOf};
+ghost use Rattle.pci_bars.specs.Contents.{IsContentsOf};
+ghost use Rattle.board_spec.specs.Devices.{disk_of};
+ghost use Rattle.board_chipset.specs.Chipset.{IsLeftBy};
+ghost use Rattle.board_chipset.specs.Versions.{version_count, AreLastChanged, IsAnswerModulo};
+
+use crate::setup::{BoardOpen, Setup};
+use crate::state::State;
+use crate::step::step;
+use crate::store::Store;
+use addr_decode::MapChange;
+use board_spec::{Event, Reply};
+use map_builder::FlatMap;
+use std::alloc::Global;
+use std::marker::Model;
+
+/// A chipset. Contracts see its setup, and by which histories it can be left as it is.
+#[derive(Drop)]
+pub struct Chipset {
+    setup: Setup,
+    state: State,
+}
+
+impl Model for Chipset {
+    ghost use Rattle.board_chipset.specs.Chipset.{Running, IsLeft};
+
+    ghost Value = { Running };
+
+    ghost view = { λ chipset. record { setup = chipset.setup; state = chipset.state } };
+
+    ghost invariant = { λ chipset. IsLeft (record { setup = chipset.setup; state = chipset.state }) };
+}
+
+impl Chipset {
+    /// The chipset of a setup, as after power-on. The memory is 1 to 64 MiB; the cards are at most eight in rising order
+    /// of device, with at most 64 MiB of memory together. BadRom exactly where the ROM is not of 64, 128, 256 or
+    /// 512 KiB, and BadDisk exactly where it is and the disk is not of 1 to 65,536 whole sectors.
+    pub fn open(alloc: Global, setup: Setup) -> Result<Chipset, BoardOpen>
+        requires low { 1 ≤ setup.mib }
+        requires high { setup.mib ≤ 64 }
+        requires cards { IsCardList setup.cards }
+        requires windows { memory_of_cards setup.cards ≤ most_card_memory }
+        ensures fresh { IfOk result (λ chipset. (chipset.setup ≡ setup) × IsLeftBy chipset []) }
+        ensures bad_rom { (result ≡ Err BoardOpen.BadRom) ↔ ¬ IsRomSize (length setup.rom) }
+        ensures bad_disk { (result ≡ Err BoardOpen.BadDisk) ↔ IsRomSize (length setup.rom) × ¬ IsDisk setup.disk }
+    {
+        let state = State::open(alloc, &setup)?;
+        Ok(Chipset { setup, state })
+    }
+
+    /// Does an event, and tells the reply: the answer to the history so far, in which the version of the map that a look
+    /// tells is counted modulo 2^32. It takes no memory.
+    pub fn step(&mut self, event: &Event) -> Reply
+        requires in_range { IsInRange self.old.setup event.now }
+        ensures setup { self.new.setup ≡ self.old.setup }
+        ensures answer { (history : List Entry) → IsLeftBy self.old history
+            → IsAnswerModulo self.old.setup history event.now result }
+        ensures exact { (history : List Entry) → IsLeftBy self.old history
+            → version_of self.old.setup history < version_count → IsAnswer self.old.setup history event.now result }
+        ensures left { (history : List Entry) (entry : Entry) → IsLeftBy self.old history
+            → entry.event ≡ event.now → entry.reply ≡ result → IsLeftBy self.new (entry ∷ history) }
+    {
+        step(&mut self.state, self.setup.rom(), event)
+    }
+
+    /// The change of the memory map that an event would make now: a store to a register that the map depends on, or a
+    /// hard reset. None where it would make none.
+    pub fn map_change(&self, event: &Event) -> Option<MapChange>
+        ensures change { (history : List Entry) → IsLeftBy self.now history
+            → result ≡ map_change_of self.now.setup history event.now }
+    {
+        match event {
+            Event::Port(access) => {
+                let disk = self.state.devices.has_disk();
+                self.state.registers.map_change(access, disk)
+            }
+            _ => None,
+        }
+    }
+
+    /// What the chipset is fitted with.
+    pub fn setup(&self) -> &Setup
+        ensures setup { result.now ≡ self.now.setup }
+    {
+        &self.setup
+    }
+
+    /// The memory map of the registers as they stand. Its version is the number of map writes so far, modulo 2^32: the
+    /// stores to a register that the map depends on, and the hard resets.
+    pub fn map(&self) -> &FlatMap
+        ensures stands { (history : List Entry) → IsLeftBy self.now history
+            → StandsFor self.now.setup (byte_of self.now.setup history) result.now.regs }
+        ensures map { (history : List Entry) → IsLeftBy self.now history
+            → IsFlatMapOf self.now.setup (byte_of self.now.setup history) result.now.ranges }
+        ensures version { (history : List Entry) → IsLeftBy self.now history
+            → result.now.version ≡ version_of self.now.setup history % version_count }
+        ensures changed { (history : List Entry) → IsLeftBy self.now history
+            → AreLastChanged self.now.setup history result.now.changed }
+    {
+        &self.state.registers.map
+    }
+
+    /// The registers and bytes that the history left. It takes no memory.
+    pub fn into_store(self) -> Store
+        ensures regs { (history : List Entry) → IsLeftBy self history
+            → StandsFor self.setup (byte_of self.setup history) (map_bytes result.regs) }
+        ensures dram { (history : List Entry) → IsLeftBy self history → IsDramOf self.setup history result.dram }
+        ensures contents { (history : List Entry) → IsLeftBy self history
+            → IsContentsOf self.setup history result.contents }
+        ensures rom { result.rom.items ≡ self.setup.rom }
+        ensures disk { (history : List Entry) → IsLeftBy self history → result.disk ≡ disk_of self.setup history }
+    {
+        let regs = self.state.registers.regs().copy();
+        let Chipset { setup, state } = self;
+        let State {
+            stores,
+            devices,
+            ..
+        } = state;
+        Store {
+            regs,
+            dram: stores.dram,
+            contents: stores.contents,
+            rom: setup.rom,
+            disk: devices.into_disk(),
+        }
+    }
+}

@@ -1,0 +1,20 @@
+//! The chipset of the board: the registers, the bytes behind the addresses, and the devices. Each event is one step,
+//! which takes no memory, and whose reply is the answer to the history so far. That history is not kept.
+#![tactic(auto)]
+
+mod chipset;
+mod looks;
+mod memory;
+mod outside;
+mod ports;
+mod registers;
+mod reset_control;
+mod setup;
+mod state;
+mod step;
+mod store;
+mod wide;
+
+pub use chipset::Chipset;
+pub use setup::{BoardOpen, Setup, is_rom_size};
+pub use store::Store;

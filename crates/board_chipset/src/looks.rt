@@ -1,0 +1,31 @@
+//! Looks at the memory map, which are no accesses.
+
+ghost use Rattle.std.specs.Prelude.{◌≡◌, List, ◌∷◌};
+ghost use Rattle.board_spec.specs.declared.event.Entry.{Entry};
+ghost use Rattle.board_spec.specs.declared.event.Event.TheVariants.{Look as LookAt};
+ghost use Rattle.board_spec.specs.Setup.{Setup};
+ghost use Rattle.board_chipset.specs.Kept.{IsStateOf};
+ghost use Rattle.board_chipset.specs.Versions.{IsAnswerModulo};
+
+use crate::state::State;
+use board_base::Kind;
+use board_devices::law_left_alone;
+use board_spec::{Look, Reply};
+
+/// Tells the version of the map, and where this kind of access at an address would land. A look changes nothing.
+pub fn look(state: &State, kind: Kind, addr: u32, smm: bool) -> Reply
+    ensures answer { (setup : Setup) (history : List Entry) → IsStateOf setup history state.now
+        → IsAnswerModulo setup history (LookAt kind addr smm) result }
+    ensures board { (setup : Setup) (history : List Entry) (entry : Entry) → IsStateOf setup history state.now
+        → entry.event ≡ LookAt kind addr smm → IsStateOf setup (entry ∷ history) state.now }
+{
+    law_left_alone();
+    let map = &state.registers.map;
+    let span = map.find(addr, kind, smm);
+    Reply::Saw(Look {
+        version: map.version(),
+        lo: span.lo,
+        hi: span.hi,
+        area: span.area,
+    })
+}

@@ -1,0 +1,46 @@
+//! Accesses to memory.
+
+ghost use Rattle.std.specs.Prelude.{◌≡◌, List, ◌∷◌};
+ghost use Rattle.board_spec.specs.declared.event.Entry.{Entry};
+ghost use Rattle.board_spec.specs.declared.event.Event.TheVariants.{Memory};
+ghost use Rattle.board_spec.specs.Setup.{Setup};
+ghost use Rattle.board_spec.specs.InRange.{IsBusAccess};
+ghost use Rattle.board_spec.specs.Stored.{is_write};
+ghost use Rattle.board_spec.specs.Answer.{memory_answer};
+ghost use Rattle.board_chipset.specs.Kept.{IsState, IsStateOf};
+
+use crate::state::State;
+use board_base::Access;
+use board_devices::law_left_alone;
+use board_spec::Reply;
+use board_stores::{decoded, read, write};
+
+/// Does an access, and tells the reply.
+pub fn access(state: &mut State, rom: &[u8], access: &Access) -> Reply
+    requires bus { IsBusAccess (is_write access.now.kind) access.now.addr access.now.width access.now.value }
+    requires kept { IsState state.old rom.now }
+    ensures answer { (setup : Setup) (history : List Entry) → IsStateOf setup history state.old
+        → setup.rom ≡ rom.now
+        → result ≡ memory_answer setup history access.now }
+    ensures board { (setup : Setup) (history : List Entry) (entry : Entry)
+        → IsStateOf setup history state.old → setup.rom ≡ rom.now
+        → entry.event ≡ Memory access.now → entry.reply ≡ result → IsStateOf setup (entry ∷ history) state.new }
+{
+    law_left_alone();
+    let answer = decoded(state.registers.regs(), rom, access);
+    let (target, denial) = (answer.target, answer.denial);
+    if access.kind.is_write() {
+        write(&mut state.stores, access, &answer);
+        return Reply::Bus {
+            value: None,
+            target,
+            denial,
+        };
+    }
+    let value = Some(read(&state.stores, rom, access, &answer));
+    Reply::Bus {
+        value,
+        target,
+        denial,
+    }
+}

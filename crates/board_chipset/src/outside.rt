@@ -1,0 +1,65 @@
+//! Acknowledges, and what comes from outside the bus.
+
+ghost use Rattle.std.specs.Prelude.{◌≡◌, ℕ, List, ◌∷◌, None};
+ghost use Rattle.board_base.specs.declared.target.Target.TheVariants.{Device};
+ghost use Rattle.board_spec.specs.declared.event.Reply.TheVariants.{Bus};
+ghost use Rattle.board_spec.specs.declared.event.Entry.{Entry};
+ghost use Rattle.board_spec.specs.Setup.{Setup};
+ghost use Rattle.board_spec.specs.Answer.{IsAnswer};
+ghost use Rattle.board_chipset.specs.Kept.{CanDo, IsStateOf};
+ghost use Rattle.board_chipset.specs.Steps.{IsForDevices};
+
+use crate::state::State;
+use board_base::{Dev, Target};
+use board_spec::{Event, Reply};
+
+/// Does an event that is for the devices alone, and tells the reply.
+pub fn answer(state: &mut State, event: &Event) -> Reply
+    requires devices { IsForDevices event.now }
+    requires in_range { (rom : List ℕ) × CanDo state.old rom event.now }
+    ensures answer { (setup : Setup) (history : List Entry) → IsStateOf setup history state.old
+        → IsAnswer setup history event.now result }
+    ensures board { (setup : Setup) (history : List Entry) (entry : Entry) → IsStateOf setup history state.old
+        → entry.event ≡ event.now → IsStateOf setup (entry ∷ history) state.new }
+{
+    let routes = &state.registers.south.routes;
+    let devices = &mut state.devices;
+    match event {
+        Event::Ack => {
+            let (vector, dev) = devices.acknowledge(routes);
+            answered(Some(u32::from(vector)), dev)
+        }
+        Event::Pulses(count) => {
+            devices.pulses(routes, *count);
+            answered(None, Dev::Pit)
+        }
+        Event::Time(moment) => {
+            devices.moment(routes, *moment);
+            answered(None, Dev::Clock)
+        }
+        Event::Wire { dev, on } => {
+            devices.set_wire(routes, *dev, *on);
+            answered(None, Dev::Wires)
+        }
+        Event::Line { irq, on } => {
+            devices.set_line(routes, *irq, *on);
+            answered(None, Dev::Wires)
+        }
+        Event::BadSector(sector) => {
+            devices.mark_bad(routes, *sector);
+            answered(None, Dev::Ata)
+        }
+        _ => unreachable!(),
+    }
+}
+
+/// A device answered.
+fn answered(value: Option<u32>, dev: Dev) -> Reply
+    ensures reply { result ≡ Bus value (Device dev) None }
+{
+    Reply::Bus {
+        value,
+        target: Target::Device(dev),
+        denial: None,
+    }
+}

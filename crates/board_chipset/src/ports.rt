@@ -1,0 +1,150 @@
+//! Accesses at ports.
+
+ghost use Rattle.std.specs.Prelude.{◌≡◌, ℕ, true, false, List, ◌∷◌};
+ghost use Rattle.board_spec.specs.declared.event.Entry.{Entry};
+ghost use Rattle.board_spec.specs.declared.event.Event.TheVariants.{Port};
+ghost use Rattle.board_base.specs.declared.target.Target.TheVariants.{Device, Config};
+ghost use Rattle.board_base.specs.declared.target.Dev.TheVariants.{Reset};
+ghost use Rattle.board_spec.specs.Setup.{Setup};
+ghost use Rattle.board_spec.specs.InRange.{IsBusAccess};
+ghost use Rattle.board_spec.specs.Answer.{port_answer, port_value, value_at};
+ghost use Rattle.board_chipset.specs.Kept.{IsState, IsStateOf};
+ghost use Rattle.board_chipset.specs.Ports.{IsEntryOf, Reaching, reached};
+
+use crate::state::State;
+use board_base::{Dev, PortAccess, Reg, Target};
+use board_devices::law_left_alone;
+use board_spec::Reply;
+use board_spec::offset::SOUTH_BRIDGE;
+
+/// What a read of the empty socket gives.
+const EMPTY_SOCKET: u32 = 0xFF;
+
+/// Does an access at a port, and tells the reply.
+pub fn access(state: &mut State, access: &PortAccess) -> Reply
+    requires bus { IsBusAccess access.now.write access.now.port access.now.width access.now.value }
+    requires kept { (rom : List ℕ) × IsState state.old rom }
+    ensures answer { (setup : Setup) (history : List Entry) → IsStateOf setup history state.old
+        → result ≡ port_answer setup history access.now }
+    ensures board { (setup : Setup) (history : List Entry) (entry : Entry) → IsStateOf setup history state.old
+        → entry.event ≡ Port access.now → entry.reply ≡ result → IsStateOf setup (entry ∷ history) state.new }
+{
+    let disk = state.devices.has_disk();
+    let (target, denial) = state.registers.decode_port(access.port, access.width, disk);
+    if access.write {
+        write(state, target, access);
+        return Reply::Bus {
+            value: None,
+            target,
+            denial,
+        };
+    }
+    let value = Some(read(state, target, access));
+    Reply::Bus {
+        value,
+        target,
+        denial,
+    }
+}
+
+/// Reads where an access has this target.
+fn read(state: &mut State, target: Target, access: &PortAccess) -> u32
+    requires reaching { Reaching state.old access.now target }
+    requires reads { access.now.write ≡ false }
+    ensures value { (setup : Setup) (history : List Entry) → IsStateOf setup history state.old
+        → target ≡ (reached setup history access.now).target
+        → result ≡ value_at setup history target access.now.port access.now.width }
+    ensures board { (setup : Setup) (history : List Entry) (entry : Entry) → IsStateOf setup history state.old
+        → IsEntryOf setup history access.now target entry → IsStateOf setup (entry ∷ history) state.new }
+{
+    law_left_alone();
+    match target {
+        Target::Device(dev) => read_device(state, dev, access),
+        Target::Config(reg) => state.registers.read(reg, access.width),
+        _ => state
+            .stores
+            .read(target, u32::from(access.port), access.width),
+    }
+}
+
+/// Reads a port of a device. The socket of the keyboard controller is empty.
+fn read_device(state: &mut State, dev: Dev, access: &PortAccess) -> u32
+    requires reaching { Reaching state.old access.now (Device dev) }
+    requires reads { access.now.write ≡ false }
+    ensures value { (setup : Setup) (history : List Entry) → IsStateOf setup history state.old
+        → result ≡ port_value setup history dev access.now.port access.now.width }
+    ensures board { (setup : Setup) (history : List Entry) (entry : Entry) → IsStateOf setup history state.old
+        → IsEntryOf setup history access.now (Device dev) entry → IsStateOf setup (entry ∷ history) state.new }
+{
+    law_left_alone();
+    match dev {
+        Dev::Confadd => state.registers.address.read(),
+        Dev::Reset => u32::from(state.registers.control.read()),
+        Dev::Keyboard => EMPTY_SOCKET,
+        _ => state
+            .devices
+            .read(&state.registers.south.routes, dev, access),
+    }
+}
+
+/// Writes where an access has this target.
+fn write(state: &mut State, target: Target, access: &PortAccess)
+    requires reaching { Reaching state.old access.now target }
+    requires writes { access.now.write ≡ true }
+    ensures board { (setup : Setup) (history : List Entry) (entry : Entry) → IsStateOf setup history state.old
+        → IsEntryOf setup history access.now target entry → IsStateOf setup (entry ∷ history) state.new }
+{
+    law_left_alone();
+    match target {
+        Target::Device(dev) => write_device(state, dev, access),
+        Target::Config(reg) => write_register(state, reg, access),
+        _ => state
+            .stores
+            .write(target, u32::from(access.port), access.width, access.value),
+    }
+}
+
+/// Writes a register in configuration space. Those of the 82371SB can move a route.
+fn write_register(state: &mut State, reg: Reg, access: &PortAccess)
+    requires reaching { Reaching state.old access.now (Config reg) }
+    requires writes { access.now.write ≡ true }
+    ensures board { (setup : Setup) (history : List Entry) (entry : Entry) → IsStateOf setup history state.old
+        → IsEntryOf setup history access.now (Config reg) entry → IsStateOf setup (entry ∷ history) state.new }
+{
+    law_left_alone();
+    state.registers.store(reg, access.width, access.value);
+    if reg.dev == SOUTH_BRIDGE {
+        state.devices.reroute(&state.registers.south.routes);
+    }
+}
+
+/// Writes a port of a device. A write to the empty socket is lost.
+fn write_device(state: &mut State, dev: Dev, access: &PortAccess)
+    requires reaching { Reaching state.old access.now (Device dev) }
+    requires writes { access.now.write ≡ true }
+    ensures board { (setup : Setup) (history : List Entry) (entry : Entry) → IsStateOf setup history state.old
+        → IsEntryOf setup history access.now (Device dev) entry → IsStateOf setup (entry ∷ history) state.new }
+{
+    law_left_alone();
+    match dev {
+        Dev::Confadd => state.registers.write_address(access.value),
+        Dev::Reset => write_control(state, access),
+        Dev::Keyboard => {}
+        _ => state
+            .devices
+            .write(&state.registers.south.routes, dev, access),
+    }
+}
+
+/// Writes reset control. A hard reset resets the registers, and then the devices.
+fn write_control(state: &mut State, access: &PortAccess)
+    requires reaching { Reaching state.old access.now (Device Reset) }
+    requires writes { access.now.write ≡ true }
+    ensures board { (setup : Setup) (history : List Entry) (entry : Entry) → IsStateOf setup history state.old
+        → IsEntryOf setup history access.now (Device Reset) entry → IsStateOf setup (entry ∷ history) state.new }
+{
+    law_left_alone();
+    if state.registers.write_control(access.value as u8) {
+        state.devices.reset(&state.registers.south.routes);
+    }
+}

@@ -1,0 +1,190 @@
+//! The registers of the board.
+
+ghost use Rattle.std.specs.Prelude.{◌≡◌, ◌≢◌, ◌+◌, ◌≤◌, ◌<◌, true, false, List, [], ◌∷◌, Some, None, is_some, if◌then◌else◌};
+ghost use Rattle.board_base.specs.Access.{bytes_of};
+ghost use Rattle.board_base.specs.declared.target.Dev.TheVariants.{Reset as ResetPort};
+ghost use Rattle.board_spec.specs.declared.event.Entry.{Entry};
+ghost use Rattle.board_spec.specs.declared.event.Event.TheVariants.{Port};
+ghost use Rattle.board_spec.specs.declared.map_change.MapChange.TheVariants.{Store, Reset};
+ghost use Rattle.board_spec.specs.Setup.{Setup, IsCardList};
+ghost use Rattle.board_spec.specs.Bits.{wide};
+ghost use Rattle.board_spec.specs.RegisterTable.{function_exists, reset_byte};
+ghost use Rattle.board_spec.specs.Registers.{byte_of, config_address, is_hard_value};
+ghost use Rattle.board_spec.specs.MapWrites.{map_change_of, touches_map};
+ghost use Rattle.board_spec.specs.Decode.{Bytes};
+ghost use Rattle.board_spec.specs.Ports.{port_target_of};
+ghost use Rattle.pci_bars.specs.Cards.{AreFitted};
+ghost use Rattle.addr_decode.specs.MapRegs.{StandsFor, map_bytes};
+ghost use Rattle.addr_decode.specs.Ports.{as_decoded};
+ghost use Rattle.map_builder.specs.Map.{next_version};
+ghost use Rattle.map_builder.specs.Applied.{AreChanged};
+ghost use Rattle.config_regs.specs.Config.{AreKeptOf};
+ghost use Rattle.board_chipset.specs.Kept.{HasRegisters, IsFlat};
+ghost use Rattle.board_chipset.specs.Ports.{Writes};
+
+use crate::reset_control::ResetControl;
+use addr_decode::{MapChange, MapRegs, PortRegs, decode_port, touches};
+use board_base::{Denial, Dev, PortAccess, Reg, Target, Width};
+use cfg_ports::ConfAdd;
+use config_regs::South;
+use map_builder::FlatMap;
+use pci_bars::CardSpec;
+
+/// The configuration address, the reset control, the memory map with the registers on which it depends, and the
+/// other registers in configuration space.
+#[derive(Drop)]
+pub struct Registers {
+    pub address: ConfAdd,
+    pub control: ResetControl,
+    pub map: FlatMap,
+    pub south: South,
+}
+
+impl Registers {
+    /// The registers after power-on of a board with these cards.
+    pub fn new(specs: &[CardSpec]) -> Registers
+        requires cards { IsCardList specs.now }
+        ensures reset { (setup : Setup) → setup.cards ≡ specs.now → HasRegisters setup [] result }
+    {
+        Registers {
+            address: ConfAdd::new(),
+            control: ResetControl::new(),
+            map: FlatMap::from_scratch(MapRegs::reset_of(specs)),
+            south: South::new(),
+        }
+    }
+
+    /// The registers on which the memory map depends.
+    pub fn regs(&self) -> &MapRegs
+        ensures stand { (setup : Setup) (history : List Entry) → HasRegisters setup history self.now
+            → StandsFor setup (byte_of setup history) (map_bytes result.now) }
+        ensures fitted { AreFitted result.now.cards.items }
+    {
+        self.map.regs()
+    }
+
+    /// What an access at a port reaches, and what denies it, with a disk fitted or without.
+    pub fn decode_port(&self, port: u16, width: Width, disk: bool) -> (Target, Option<Denial>)
+        ensures decoded { (setup : Setup) (history : List Entry) → HasRegisters setup history self.now
+            → as_decoded result
+            ≡ port_target_of setup (byte_of setup history) (config_address history) disk port width }
+    {
+        let ports = PortRegs {
+            confadd: self.address.read(),
+            ide_command: self.south.ide.command(),
+            idetim: self.south.ide.timing(),
+            disk,
+        };
+        decode_port(self.regs(), &ports, port, width)
+    }
+
+    /// The bytes from a register on of a function that exists, the first in the low bits.
+    pub fn read(&self, reg: Reg, width: Width) -> u32
+        requires within { reg.off + bytes_of width ≤ 0x100 }
+        ensures value { (setup : Setup) (history : List Entry) → HasRegisters setup history self.now
+            → function_exists setup 0 reg.dev reg.fun ≡ true
+            → result ≡ wide (λ off. byte_of setup history (record reg { off = off })) reg.off width }
+    {
+        config_regs::read(self.map.regs(), &self.south, reg, width)
+    }
+
+    /// Writes the configuration address.
+    pub fn write_address(&mut self, value: u32)
+        ensures registers { (setup : Setup) (history : List Entry) (entry : Entry) → HasRegisters setup history self.old
+            → Writes setup history entry.event None (Some value) None → HasRegisters setup (entry ∷ history) self.new }
+        ensures south { self.new.south ≡ self.old.south }
+    {
+        self.address.write(value);
+    }
+
+    /// Stores the bytes of a value in configuration space, the low one first, in rising offset.
+    pub fn store(&mut self, reg: Reg, width: Width, value: u32)
+        requires within { reg.off + bytes_of width ≤ 0x100 }
+        ensures registers { (setup : Setup) (history : List Entry) (entry : Entry) → HasRegisters setup history self.old
+            → Writes setup history entry.event None None (Some (Store reg width value))
+            → HasRegisters setup (entry ∷ history) self.new }
+        ensures south { reg.dev ≢ 1 → self.new.south ≡ self.old.south }
+    {
+        self.map.store(reg, width, value);
+        self.south.store(reg, width, value);
+    }
+
+    /// Writes reset control, and tells whether that is a hard reset, which gives each register its value after a reset.
+    pub fn write_control(&mut self, byte: u8) -> bool
+        ensures hard { result ≡ is_hard_value self.old.control byte }
+        ensures registers { (setup : Setup) (history : List Entry) (entry : Entry)
+            → Writes setup history entry.event (Some byte) None None
+            → HasRegisters setup history self.old → HasRegisters setup (entry ∷ history) self.new }
+        ensures south { is_hard_value self.old.control byte ≡ false → self.new.south ≡ self.old.south }
+    {
+        let hard = self.control.write(byte);
+        if hard {
+            self.reset();
+        }
+        hard
+    }
+
+    /// Gives each register but reset control its value after a reset.
+    fn reset(&mut self)
+        ensures address { self.new.address ≡ 0 }
+        ensures control { self.new.control ≡ self.old.control }
+        ensures kept { (setup : Setup) (bytes : Bytes) → AreKeptOf setup bytes self.old.map.regs self.old.south
+            → AreKeptOf setup (reset_byte setup) self.new.map.regs self.new.south }
+        ensures version { self.new.map.version ≡ next_version self.old.map.version }
+        ensures windows { (setup : Setup) (bytes : Bytes) → StandsFor setup bytes self.old.map.regs
+            → AreChanged setup bytes Reset self.new.map.changed }
+        ensures flat { IsFlat self.new.map }
+    {
+        self.address.reset();
+        self.map.apply(&MapChange::Reset);
+        self.south.reset();
+    }
+
+    /// The change of the map that an access at a port makes, with a disk fitted or without. None where it makes none.
+    pub fn map_change(&self, access: &PortAccess, disk: bool) -> Option<MapChange>
+        ensures change { (setup : Setup) (history : List Entry) → HasRegisters setup history self.now
+            → disk ≡ is_some setup.disk → result ≡ map_change_of setup history (Port access.now) }
+    {
+        if !access.write {
+            return None;
+        }
+        match self.decode_port(access.port, access.width, disk).0 {
+            Target::Device(dev) => self.device_change(dev, access.value),
+            Target::Config(reg) => self.store_change(reg, access.width, access.value),
+            _ => None,
+        }
+    }
+
+    /// The change that a write to a device is: a hard reset, or none.
+    fn device_change(&self, dev: Dev, value: u32) -> Option<MapChange>
+        ensures control { dev ≡ ResetPort
+            → result ≡ (if is_hard_value self.now.control value then Some Reset else None) }
+        ensures other { (dev ≡ ResetPort → ⊥) → result ≡ None }
+    {
+        match dev {
+            Dev::Reset => self.control_change(value),
+            _ => None,
+        }
+    }
+
+    /// The change that a write to reset control is.
+    fn control_change(&self, value: u32) -> Option<MapChange>
+        ensures change { result ≡ (if is_hard_value self.now.control value then Some Reset else None) }
+    {
+        if self.control.resets(value) {
+            return Some(MapChange::Reset);
+        }
+        None
+    }
+
+    /// The change that a store from a register on is, where the map depends on one of its bytes.
+    fn store_change(&self, reg: Reg, width: Width, value: u32) -> Option<MapChange>
+        ensures change { (setup : Setup) (history : List Entry) → HasRegisters setup history self.now
+            → result ≡ (if touches_map setup (Store reg width value) then Some (Store reg width value) else None) }
+    {
+        if touches(self.regs(), reg, width) {
+            return Some(MapChange::Store { reg, width, value });
+        }
+        None
+    }
+}

@@ -1,0 +1,30 @@
+//! An event, by its kind.
+
+ghost use Rattle.std.specs.Prelude.{◌≡◌, List, ◌∷◌};
+ghost use Rattle.board_spec.specs.declared.event.Entry.{Entry};
+ghost use Rattle.board_spec.specs.Setup.{Setup};
+ghost use Rattle.board_chipset.specs.Kept.{CanDo, IsStateOf};
+ghost use Rattle.board_chipset.specs.Versions.{IsAnswerModulo};
+
+use crate::state::State;
+use crate::{looks, memory, outside, ports, wide};
+use board_spec::{Event, Reply};
+
+/// Does an event, and tells the reply.
+pub fn step(state: &mut State, rom: &[u8], event: &Event) -> Reply
+    requires can { CanDo state.old rom.now event.now }
+    ensures answer { (setup : Setup) (history : List Entry) → IsStateOf setup history state.old
+        → setup.rom ≡ rom.now
+        → IsAnswerModulo setup history event.now result }
+    ensures board { (setup : Setup) (history : List Entry) (entry : Entry)
+        → IsStateOf setup history state.old → setup.rom ≡ rom.now
+        → entry.event ≡ event.now → entry.reply ≡ result → IsStateOf setup (entry ∷ history) state.new }
+{
+    match event {
+        Event::Memory(access) => memory::access(state, rom, access),
+        Event::Wide(access) => wide::access(state, rom, access),
+        Event::Port(access) => ports::access(state, access),
+        Event::Look { kind, addr, smm } => looks::look(state, *kind, *addr, *smm),
+        _ => outside::answer(state, event),
+    }
+}

@@ -1,0 +1,56 @@
+//! Wide accesses to memory.
+
+ghost use Rattle.std.specs.Prelude.{◌≡◌, ◌≤◌, List, ◌∷◌, length};
+ghost use Rattle.board_spec.specs.declared.event.Entry.{Entry};
+ghost use Rattle.board_spec.specs.declared.event.Event.TheVariants.{Wide};
+ghost use Rattle.board_spec.specs.Setup.{Setup};
+ghost use Rattle.board_spec.specs.InRange.{IsWideAccess};
+ghost use Rattle.board_spec.specs.WideParts.{parts_list};
+ghost use Rattle.board_spec.specs.Answer.{IsAnswer};
+ghost use Rattle.board_stores.specs.Cycles.{answers};
+ghost use Rattle.board_chipset.specs.Kept.{IsState, IsStateOf};
+
+use crate::state::State;
+use board_base::WideAccess;
+use board_devices::law_left_alone;
+use board_spec::laws::law_parts;
+use board_spec::{Parts, Reply};
+use board_stores::{Cycle, cycles_of, read_cycles, write_cycles};
+
+/// Does a wide access, and tells the reply: its cycles are decoded, and then done one by one.
+pub fn access(state: &mut State, rom: &[u8], access: &WideAccess) -> Reply
+    requires wide { IsWideAccess access.now }
+    requires kept { IsState state.old rom.now }
+    ensures answer { (setup : Setup) (history : List Entry) → IsStateOf setup history state.old
+        → setup.rom ≡ rom.now
+        → IsAnswer setup history (Wide access.now) result }
+    ensures board { (setup : Setup) (history : List Entry) (entry : Entry)
+        → IsStateOf setup history state.old → setup.rom ≡ rom.now
+        → entry.event ≡ Wide access.now → entry.reply ≡ result → IsStateOf setup (entry ∷ history) state.new }
+{
+    law_left_alone();
+    law_parts();
+    let cut = cycles_of(state.registers.regs(), rom, access);
+    let cycles = cut.as_slice();
+    let parts = parts_of(cycles);
+    if access.kind.is_write() {
+        write_cycles(&mut state.stores, cycles);
+        return Reply::Parts { value: None, parts };
+    }
+    let value = Some(read_cycles(&state.stores, rom, cycles));
+    Reply::Parts { value, parts }
+}
+
+/// The answers of two to four cycles.
+fn parts_of(cycles: &[Cycle]) -> Parts
+    requires least { 2 ≤ length cycles.now }
+    requires most { length cycles.now ≤ 4 }
+    ensures answers { parts_list result ≡ answers cycles.now }
+{
+    match cycles {
+        [a, b] => Parts::Two(a.answer, b.answer),
+        [a, b, c] => Parts::Three(a.answer, b.answer, c.answer),
+        [a, b, c, d] => Parts::Four(a.answer, b.answer, c.answer, d.answer),
+        _ => unreachable!(),
+    }
+}

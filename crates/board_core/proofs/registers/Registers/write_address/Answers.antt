@@ -1,7 +1,0 @@
-use Rattle.std.proofs.Common.{refl, arith}
-use Rattle.board_core.proofs.RegisterSteps.{follows}
-use Rattle.board_core.proofs.registers.Registers.write_address.Goals as goal
-
-pub returns-clause-registers : goal.returns-clause-registers
-returns-clause-registers c = λ setup history entry has writes.
-    follows writes has c.write.ensures.kept refl has.kept (omega arith) has.flat

@@ -1,0 +1,45 @@
+-- What a monitor asks of the devices, and what it writes to them.
+use Rattle.std.proofs.Common.{◌≡◌, ◌∙◌, ℕ, ◌==◌, Bool, false, Option, Some, None, refl, sym, ap, inl, inr}
+use Rattle.std.proofs.lemmas.Bool.{cases_Bool, true≢false}
+use Rattle.std.specs.Prelude.{◌↔◌, is_some}
+use Rattle.board_base.specs.declared.access.PortAccess.{PortAccess}
+use Rattle.board_base.specs.declared.target.Dev.{Dev}
+use Rattle.board_base.specs.declared.target.Dev.TheVariants.{Clock, Spurious}
+use Rattle.device_spec.specs.Pic.{cascade, Chip, interrupt}
+use Rattle.device_spec.specs.Pair.{Pair, chip_answer, answer_at, answer_of}
+use Rattle.device_spec.specs.Clock.{after_write as clock_after_write}
+use Rattle.board_spec.specs.Interrupts.{who_answered}
+use Rattle.board_devices.specs.Devices.{DevicesValue}
+use Rattle.board_devices.specs.Steps.{after_write}
+
+-- ---- INT, and the spurious answer of the master
+
+abbrev is_master_spurious : Dev → Bool
+is_master_spurious (Spurious chip) = chip == 0
+is_master_spurious _ = false
+
+slave_apart : (chip : Chip) (level : Option ℕ) → is_master_spurious (who_answered (chip_answer 1 chip level)) ≡ false
+slave_apart chip None = refl
+slave_apart chip (Some level) = refl
+
+apart : (pair : Pair) (level : ℕ) → is_master_spurious (who_answered (answer_at pair (Some level))) ≡ false
+apart pair level = elim (cases_Bool (level == cascade)) [
+  | inl two ↦ rw two (slave_apart pair.slave (interrupt pair.slave))
+  | inr other ↦ rw other refl
+]
+
+spurious_at : (pair : Pair) (level : Option ℕ) → (is_some level ≡ false) ↔ (who_answered (answer_at pair level) ≡ Spurious 0)
+spurious_at pair None = (λ none. refl, λ answered. refl)
+spurious_at pair (Some level) =
+    (λ none. absurd (true≢false none), λ answered. absurd (true≢false (sym (ap is_master_spurious answered) ∙ apart pair level)))
+
+pub spurious_is : (pair : Pair) → (is_some (interrupt pair.master) ≡ false) ↔ (who_answered (answer_of pair) ≡ Spurious 0)
+unfolding answer_of
+spurious_is pair = spurious_at pair (interrupt pair.master)
+
+-- ---- a write to the clock
+
+pub clock_written : (access : PortAccess) (devices : DevicesValue) →
+    after_write Clock access devices ≡ record devices { clock = clock_after_write devices.clock access.port access.value }
+unfolding after_write
+clock_written access devices = refl

@@ -1,0 +1,42 @@
+use Rattle.std.proofs.Common.{rules, ◌≡◌, ◌∙◌, ◌∷◌, ℕ, Some, refl, ap, sym}
+use Rattle.board_base.specs.declared.target.Dev.TheVariants.{Clock}
+use Rattle.device_spec.specs.Clock.{Clock as ClockState}
+use Rattle.board_spec.specs.Interrupts.{pair_accessed}
+use Rattle.board_devices.specs.Devices.{DevicesValue}
+use Rattle.board_devices.specs.Steps.{after_write}
+use Rattle.board_devices.specs.Outside.{byte_out}
+use Rattle.board_devices.proofs.DeviceLemmas.{write_at, write_pair, pair_at, lined_as}
+use Rattle.board_devices.proofs.OutsideLemmas.{clock_written}
+use Rattle.board_devices.proofs.devices.Devices.write_clock.Goals as goal
+
+pub returns-clause-clock : goal.returns-clause-clock
+returns-clause-clock c =
+    let access = byte_out c.args.port c.args.byte in
+    let value : c.from.result ≡ c.args.byte = search rules in
+    let after : c.write_port.new.self ≡ after_write Clock access c.args.self.now =
+    c.write_port.ensures.after ∙ ap (λ (v : ℕ). after_write Clock (byte_out c.args.port v) c.args.self.now) value in
+    ap (λ (d : DevicesValue). d.clock) c.settle.ensures.others
+    ∙ ap (λ (d : DevicesValue). d.clock) (after ∙ clock_written access c.args.self.now)
+
+pub returns-clause-others : goal.returns-clause-others
+returns-clause-others c =
+    let access = byte_out c.args.port c.args.byte in
+    let value : c.from.result ≡ c.args.byte = search rules in
+    let after : c.write_port.new.self ≡ after_write Clock access c.args.self.now =
+    c.write_port.ensures.after ∙ ap (λ (v : ℕ). after_write Clock (byte_out c.args.port v) c.args.self.now) value in
+    let is = after ∙ clock_written access c.args.self.now in
+    c.settle.ensures.others
+    ∙ (ap (λ (d : DevicesValue). record d { pair = c.settle.new.self.pair }) is
+    ∙ ap (λ (clock : ClockState). record c.args.self.now { clock = clock; pair = c.settle.new.self.pair }) (sym (returns-clause-clock c)))
+
+pub returns-clause-devices : goal.returns-clause-devices
+returns-clause-devices c = λ setup history entry is writes.
+    let old = c.args.self.now in
+    let access = byte_out c.args.port c.args.byte in
+    let value : c.from.result ≡ c.args.byte = search rules in
+    let after : c.write_port.new.self ≡ after_write Clock access old =
+    c.write_port.ensures.after ∙ ap (λ (v : ℕ). after_write Clock (byte_out c.args.port v) old) value in
+    lined_as setup history entry (λ pair. pair_accessed (Some Clock) access pair) (pair_at setup history entry Clock access writes.reaches)
+    old (after_write Clock access old) c.write_port.new.self c.settle.new.self is after
+    (write_at setup history entry Clock access old c.requires.port refl writes.reaches is.others) (write_pair Clock access old refl c.requires.port)
+    c.settle.ensures.others (λ others. c.settle.ensures.pair setup (entry ∷ history) others writes.routes_are)

@@ -1,0 +1,96 @@
+//! What a monitor asks of the devices between two events, and what it writes to them from outside the bus.
+
+ghost use Rattle.std.specs.Prelude.{◌≡◌, ◌<◌, ◌≤◌, ◌↔◌, ◌∷◌, List, option_map, IfSome, true, false};
+ghost use Rattle.board_base.specs.declared.target.Dev.TheVariants.{Clock as ClockChip, Spurious};
+ghost use Rattle.board_spec.specs.declared.event.Entry.{Entry};
+ghost use Rattle.board_spec.specs.Setup.{Setup};
+ghost use Rattle.board_spec.specs.Devices.{timer_of, clock_of, disk_of};
+ghost use Rattle.board_spec.specs.Interrupts.{acknowledged_by};
+ghost use Rattle.device_spec.specs.Clock.{after_write};
+ghost use Rattle.pit_8254.specs.NextRise.{IsNextRise};
+ghost use Rattle.cmos_clock.specs.Outside.{with_byte};
+ghost use Rattle.board_devices.specs.Devices.{AreDevicesOf};
+ghost use Rattle.board_devices.specs.Events.{is_port_of};
+ghost use Rattle.board_devices.specs.Outside.{is_interrupting, WritesClock, PutsClockByte};
+
+use crate::devices::Devices;
+use ata_pio::Ata;
+use board_base::{Dev, PortAccess, Width};
+use board_spec::port::{CLOCK_DATA, CLOCK_INDEX};
+use cmos_clock::CLOCK_BYTES;
+use pirq_router::Pirq;
+
+impl Devices {
+    /// Whether the pair asks for an interrupt: its INT is 1, and an acknowledge would not be the master's spurious one.
+    pub fn interrupt(&self) -> bool
+        ensures interrupt { (setup : Setup) (history : List Entry) → AreDevicesOf setup history self.now
+            → result ≡ is_interrupting setup history }
+        ensures spurious { (setup : Setup) (history : List Entry) → AreDevicesOf setup history self.now
+            → (result ≡ false) ↔ (acknowledged_by setup history ≡ Spurious 0) }
+    {
+        self.pair.pending()
+    }
+
+    /// How many pulses of the timer's clock until line 0 next rises, which OUT of counter 0 drives. None where it never
+    /// does unless something is written before.
+    pub fn pulses_to_rise(&self) -> Option<u32>
+        ensures rise { (setup : Setup) (history : List Entry) → AreDevicesOf setup history self.now
+            → IsNextRise (timer_of history) result }
+        ensures bound { IfSome result (λ n. n ≤ 131073) }
+    {
+        self.timer.pulses_to_rise()
+    }
+
+    /// The disk, where one is fitted.
+    pub fn disk(&self) -> Option<&Ata>
+        ensures value { option_map (λ disk. disk.now) result ≡ self.now.disk }
+        ensures disk { (setup : Setup) (history : List Entry) → AreDevicesOf setup history self.now
+            → option_map (λ disk. disk.now) result ≡ disk_of setup history }
+    {
+        self.disk.as_ref()
+    }
+
+    /// The 128 bytes of the clock by address, as they are kept. A read of the flags of register C and of register D
+    /// gives other bytes.
+    pub fn clock_bytes(&self) -> &[u8; CLOCK_BYTES]
+        ensures value { result.now ≡ self.now.clock.bytes }
+        ensures bytes { (setup : Setup) (history : List Entry) → AreDevicesOf setup history self.now
+            → result.now ≡ (clock_of history).bytes }
+    {
+        self.clock.bytes()
+    }
+
+    /// Writes the byte of the clock at an address below 128, and then the lines reach the pair. It is as if a
+    /// processor had written the address to port 70h, the byte to port 71h, and the index as it was to port 70h; so
+    /// registers A and B take what a write changes of them, and C and D nothing.
+    pub fn set_clock_byte(&mut self, routes: &Pirq, address: u8, byte: u8)
+        requires address { address < 128 }
+        ensures clock { self.new.clock ≡ with_byte self.old.clock address byte }
+        ensures others { self.new ≡ record self.old { clock = self.new.clock; pair = self.new.pair } }
+        ensures devices { (setup : Setup) (history later : List Entry) → AreDevicesOf setup history self.old
+            → PutsClockByte setup routes.now history address byte later → AreDevicesOf setup later self.new }
+    {
+        let index = self.clock.index();
+        self.write_clock(routes, CLOCK_INDEX, address);
+        self.write_clock(routes, CLOCK_DATA, byte);
+        self.write_clock(routes, CLOCK_INDEX, index);
+    }
+
+    /// Writes a byte to a port of the clock, and then the lines reach the pair.
+    fn write_clock(&mut self, routes: &Pirq, port: u16, byte: u8)
+        requires port { is_port_of ClockChip port 1 ≡ true }
+        ensures clock { self.new.clock ≡ after_write self.old.clock port byte }
+        ensures others { self.new ≡ record self.old { clock = self.new.clock; pair = self.new.pair } }
+        ensures devices { (setup : Setup) (history : List Entry) (entry : Entry) → AreDevicesOf setup history self.old
+            → WritesClock setup routes.now history entry port byte → AreDevicesOf setup (entry ∷ history) self.new }
+    {
+        let access = PortAccess {
+            port,
+            width: Width::One,
+            write: true,
+            value: u32::from(byte),
+        };
+        self.write_port(Dev::Clock, &access);
+        self.settle(routes);
+    }
+}

@@ -1,0 +1,126 @@
+-- The cycles of an access to ports cover it, and each is aligned and has its own bytes.
+use Rattle.std.proofs.Common.{◌≡◌, ℕ, zero, suc, ◌+◌, ◌-◌, ◌/◌, ◌%◌, ◌^◌, ◌≤◌, ◌<◌, Bool, true, false, ◌&&◌, List, [], ◌∷◌, map, inl, inr, refl, sym, ◌∙◌, ap, subst, arith}
+use Rattle.std.specs.Prelude.{◌==◌, nat_le, All}
+use Rattle.std.proofs.Math.Nat.{zero-div, zero-mod}
+use Rattle.std.proofs.lemmas.Bool.{cases_Bool, cases_eq, cond-true, cond-false, eq-eqb, ne_eqb}
+use Rattle.std.proofs.lemmas.Bool.Decides.{nat_tests}
+use Rattle.std.proofs.lemmas.List.Elements.{All-nil, All-cons, All-head, All-tail}
+use Rattle.board_base.specs.declared.access.Width.{Width}
+use Rattle.board_base.specs.declared.access.Width.TheVariants.{One, Two, Four}
+use Rattle.board_base.specs.declared.access.Access.{Access}
+use Rattle.board_base.specs.declared.access.PortAccess.{PortAccess}
+use Rattle.board_base.specs.declared.access.WideAccess.{WideAccess}
+use Rattle.board_base.specs.Access.{bytes_of, largest_of}
+use Rattle.board_base.proofs.WidthLemmas.{some_bytes}
+use Rattle.board_spec.specs.InRange.{FitsAccess, IsBusAccess}
+use Rattle.board_spec.specs.WideParts.{longest_at, part_at, parts_from, parts_of}
+use Rattle.board_stores.specs.PortCycles.{as_wide, cycle_of, port_cycles, Follow, IsCycleOf, AreCyclesOf, AreBusCycles}
+use Rattle.board_stores.proofs.CutLemmas.{GoesOn, part_within, all_parts}
+
+-- a part is aligned
+longest_aligned : (addr left : ℕ) → addr % bytes_of (longest_at addr left) ≡ 0
+longest_aligned addr left =
+    elim (cases_Bool (addr % 4 == 0 && nat_le 4 left)) [
+      | inl four ↦ rw four (four_aligned four)
+      | inr not_four ↦ elim (cases_Bool (addr % 2 == 0 && nat_le 2 left)) [
+        | inl two ↦ rw (not_four, two) (two_aligned two)
+        | inr not_two ↦ rw (not_four, not_two) (omega arith)
+      ]
+    ]
+  where
+    four_aligned : (addr % 4 == 0 && nat_le 4 left) ≡ true → addr % 4 ≡ 0
+    four_aligned is = grind (arith, nat_tests)
+
+    two_aligned : (addr % 2 == 0 && nat_le 2 left) ≡ true → addr % 2 ≡ 0
+    two_aligned is = grind (arith, nat_tests)
+
+-- no more parts than bytes are left, so they end where the bytes do
+follow_from :
+    (access : PortAccess) (most addr left : ℕ) → left ≤ most →
+    Follow addr (addr + left) (map (cycle_of access.write) (parts_from (as_wide access) most addr left))
+unfolding parts_from
+follow_from access zero addr left few = omega (arith, few)
+follow_from access (suc most) addr left few =
+    elim (cases_eq left 0) [
+      | inl none ↦ rw none (omega arith)
+      | inr some ↦
+          let width = longest_at addr left in
+          let here : (left == 0) ≡ false = ne_eqb left 0 some in
+          let fits : bytes_of width ≤ left = part_within addr left (omega (arith, some)) in
+          let more : addr + bytes_of width + (left - bytes_of width) ≡ addr + left = omega (arith, fits) in
+          rw here (
+            refl,
+            subst
+                (λ (end : ℕ). Follow (addr + bytes_of width) end
+                (map (cycle_of access.write) (parts_from (as_wide access) most (addr + bytes_of width) (left - bytes_of width))))
+                more
+                (follow_from access most (addr + bytes_of width) (left - bytes_of width) (omega (arith, few, fits, some_bytes width))),
+          )
+    ]
+
+each_from :
+    (access : PortAccess) (most addr left : ℕ) →
+    All (IsCycleOf access) (map (cycle_of access.write) (parts_from (as_wide access) most addr left))
+unfolding parts_from
+each_from access zero addr left = All-nil (IsCycleOf access)
+each_from access (suc most) addr left =
+    elim (cases_Bool (left == 0)) [
+      | inl none ↦ rw none (All-nil (IsCycleOf access))
+      | inr some ↦
+          let width = longest_at addr left in
+          rw some
+          (All-cons (IsCycleOf access) (cycle_of access.write (part_at (as_wide access) addr width))
+          (map (cycle_of access.write) (parts_from (as_wide access) most (addr + bytes_of width) (left - bytes_of width)))
+          (record { write = refl; aligned = longest_aligned addr left; value = refl })
+          (each_from access most (addr + bytes_of width) (left - bytes_of width)))
+    ]
+
+four_most : (width : Width) → bytes_of width ≤ 4
+four_most One = omega arith
+four_most Two = omega arith
+four_most Four = omega arith
+
+are_cycles : (access : PortAccess) → AreCyclesOf access (port_cycles access)
+are_cycles access = record {
+  covers = follow_from access 4 access.port (bytes_of access.width) (four_most access.width);
+  each = each_from access 4 access.port (bytes_of access.width);
+}
+
+pub are_cycles_as : (access : PortAccess) (cycles : List PortAccess) → cycles ≡ port_cycles access → AreCyclesOf access cycles
+are_cycles_as access cycles is = subst (AreCyclesOf access) (sym is) (are_cycles access)
+
+-- where all parts were made they are those of the access
+pub whole :
+    (access : PortAccess) (wide : WideAccess) (parts : List Access) (count done : ℕ) (cycles : List PortAccess) →
+    wide ≡ as_wide access → cycles ≡ map (cycle_of access.write) parts → count ≡ 4 → GoesOn wide parts count done →
+    cycles ≡ port_cycles access
+whole access wide parts count done cycles is are four on =
+    are ∙ ap (map (cycle_of access.write)) (all_parts wide parts count done four on ∙ ap parts_of is)
+
+-- ---- on the bus
+
+cycle_fits :
+    (write : Bool) (whole width : Width) (value places : ℕ) → FitsAccess write whole value →
+    FitsAccess write width (value / places % 256 ^ bytes_of width)
+cycle_fits true whole One value places fits = omega arith
+cycle_fits true whole Two value places fits = omega arith
+cycle_fits true whole Four value places fits = omega arith
+cycle_fits false whole width value places fits =
+    ap (λ (n : ℕ). n / places % 256 ^ bytes_of width) fits
+    ∙ ap (λ (n : ℕ). n % 256 ^ bytes_of width) (zero-div places)
+    ∙ zero-mod (256 ^ bytes_of width)
+
+pub bus_cycles :
+    (access : PortAccess) (cycles : List PortAccess) → FitsAccess access.write access.width access.value →
+    All (IsCycleOf access) cycles → AreBusCycles cycles
+bus_cycles access [] fits each = All-nil (λ (cycle : PortAccess). IsBusAccess cycle.write cycle.port cycle.width cycle.value)
+bus_cycles access (cycle ∷ later) fits each =
+    let is : IsCycleOf access cycle = All-head (IsCycleOf access) cycle later each in
+    All-cons (λ (cycle : PortAccess). IsBusAccess cycle.write cycle.port cycle.width cycle.value) cycle later
+    (record {
+      aligned = is.aligned;
+      fits =
+          rw (is.write, is.value)
+          (cycle_fits access.write access.width cycle.width access.value (256 ^ (cycle.port - access.port)) fits);
+    })
+    (bus_cycles access later fits (All-tail (IsCycleOf access) cycle later each))

@@ -1,0 +1,76 @@
+use Rattle.std.proofs.Common.{◌≡◌, ◌+◌, ◌-◌, ◌<◌, ◌≤◌, ◌++◌, ℕ, List, [], ◌∷◌, map, arith, ap, sym, ◌∙◌}
+use Rattle.std.proofs.lemmas.List.{map-append, length-append}
+use Rattle.arrayvec.specs.ArrayVec.{ArrayVec}
+use Rattle.board_base.specs.declared.access.Width.{Width}
+use Rattle.board_base.specs.declared.access.Access.{Access}
+use Rattle.board_base.specs.declared.access.PortAccess.{PortAccess}
+use Rattle.board_base.specs.Access.{bytes_of}
+use Rattle.board_spec.specs.WideParts.{longest_at}
+use Rattle.board_stores.specs.declared.ports.PortCycle.{PortCycle}
+use Rattle.board_stores.specs.PortCycles.{cycle_of, port_accesses}
+use Rattle.board_stores.proofs.CutLemmas.{part_within, next_part, no_part}
+use Rattle.board_stores.proofs.PortLemmas.{whole, are_cycles_as, bus_cycles}
+use Rattle.board_stores.proofs.ports.port_cycles.Goals.{then-done-wide, else-done-wide}
+use Rattle.board_stores.proofs.ports.port_cycles.Goals as goal
+
+pub loop-preserved : goal.loop-preserved
+loop-preserved c =
+    elim c.if-done-wide.branch [
+      | then-done-wide w ↦
+          let access = c.as_wide-wide.result in
+          let cycles = c.loop.cycles.items in
+          let part = w.part_at-part.result in
+          let cycle : PortCycle = w.cycle_of.result in
+          let left : ℕ = access.bytes - c.loop.done in
+          let width : Width = longest_at (access.addr + c.loop.done) left in
+          let width_is : part.width ≡ width = ap (λ (p : Access). p.width) w.part_at-part.ensures.part in
+          let some : c.loop.done < access.bytes = w.if-done-wide.true in
+          let fits : bytes_of width ≤ left = part_within (access.addr + c.loop.done) left (omega (arith, some)) in
+          let done_is : c.if-done-wide.done ≡ c.loop.done + bytes_of part.width =
+          w.done-is ∙ ap (λ (n : ℕ). c.loop.done + n) w.bytes.ensures.bytes in
+          let items : c.if-done-wide.cycles.items ≡ cycles ++ cycle ∷ [] =
+          ap (λ (v : ArrayVec PortCycle). v.items) w.cycles-is ∙ w.push.ensures.items in
+          record {
+            inside = rw (done_is, width_is) (omega (arith, some, fits));
+            few = rw items (omega (arith, length-append cycles (cycle ∷ []), c.loop.invariant.few));
+            parts = c.loop.invariant.parts ++ part ∷ [];
+            are =
+                rw items
+                (map-append (λ (it : PortCycle). it.access) cycles (cycle ∷ [])
+                ∙ ap (λ (front : List PortAccess). front ++ cycle.access ∷ []) c.loop.invariant.are
+                ∙ ap (λ (last : PortAccess). map (cycle_of c.args.access.now.write) c.loop.invariant.parts ++ last ∷ []) w.cycle_of.ensures.cycle
+                ∙ sym (map-append (cycle_of c.args.access.now.write) c.loop.invariant.parts (part ∷ [])));
+            on =
+                rw done_is
+                (next_part access c.loop.invariant.parts c.loop.counter c.loop.done part c.loop-test.true some
+                w.part_at-part.ensures.part c.loop.invariant.on);
+          }
+      | else-done-wide w ↦
+          let access = c.as_wide-wide.result in
+          let all : access.bytes ≤ c.loop.done = w.if-done-wide.false in
+          record {
+            inside = rw w.done-is c.loop.invariant.inside;
+            few = rw w.cycles-is (omega (arith, c.loop.invariant.few));
+            parts = c.loop.invariant.parts;
+            are = rw w.cycles-is c.loop.invariant.are;
+            on = rw w.done-is (no_part access c.loop.invariant.parts c.loop.counter c.loop.done all c.loop.invariant.on);
+          }
+    ]
+
+pub returns-clause-cycles : goal.returns-clause-cycles
+returns-clause-cycles c =
+    whole c.args.access.now c.as_wide-wide.result c.loop.invariant.parts c.loop.counter c.loop.done
+    (port_accesses c.loop.cycles.items) c.as_wide-wide.ensures.wide c.loop.invariant.are (omega arith) c.loop.invariant.on
+
+pub returns-clause-covers : goal.returns-clause-covers
+returns-clause-covers c =
+    are_cycles_as c.args.access.now (port_accesses c.loop.cycles.items)
+    (whole c.args.access.now c.as_wide-wide.result c.loop.invariant.parts c.loop.counter c.loop.done
+    (port_accesses c.loop.cycles.items) c.as_wide-wide.ensures.wide c.loop.invariant.are (omega arith) c.loop.invariant.on)
+
+pub returns-clause-bus : goal.returns-clause-bus
+returns-clause-bus c = λ fits.
+    bus_cycles c.args.access.now (port_accesses c.loop.cycles.items) fits
+    (are_cycles_as c.args.access.now (port_accesses c.loop.cycles.items)
+    (whole c.args.access.now c.as_wide-wide.result c.loop.invariant.parts c.loop.counter c.loop.done
+    (port_accesses c.loop.cycles.items) c.as_wide-wide.ensures.wide c.loop.invariant.are (omega arith) c.loop.invariant.on)).each
