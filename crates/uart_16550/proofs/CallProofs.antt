@@ -1,0 +1,98 @@
+-- No byte that was received is lost, and all are read in their order.
+use Rattle.std.proofs.Common.{◌≡◌, ℕ, Bool, true, false, not, List, [], ◌∷◌, ◌++◌, length, inl, inr, refl, sym, ap, ◌∙◌, append_assoc}
+use Rattle.std.specs.Prelude.{◌==◌, Option, Some, None}
+use Rattle.std.proofs.lemmas.Bool.{cases_Bool, ne_eqb}
+use Rattle.std.proofs.lemmas.List.{append-nil}
+use Rattle.board_spec.specs.declared.event.Event.TheVariants.{Memory, Wide, Port, Look as LookAt, Ack, Pulses, Time, Wire, Line, BadSector}
+use Rattle.uart_16550.specs.declared.interrupt.Interrupt.{Interrupt}
+use Rattle.uart_16550.specs.declared.interrupt.Interrupt.TheVariants.{LineStatus, DataAvailable, TransmitterEmpty, ModemStatus}
+use Rattle.uart_16550.specs.declared.register.ReadRegister.{ReadRegister}
+use Rattle.uart_16550.specs.declared.register.ReadRegister.TheVariants as read
+use Rattle.uart_16550.specs.declared.register.WriteRegister.{WriteRegister}
+use Rattle.uart_16550.specs.declared.register.WriteRegister.TheVariants as write
+use Rattle.uart_16550.specs.Uart.{Uart, is_dlab, is_loopback, pending}
+use Rattle.uart_16550.specs.Reads.{register_read, front_of, rest_of, value_of, after_identity, after_value}
+use Rattle.uart_16550.specs.Writes.{register_written, is_emptying, with_value}
+use Rattle.uart_16550.specs.Com1.{com1_irq, is_for_uart}
+use Rattle.uart_16550.specs.Calls.{Call, Renews, Receives, Reads, Writes, after_call, brought, front_taken, taken, is_kept, is_keeping, after_calls, all_brought, all_taken, ReadInOrder, EventsAreCalls}
+
+front_and_rest : (queue : List ℕ) → front_taken queue read.Rbr (front_of queue) ++ rest_of queue ≡ queue
+front_and_rest [] = refl
+front_and_rest (byte ∷ later) = rw (ne_eqb (length (byte ∷ later)) 0 (λ is. cc)) refl
+
+identity_keeps : (told : Option Interrupt) (uart : Uart) → (after_identity told uart).queue ≡ uart.queue
+identity_keeps (Some LineStatus) uart = refl
+identity_keeps (Some DataAvailable) uart = refl
+identity_keeps (Some TransmitterEmpty) uart = refl
+identity_keeps (Some ModemStatus) uart = refl
+identity_keeps None uart = refl
+
+-- what a read takes, and what it leaves, is what was there
+pub read_in_order : (uart : Uart) (register : ReadRegister) →
+    front_taken uart.queue register (value_of uart register) ++ (after_value uart register).queue ≡ uart.queue
+unfolding value_of after_value
+read_in_order uart read.Rbr = front_and_rest uart.queue
+read_in_order uart read.Iir = identity_keeps (pending uart) uart
+read_in_order uart read.Dll = refl
+read_in_order uart read.Ier = refl
+read_in_order uart read.Dlm = refl
+read_in_order uart read.Lcr = refl
+read_in_order uart read.Mcr = refl
+read_in_order uart read.Lsr = refl
+read_in_order uart read.Msr = refl
+read_in_order uart read.Scr = refl
+
+unless : (b : Bool) → not b ≡ true → b ≡ false
+unless true is = cc
+unless false is = refl
+
+pub write_keeps : (uart : Uart) (register : WriteRegister) (byte : ℕ) → is_kept uart register byte ≡ true →
+    (with_value uart register byte).queue ≡ uart.queue
+unfolding with_value
+write_keeps uart write.Thr byte kept = rw (unless (is_loopback uart) kept) refl
+write_keeps uart write.Fcr byte kept = rw (unless (is_emptying uart byte) kept) refl
+write_keeps uart write.Dll byte kept = refl
+write_keeps uart write.Ier byte kept = refl
+write_keeps uart write.Dlm byte kept = refl
+write_keeps uart write.Lcr byte kept = refl
+write_keeps uart write.Mcr byte kept = refl
+write_keeps uart write.Lsr byte kept = refl
+write_keeps uart write.Msr byte kept = refl
+write_keeps uart write.Scr byte kept = refl
+
+call_in_order : (uart : Uart) (call : Call) → is_keeping uart call ≡ true →
+    taken uart call ++ (after_call uart call).queue ≡ uart.queue ++ brought call
+call_in_order uart Renews kept = absurd (cc kept)
+call_in_order uart (Receives byte) kept = refl
+call_in_order uart (Reads off) kept =
+    read_in_order uart (register_read (is_dlab uart) off) ∙ sym (append-nil uart.queue)
+call_in_order uart (Writes off byte) kept =
+    write_keeps uart (register_written (is_dlab uart) off) byte kept ∙ sym (append-nil uart.queue)
+
+pub calls_in_order : ReadInOrder
+calls_in_order uart [] kept = sym (append-nil uart.queue)
+calls_in_order uart (call ∷ later) kept =
+    let next = after_call uart call in
+    append_assoc (taken uart call) (all_taken next later) (after_calls next later).queue
+    ∙ (ap (λ (bytes : List ℕ). taken uart call ++ bytes) (calls_in_order next later kept.1)
+    ∙ (sym (append_assoc (taken uart call) next.queue (all_brought later))
+    ∙ (ap (λ (bytes : List ℕ). bytes ++ all_brought later) (call_in_order uart call kept.0)
+    ∙ append_assoc uart.queue (brought call) (all_brought later))))
+
+-- ---- events
+
+pub events_are_calls : EventsAreCalls
+events_are_calls resets (Port access) com1 = elim (cases_Bool (is_for_uart access)) [
+  | inl uart ↦ elim (cases_Bool access.write) [ inl writes ↦ rw (uart, writes) refl | inr reads ↦ rw (uart, reads) refl ]
+  | inr board ↦ elim (cases_Bool resets) [ inl hard ↦ rw (board, hard) refl | inr soft ↦ rw (board, soft) refl ]
+]
+events_are_calls resets (Line irq on) com1 =
+    elim (cases_Bool (irq == com1_irq)) [ inl own ↦ rw own refl | inr other ↦ rw other refl ]
+events_are_calls resets (Memory access) com1 = refl
+events_are_calls resets (Wide access) com1 = refl
+events_are_calls resets (LookAt kind addr smm) com1 = refl
+events_are_calls resets Ack com1 = refl
+events_are_calls resets (Pulses count) com1 = refl
+events_are_calls resets (Time moment) com1 = refl
+events_are_calls resets (Wire dev on) com1 = refl
+events_are_calls resets (BadSector sector) com1 = refl

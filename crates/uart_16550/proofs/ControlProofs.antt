@@ -1,0 +1,93 @@
+-- The reset control register of a board with a serial port.
+use Rattle.std.proofs.Common.{◌≡◌, ℕ, Bool, true, false, ◌&&◌, List, [], ◌∷◌, ◌++◌, inl, inr, refl, sym, ap, ◌∙◌}
+use Rattle.std.specs.Prelude.{◌==◌, nat_le, if◌then◌else◌, Some, None}
+use Rattle.std.proofs.lemmas.Bool.{cases_Bool, ne_eqb}
+use Rattle.board_base.specs.declared.access.PortAccess.{PortAccess}
+use Rattle.board_base.specs.Access.{bytes_of}
+use Rattle.board_spec.specs.declared.event.Event.{Event}
+use Rattle.board_spec.specs.declared.event.Event.TheVariants.{Memory, Wide, Port, Look as LookAt, Ack, Pulses, Time, Wire, Line, BadSector}
+use Rattle.board_spec.specs.declared.event.Entry.{Entry}
+use Rattle.board_spec.specs.declared.event.Statement.{Statement}
+use Rattle.board_spec.specs.PortNames.{reset_control_port}
+use Rattle.board_spec.specs.Registers.{control_written, control_after, reset_control, is_hard_reset}
+use Rattle.board_spec.specs.Orders.{statement_of, statements_of}
+use Rattle.uart_16550.specs.declared.com1.Com1.{Com1}
+use Rattle.uart_16550.specs.Writes.{differ}
+use Rattle.uart_16550.specs.Com1.{is_for_uart, level_of, line_change, com1_after, asked, uart_after}
+use Rattle.uart_16550.specs.Uart.{uart_at_reset}
+use Rattle.uart_16550.specs.Sent.{ControlFollows}
+use Rattle.uart_16550.proofs.SerialSteps.{statements_joined}
+
+-- the register after statements, the oldest first
+control_over : ℕ → List Statement → ℕ
+control_over control [] = control
+control_over control (statement ∷ later) = control_over (control_after control (control_written statement.event)) later
+
+control_last : (control : ℕ) (statements : List Statement) (last : Statement) →
+    control_over control (statements ++ last ∷ [])
+    ≡ control_after (control_over control statements) (control_written last.event)
+unfolding control_over
+control_last control [] last = refl
+control_last control (statement ∷ later) last =
+    control_last (control_after control (control_written statement.event)) later last
+
+control_more : (more history : List Entry) →
+    reset_control (more ++ history) ≡ control_over (reset_control history) (statements_of more)
+unfolding reset_control control_over
+control_more [] history = refl
+control_more (entry ∷ more) history =
+    ap (λ (control : ℕ). control_after control (control_written entry.event)) (control_more more history)
+    ∙ (sym (control_last (reset_control history) (statements_of more) (statement_of entry))
+    ∙ ap (control_over (reset_control history)) (sym (statements_joined (entry ∷ []) more)))
+
+-- levels of line 4 leave it
+control_of_change : (control : ℕ) (old new : Bool) → control_over control (line_change old new) ≡ control
+unfolding control_over
+control_of_change control old new = elim (cases_Bool (differ old new)) [ inl moves ↦ rw moves refl | inr stays ↦ rw stays refl ]
+
+-- and so does an access to the UART
+other_port : (access : PortAccess) → is_for_uart access ≡ true → (access.port == reset_control_port) ≡ false
+other_port access uart =
+    ne_eqb access.port reset_control_port (λ is. no_uart access.port (bytes_of access.width == 1) is uart)
+  where
+    no_uart : (port : ℕ) (one : Bool) → port ≡ reset_control_port → (nat_le 0x3F8 port && nat_le port 0x3FF && one) ≡ true → ⊥
+    no_uart port one is within = cc (rw is at within)
+
+written_nothing : (write here one : Bool) (value : ℕ) → here ≡ false → (if write && here && one then Some value else None) ≡ None
+written_nothing true here one value is = rw is refl
+written_nothing false here one value is = refl
+
+control_asked : (control actor : ℕ) (resets : Bool) (event : Event) (com1 : Com1) →
+    control_over control (asked actor resets event com1) ≡ control_after control (control_written event)
+unfolding control_over
+control_asked control actor resets (Port access) com1 =
+    let next = com1_after resets (Port access) com1 in
+    elim (cases_Bool (is_for_uart access)) [
+      | inl uart ↦
+          rw (
+            uart,
+            written_nothing access.write (access.port == reset_control_port) (bytes_of access.width == 1)
+                access.value (other_port access uart),
+          )
+          (control_of_change control (level_of com1) (level_of (record com1 { uart = uart_after access com1.uart })))
+      | inr board ↦
+          rw board
+          (control_of_change (control_after control (control_written (Port access))) (level_of com1)
+          (level_of (if resets then record com1 { uart = uart_at_reset } else com1)))
+    ]
+control_asked control actor resets (Memory access) com1 = refl
+control_asked control actor resets (Wide access) com1 = refl
+control_asked control actor resets (LookAt kind addr smm) com1 = refl
+control_asked control actor resets Ack com1 = refl
+control_asked control actor resets (Pulses count) com1 = refl
+control_asked control actor resets (Time moment) com1 = refl
+control_asked control actor resets (Wire dev on) com1 = refl
+control_asked control actor resets (Line irq on) com1 = refl
+control_asked control actor resets (BadSector sector) com1 = refl
+
+pub control_follows : ControlFollows
+control_follows history after actor event com1 goes_on =
+    ap reset_control goes_on.grows
+    ∙ (control_more goes_on.more history
+    ∙ (ap (control_over (reset_control history)) goes_on.same
+    ∙ control_asked (reset_control history) actor (is_hard_reset history event) event com1))

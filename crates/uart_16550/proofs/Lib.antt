@@ -1,0 +1,4 @@
+pub mod SerialSteps
+pub mod Resets
+pub mod CallProofs
+pub mod ControlProofs

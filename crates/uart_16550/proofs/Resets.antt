@@ -1,0 +1,41 @@
+-- A change of the memory map is a reset exactly where the event is a hard reset.
+use Rattle.std.proofs.Common.{◌≡◌, ℕ, Bool, true, false, List, refl, inl, inr}
+use Rattle.std.specs.Prelude.{if◌then◌else◌, Option, Some, None, option_map, option_and_then, ◌&&◌}
+use Rattle.std.proofs.lemmas.Bool.{cases_Bool}
+use Rattle.board_base.specs.declared.access.PortAccess.{PortAccess}
+use Rattle.board_base.specs.declared.access.Width.{Width}
+use Rattle.board_base.specs.declared.target.Reg.{Reg}
+use Rattle.board_spec.specs.declared.event.Event.TheVariants.{Port}
+use Rattle.board_spec.specs.declared.event.Entry.{Entry}
+use Rattle.board_spec.specs.declared.map_change.MapChange.{MapChange}
+use Rattle.board_spec.specs.declared.map_change.MapChange.TheVariants.{Store}
+use Rattle.board_spec.specs.Setup.{Setup}
+use Rattle.board_spec.specs.Registers.{is_hard_reset, config_address, config_register, is_config_port}
+use Rattle.board_spec.specs.MapWrites.{touches_map, map_change_of}
+use Rattle.uart_16550.specs.Resets.{is_reset}
+
+abbrev touching : Setup → MapChange → Option MapChange
+touching setup change = if touches_map setup change then Some change else None
+
+no_reset_kept : (kept : Bool) (at : Reg) (width : Width) (value : ℕ) →
+    is_reset (if kept then Some (Store at width value) else None) ≡ false
+no_reset_kept true at width value = refl
+no_reset_kept false at width value = refl
+
+no_reset_stored : (setup : Setup) (stores : Bool) (reg : Option Reg) (width : Width) (value : ℕ) →
+    is_reset
+    (option_and_then (touching setup) (if stores then option_map (λ at. Store at width value) reg else None))
+    ≡ false
+no_reset_stored setup false reg width value = refl
+no_reset_stored setup true None width value = refl
+no_reset_stored setup true (Some at) width value = no_reset_kept (touches_map setup (Store at width value)) at width value
+
+pub change_is_reset : (setup : Setup) (history : List Entry) (access : PortAccess) →
+    is_reset (map_change_of setup history (Port access)) ≡ is_hard_reset history (Port access)
+unfolding map_change_of
+change_is_reset setup history access = elim (cases_Bool (is_hard_reset history (Port access))) [
+  | inl hard ↦ rw hard refl
+  | inr soft ↦ rw soft
+      (no_reset_stored setup (access.write && is_config_port access.port)
+      (config_register setup (config_address history) access.port) access.width access.value)
+]

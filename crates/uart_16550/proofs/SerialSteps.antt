@@ -1,0 +1,225 @@
+-- How the histories go on that leave a board with a serial port.
+use Rattle.std.proofs.Common.{◌≡◌, ℕ, ◌<◌, Bool, false, List, [], ◌∷◌, ◌++◌, map, reverse, refl, sym, ap, ◌∙◌, append_assoc, lt_irrefl}
+use Rattle.std.specs.Prelude.{◌==◌, None, unwrap_or}
+use Rattle.std.proofs.lemmas.Bool.{ne_eqb}
+use Rattle.std.proofs.lemmas.List.{reverse-append, map-append}
+use Rattle.board_base.specs.declared.access.PortAccess.{PortAccess}
+use Rattle.board_spec.specs.declared.event.Event.{Event}
+use Rattle.board_spec.specs.declared.event.Event.TheVariants.{Memory, Wide, Port, Look as LookAt, Ack, Pulses, Time, Wire, Line, BadSector}
+use Rattle.board_spec.specs.declared.event.Reply.{Reply}
+use Rattle.board_spec.specs.declared.event.Entry.{Entry}
+use Rattle.board_spec.specs.declared.event.Statement.{Statement}
+use Rattle.board_spec.specs.Setup.{Setup}
+use Rattle.board_spec.specs.Devices.{line_set, irq_of}
+use Rattle.board_spec.specs.Legal.{IsLegal, next_entry}
+use Rattle.board_spec.specs.Orders.{statement_of, statements_of}
+use Rattle.uart_16550.specs.declared.com1.Com1.{Com1}
+use Rattle.uart_16550.specs.Com1.{com1_irq, com1_actor, level_of, asked_event, line_change, change_asked, com1_after, asked, uart_access}
+use Rattle.uart_16550.specs.Serial.{SetsLine, GoesOn, AreAnswered, AnsweredIsLegal, IsLeftAt, IsLeftAfter}
+
+-- a processor is not the port
+pub other_actor : (actor : ℕ) (event : Event) → actor < com1_actor → actor ≡ com1_actor → SetsLine event
+other_actor actor event below is = elim (lt_irrefl com1_actor (rw is at below)) [ ]
+
+pub statements_joined : (more before : List Entry) → statements_of (more ++ before) ≡ statements_of before ++ statements_of more
+statements_joined more before =
+    ap (map statement_of) (reverse-append more before) ∙ map-append statement_of (reverse before) (reverse more)
+
+pub goes_on_twice : (before middle after : List Entry) (first second : List Statement) →
+    GoesOn before first middle → GoesOn middle second after → GoesOn before (first ++ second) after
+goes_on_twice before middle after first second one two = record {
+  more = two.more ++ one.more;
+  grows = two.grows ∙ (ap (λ (list : List Entry). two.more ++ list) one.grows ∙ sym (append_assoc two.more one.more before));
+  same = statements_joined two.more one.more
+      ∙ (ap (λ (list : List Statement). list ++ statements_of two.more) one.same
+      ∙ ap (λ (list : List Statement). first ++ list) two.same);
+}
+
+answered_as : (is_answer : Setup → List Entry → Event → Reply → Type 0) (setup other : Setup) (history : List Entry) →
+    setup ≡ other → AreAnswered (is_answer other) history → AreAnswered (is_answer setup) history
+answered_as is_answer setup other history same answered = rw same answered
+
+pub answered_is_legal : AnsweredIsLegal
+answered_is_legal setup [] answered = tt
+answered_is_legal setup (entry ∷ before) answered =
+    (record { number = answered.0.number; answer = answered.0.answer }, answered_is_legal setup before answered.1)
+
+-- ---- an event that is no access at a port and no level of a line is for the board alone
+
+pub record IsPlain (event : Event) : Type 0 where
+  pub access : uart_access event ≡ None
+  pub after : (resets : Bool) (com1 : Com1) → com1_after resets event com1 ≡ com1
+  pub heard : (com1 : Com1) → asked_event com1 event ≡ event
+  pub alone : (actor : ℕ) (resets : Bool) (com1 : Com1) →
+      asked actor resets event com1 ≡ record { actor = actor; event = event } ∷ []
+  pub unset : line_set com1_irq event ≡ None
+
+pub is_plain : (event : Event) → ((access : PortAccess) → event ≡ Port access → ⊥) →
+    ((irq : ℕ) (on : Bool) → event ≡ Line irq on → ⊥) → IsPlain event
+is_plain (Port access) no_port no_line = absurd (no_port access refl)
+is_plain (Line irq on) no_port no_line = absurd (no_line irq on refl)
+is_plain (Memory access) no_port no_line = record {
+  access = refl;
+  after = λ resets com1. refl;
+  heard = λ com1. refl;
+  alone = λ actor resets com1. refl;
+  unset = refl;
+}
+is_plain (Wide access) no_port no_line = record {
+  access = refl;
+  after = λ resets com1. refl;
+  heard = λ com1. refl;
+  alone = λ actor resets com1. refl;
+  unset = refl;
+}
+is_plain (LookAt kind addr smm) no_port no_line = record {
+  access = refl;
+  after = λ resets com1. refl;
+  heard = λ com1. refl;
+  alone = λ actor resets com1. refl;
+  unset = refl;
+}
+is_plain Ack no_port no_line = record {
+  access = refl;
+  after = λ resets com1. refl;
+  heard = λ com1. refl;
+  alone = λ actor resets com1. refl;
+  unset = refl;
+}
+is_plain (Pulses count) no_port no_line = record {
+  access = refl;
+  after = λ resets com1. refl;
+  heard = λ com1. refl;
+  alone = λ actor resets com1. refl;
+  unset = refl;
+}
+is_plain (Time moment) no_port no_line = record {
+  access = refl;
+  after = λ resets com1. refl;
+  heard = λ com1. refl;
+  alone = λ actor resets com1. refl;
+  unset = refl;
+}
+is_plain (Wire dev on) no_port no_line = record {
+  access = refl;
+  after = λ resets com1. refl;
+  heard = λ com1. refl;
+  alone = λ actor resets com1. refl;
+  unset = refl;
+}
+is_plain (BadSector sector) no_port no_line = record {
+  access = refl;
+  after = λ resets com1. refl;
+  heard = λ com1. refl;
+  alone = λ actor resets com1. refl;
+  unset = refl;
+}
+
+-- ---- steps
+
+-- the script set the level of line 4
+abbrev pub with_level : Com1 → Bool → Com1
+with_level com1 on = record com1 { script_level = on }
+
+module _ {B : Type 0} (is_answer : Setup → List Entry → Event → Reply → Type 0) (setup_of : B → Setup)
+    (left_by : B → List Entry → Type 0) where
+  -- nothing happened yet
+  pub fresh_left : (board : B) → left_by board [] → IsLeftAt is_answer setup_of left_by board false []
+  unfolding irq_of
+  fresh_left board left = record { left = left; answered = tt; level_is = refl; own = tt }
+
+  -- the board does one event
+  pub one_step : (old new : B) (level next : Bool) (history : List Entry) (actor : ℕ) (event : Event) (reply : Reply) →
+      IsLeftAt is_answer setup_of left_by old level history → setup_of new ≡ setup_of old →
+      is_answer (setup_of old) history event reply → left_by new (next_entry history actor event reply ∷ history) →
+      unwrap_or (line_set com1_irq event) level ≡ next → (actor ≡ com1_actor → SetsLine event) →
+      IsLeftAfter is_answer setup_of left_by new next history (record { actor = actor; event = event } ∷ [])
+  unfolding irq_of
+  one_step old new level next history actor event reply left_at same answer left is own = record {
+    after = next_entry history actor event reply ∷ history;
+    left_at = record {
+      left = left;
+      answered =
+          answered_as is_answer (setup_of new) (setup_of old) (next_entry history actor event reply ∷ history) same
+          (record { number = refl; answer = answer }, left_at.answered);
+      level_is = ap (unwrap_or (line_set com1_irq event)) left_at.level_is ∙ is;
+      own = (own, left_at.own);
+    };
+    goes_on = record { more = next_entry history actor event reply ∷ []; grows = refl; same = refl };
+  }
+
+  -- the same under another name of the event
+  pub one_step_as : (old new : B) (level next : Bool) (history : List Entry) (actor : ℕ) (event name : Event) (reply : Reply) →
+      IsLeftAt is_answer setup_of left_by old level history → setup_of new ≡ setup_of old →
+      is_answer (setup_of old) history event reply → left_by new (next_entry history actor event reply ∷ history) →
+      unwrap_or (line_set com1_irq event) level ≡ next → actor < com1_actor → event ≡ name →
+      IsLeftAfter is_answer setup_of left_by new next history (record { actor = actor; event = name } ∷ [])
+  one_step_as old new level next history actor event name reply left_at same answer left is below named =
+      rw (← named)
+      (one_step old new level next history actor event reply left_at same answer left is (other_actor actor event below))
+
+  -- the script gives line 4 a level
+  pub level_given : (old new : B) (com1 : Com1) (irq : ℕ) (on level : Bool) (history : List Entry) (actor : ℕ) (reply : Reply) →
+      irq ≡ com1_irq → level ≡ level_of (with_level com1 on) →
+      IsLeftAt is_answer setup_of left_by old (level_of com1) history → setup_of new ≡ setup_of old →
+      is_answer (setup_of old) history (Line irq level) reply → left_by new (next_entry history actor (Line irq level) reply ∷ history) →
+      actor < com1_actor →
+      IsLeftAfter is_answer setup_of left_by new (level_of (with_level com1 on)) history
+      (record { actor = actor; event = asked_event com1 (Line irq on) } ∷ [])
+  level_given old new com1 irq on level history actor reply is level_is left_at same answer left below =
+      one_step_as old new (level_of com1) (level_of (with_level com1 on)) history actor (Line irq level)
+      (asked_event com1 (Line irq on)) reply left_at same answer left (rw is level_is) below (rw (is, level_is) refl)
+
+  -- the script gives another line a level
+  pub other_given : (old new : B) (com1 : Com1) (irq : ℕ) (on : Bool) (history : List Entry) (actor : ℕ) (reply : Reply) →
+      (irq ≡ com1_irq → ⊥) →
+      IsLeftAt is_answer setup_of left_by old (level_of com1) history → setup_of new ≡ setup_of old →
+      is_answer (setup_of old) history (Line irq on) reply → left_by new (next_entry history actor (Line irq on) reply ∷ history) →
+      actor < com1_actor →
+      IsLeftAfter is_answer setup_of left_by new (level_of com1) history
+      (record { actor = actor; event = asked_event com1 (Line irq on) } ∷ [])
+  other_given old new com1 irq on history actor reply other left_at same answer left below =
+      let is_other : (irq == com1_irq) ≡ false = ne_eqb irq com1_irq other in
+      one_step_as old new (level_of com1) (level_of com1) history actor (Line irq on)
+      (asked_event com1 (Line irq on)) reply left_at same answer left (rw is_other refl) below (rw is_other refl)
+
+  -- the board does something, and then something more
+  pub then_more : (middle new : B) (level next : Bool) (before : List Entry) (first second : List Statement) →
+      IsLeftAfter is_answer setup_of left_by middle level before first →
+      ((history : List Entry) → IsLeftAt is_answer setup_of left_by middle level history →
+      IsLeftAfter is_answer setup_of left_by new next history second) →
+      IsLeftAfter is_answer setup_of left_by new next before (first ++ second)
+  then_more middle new level next before first second one two =
+      let last = two one.after one.left_at in
+      record {
+        after = last.after;
+        left_at = last.left_at;
+        goes_on = goes_on_twice before one.after last.after first second one.goes_on last.goes_on;
+      }
+
+  -- the board does an access, and then hears of the line what is new
+  pub accessed : (old middle new : B) (com1 next : Com1) (history : List Entry) (actor : ℕ) (access : PortAccess) (reply : Reply)
+      (was now : Bool) → IsLeftAt is_answer setup_of left_by old (level_of com1) history → setup_of middle ≡ setup_of old →
+      is_answer (setup_of old) history (Port access) reply →
+      left_by middle (next_entry history actor (Port access) reply ∷ history) → actor < com1_actor →
+      was ≡ level_of com1 → now ≡ level_of next →
+      ((after : List Entry) → IsLeftAt is_answer setup_of left_by middle was after →
+      IsLeftAfter is_answer setup_of left_by new now after (line_change was now)) →
+      IsLeftAfter is_answer setup_of left_by new (level_of next) history
+      (record { actor = actor; event = Port access } ∷ change_asked com1 next)
+  accessed old middle new com1 next history actor access reply was now left_at same answer left below was_is now_is moved =
+      then_more middle new (level_of com1) (level_of next) history (record { actor = actor; event = Port access } ∷ [])
+      (change_asked com1 next)
+      (one_step old middle (level_of com1) (level_of com1) history actor (Port access) reply left_at same answer left refl
+      (other_actor actor (Port access) below))
+      (rw (was_is, now_is) at moved)
+
+  -- the board does an event that is for it alone
+  pub plain_step : (old new : B) (com1 : Com1) (history : List Entry) (actor : ℕ) (event : Event) (resets : Bool) (reply : Reply) →
+      IsPlain event → IsLeftAt is_answer setup_of left_by old (level_of com1) history → setup_of new ≡ setup_of old →
+      is_answer (setup_of old) history event reply → left_by new (next_entry history actor event reply ∷ history) →
+      actor < com1_actor → IsLeftAfter is_answer setup_of left_by new (level_of com1) history (asked actor resets event com1)
+  plain_step old new com1 history actor event resets reply plain left_at same answer left below =
+      rw (plain.alone actor resets com1)
+      (one_step old new (level_of com1) (level_of com1) history actor event reply left_at same answer left
+      (rw plain.unset refl) (other_actor actor event below))

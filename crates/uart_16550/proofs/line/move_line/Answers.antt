@@ -1,0 +1,20 @@
+use Rattle.std.proofs.Common.{◌≡◌, Bool, true, false, refl, not}
+use Rattle.std.proofs.Math.Bool.{beq}
+use Rattle.board_spec.specs.declared.event.Event.TheVariants.{Line}
+use Rattle.uart_16550.specs.Com1.{com1_irq, com1_actor}
+use Rattle.uart_16550.specs.Writes.{differ}
+use Rattle.uart_16550.proofs.SerialSteps.{one_step}
+use Rattle.uart_16550.proofs.line.move_line.Goals as goal
+
+differs : (old new : Bool) → not (beq old new) ≡ true → differ old new ≡ true
+differs true true is = is
+differs true false is = refl
+differs false true is = refl
+differs false false is = is
+
+pub returns-then-old-new-clause-moved : goal.returns-then-old-new-clause-moved
+returns-then-old-new-clause-moved g c = λ history left_at.
+    rw (differs c.args.old c.args.new c.if-old-new.true)
+    (one_step g.B.SteppedBoard.is_answer g.B.SteppedBoard.setup g.B.SteppedBoard.is_left_by c.args.board.now c.step.new.self c.args.old c.args.new
+    history com1_actor (Line com1_irq c.args.new) c.step.result left_at c.step.ensures.setup
+    (c.step.ensures.answer history left_at.left) (c.step.ensures.left history left_at.left) refl (λ _. refl))

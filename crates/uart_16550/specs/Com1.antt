@@ -1,0 +1,83 @@
+-- The serial port COM1 of a board: which accesses are for it, what an event makes of it, and what the board is asked.
+use Rattle.std.specs.Prelude.{ℕ, ◌-◌, ◌==◌, Bool, false, ◌&&◌, ◌||◌, if◌then◌else◌, List, [], ◌∷◌, Option, Some, None}
+use Rattle.board_base.specs.declared.access.PortAccess.{PortAccess}
+use Rattle.board_base.specs.Access.{bytes_of}
+use Rattle.board_spec.specs.declared.event.Event.{Event}
+use Rattle.board_spec.specs.declared.event.Event.TheVariants.{Port, Line}
+use Rattle.board_spec.specs.declared.event.Statement.{Statement}
+use Rattle.board_spec.specs.Bits.{is_within}
+use Rattle.uart_16550.specs.declared.com1.Com1.{Com1}
+use Rattle.uart_16550.specs.declared.com1.SerialReply.{SerialReply}
+use Rattle.uart_16550.specs.declared.com1.SerialReply.TheVariants.{Uart as FromUart}
+use Rattle.uart_16550.specs.Uart.{Uart, uart_at_reset, is_interrupting}
+use Rattle.uart_16550.specs.Reads.{byte_read, after_read}
+use Rattle.uart_16550.specs.Writes.{differ, after_write, byte_sent}
+
+-- the ports of the eight registers, the interrupt line, and the number under which the port itself moves that line
+abbrev pub com1_ports : ℕ × ℕ
+com1_ports = (0x3F8, 0x3FF)
+
+abbrev pub com1_irq : ℕ
+com1_irq = 4
+
+abbrev pub com1_actor : ℕ
+com1_actor = 8
+
+abbrev pub com1_at_reset : Com1
+com1_at_reset = record { uart = uart_at_reset; script_level = false }
+
+-- the level of line 4: the or of the UART's line and of the level that the script set
+abbrev pub level_of : Com1 → Bool
+level_of com1 = is_interrupting com1.uart || com1.script_level
+
+-- ---- accesses to the UART: those of one byte at its ports, whatever card decodes them
+
+abbrev pub is_for_uart : PortAccess → Bool
+is_for_uart access = is_within com1_ports.0 com1_ports.1 access.port && bytes_of access.width == 1
+
+abbrev pub uart_access : Event → Option PortAccess
+uart_access (Port access) = if is_for_uart access then Some access else None
+uart_access _ = None
+
+abbrev pub offset_of : PortAccess → ℕ
+offset_of access = access.port - com1_ports.0
+
+abbrev pub uart_after : PortAccess → Uart → Uart
+uart_after access uart =
+    if access.write then after_write uart (offset_of access) access.value else after_read uart (offset_of access)
+
+-- the value of a read; the byte that a write sends
+abbrev pub uart_reply : PortAccess → Uart → SerialReply
+uart_reply access uart =
+    if access.write then FromUart None (byte_sent uart (offset_of access) access.value)
+    else FromUart (Some (byte_read uart (offset_of access))) None
+
+-- ---- an event: what it makes of the port, and what it asks of the board
+
+-- the script sets the level of line 4, an access is for the UART, or a hard reset makes the UART new
+abbrev pub com1_after : (resets : Bool) → Event → Com1 → Com1
+com1_after resets (Line irq on) com1 = if irq == com1_irq then record com1 { script_level = on } else com1
+com1_after resets (Port access) com1 =
+    if is_for_uart access then record com1 { uart = uart_after access com1.uart } else
+    if resets then record com1 { uart = uart_at_reset } else com1
+com1_after resets _ com1 = com1
+
+-- the level of line 4 reaches the board as the or
+abbrev pub asked_event : Com1 → Event → Event
+asked_event com1 (Line irq on) = Line irq (if irq == com1_irq then is_interrupting com1.uart || on else on)
+asked_event com1 event = event
+
+-- the port itself moves line 4, where that changes
+abbrev pub line_change : (old new : Bool) → List Statement
+line_change old new = if differ old new then record { actor = com1_actor; event = Line com1_irq new } ∷ [] else []
+
+-- what the board is asked by the port, once something changed it
+abbrev pub change_asked : (old new : Com1) → List Statement
+change_asked old new = line_change (level_of old) (level_of new)
+
+-- what the board is asked in all, in order
+abbrev pub asked : (actor : ℕ) → (resets : Bool) → Event → Com1 → List Statement
+asked actor resets (Port access) com1 =
+    let change = change_asked com1 (com1_after resets (Port access) com1) in
+    if is_for_uart access then change else record { actor = actor; event = Port access } ∷ change
+asked actor resets event com1 = record { actor = actor; event = asked_event com1 event } ∷ []

@@ -1,0 +1,9 @@
+pub mod Names
+pub mod Uart
+pub mod Reads
+pub mod Writes
+pub mod Com1
+pub mod Resets
+pub mod Serial
+pub mod Calls
+pub mod Sent

@@ -1,0 +1,106 @@
+-- A 16550 as a machine: its state, the interrupt that it asks for, and the register at each offset.
+-- The line rate is not modelled: a byte is sent as soon as it is written.
+use Rattle.std.specs.Prelude.{ℕ, ◌^◌, ◌==◌, Bool, true, false, not, ◌&&◌, ◌||◌, nat_le, if◌then◌else◌, List, [], ◌∷◌, ◌++◌, length, Option, is_some, find}
+use Rattle.board_spec.specs.Bits.{is_bit}
+use Rattle.uart_16550.specs.declared.interrupt.Interrupt.{Interrupt}
+use Rattle.uart_16550.specs.declared.interrupt.Interrupt.TheVariants.{LineStatus, DataAvailable, TransmitterEmpty, ModemStatus}
+use Rattle.uart_16550.specs.declared.modem.ModemLines.{ModemLines}
+use Rattle.uart_16550.specs.declared.modem.ModemChanges.{ModemChanges}
+use Rattle.uart_16550.specs.Names.{erbfi, etbei, elsi, edssi, dlab, dtr, rts, out1, out2, loop_enable}
+
+-- the registers that keep what is written; whether the FIFOs are on; the bytes received, the next to be read first;
+-- whether a byte was lost since LSR was read; whether THR became empty and IIR did not tell it since; and what the
+-- lines of the modem did since MSR was read
+pub record Uart : Type 0 where
+  pub ier : ℕ
+  pub lcr : ℕ
+  pub mcr : ℕ
+  pub scr : ℕ
+  pub dll : ℕ
+  pub dlm : ℕ
+  pub fifos : Bool
+  pub queue : List ℕ
+  pub overrun : Bool
+  pub emptied : Bool
+  pub changes : ModemChanges
+
+abbrev pub no_changes : ModemChanges
+no_changes = record { dcts = false; ddsr = false; teri = false; ddcd = false }
+
+abbrev pub uart_at_reset : Uart
+uart_at_reset = record {
+  ier = 0;
+  lcr = 0;
+  mcr = 0;
+  scr = 0;
+  dll = 0;
+  dlm = 0;
+  fifos = false;
+  queue = [];
+  overrun = false;
+  emptied = false;
+  changes = no_changes;
+}
+
+abbrev pub is_dlab : Uart → Bool
+is_dlab uart = is_bit uart.lcr dlab
+
+abbrev pub is_loopback : Uart → Bool
+is_loopback uart = is_bit uart.mcr loop_enable
+
+-- ---- the queue: 16 bytes with FIFOs, and one without
+
+abbrev pub queue_size : Uart → ℕ
+queue_size uart = if uart.fifos then 16 else 1
+
+abbrev pub is_full : Uart → Bool
+is_full uart = nat_le (queue_size uart) (length uart.queue)
+
+-- a byte can come from outside
+abbrev pub has_room : Uart → Bool
+has_room uart = not (is_full uart) && not (is_loopback uart)
+
+abbrev pub received : Uart → ℕ → Uart
+received uart byte = record uart { queue = uart.queue ++ byte ∷ [] }
+
+-- ---- the lines of the modem: in loopback the port's own outputs, else a modem that is there and does not ring
+
+abbrev pub lines_of : (mcr : ℕ) → ModemLines
+lines_of mcr =
+    if is_bit mcr loop_enable
+    then record { cts = is_bit mcr rts; dsr = is_bit mcr dtr; ri = is_bit mcr out1; dcd = is_bit mcr out2 }
+    else record { cts = true; dsr = true; ri = false; dcd = true }
+
+-- ---- the interrupt
+
+abbrev pub is_any_change : ModemChanges → Bool
+is_any_change changes = changes.dcts || changes.ddsr || changes.teri || changes.ddcd
+
+-- what each interrupt tells
+abbrev pub is_told : Uart → Interrupt → Bool
+is_told uart LineStatus = uart.overrun
+is_told uart DataAvailable = not (length uart.queue == 0)
+is_told uart TransmitterEmpty = uart.emptied
+is_told uart ModemStatus = is_any_change uart.changes
+
+-- the bit of IER that enables it
+abbrev pub enable_of : Interrupt → ℕ
+enable_of LineStatus = elsi
+enable_of DataAvailable = erbfi
+enable_of TransmitterEmpty = etbei
+enable_of ModemStatus = edssi
+
+abbrev pub is_raised : Uart → Interrupt → Bool
+is_raised uart interrupt = is_bit uart.ier (enable_of interrupt) && is_told uart interrupt
+
+-- the pending interrupt is the first that is enabled and has something to tell
+abbrev pub pending : Uart → Option Interrupt
+pending uart = find (is_raised uart) (LineStatus ∷ DataAvailable ∷ TransmitterEmpty ∷ ModemStatus ∷ [])
+
+-- the level of the interrupt line, which OUT2 lets out
+abbrev pub is_interrupting : Uart → Bool
+is_interrupting uart = is_some (pending uart) && is_bit uart.mcr out2
+
+-- a bit of a register
+abbrev pub flag : Bool → ℕ → ℕ
+flag on k = if on then 2 ^ k else 0

@@ -1,0 +1,20 @@
+//! A 16550 serial port on COM1 (National PC16550D data sheet): `Uart`, the chip, and `SerialBoard`, a board with it.
+//!
+//! The line rate is not modelled: a byte is sent as soon as it is written, and the divisor latch is kept alone.
+#![tactic(auto)]
+
+mod com1;
+mod interrupt;
+pub mod laws;
+mod line;
+mod modem;
+mod queue;
+mod register;
+mod serial;
+mod stepped;
+mod uart;
+
+pub use com1::SerialReply;
+pub use serial::SerialBoard;
+pub use stepped::SteppedBoard;
+pub use uart::Uart;
