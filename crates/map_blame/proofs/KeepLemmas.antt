@@ -1,0 +1,2 @@
+-- soon
+use Rattle.std.specs.Prelude.{ℕ}
