@@ -1,1 +1,3 @@
-pub mod KeepLemmas
+pub mod KeepLaws
+pub mod CoverLemmas
+pub mod KeptLemmas

@@ -1,7 +1,7 @@
 -- What is kept of some changes as they are read, by which those are found on which the map rests.
-use Rattle.std.specs.Prelude.{ℕ, ◌≡◌, ◌+◌, ◌*◌, ◌<◌, ◌==◌, nat_lt, Bool, true, false, ◌&&◌, ◌||◌, List, [], ◌∷◌, take, slice_index_or, Option, Some, None, option_and_then, if◌then◌else◌}
+use Rattle.std.specs.Prelude.{ℕ, ◌≡◌, ◌+◌, ◌*◌, ◌<◌, ◌==◌, nat_lt, nat_eq, Bool, true, false, ◌&&◌, ◌||◌, List, [], ◌∷◌, take, slice_index_or, Option, Some, None, option_and_then, if◌then◌else◌}
 use Rattle.std.specs.List.{list_any}
-use Rattle.std.specs.Option.{option_map_or}
+use Rattle.std.specs.Option.{option_eq}
 use Rattle.board_base.specs.declared.target.Reg.{Reg}
 use Rattle.board_base.specs.Access.{bytes_of}
 use Rattle.board_spec.specs.declared.map_change.MapChange.{MapChange}
@@ -28,7 +28,7 @@ pub record AreCoversOf (changes : List MapChange) (covers : Covers) : Type 0 whe
   pub lock : covers.lock ≡ first_lock changes
 
 abbrev pub is_number : (number : ℕ) → Option ℕ → Bool
-is_number number found = option_map_or (λ other. other == number) found false
+is_number number found = option_eq nat_eq found (Some number)
 
 -- by them a change of this number is the last that covers this register, and the map depends on it
 abbrev pub is_last_at : Setup → Covers → (number : ℕ) → Reg → Bool

@@ -1,8 +1,7 @@
 -- The changes on which the memory map rests. Changes of the registers are a list with the newest first; the number of a
 -- change counts from 1, which the oldest has.
-use Rattle.std.specs.Prelude.{ℕ, ◌≡◌, ◌+◌, ◌-◌, ◌⊎◌, ◌==◌, Bool, true, false, ◌&&◌, if◌then◌else◌, List, [], ◌∷◌, length, Option, Some, None}
-use Rattle.std.specs.List.{list_any}
-use Rattle.std.specs.List.Sorted.{IsStrictlyIncreasing}
+use Rattle.std.specs.Prelude.{ℕ, ◌≡◌, ◌+◌, ◌-◌, ◌<◌, ◌⊎◌, ◌==◌, Bool, true, false, ◌&&◌, if◌then◌else◌, List, [], ◌∷◌, length, Option, Some, None}
+use Rattle.std.specs.List.{list_any, AllPairs}
 use Rattle.std.specs.Option.{option_or}
 use Rattle.board_base.specs.declared.target.Reg.{Reg}
 use Rattle.board_spec.specs.declared.map_change.MapChange.{MapChange}
@@ -47,7 +46,7 @@ is_among number numbers = list_any (λ other. other == number) numbers
 
 -- the numbers of these changes in rising order, each once
 pub record IsKeep (setup : Setup) (changes : List MapChange) (keep : List ℕ) : Type 0 where
-  pub rises : IsStrictlyIncreasing keep
+  pub rises : AllPairs (λ one later. one < later) keep
   pub only : (number : ℕ) → is_among number keep ≡ true → IsKept setup changes number
   pub each : (number : ℕ) → IsKept setup changes number → is_among number keep ≡ true
 

@@ -14,13 +14,13 @@ KeptSuffice =
     (setup : Setup) (changes : List MapChange) (keep : List ℕ) → IsKeep setup changes keep →
     SameMapBytes setup (registers_after setup (chosen keep changes)) (registers_after setup changes)
 
--- two reports of the same changes say the same
-pub record SameReport (ranges other : List Blamed) (keep other_keep : List ℕ) : Type 0 where
-  pub ranges : map map_range_of ranges ≡ map map_range_of other
-  pub since : map (λ blamed. blamed.since) ranges ≡ map (λ blamed. blamed.since) other
-  pub keep : keep ≡ other_keep
+-- two reports say the same
+pub record SayTheSame (blamed blamed' : List Blamed) (kept kept' : List ℕ) : Type 0 where
+  pub ranges : map map_range_of blamed ≡ map map_range_of blamed'
+  pub since : map (λ one. one.since) blamed ≡ map (λ one. one.since) blamed'
+  pub keep : kept ≡ kept'
 
 abbrev pub OneReport : Type 0
 OneReport =
-    (setup : Setup) (changes : List MapChange) (ranges other : List Blamed) (keep other_keep : List ℕ) →
-    IsBlame setup changes ranges keep → IsBlame setup changes other other_keep → SameReport ranges other keep other_keep
+    (setup : Setup) (changes : List MapChange) (blamed blamed' : List Blamed) (kept kept' : List ℕ) →
+    IsBlame setup changes blamed kept → IsBlame setup changes blamed' kept' → SayTheSame blamed blamed' kept kept'

@@ -19,6 +19,6 @@ pub record AreBlamed (setup : Setup) (changes : List MapChange) (ranges : List B
   pub since : All (λ blamed. IsSince setup changes (map_range_of blamed) blamed.since) ranges
 
 -- there is exactly one such report (`law_one_report`)
-pub record IsBlame (setup : Setup) (changes : List MapChange) (ranges : List Blamed) (keep : List ℕ) : Type 0 where
-  pub ranges : AreBlamed setup changes ranges
-  pub keep : IsKeep setup changes keep
+pub record IsBlame (setup : Setup) (changes : List MapChange) (blamed : List Blamed) (kept : List ℕ) : Type 0 where
+  pub ranges : AreBlamed setup changes blamed
+  pub keep : IsKeep setup changes kept

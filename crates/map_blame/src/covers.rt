@@ -3,6 +3,7 @@ ghost use Rattle.std.specs.Prelude.{◌≡◌, ◌<◌, ◌+◌, ◌&&◌, if◌
 ghost use Rattle.board_base.specs.declared.target.Reg.{Reg};
 ghost use Rattle.board_spec.specs.declared.map_change.MapChange.{MapChange};
 ghost use Rattle.board_spec.specs.declared.map_change.MapChange.TheVariants.{Store};
+ghost use Rattle.board_spec.specs.Bits.{is_bit, byte};
 ghost use Rattle.board_spec.specs.MapWrites.{reg_after};
 ghost use Rattle.board_spec.specs.RegisterNames.{is_same};
 ghost use Rattle.board_spec.specs.Registers.{covers as covers_register};
@@ -63,9 +64,7 @@ impl Covers {
             → AreCoversOf (Store reg width value ∷ changes) self.new }
     {
         cover_all(&mut self.last, number, reg, width);
-        if self.lock.is_none() && locks(reg, width, value) {
-            self.lock = Some(number);
-        }
+        self.lock = self.lock.or(locks(reg, width, value).then_some(number));
     }
 
     /// The number of the last change that covers a register. None where the register has no place.
@@ -127,6 +126,14 @@ fn locks(reg: Reg, width: Width, value: u32) -> bool
     if reg.dev != HOST_BRIDGE || reg.fun != 0 || reg.off > SMRAM {
         return false;
     }
-    let index = u32::from(SMRAM - reg.off);
-    index < width.bytes() && is_set(value, 8 * index + DLCK)
+    let index = SMRAM - reg.off;
+    u32::from(index) < width.bytes() && has_lock(value, index)
+}
+
+/// Whether DLCK is 1 in a byte of a value, the low byte first.
+fn has_lock(value: u32, index: u8) -> bool
+    requires index { index < 4 }
+    ensures lock { result ≡ is_bit (byte value index) 4 }
+{
+    is_set(u32::from(value.to_le_bytes()[usize::from(index)]), DLCK)
 }

@@ -1,2 +1,0 @@
--- soon
-use Rattle.std.specs.Prelude.{ℕ}
