@@ -2,6 +2,8 @@
 
 ghost use Rattle.map_blame.specs.Laws.{KeptSuffice, OneReport};
 
+use board_spec::laws::law_one_flat_map;
+
 /// The kept changes alone leave each map byte as all changes do.
 pub fn law_kept_suffice()
     ensures suffice { KeptSuffice }
@@ -10,4 +12,6 @@ pub fn law_kept_suffice()
 /// There is only one report of a list of changes.
 pub fn law_one_report()
     ensures one { OneReport }
-{}
+{
+    law_one_flat_map();
+}
