@@ -1,0 +1,160 @@
+-- The last covers of a store, register by register.
+use Rattle.std.proofs.Common.{◌≡◌, ℕ, zero, suc, ◌+◌, ◌<◌, ◌≤◌, inl, inr, Bool, true, false, ◌||◌, ◌&&◌, List, [], ◌∷◌, length, get_or, take, refl, sym, ap, ◌∙◌, arith}
+use Rattle.std.specs.Prelude.{◌==◌, nat_le, nat_lt, Option, Some, None, is_some, find, slice_index_or, replicate, option_and_then, if◌then◌else◌}
+use Rattle.std.specs.Option.{option_or}
+use Rattle.std.specs.Bool.{then_some}
+use Rattle.std.specs.List.{AllByRecursion, list_any}
+use Rattle.std.proofs.lemmas.Bool.{cases_Bool, eqb-true, false≢true}
+use Rattle.std.proofs.lemmas.Bool.Decides.{nat_tests}
+use Rattle.std.proofs.lemmas.List.{get_or-take, length-take}
+use Rattle.std.proofs.lemmas.List.Elements.{recursion_from_All}
+use Rattle.std.proofs.lemmas.List.Folds.{list_any_at, list_any_more}
+use Rattle.board_base.specs.declared.access.Width.{Width}
+use Rattle.board_base.specs.declared.access.Width.TheVariants.{One}
+use Rattle.board_base.specs.declared.target.Reg.{Reg}
+use Rattle.board_spec.specs.declared.map_change.MapChange.{MapChange}
+use Rattle.board_spec.specs.declared.map_change.MapChange.TheVariants.{Store, Reset}
+use Rattle.board_spec.specs.Setup.{FittedCard, Setup, IsCard, IsCardList, card_at}
+use Rattle.board_spec.specs.Bits.{is_within}
+use Rattle.board_spec.specs.RegisterNames.{is_same}
+use Rattle.board_spec.specs.Registers.{covers}
+use Rattle.board_spec.specs.MapWrites.{has_rom, is_map_byte, reg_after, touches_map}
+use Rattle.map_blame.specs.declared.covers.Covers.{Covers}
+use Rattle.map_blame.specs.Keep.{last_cover, first_lock, locks}
+use Rattle.map_blame.specs.Covers.{AreCoversOf, is_placed, place_of, number_at}
+
+-- the first bytes of a store, so many, cover a register
+abbrev pub covers_first : (at : Reg) (count : ℕ) (reg : Reg) → Bool
+covers_first at count reg = at.dev == reg.dev && at.fun == reg.fun && nat_le at.off reg.off && nat_lt reg.off (at.off + count)
+
+covers_none : (at reg : Reg) → covers_first at 0 reg ≡ false
+covers_none at reg = grind (arith, nat_tests)
+
+covers_next : (at : Reg) (count : ℕ) (reg : Reg) →
+    covers_first at (count + 1) reg ≡ (is_same reg (reg_after at count) || covers_first at count reg)
+covers_next at count reg = grind (arith, nat_tests)
+
+either_test : (a b : Bool) (x y : Option ℕ) → (if a then x else if b then x else y) ≡ (if a || b then x else y)
+either_test true b x y = refl
+either_test false b x y = refl
+
+pub cover_none : (at reg : Reg) (number : ℕ) (old : Option ℕ) → old ≡ (if covers_first at 0 reg then Some number else old)
+cover_none at reg number old = rw (covers_none at reg) refl
+
+pub cover_next : (at : Reg) (count : ℕ) (reg : Reg) (number : ℕ) (old now next : Option ℕ) →
+    now ≡ (if covers_first at count reg then Some number else old) →
+    next ≡ (if is_same reg (reg_after at count) then Some number else now) →
+    next ≡ (if covers_first at (count + 1) reg then Some number else old)
+cover_next at count reg number old now next so_far step =
+    step
+    ∙ ap (λ n. if is_same reg (reg_after at count) then Some number else n) so_far
+    ∙ either_test (is_same reg (reg_after at count)) (covers_first at count reg) (Some number) old
+    ∙ ap (λ b. if b then Some number else old) (sym (covers_next at count reg))
+
+-- ---- of no changes
+
+none_at : (count place : ℕ) → slice_index_or (replicate {A = Option ℕ} count None) place None ≡ None
+none_at zero place = refl
+none_at (suc count) zero = refl
+none_at (suc count) (suc place) = none_at count place
+
+none_found : (count : ℕ) (place : Option ℕ) →
+    option_and_then (λ place. slice_index_or (replicate {A = Option ℕ} count None) place None) place ≡ None
+none_found count None = refl
+none_found count (Some place) = none_at count place
+
+pub covers_of_none : (count : ℕ) → AreCoversOf [] (record { last = replicate count None; lock = None })
+unfolding last_cover first_lock
+covers_of_none count = record {
+  last = λ reg placed. none_found count (place_of reg);
+  lock = refl;
+}
+
+-- ---- of one change more
+
+pub covers_of_reset : (changes : List MapChange) (covers : Covers) → AreCoversOf [] covers → AreCoversOf (Reset ∷ changes) covers
+unfolding last_cover first_lock
+covers_of_reset changes covers none = record { last = none.last; lock = none.lock }
+
+where_set : (b : Bool) (number : ℕ) → then_some b number ≡ (if b then Some number else None)
+where_set true number = refl
+where_set false number = refl
+
+pub covers_of_store : (at : Reg) (width : Width) (value number : ℕ) (changes : List MapChange) (old new : Covers) →
+    number ≡ length changes + 1 → AreCoversOf changes old →
+    ((other : Reg) → is_placed other ≡ true →
+    number_at new.last other ≡ (if covers at width other then Some number else number_at old.last other)) →
+    new.lock ≡ option_or old.lock (then_some (locks (Store at width value)) number) →
+    AreCoversOf (Store at width value ∷ changes) new
+unfolding last_cover first_lock
+covers_of_store at width value number changes old new is are last lock = record {
+  last = λ reg placed.
+      last reg placed
+      ∙ ap (λ n. if covers at width reg then Some number else n) (are.last reg placed)
+      ∙ ap (λ n. if covers at width reg then Some n else last_cover changes reg) is;
+  lock =
+      lock
+      ∙ ap (λ n. option_or old.lock n) (where_set (locks (Store at width value)) number)
+      ∙ ap (λ n. option_or n (if locks (Store at width value) then Some number else None)) are.lock
+      ∙ ap (λ n. option_or (first_lock changes) (if locks (Store at width value) then Some n else None)) is;
+}
+
+-- ---- the registers that the map depends on have a place
+
+placed_by : (dev fun off : ℕ) (some rom : Bool) → (some ≡ true → dev < 10) → (rom ≡ true → some ≡ true) →
+    (dev == 0 && fun == 0 && (is_within 0x59 0x68 off || off == 0x72)
+    || (dev == 1 && fun == 0 && off == 0x4E)
+    || some && fun == 0 && (off == 0x04 || is_within 0x10 0x27 off)
+    || rom && fun == 0 && is_within 0x30 0x33 off) ≡ true →
+    (nat_lt dev 10 && fun == 0 && nat_lt off 256) ≡ true
+placed_by dev fun off true rom device fitted is = let below : dev < 10 = device refl in grind (arith, nat_tests)
+placed_by dev fun off false true device fitted is = absurd (false≢true (fitted refl))
+placed_by dev fun off false false device fitted is = grind (arith, nat_tests)
+
+found_below : (cards : List FittedCard) (dev : ℕ) → AllByRecursion IsCard cards →
+    is_some (find (λ card. card.dev == dev) cards) ≡ true → dev < 10
+found_below [] dev each is = absurd (false≢true is)
+found_below (card ∷ later) dev each is = elim (cases_Bool (card.dev == dev)) [
+  | inl here ↦ let same : card.dev ≡ dev = eqb-true card.dev dev here in omega (arith, same, each.0.last)
+  | inr other ↦ found_below later dev each.1 (rw other at is)
+]
+
+rom_fitted : (card : Option FittedCard) → has_rom card ≡ true → is_some card ≡ true
+rom_fitted None is = is
+rom_fitted (Some card) is = refl
+
+pub map_byte_placed : (setup : Setup) (reg : Reg) → IsCardList setup.cards → is_map_byte setup reg ≡ true → is_placed reg ≡ true
+map_byte_placed setup reg cards is =
+    placed_by reg.dev reg.fun reg.off (is_some (card_at setup reg.dev)) (has_rom (card_at setup reg.dev))
+    (found_below setup.cards reg.dev (recursion_from_All IsCard setup.cards cards.each)) (rom_fitted (card_at setup reg.dev)) is
+
+-- ---- the bytes of a store
+
+pub or_nothing : (b : Bool) → (b || false) ≡ b
+or_nothing true = refl
+or_nothing false = refl
+
+pub touches_one : (setup : Setup) (reg : Reg) → touches_map setup (Store reg One 0) ≡ is_map_byte setup reg
+touches_one setup reg =
+    let same : reg.off + 0 ≡ reg.off = omega arith in
+    or_nothing (is_map_byte setup (reg_after reg 0)) ∙ ap (λ (off : ℕ). is_map_byte setup (record reg { off = off })) same
+
+abbrev pub offsets : List ℕ
+offsets = 0 ∷ 1 ∷ 2 ∷ 3 ∷ []
+
+offset_is : (k : ℕ) → k < 4 → get_or offsets k 0 ≡ k
+offset_is zero below = refl
+offset_is (suc zero) below = refl
+offset_is (suc (suc zero)) below = refl
+offset_is (suc (suc (suc zero))) below = refl
+offset_is (suc (suc (suc (suc k)))) below = absurd (omega (arith, below))
+
+pub any_next : (test : ℕ → Bool) (k : ℕ) → k < 4 → list_any test (take k offsets) ≡ false → test k ≡ false →
+    list_any test (take (k + 1) offsets) ≡ false
+any_next test k below none other = rw (list_any_more test offsets k 0 below, none, offset_is k below, other) refl
+
+pub any_at : (test : ℕ → Bool) (count k : ℕ) → count ≤ 4 → k < count → test k ≡ true →
+    list_any test (take count offsets) ≡ true
+any_at test count k few below is =
+    list_any_at test (take count offsets) k 0 (omega (arith, below, few, length-take count offsets))
+    (ap test (get_or-take count offsets k 0 below ∙ offset_is k (omega (arith, few, below))) ∙ is)

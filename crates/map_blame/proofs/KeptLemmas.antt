@@ -1,0 +1,293 @@
+-- The kept changes as they are found, one after another.
+use Rattle.std.proofs.Common.{◌≡◌, ℕ, suc, ◌+◌, ◌-◌, ◌<◌, ◌≤◌, ◌⊎◌, inl, inr, Bool, true, false, ◌&&◌, ◌||◌, List, [], ◌∷◌, ◌++◌, length, get_or, reverse, take, refl, sym, ap, ◌∙◌, subst, arith}
+use Rattle.std.specs.Prelude.{◌==◌, Option, Some, None, if◌then◌else◌}
+use Rattle.std.specs.List.{list_any, AllPairs}
+use Rattle.std.specs.Option.{option_eq, option_or}
+use Rattle.std.proofs.lemmas.Bool.{cases_Bool, cases_lt, eq-eqb, eqb-true, and_parts, and_from, false≢true}
+use Rattle.std.proofs.lemmas.Bool.Decides.{nat_tests}
+use Rattle.std.proofs.lemmas.List.{get_or-reverse, get_or_default, length-reverse}
+use Rattle.std.proofs.lemmas.List.Folds.{list_any_at, list_any-append}
+use Rattle.std.proofs.lemmas.List.Quantifiers.{all_pairs_push}
+use Rattle.board_base.specs.declared.access.Width.{Width}
+use Rattle.board_base.specs.declared.access.Width.TheVariants.{One}
+use Rattle.board_base.specs.declared.target.Reg.{Reg}
+use Rattle.board_base.specs.Access.{bytes_of}
+use Rattle.board_base.proofs.WidthLemmas.{bytes_few}
+use Rattle.board_spec.specs.declared.map_change.MapChange.{MapChange}
+use Rattle.board_spec.specs.declared.map_change.MapChange.TheVariants.{Store, Reset}
+use Rattle.board_spec.specs.Setup.{Setup, IsCardList}
+use Rattle.board_spec.specs.RegisterNames.{bridge}
+use Rattle.board_spec.specs.Registers.{covers}
+use Rattle.board_spec.specs.MapWrites.{is_map_byte, reg_after}
+use Rattle.map_blame.specs.declared.covers.Covers.{Covers}
+use Rattle.map_blame.specs.Keep.{last_cover, first_lock, locks, is_among, IsLastCover, IsKept, IsKeep}
+use Rattle.map_blame.specs.Covers.{AreCoversOf, is_placed, is_number, number_at, is_last_at, is_last_of, is_kept_of}
+use Rattle.map_blame.proofs.CoverLemmas.{map_byte_placed, or_nothing, offsets, any_at}
+use Rattle.map_blame.proofs.KeepLaws.{some_is, or_cases, where_true}
+
+or_right : (a b : Bool) → b ≡ true → (a || b) ≡ true
+or_right true b is = refl
+or_right false b is = is
+
+-- ---- the change of a number
+
+-- the change of a number covers a register
+abbrev covers_by : MapChange → Reg → Bool
+covers_by Reset reg = false
+covers_by (Store at width value) reg = covers at width reg
+
+-- the change of a number
+abbrev pub change_at : List MapChange → (number : ℕ) → MapChange
+change_at changes number = get_or changes (length changes - number) Reset
+
+pub record IsNumber (changes : List MapChange) (number : ℕ) : Type 0 where
+  pub some : 1 ≤ number
+  pub most : number ≤ length changes
+
+cover_number : (changes : List MapChange) (reg : Reg) (number : ℕ) → last_cover changes reg ≡ Some number → IsNumber changes number
+unfolding last_cover
+cover_number [] reg number is = cc
+cover_number (Reset ∷ before) reg number is = cc
+cover_number (Store at width value ∷ before) reg number is = elim (cases_Bool (covers at width reg)) [
+  | inl covered ↦
+      let last : length before + 1 ≡ number = some_is _ _ (rw covered at is) in
+      record { some = omega (arith, last); most = omega (arith, last) }
+  | inr other ↦
+      let earlier = cover_number before reg number (rw other at is) in
+      record { some = earlier.some; most = omega (arith, earlier.most) }
+]
+
+lock_number : (changes : List MapChange) (number : ℕ) → first_lock changes ≡ Some number → IsNumber changes number
+unfolding first_lock
+lock_number [] number is = cc
+lock_number (Reset ∷ before) number is = cc
+lock_number (Store at width value ∷ before) number is = elim (or_cases (first_lock before) _ number is) [
+  | inl earlier ↦
+      let found = lock_number before number earlier in record { some = found.some; most = omega (arith, found.most) }
+  | inr here ↦
+      let last : length before + 1 ≡ number = (where_true (locks (Store at width value)) _ number here.1).1 in
+      record { some = omega (arith, last); most = omega (arith, last) }
+]
+
+pub kept_number : (setup : Setup) (changes : List MapChange) (number : ℕ) → IsKept setup changes number → IsNumber changes number
+kept_number setup changes number (inl cover) = cover_number changes cover.reg number cover.last
+kept_number setup changes number (inr lock) = lock_number changes number lock
+
+change_before : (change : MapChange) (before : List MapChange) (number : ℕ) → number ≤ length before →
+    change_at (change ∷ before) number ≡ change_at before number
+change_before change before number most =
+    let next : length (change ∷ before) - number ≡ suc (length before - number) = omega (arith, most) in rw next refl
+
+cover_covers : (changes : List MapChange) (reg : Reg) (number : ℕ) → last_cover changes reg ≡ Some number →
+    covers_by (change_at changes number) reg ≡ true
+unfolding last_cover
+cover_covers [] reg number is = cc
+cover_covers (Reset ∷ before) reg number is = cc
+cover_covers (Store at width value ∷ before) reg number is = elim (cases_Bool (covers at width reg)) [
+  | inl covered ↦
+      let last : length before + 1 ≡ number = some_is _ _ (rw covered at is) in
+      let here : length (Store at width value ∷ before) - number ≡ 0 = omega (arith, last) in
+      rw here covered
+  | inr other ↦
+      let earlier : last_cover before reg ≡ Some number = rw other at is in
+      let found = cover_number before reg number earlier in
+      ap (λ change. covers_by change reg) (change_before (Store at width value) before number found.most)
+      ∙ cover_covers before reg number earlier
+]
+
+-- what is read past the end of a list of changes
+abbrev pub no_change : MapChange
+no_change = Store (bridge 0) One 0
+
+-- the change at an index of the list with the oldest first
+pub change_is : (changes : List MapChange) (index : ℕ) (change d : MapChange) → index < length changes →
+    get_or changes index d ≡ change → change_at (reverse changes) (index + 1) ≡ change
+change_is changes index change d within is =
+    let count : length (reverse changes) ≡ length changes = length-reverse changes in
+    let place : length (reverse changes) - (index + 1) ≡ length changes - (index + 1) = omega (arith, count) in
+    let back : length changes - 1 - (length changes - (index + 1)) ≡ index = omega (arith, within) in
+    ap (λ (k : ℕ). get_or (reverse changes) k Reset) place
+    ∙ get_or-reverse changes (length changes - (index + 1)) Reset (omega (arith, within))
+    ∙ ap (λ (k : ℕ). get_or changes k Reset) back
+    ∙ get_or_default changes index Reset d within
+    ∙ is
+
+-- ---- whether a change is kept
+
+is_number_true : (number : ℕ) (found : Option ℕ) → is_number number found ≡ true → found ≡ Some number
+is_number_true number None is = absurd (false≢true is)
+is_number_true number (Some other) is = ap Some (eqb-true other number is)
+
+number_is : (number : ℕ) (found : Option ℕ) → found ≡ Some number → is_number number found ≡ true
+number_is number found is = rw is (eq-eqb number number refl)
+
+-- a store that covers a register covers it at one of its bytes
+record CoversAt (at : Reg) (width : Width) (reg : Reg) : Type 0 where
+  pub k : ℕ
+  pub below : k < bytes_of width
+  pub is : reg_after at k ≡ reg
+
+reg_is : (at reg : Reg) (k : ℕ) → at.dev ≡ reg.dev → at.fun ≡ reg.fun → at.off + k ≡ reg.off → reg_after at k ≡ reg
+reg_is at reg k dev fun off =
+    ap (λ (d : ℕ). record { dev = d; fun = at.fun; off = at.off + k }) dev
+    ∙ ap (λ (f : ℕ). record { dev = reg.dev; fun = f; off = at.off + k }) fun
+    ∙ ap (λ (o : ℕ). record { dev = reg.dev; fun = reg.fun; off = o }) off
+
+covers_at : (at : Reg) (width : Width) (reg : Reg) → covers at width reg ≡ true → CoversAt at width reg
+covers_at at width reg is = record {
+  k = reg.off - at.off;
+  below = grind (arith, nat_tests);
+  is = reg_is at reg (reg.off - at.off) (grind (arith, nat_tests)) (grind (arith, nat_tests)) (grind (arith, nat_tests));
+}
+
+record SomeOf (test : ℕ → Bool) : Type 0 where
+  pub k : ℕ
+  pub is : test k ≡ true
+
+any_found : (test : ℕ → Bool) (numbers : List ℕ) → list_any test numbers ≡ true → SomeOf test
+any_found test [] is = absurd (false≢true is)
+any_found test (k ∷ later) is = elim (cases_Bool (test k)) [
+  | inl here ↦ record { k = k; is = here }
+  | inr other ↦ any_found test later (rw other at is)
+]
+
+module _ (setup : Setup) (changes : List MapChange) (covers : Covers) (cards : IsCardList setup.cards) (are : AreCoversOf changes covers) where
+  last_found : (number : ℕ) (reg : Reg) → is_last_at setup covers number reg ≡ true → IsLastCover setup changes number
+  last_found number reg is =
+      let both = and_parts (is_map_byte setup reg) (is_number number (number_at covers.last reg)) is in
+      record {
+        reg = reg;
+        map_byte = both.0;
+        last = sym (are.last reg (map_byte_placed setup reg cards both.0)) ∙ is_number_true number _ both.1;
+      }
+
+  last_is : (number : ℕ) (reg : Reg) → is_map_byte setup reg ≡ true → last_cover changes reg ≡ Some number →
+      is_last_at setup covers number reg ≡ true
+  last_is number reg map_byte last =
+      and_from (is_map_byte setup reg) _ map_byte
+      (number_is number _ (are.last reg (map_byte_placed setup reg cards map_byte) ∙ last))
+
+  last_change_found : (number : ℕ) (change : MapChange) → is_last_of setup covers number change ≡ true →
+      IsLastCover setup changes number
+  last_change_found number Reset is = absurd (false≢true is)
+  last_change_found number (Store at width value) is =
+      let found = any_found (λ k. is_last_at setup covers number (reg_after at k)) (take (bytes_of width) offsets) is in
+      last_found number (reg_after at found.k) found.is
+
+  last_change_is : (number : ℕ) (change : MapChange) (reg : Reg) → covers_by change reg ≡ true →
+      is_last_at setup covers number reg ≡ true → is_last_of setup covers number change ≡ true
+  last_change_is number Reset reg covered is = absurd (false≢true covered)
+  last_change_is number (Store at width value) reg covered is =
+      let place = covers_at at width reg covered in
+      any_at (λ k. is_last_at setup covers number (reg_after at k)) (bytes_of width) place.k (bytes_few width) place.below
+      (ap (λ other. is_last_at setup covers number other) place.is ∙ is)
+
+  pub kept_found : (number : ℕ) (change : MapChange) → is_kept_of setup covers number change ≡ true → IsKept setup changes number
+  kept_found number change is = elim (cases_Bool (is_number number covers.lock)) [
+    | inl lock ↦ inr (sym are.lock ∙ is_number_true number covers.lock lock)
+    | inr other ↦ inl (last_change_found number change (rw other at is))
+  ]
+
+  pub kept_is : (number : ℕ) (change : MapChange) → change_at changes number ≡ change → IsKept setup changes number →
+      is_kept_of setup covers number change ≡ true
+  kept_is number change here (inr lock) =
+      let first : is_number number covers.lock ≡ true = number_is number covers.lock (are.lock ∙ lock) in rw first refl
+  kept_is number change here (inl cover) =
+      or_right (is_number number covers.lock) _
+      (last_change_is number change cover.reg
+      (ap (λ other. covers_by other cover.reg) (sym here) ∙ cover_covers changes cover.reg number cover.last)
+      (last_is number cover.reg cover.map_byte cover.last))
+
+-- ---- the numbers that were found among the first changes, so many
+
+-- they rise up to that many
+pub record Rise (count : ℕ) (keep : List ℕ) : Type 0 where
+  pub rises : AllPairs (λ one later. one < later) keep
+  pub most : (number : ℕ) → is_among number keep ≡ true → number ≤ count
+
+-- they are the kept ones
+pub record AreKept (setup : Setup) (changes : List MapChange) (count : ℕ) (keep : List ℕ) : Type 0 where
+  pub only : (number : ℕ) → is_among number keep ≡ true → IsKept setup changes number
+  pub each : (number : ℕ) → number ≤ count → IsKept setup changes number → is_among number keep ≡ true
+
+among_pushed : (number next : ℕ) (keep : List ℕ) → is_among number (keep ++ next ∷ []) ≡ (is_among number keep || next == number)
+among_pushed number next keep =
+    list_any-append (λ other. other == number) keep (next ∷ [])
+    ∙ ap (λ b. is_among number keep || b) (or_nothing (next == number))
+
+among_either : (number next : ℕ) (keep : List ℕ) → is_among number (keep ++ next ∷ []) ≡ true →
+    (is_among number keep ≡ true) ⊎ (next ≡ number)
+among_either number next keep is = elim (cases_Bool (is_among number keep)) [
+  | inl among ↦ inl among
+  | inr other ↦ inr (eqb-true next number (rw other at (sym (among_pushed number next keep) ∙ is)))
+]
+
+pub rise_on : (count : ℕ) (keep : List ℕ) → Rise count keep → Rise (count + 1) keep
+rise_on count keep rise = record {
+  rises = rise.rises;
+  most = λ number among. omega (arith, rise.most number among);
+}
+
+pub rise_pushed : (count : ℕ) (keep : List ℕ) → Rise count keep → Rise (count + 1) (keep ++ (count + 1) ∷ [])
+rise_pushed count keep rise = record {
+  rises =
+      all_pairs_push (λ one later. one < later) keep (count + 1) rise.rises
+      (λ k d below. omega (arith, rise.most (get_or keep k d)
+      (list_any_at (λ other. other == get_or keep k d) keep k d below (eq-eqb _ _ refl))));
+  most =
+      λ number among. elim (among_either number (count + 1) keep among) [
+        | inl earlier ↦ omega (arith, rise.most number earlier)
+        | inr same ↦ omega (arith, same)
+      ];
+}
+
+pub kept_on : (setup : Setup) (changes : List MapChange) (count : ℕ) (keep : List ℕ) →
+    (IsKept setup changes (count + 1) → ⊥) → AreKept setup changes count keep → AreKept setup changes (count + 1) keep
+kept_on setup changes count keep other are = record {
+  only = are.only;
+  each =
+      λ number most kept. elim (cases_lt count number) [
+        | inl last ↦
+            let same : number ≡ count + 1 = omega (arith, most, last) in
+            absurd (other (subst (λ (n : ℕ). IsKept setup changes n) same kept))
+        | inr earlier ↦ are.each number earlier kept
+      ];
+}
+
+pub kept_pushed : (setup : Setup) (changes : List MapChange) (count : ℕ) (keep : List ℕ) → IsKept setup changes (count + 1) →
+    AreKept setup changes count keep → AreKept setup changes (count + 1) (keep ++ (count + 1) ∷ [])
+kept_pushed setup changes count keep kept are = record {
+  only =
+      λ number among. elim (among_either number (count + 1) keep among) [
+        | inl earlier ↦ are.only number earlier
+        | inr same ↦ subst (λ (n : ℕ). IsKept setup changes n) same kept
+      ];
+  each =
+      λ number most is. among_pushed number (count + 1) keep
+      ∙ elim (cases_lt count number) [
+        | inl last ↦
+            let same : count + 1 ≡ number = omega (arith, most, last) in
+            or_right (is_among number keep) _ (eq-eqb (count + 1) number same)
+        | inr earlier ↦ let among : is_among number keep ≡ true = are.each number earlier is in rw among refl
+      ];
+}
+
+pub all_kept : (setup : Setup) (changes : List MapChange) (keep : List ℕ) → Rise (length changes) keep →
+    AreKept setup changes (length changes) keep → IsKeep setup changes keep
+all_kept setup changes keep rise are = record {
+  rises = rise.rises;
+  only = are.only;
+  each = λ number kept. are.each number (kept_number setup changes number kept).most kept;
+}
+
+pub none_rise : Rise 0 []
+none_rise = record {
+  rises = λ i j d order below. absurd (omega (arith, below));
+  most = λ number among. absurd (false≢true among);
+}
+
+pub none_kept : (setup : Setup) (changes : List MapChange) → AreKept setup changes 0 []
+none_kept setup changes = record {
+  only = λ number among. absurd (false≢true among);
+  each = λ number most kept. let found = kept_number setup changes number kept in absurd (omega (arith, most, found.some));
+}

@@ -1,0 +1,7 @@
+pub mod KeepLaws
+pub mod CoverLemmas
+pub mod KeptLemmas
+pub mod StandsLemmas
+pub mod WatchLemmas
+pub mod RangeLemmas
+pub mod OneReport

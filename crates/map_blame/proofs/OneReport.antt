@@ -1,0 +1,142 @@
+-- There is only one report of a list of changes.
+use Rattle.std.proofs.Common.{◌≡◌, ℕ, zero, suc, ◌+◌, ◌<◌, ◌≤◌, ◌⊎◌, inl, inr, true, false, ◌||◌, List, [], ◌∷◌, length, get_or, map, refl, sym, ap, ◌∙◌, subst, arith}
+use Rattle.std.specs.Prelude.{◌==◌, All}
+use Rattle.std.specs.List.{AllPairs, AllByRecursion}
+use Rattle.std.proofs.lemmas.Bool.{cases_eq, cases_Bool, eq-eqb, eqb-true, false≢true}
+use Rattle.std.proofs.lemmas.Bool.Decides.{nat_tests}
+use Rattle.std.proofs.lemmas.List.Elements.{recursion_from_All}
+use Rattle.board_spec.specs.declared.map_change.MapChange.{MapChange}
+use Rattle.board_spec.specs.Setup.{Setup}
+use Rattle.board_spec.specs.MapWrites.{registers_after}
+use Rattle.board_spec.specs.FlatMap.{MapRange}
+use Rattle.board_spec.specs.Laws.{OneFlatMap}
+use Rattle.map_blame.specs.declared.blamed.Blamed.{Blamed}
+use Rattle.map_blame.specs.Since.{IsSince}
+use Rattle.map_blame.specs.Keep.{is_among, IsKeep}
+use Rattle.map_blame.specs.Report.{map_range_of}
+use Rattle.map_blame.specs.Laws.{OneReport}
+
+-- ---- numbers that rise
+
+-- each number is below all later ones, by recursion
+abbrev Rise : List ℕ → Type 0
+Rise [] = Unit {0}
+Rise (number ∷ later) = ((other : ℕ) → is_among other later ≡ true → number < other) × Rise later
+
+rise_later : (number : ℕ) (later : List ℕ) → AllPairs (λ one other. one < other) (number ∷ later) →
+    AllPairs (λ one other. one < other) later
+rise_later number later rises i j d order below = rises (suc i) (suc j) d (omega (arith, order)) (omega (arith, below))
+
+record Place (number : ℕ) (numbers : List ℕ) : Type 0 where
+  pub k : ℕ
+  pub within : k < length numbers
+  pub is : get_or numbers k 0 ≡ number
+
+place_of : (number : ℕ) (numbers : List ℕ) → is_among number numbers ≡ true → Place number numbers
+place_of number [] is = absurd (false≢true is)
+place_of number (first ∷ later) is = elim (cases_Bool (first == number)) [
+  | inl here ↦ record { k = 0; within = omega arith; is = eqb-true first number here }
+  | inr other ↦
+      let rest = place_of number later (rw other at is) in
+      record { k = suc rest.k; within = omega (arith, rest.within); is = rest.is }
+]
+
+rise_is : (numbers : List ℕ) → AllPairs (λ one other. one < other) numbers → Rise numbers
+rise_is [] rises = tt
+rise_is (number ∷ later) rises =
+    ((λ other among.
+    let place = place_of other later among in
+    let below : number < get_or later place.k 0 = rises 0 (suc place.k) 0 (omega arith) (omega (arith, place.within)) in
+    omega (arith, below, place.is)),
+    rise_is later (rise_later number later rises))
+
+among_first : (number : ℕ) (later : List ℕ) → is_among number (number ∷ later) ≡ true
+among_first number later = let same : (number == number) ≡ true = eq-eqb number number refl in rw same refl
+
+among_later : (number first : ℕ) (later : List ℕ) → is_among number later ≡ true → is_among number (first ∷ later) ≡ true
+among_later number first later is = elim (cases_Bool (first == number)) [
+  | inl here ↦ rw here refl
+  | inr other ↦ rw other is
+]
+
+first_or_later : (number first : ℕ) (later : List ℕ) → is_among number (first ∷ later) ≡ true →
+    (first ≡ number) ⊎ (is_among number later ≡ true)
+first_or_later number first later is = elim (cases_Bool (first == number)) [
+  | inl here ↦ inl (eqb-true first number here)
+  | inr other ↦ inr (rw other at is)
+]
+
+-- the numbers of one are among those of the other
+abbrev Within : (numbers other : List ℕ) → Type 0
+Within numbers other = (number : ℕ) → is_among number numbers ≡ true → is_among number other ≡ true
+
+least_first : (first first' : ℕ) (later later' : List ℕ) → Rise (first ∷ later) → Rise (first' ∷ later') →
+    Within (first ∷ later) (first' ∷ later') → first' ≤ first
+least_first first first' later later' rise rise' within =
+    elim (first_or_later first first' later' (within first (among_first first later))) [
+      | inl same ↦ omega (arith, same)
+      | inr among ↦ let above : first' < first = rise'.0 first among in omega (arith, above)
+    ]
+
+within_later : (first first' : ℕ) (later later' : List ℕ) → first ≡ first' → Rise (first ∷ later) →
+    Within (first ∷ later) (first' ∷ later') → Within later later'
+within_later first first' later later' same rise within number among =
+    elim (first_or_later number first' later' (within number (among_later number first later among))) [
+      | inl here ↦ let above : first < number = rise.0 number among in absurd (omega (arith, above, same, here))
+      | inr rest ↦ rest
+    ]
+
+same_numbers : (numbers other : List ℕ) → Rise numbers → Rise other → Within numbers other → Within other numbers →
+    numbers ≡ other
+same_numbers [] [] rise rise' to from = refl
+same_numbers [] (first ∷ later) rise rise' to from = absurd (false≢true (from first (among_first first later)))
+same_numbers (first ∷ later) [] rise rise' to from = absurd (false≢true (to first (among_first first later)))
+same_numbers (first ∷ later) (first' ∷ later') rise rise' to from =
+    let low : first' ≤ first = least_first first first' later later' rise rise' to in
+    let high : first ≤ first' = least_first first' first later' later rise' rise from in
+    let same : first ≡ first' = omega (arith, low, high) in
+    let rest : later ≡ later' =
+    same_numbers later later' rise.1 rise'.1 (within_later first first' later later' same rise to)
+    (within_later first' first later' later (sym same) rise' from) in
+    ap (λ (n : ℕ). n ∷ later) same ∙ ap (λ (numbers : List ℕ). first' ∷ numbers) rest
+
+pub one_keep : (setup : Setup) (changes : List MapChange) (keep other : List ℕ) → IsKeep setup changes keep →
+    IsKeep setup changes other → keep ≡ other
+one_keep setup changes keep other is is' =
+    same_numbers keep other (rise_is keep is.rises) (rise_is other is'.rises)
+    (λ number among. is'.each number (is.only number among)) (λ number among. is.each number (is'.only number among))
+
+-- ---- since when
+
+same_since : (setup : Setup) (changes : List MapChange) (range : MapRange) (since other : ℕ) →
+    IsSince setup changes range since → IsSince setup changes range other → since ≡ other
+same_since setup changes range since other is is' = omega (arith, is.least other is'.stands, is'.least since is.stands)
+
+one_since : (setup : Setup) (changes : List MapChange) (blamed other : List Blamed) →
+    AllByRecursion (λ one. IsSince setup changes (map_range_of one) one.since) blamed →
+    AllByRecursion (λ one. IsSince setup changes (map_range_of one) one.since) other →
+    map map_range_of blamed ≡ map map_range_of other → map (λ one. one.since) blamed ≡ map (λ one. one.since) other
+one_since setup changes [] [] each each' same = refl
+one_since setup changes [] (one ∷ later) each each' same = cc
+one_since setup changes (one ∷ later) [] each each' same = cc
+one_since setup changes (one ∷ later) (one' ∷ later') each each' same =
+    let range : map_range_of one ≡ map_range_of one' = cc in
+    let rest : map map_range_of later ≡ map map_range_of later' = cc in
+    let here : one.since ≡ one'.since =
+    same_since setup changes (map_range_of one') one.since one'.since
+    (subst (λ (range : MapRange). IsSince setup changes range one.since) range each.0) each'.0 in
+    ap (λ (n : ℕ). n ∷ map (λ one. one.since) later) here
+    ∙ ap (λ (numbers : List ℕ). one'.since ∷ numbers) (one_since setup changes later later' each.1 each'.1 rest)
+
+pub one_report : OneFlatMap → OneReport
+one_report one_map setup changes blamed blamed' kept kept' is is' =
+    let ranges : map map_range_of blamed ≡ map map_range_of blamed' =
+    one_map setup (registers_after setup changes) (map map_range_of blamed) (map map_range_of blamed') is.ranges.map is'.ranges.map in
+    record {
+      ranges = ranges;
+      since =
+          one_since setup changes blamed blamed'
+          (recursion_from_All (λ one. IsSince setup changes (map_range_of one) one.since) blamed is.ranges.since)
+          (recursion_from_All (λ one. IsSince setup changes (map_range_of one) one.since) blamed' is'.ranges.since) ranges;
+      keep = one_keep setup changes kept kept' is.keep is'.keep;
+    }

@@ -1,0 +1,118 @@
+-- Lists of ranges that are watched.
+use Rattle.std.proofs.Common.{◌≡◌, ℕ, ◌+◌, ◌<◌, ◌≤◌, inl, inr, false, List, [], ◌∷◌, length, get_or, set, map, reverse, refl, sym, ap, ◌∙◌, subst, arith}
+use Rattle.std.specs.Prelude.{All}
+use Rattle.std.proofs.lemmas.Bool.{cases_lt}
+use Rattle.std.proofs.lemmas.List.{get_or-set_same, get_or-set_other, get_or_default, get_or-map, length-map, ext_get_or}
+use Rattle.std.proofs.lemmas.List.Elements.{All-nil, All-cons}
+use Rattle.std.proofs.lemmas.Simd.{map-map}
+use Rattle.board_spec.specs.declared.map_change.MapChange.{MapChange}
+use Rattle.board_spec.specs.Setup.{Setup}
+use Rattle.board_spec.specs.MapWrites.{registers_after}
+use Rattle.board_spec.specs.FlatMap.{address_count, Tiles, IsRight, IsFlatMapOf}
+use Rattle.map_builder.specs.declared.range.Range.{Range}
+use Rattle.map_builder.specs.Map.{range_of}
+use Rattle.map_builder.specs.Find.{no_range}
+use Rattle.map_builder.proofs.FindLemmas.{tiles_below}
+use Rattle.map_blame.specs.declared.blamed.Blamed.{Blamed}
+use Rattle.map_blame.specs.declared.watch.Watched.{Watched}
+use Rattle.map_blame.specs.Since.{IsSince}
+use Rattle.map_blame.specs.Report.{map_range_of, AreBlamed}
+use Rattle.map_blame.specs.Watch.{IsInterval, IsWatchable, IsWatched}
+use Rattle.map_blame.proofs.WatchLemmas.{since_is}
+
+-- ---- one element after another becomes another
+
+pub all_set : {X : Type 0} (P : X → X → Type 0) (old now : List X) (index : ℕ) (new d₀ : X) → length now ≡ length old →
+    index < length now → ((k : ℕ) (d : X) → k < index → P (get_or old k d) (get_or now k d)) →
+    ((k : ℕ) (d : X) → index ≤ k → get_or now k d ≡ get_or old k d) → P (get_or now index d₀) new →
+    (k : ℕ) (d : X) → k < index + 1 → P (get_or old k d) (get_or (set now index new) k d)
+all_set P old now index new d₀ long within done rest here k d below = elim (cases_lt k index) [
+  | inl earlier ↦
+      subst (P (get_or old k d)) (sym (get_or-set_other now index k new d (omega (arith, earlier)))) (done k d earlier)
+  | inr last ↦
+      let same : k ≡ index = omega (arith, below, last) in
+      let there : get_or now index d₀ ≡ get_or old k d =
+      rest index d₀ (omega arith) ∙ get_or_default old index d₀ d (omega (arith, within, long)) ∙ ap (λ (j : ℕ). get_or old j d) (sym same) in
+      let put : get_or (set now index new) k d ≡ new =
+      ap (λ (j : ℕ). get_or (set now index new) j d) same ∙ get_or-set_same now index new d within in
+      subst (P (get_or old k d)) (sym put) (subst (λ x. P x new) there here)
+]
+
+pub rest_set : {X : Type 0} (old now : List X) (index : ℕ) (new : X) →
+    ((k : ℕ) (d : X) → index ≤ k → get_or now k d ≡ get_or old k d) →
+    (k : ℕ) (d : X) → index + 1 ≤ k → get_or (set now index new) k d ≡ get_or old k d
+rest_set old now index new rest k d from =
+    get_or-set_other now index k new d (omega (arith, from)) ∙ rest k d (omega (arith, from))
+
+-- ---- ranges of a map
+
+pub are_intervals : (from : ℕ) (ranges : List Range) → Tiles from (map range_of ranges) → All IsInterval ranges
+are_intervals from [] tiles = All-nil IsInterval
+are_intervals from (range ∷ later) tiles =
+    All-cons IsInterval range later
+    (record { order = tiles.1; last = omega (arith, tiles_below (range.hi + 1) (map range_of later) tiles.2) })
+    (are_intervals (range.hi + 1) later tiles.2)
+
+-- what is read past the end of a list of ranges that are watched
+abbrev pub no_watched : Watched
+no_watched = record { blamed = record { range = no_range; since = 0 }; stands = false }
+
+abbrev pub watched_range : Watched → Range
+watched_range watched = watched.blamed.range
+
+pub are_watchable : (watched : List Watched) (ranges : List Range) → map watched_range watched ≡ ranges → All IsInterval ranges →
+    All IsWatchable watched
+are_watchable watched ranges same are k d within =
+    let long : length (map watched_range watched) ≡ length watched = length-map watched watched_range in
+    subst IsInterval
+    (ap (λ (all : List Range). get_or all k no_range) (sym same) ∙ get_or-map watched_range watched k d no_range within)
+    (are k no_range (omega (arith, within, long, ap length same)))
+
+-- ---- the ranges at the end
+
+same_ranges : (old new : List Watched) → length new ≡ length old →
+    ((k : ℕ) (d : Watched) → k < length old → watched_range (get_or new k d) ≡ watched_range (get_or old k d)) →
+    map watched_range new ≡ map watched_range old
+same_ranges old new long same =
+    ext_get_or no_range (map watched_range new) (map watched_range old)
+    (length-map new watched_range ∙ long ∙ sym (length-map old watched_range))
+    (λ k within.
+    let below : k < length new = omega (arith, within, length-map new watched_range) in
+    get_or-map watched_range new k no_watched no_range below
+    ∙ same k no_watched (omega (arith, below, long))
+    ∙ sym (get_or-map watched_range old k no_watched no_range (omega (arith, below, long))))
+
+module _ (setup : Setup) (changes : List MapChange) (old new : List Watched) (ranges : List Range)
+    (begun : map watched_range old ≡ ranges) (long : length new ≡ length old)
+    (same : (k : ℕ) (d : Watched) → k < length old → watched_range (get_or new k d) ≡ watched_range (get_or old k d))
+    (is_map : IsFlatMapOf setup (registers_after setup changes) (map range_of ranges))
+    (watched : All (IsWatched setup changes) new) where
+  abbrev blamed : List Blamed
+  blamed = map (λ one. one.blamed) new
+
+  all_ranges : map map_range_of blamed ≡ map range_of ranges
+  all_ranges =
+      map-map map_range_of (λ (one : Watched). one.blamed) new
+      ∙ sym (map-map range_of watched_range new)
+      ∙ ap (map range_of) (same_ranges old new long same ∙ begun)
+
+  range_since : (k : ℕ) (d : Blamed) → k < length blamed →
+      IsSince setup changes (map_range_of (get_or blamed k d)) (get_or blamed k d).since
+  range_since k d within =
+      let below : k < length new = omega (arith, within, length-map new (λ (one : Watched). one.blamed)) in
+      let one : Watched = get_or new k no_watched in
+      let is : get_or blamed k d ≡ one.blamed = get_or-map (λ (one : Watched). one.blamed) new k no_watched d below in
+      let long_map : length (map map_range_of blamed) ≡ length blamed = length-map blamed map_range_of in
+      let right : IsRight setup (registers_after setup changes) (map_range_of one.blamed) =
+      subst (IsRight setup (registers_after setup changes))
+      (ap (λ all. get_or all k (map_range_of no_watched.blamed)) (sym all_ranges)
+      ∙ get_or-map map_range_of blamed k d (map_range_of no_watched.blamed) within ∙ ap map_range_of is)
+      (is_map.right k (map_range_of no_watched.blamed) (omega (arith, within, long_map, ap length all_ranges))) in
+      subst (λ (one : Blamed). IsSince setup changes (map_range_of one) one.since) (sym is)
+      (since_is setup changes one (watched k no_watched below) right)
+
+  pub are_blamed : AreBlamed setup changes blamed
+  are_blamed = record {
+    map = subst (IsFlatMapOf setup (registers_after setup changes)) (sym all_ranges) is_map;
+    since = range_since;
+  }

@@ -1,0 +1,214 @@
+-- What is known of a range that is watched, before and after a change.
+use Rattle.std.proofs.Common.{◌≡◌, ◌≢◌, ℕ, zero, suc, ◌+◌, ◌-◌, ◌<◌, ◌≤◌, ◌⊎◌, inl, inr, Bool, true, false, List, [], ◌∷◌, length, get_or, take, drop, reverse, refl, sym, ap, ◌∙◌, subst, arith}
+use Rattle.std.proofs.lemmas.Bool.{cases_Bool, cases_lt, false≢true}
+use Rattle.std.proofs.lemmas.List.{take_more, reverse-append, length-reverse, length-take-le}
+use Rattle.board_spec.specs.declared.map_change.MapChange.{MapChange}
+use Rattle.board_spec.specs.Setup.{Setup, IsCardList}
+use Rattle.board_spec.specs.Decode.{Bytes, top_of}
+use Rattle.board_spec.specs.RegisterTable.{reset_byte, host_bridge}
+use Rattle.board_spec.specs.MapWrites.{registers_after}
+use Rattle.board_spec.specs.FlatMap.{MapRange, IsRight}
+use Rattle.map_builder.specs.declared.range.Changed.{Changed}
+use Rattle.map_builder.specs.declared.range.Range.{Range}
+use Rattle.addr_decode.specs.MapRegs.{StandsFor}
+use Rattle.map_builder.specs.Map.{Mapped, range_of}
+use Rattle.map_builder.specs.Changed.{IsOutside, changed_windows, bounds_or_zero}
+use Rattle.map_builder.specs.Applied.{IsApplied}
+use Rattle.map_builder.proofs.KeptStores.{top_after, bounds_hold_changes}
+use Rattle.map_blame.specs.declared.watch.Watched.{Watched}
+use Rattle.map_blame.specs.Since.{first_changes, IsRightAfter, StandsFrom, IsSince}
+use Rattle.map_blame.specs.Report.{map_range_of}
+use Rattle.map_blame.specs.Watch.{IsInterval, IsAfter, IsWatched, HoldChange, IsNext}
+
+-- ---- the first changes
+
+all_changes : (changes : List MapChange) → first_changes (length changes) changes ≡ changes
+all_changes changes = let none : length changes - length changes ≡ 0 = omega arith in rw none refl
+
+earlier_changes : (change : MapChange) (before : List MapChange) (count : ℕ) → count ≤ length before →
+    first_changes count (change ∷ before) ≡ first_changes count before
+earlier_changes change before count few =
+    let next : length (change ∷ before) - count ≡ suc (length before - count) = omega (arith, few) in rw next refl
+
+module _ (setup : Setup) (range : MapRange) where
+  -- the range is right after all these changes
+  abbrev pub RightNow : List MapChange → Type 0
+  RightNow changes = IsRight setup (registers_after setup changes) range
+
+  pub right_now : (changes : List MapChange) → IsRightAfter setup changes range (length changes) → RightNow changes
+  right_now changes right = subst RightNow (all_changes changes) right
+
+  now_right : (changes : List MapChange) (count : ℕ) → count ≡ length changes → RightNow changes →
+      IsRightAfter setup changes range count
+  now_right changes count is right = rw is (subst RightNow (sym (all_changes changes)) right)
+
+  right_before : (change : MapChange) (before : List MapChange) (count : ℕ) → count ≤ length before →
+      IsRightAfter setup (change ∷ before) range count → IsRightAfter setup before range count
+  right_before change before count few right = subst RightNow (earlier_changes change before count few) right
+
+  before_right : (change : MapChange) (before : List MapChange) (count : ℕ) → count ≤ length before →
+      IsRightAfter setup before range count → IsRightAfter setup (change ∷ before) range count
+  before_right change before count few right = subst RightNow (sym (earlier_changes change before count few)) right
+
+  stands_on : (change : MapChange) (before : List MapChange) (since : ℕ) → since ≤ length before + 1 →
+      ((count : ℕ) → since ≤ count → count ≤ length before → IsRightAfter setup before range count) →
+      RightNow (change ∷ before) → StandsFrom setup (change ∷ before) range since
+  stands_on change before since most earlier now count from few = elim (cases_lt (length before) count) [
+    | inl last ↦ now_right (change ∷ before) count (omega (arith, few, last)) now
+    | inr not_last ↦ before_right change before count not_last (earlier count from not_last)
+  ]
+
+-- ---- the changes up to an index of a list with the oldest first
+
+pub taken_more : (changes : List MapChange) (index : ℕ) (d : MapChange) → index < length changes →
+    reverse (take (index + 1) changes) ≡ get_or changes index d ∷ reverse (take index changes)
+taken_more changes index d within =
+    ap reverse (take_more changes index d within) ∙ reverse-append (take index changes) (get_or changes index d ∷ [])
+
+pub taken_count : (changes : List MapChange) (index : ℕ) → index ≤ length changes → length (reverse (take index changes)) ≡ index
+taken_count changes index within = length-reverse (take index changes) ∙ length-take-le index changes within
+
+pub after_change : (setup : Setup) (before : List MapChange) (change : MapChange) (old new : Mapped) (bounds : Changed) →
+    IsApplied old new change bounds → IsAfter setup before old → IsAfter setup (change ∷ before) new
+unfolding registers_after
+after_change setup before change old new bounds applied after = applied.stands setup (registers_after setup before) after
+
+-- ---- a range of which nothing changes
+
+module _ (setup : Setup) (range : Range) (is : IsInterval range) (bounds : Changed) (change : MapChange) (before : List MapChange)
+    (hold : HoldChange bounds setup before change) (beside : (range.hi < bounds.lo) ⊎ (bounds.hi < range.lo)) where
+  outside : (addr : ℕ) → range.lo ≤ addr → addr ≤ range.hi → IsOutside addr bounds
+  outside addr low high = elim beside [
+    | inl below ↦ inl (omega (arith, below, high))
+    | inr above ↦ inr (omega (arith, above, low))
+  ]
+
+  same_after : RightNow setup (range_of range) before → RightNow setup (range_of range) (change ∷ before)
+  same_after right = record {
+    at_each = λ addr low high. hold addr (omega (arith, high, is.last)) (outside addr low high) ∙ right.at_each addr low high;
+  }
+
+  same_before : RightNow setup (range_of range) (change ∷ before) → RightNow setup (range_of range) before
+  same_before right = record {
+    at_each = λ addr low high. sym (hold addr (omega (arith, high, is.last)) (outside addr low high)) ∙ right.at_each addr low high;
+  }
+
+  pub watched_beside : (since : ℕ) (stands : Bool) →
+      IsWatched setup before (record { blamed = record { range = range; since = since }; stands = stands }) →
+      IsWatched setup (change ∷ before) (record { blamed = record { range = range; since = since }; stands = stands })
+  watched_beside since stands watched = record {
+    standing = λ is_true.
+        let earlier = watched.standing is_true in
+        stands_on setup (range_of range) change before since (omega (arith, watched.most)) earlier
+        (same_after (right_now setup (range_of range) before (earlier (length before) watched.most (omega arith))));
+    fallen = λ is_false right.
+        watched.fallen is_false
+        (now_right setup (range_of range) before (length before) refl
+        (same_before (right_now setup (range_of range) (change ∷ before) right)));
+    before = λ some right.
+        watched.before some (right_before setup (range_of range) change before (since - 1) (omega (arith, watched.most)) right);
+    most = omega (arith, watched.most);
+  }
+
+-- ---- a range before and after a change, by the map after it
+
+module _ (map : Mapped) (bounds : Changed) (number : ℕ) (self : Watched) (is : IsInterval self.blamed.range) where
+  pub next_beside : (self.blamed.range.hi < bounds.lo) ⊎ (bounds.hi < self.blamed.range.lo) → IsNext map bounds number self self
+  next_beside beside = record {
+    range = refl;
+    watched = λ setup before change count after hold watched.
+        watched_beside setup self.blamed.range is bounds change before hold beside self.blamed.since self.stands watched;
+  }
+
+  module _ (stands : Bool)
+      (right : stands ≡ true → (setup : Setup) (bytes : Bytes) → StandsFor setup bytes map.regs →
+      IsRight setup bytes (range_of self.blamed.range))
+      (other : stands ≡ false → (setup : Setup) (bytes : Bytes) → StandsFor setup bytes map.regs →
+      IsRight setup bytes (range_of self.blamed.range) → ⊥) where
+    -- it stands anew
+    pub next_again : stands ≡ true → self.stands ≡ false →
+        IsNext map bounds number self (record { blamed = record { range = self.blamed.range; since = number }; stands = stands })
+    next_again stands_now fell = record {
+      range = refl;
+      watched =
+          λ setup before change count after hold watched.
+          let range : MapRange = range_of self.blamed.range in
+          let last : number - 1 ≡ length before = omega (arith, count) in
+          record {
+            standing = λ is_true.
+                stands_on setup range change before number (omega (arith, count))
+                (λ k from few. absurd (omega (arith, count, from, few))) (right is_true setup _ after);
+            fallen = λ is_false. absurd (false≢true (sym is_false ∙ stands_now));
+            before = λ some right.
+                watched.fallen fell
+                (subst (λ (k : ℕ). IsRightAfter setup before range k) last
+                (right_before setup range change before (number - 1) (omega (arith, last)) right));
+            most = omega (arith, count);
+          };
+    }
+
+    -- it goes on to stand, or does not stand
+    pub next_same : (stands ≡ true → self.stands ≡ true) →
+        IsNext map bounds number self (record { blamed = self.blamed; stands = stands })
+    next_same stood = record {
+      range = refl;
+      watched =
+          λ setup before change count after hold watched.
+          let range : MapRange = range_of self.blamed.range in
+          record {
+            standing = λ is_true.
+                stands_on setup range change before self.blamed.since (omega (arith, watched.most))
+                (watched.standing (stood is_true)) (right is_true setup _ after);
+            fallen = λ is_false now. other is_false setup _ after (right_now setup range (change ∷ before) now);
+            before = λ some right.
+                watched.before some
+                (right_before setup range change before (self.blamed.since - 1) (omega (arith, watched.most)) right);
+            most = omega (arith, watched.most);
+          };
+    }
+
+-- ---- at reset, and at the end
+
+pub watched_at_reset : (setup : Setup) (range : Range) (stands : Bool) →
+    (stands ≡ true → RightNow setup (range_of range) []) → (stands ≡ false → RightNow setup (range_of range) [] → ⊥) →
+    IsWatched setup [] (record { blamed = record { range = range; since = 0 }; stands = stands })
+watched_at_reset setup range stands right other = record {
+  standing = λ is_true count from few. now_right setup (range_of range) [] count (omega (arith, few)) (right is_true);
+  fallen = other;
+  before = λ some. absurd (omega (arith, some));
+  most = omega arith;
+}
+
+pub since_is : (setup : Setup) (changes : List MapChange) (watched : Watched) → IsWatched setup changes watched →
+    RightNow setup (map_range_of watched.blamed) changes →
+    IsSince setup changes (map_range_of watched.blamed) watched.blamed.since
+since_is setup changes watched is right =
+    let range : MapRange = map_range_of watched.blamed in
+    elim (cases_Bool watched.stands) [
+      | inr fell ↦ absurd (is.fallen fell (now_right setup range changes (length changes) refl right))
+      | inl stands ↦ record {
+        stands = is.standing stands;
+        least =
+            λ from from_on. elim (cases_lt from watched.blamed.since) [
+              | inr not_below ↦ not_below
+              | inl below ↦
+                  absurd (is.before (omega (arith, below))
+                  (from_on (watched.blamed.since - 1) (omega (arith, below)) (omega (arith, is.most))))
+            ];
+      }
+    ]
+
+-- ---- the bounds of a change
+
+-- a boundary register is a byte, so that DRAM ends at most at 255 times 8 MiB
+top_after_changes : (setup : Setup) (changes : List MapChange) → top_of (registers_after setup changes) ≤ 0x7F80_0000
+unfolding registers_after reset_byte host_bridge
+top_after_changes setup [] = omega arith
+top_after_changes setup (change ∷ before) = top_after setup (registers_after setup before) change (top_after_changes setup before)
+
+pub holds_change : (setup : Setup) (before : List MapChange) (change : MapChange) (bounds : Changed) → IsCardList setup.cards →
+    bounds ≡ bounds_or_zero (changed_windows setup (registers_after setup before) change) → HoldChange bounds setup before change
+unfolding registers_after
+holds_change setup before change bounds cards is addr address outside =
+    bounds_hold_changes setup (registers_after setup before) change addr cards (top_after_changes setup before) address
+    (subst (λ (bounds' : Changed). IsOutside addr bounds') is outside)

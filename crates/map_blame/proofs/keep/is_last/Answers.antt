@@ -1,0 +1,23 @@
+use Rattle.std.proofs.Common.{◌≡◌, true, false, ap, sym, ◌∙◌}
+use Rattle.std.specs.Prelude.{◌&&◌}
+use Rattle.board_spec.specs.MapWrites.{is_map_byte}
+use Rattle.map_blame.specs.Covers.{is_number, number_at}
+use Rattle.map_blame.proofs.CoverLemmas.{touches_one}
+use Rattle.map_blame.proofs.keep.is_last.Goals as goal
+
+pub returns-then-touches : goal.returns-then-touches
+returns-then-touches c = record {
+  last = λ setup bytes stands.
+      let map_byte : is_map_byte setup c.args.reg ≡ true =
+      sym (touches_one setup c.args.reg) ∙ sym (c.touches.ensures.touched setup bytes stands) ∙ c.if-touches.true in
+      rw map_byte (c.eq.ensures ∙ ap (λ found. is_number c.args.number found) c.last_of.ensures.number);
+}
+
+pub returns-else-touches : goal.returns-else-touches
+returns-else-touches c = record {
+  last = λ setup bytes stands.
+      let map_byte : is_map_byte setup c.args.reg ≡ false =
+      sym (touches_one setup c.args.reg) ∙ sym (c.touches.ensures.touched setup bytes stands) ∙ c.if-touches.false in
+      c.if-touches.false
+      ∙ ap (λ b. b && is_number c.args.number (number_at c.args.covers.now.last c.args.reg)) (sym map_byte);
+}

@@ -1,0 +1,17 @@
+use Rattle.std.proofs.Common.{subst, sym, arith}
+use Rattle.std.specs.Prelude.{List, take, reverse}
+use Rattle.board_spec.specs.declared.map_change.MapChange.{MapChange}
+use Rattle.map_blame.specs.Watch.{IsAfter}
+use Rattle.map_blame.proofs.KeptLemmas.{no_change}
+use Rattle.map_blame.proofs.WatchLemmas.{taken_more, after_change}
+use Rattle.map_blame.proofs.watch.changed_map.Goals as goal
+
+pub loop-change-preserved : goal.loop-change-preserved
+loop-change-preserved c = record {
+  version = omega (arith, c.apply.ensures.applied.version, c.loop-change.invariant.version);
+  after = λ setup start.
+      subst (λ (changes : List MapChange). IsAfter setup changes c.apply.new.self)
+      (sym (taken_more c.args.changes.now c.loop-change.change-index no_change c.loop-change-test.true))
+      (after_change setup (reverse (take c.loop-change.change-index c.args.changes.now)) _ c.loop-change.map c.apply.new.self
+      c.apply.result c.apply.ensures.applied (c.loop-change.invariant.after setup start));
+}

@@ -1,0 +1,67 @@
+use Rattle.std.proofs.Common.{◌≡◌, ◌+◌, ◌<◌, ◌≤◌, List, length, get_or, refl, subst, sym, ◌∙◌, arith}
+use Rattle.std.specs.Prelude.{take, reverse, All}
+use Rattle.std.proofs.lemmas.List.{take_all}
+use Rattle.board_spec.specs.declared.map_change.MapChange.{MapChange}
+use Rattle.board_spec.specs.MapWrites.{registers_after}
+use Rattle.map_blame.specs.Watch.{IsInterval, IsAfter, IsWatched}
+use Rattle.map_blame.proofs.KeptLemmas.{no_change}
+use Rattle.map_blame.proofs.WatchLemmas.{taken_more, taken_count, after_change, holds_change}
+use Rattle.map_blame.proofs.watch.watch.Goals as goal
+
+pub loop-index-init : goal.loop-index-init
+loop-index-init c = record {
+  version = c.requires.version;
+  count = refl;
+  ranges = λ k d within. refl;
+  after = λ setup start. start;
+  watched = λ setup cards start all. all;
+}
+
+pub apply-bounds-requires : goal.apply-bounds-requires
+apply-bounds-requires c = record { version = omega (arith, c.loop-index.invariant.version, c.requires.count) }
+
+pub look_again-requires : goal.look_again-requires
+look_again-requires c = record {
+  ranges = λ k d within.
+      let known : k < length c.args.watched.now = omega (arith, within, c.loop-index.invariant.count) in
+      subst IsInterval (sym (c.loop-index.invariant.ranges k d known)) (c.requires.ranges k d known);
+}
+
+pub loop-index-preserved : goal.loop-index-preserved
+loop-index-preserved c =
+    let index = c.loop-index.index in
+    let before = reverse (take index c.args.changes.now) in
+    let change = get_or c.args.changes.now index no_change in
+    let more = taken_more c.args.changes.now index no_change c.loop-index-test.true in
+    record {
+      version = omega (arith, c.apply-bounds.ensures.applied.version, c.loop-index.invariant.version);
+      count = c.look_again.ensures.length ∙ c.loop-index.invariant.count;
+      ranges = λ k d within.
+          let known : k < length c.loop-index.watched = omega (arith, within, c.loop-index.invariant.count) in
+          (c.look_again.ensures.next k d known).range ∙ c.loop-index.invariant.ranges k d within;
+      after = λ setup start.
+          subst (λ (changes : List MapChange). IsAfter setup changes c.apply-bounds.new.self) (sym more)
+          (after_change setup before change c.loop-index.map c.apply-bounds.new.self c.apply-bounds.result
+          c.apply-bounds.ensures.applied (c.loop-index.invariant.after setup start));
+      watched = λ setup cards start all k d within.
+          let known : k < length c.loop-index.watched = omega (arith, within, c.look_again.ensures.length) in
+          let after = c.loop-index.invariant.after setup start in
+          subst (λ (changes : List MapChange). IsWatched setup changes (get_or c.look_again.new.watched k d)) (sym more)
+          ((c.look_again.ensures.next k d known).watched setup before change
+          (omega (arith, taken_count c.args.changes.now index (omega arith)))
+          (after_change setup before change c.loop-index.map c.apply-bounds.new.self c.apply-bounds.result
+          c.apply-bounds.ensures.applied after)
+          (holds_change setup before change c.apply-bounds.result cards
+          (c.apply-bounds.ensures.applied.changed setup (registers_after setup before) after))
+          (c.loop-index.invariant.watched setup cards start all k d known));
+    }
+
+pub returns-clause-ranges : goal.returns-clause-ranges
+returns-clause-ranges c = c.loop-index.invariant.ranges
+
+pub returns-clause-watched : goal.returns-clause-watched
+returns-clause-watched c = λ setup cards start all.
+    let whole : take c.loop-index.index c.args.changes.now ≡ c.args.changes.now =
+    take_all c.loop-index.index c.args.changes.now c.loop-index-test.false in
+    subst (λ (changes : List MapChange). All (IsWatched setup (reverse changes)) c.loop-index.watched) whole
+    (c.loop-index.invariant.watched setup cards start all)
