@@ -1,5 +1,7 @@
-//! The board as a library: one access of a fresh board.
+//! The board as a library: one access of a fresh board, and a monitor over a chipset.
 #![tactic(auto)]
+
+mod monitor;
 
 ghost use Rattle.std.specs.Prelude.{◌≡◌, ◌≢◌, ◌↔◌, [], false, None, length, Err, IfOk};
 ghost use Rattle.board_base.specs.declared.access.Kind.{Kind};
@@ -12,6 +14,7 @@ ghost use Rattle.board_chipset.specs.declared.setup.BoardOpen.{BoardOpen};
 use board_base::{Access, Kind, Width};
 use board_core::{Board, BoardOpen, Setup};
 use board_spec::{Event, Reply};
+pub use monitor::{Served, serve, serve_all};
 use std::alloc::Global;
 
 /// What a processor fetches first: the four bytes at FFFFFFF0h of a board with this ROM, 8 MiB and no cards. BadRom
