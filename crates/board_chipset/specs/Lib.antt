@@ -5,4 +5,5 @@ pub mod OutOfRange
 pub mod Ports
 pub mod Resets
 pub mod Steps
+pub mod Stores
 pub mod Versions

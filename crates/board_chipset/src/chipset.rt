@@ -14,6 +14,7 @@ ghost use Rattle.dram_store.specs.Dram.{IsDramOf};
 ghost use Rattle.pci_bars.specs.Contents.{IsContentsOf};
 ghost use Rattle.board_spec.specs.Devices.{disk_of};
 ghost use Rattle.board_chipset.specs.Chipset.{IsLeftBy};
+ghost use Rattle.board_chipset.specs.Stores.{IsSound, IsStoreOf};
 ghost use Rattle.board_chipset.specs.Versions.{version_count, AreLastChanged, IsAnswerModulo};
 
 use crate::setup::{BoardOpen, Setup};
@@ -121,6 +122,9 @@ impl Chipset {
             → IsContentsOf self.setup history result.contents }
         ensures rom { result.rom.items ≡ self.setup.rom }
         ensures disk { (history : List Entry) → IsLeftBy self history → result.disk ≡ disk_of self.setup history }
+        ensures store { (history : List Entry) → IsLeftBy self history
+            → IsStoreOf self.setup (byte_of self.setup history) result }
+        ensures sound { IsSound result }
     {
         let regs = self.state.registers.regs().copy();
         let Chipset { setup, state } = self;

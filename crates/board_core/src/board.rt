@@ -3,7 +3,7 @@
 ghost use Rattle.std.specs.Prelude.{◌≡◌, ◌-◌, ◌+◌, ◌++◌, ◌<◌, ◌≤◌, ◌↔◌, ℕ, List, [], ◌∷◌, length, max, slice_index, Err, IsTrue, IfOk, OnOk, OnErr};
 ghost use Rattle.board_spec.specs.declared.event.Entry.{Entry};
 ghost use Rattle.board_spec.specs.Limits.{most_card_memory, entry_limit};
-ghost use Rattle.board_spec.specs.Setup.{IsCardList, IsDisk, IsRomSize, IsSetup, memory_of_cards};
+ghost use Rattle.board_spec.specs.Setup.{IsCardList, IsDisk, IsRomSize, memory_of_cards};
 ghost use Rattle.board_spec.specs.InRange.{IsInRange};
 ghost use Rattle.board_spec.specs.Answer.{IsAnswer};
 ghost use Rattle.board_spec.specs.Legal.{IsLegal, next_entry};
@@ -16,6 +16,7 @@ ghost use Rattle.dram_store.specs.Dram.{IsDramOf};
 ghost use Rattle.pci_bars.specs.Contents.{IsContentsOf};
 ghost use Rattle.board_spec.specs.Devices.{disk_of};
 ghost use Rattle.board_chipset.specs.declared.setup.BoardOpen.{BoardOpen};
+ghost use Rattle.board_chipset.specs.Stores.{IsSound, IsStoreOf};
 ghost use Rattle.board_core.specs.Steps.{AreInRange};
 
 use access_history::History;
@@ -160,7 +161,8 @@ impl Board {
         ensures contents { IsContentsOf self.setup self.entries result.contents }
         ensures rom { result.rom.items ≡ self.setup.rom }
         ensures disk { result.disk ≡ disk_of self.setup self.entries }
-        ensures fits { IsSetup self.setup }
+        ensures store { IsStoreOf self.setup (byte_of self.setup self.entries) result }
+        ensures sound { IsSound result }
     {
         let Board { chipset, .. } = self;
         chipset.into_store()

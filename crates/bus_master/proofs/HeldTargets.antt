@@ -21,11 +21,12 @@ use Rattle.pci_bars.proofs.WindowLemmas.{IsSized, memory_claim_sized, lies_in_wi
 use Rattle.addr_decode.specs.Master.{master_area}
 use Rattle.addr_decode.proofs.CardLemmas.{fitted_list}
 use Rattle.board_stores.specs.Targets.{IsHeld}
-use Rattle.board_core.specs.declared.store.Store.{Store}
-use Rattle.board_core.proofs.HeldTargets.{IsClaim, claim_line, rom_within, lies_in_base}
+use Rattle.board_chipset.specs.declared.store.Store.{Store}
+use Rattle.board_chipset.proofs.HeldTargets.{IsClaim, claim_line, rom_within, lies_in_base}
 use Rattle.bus_master.specs.Cells.{Cells, value_in}
 use Rattle.bus_master.specs.Transfer.{master_target, master_value}
-use Rattle.bus_master.specs.Stores.{IsCell, IsReached, IsStoreOf}
+use Rattle.board_chipset.specs.Stores.{IsStoreOf}
+use Rattle.bus_master.specs.Stores.{IsCell, IsReached}
 
 claimed : (setup : Setup) (bytes : Bytes) (addr : ℕ) (kind : Kind) (dev base : ℕ) →
     master_area setup bytes addr kind ≡ CardArea dev base → IsClaim (memory_claim setup bytes addr) dev base

@@ -12,13 +12,14 @@ use Rattle.board_spec.specs.Setup.{Setup}
 use Rattle.board_spec.specs.Decode.{Bytes}
 use Rattle.board_spec.specs.Stored.{Cell}
 use Rattle.addr_decode.specs.Master.{master_area, master_denial}
-use Rattle.board_core.specs.declared.store.Store.{Store}
+use Rattle.board_chipset.specs.declared.store.Store.{Store}
 use Rattle.bus_master.specs.declared.done.End.{End}
 use Rattle.bus_master.specs.declared.done.End.TheVariants.{Shorter, Sector}
 use Rattle.bus_master.specs.declared.direction.Direction.{Direction}
 use Rattle.bus_master.specs.Cells.{Cells}
 use Rattle.bus_master.specs.Transfer.{Moving, Place, ◌and_then◌, abort_in, address_after, answered, descriptor_read, ended, is_used_up, kind_of, master_value, medium_of, next_moved, next_sector, next_word, ready_for, region_found, region_taken, sector_tested, table_tested, with_region, word_moved, words_moved}
-use Rattle.bus_master.specs.Stores.{IsStoreOf, cells_of, IsCell}
+use Rattle.board_chipset.specs.Stores.{IsStoreOf}
+use Rattle.bus_master.specs.Stores.{cells_of, IsCell}
 use Rattle.bus_master.specs.UnderWay.{StandsAt}
 use Rattle.bus_master.proofs.HeldTargets.{master_value_same}
 

@@ -5,13 +5,14 @@ use Rattle.board_spec.specs.Setup.{Setup}
 use Rattle.board_spec.specs.Decode.{Bytes, is_smram_range}
 use Rattle.board_spec.specs.Stored.{Cell, DramCell, CardCell}
 use Rattle.dram_store.specs.Dram.{dram_at}
-use Rattle.board_core.specs.declared.store.Store.{Store}
+use Rattle.board_chipset.specs.declared.store.Store.{Store}
 use Rattle.bus_master.specs.declared.done.End.{End}
 use Rattle.bus_master.specs.declared.done.Done.{Done}
 use Rattle.bus_master.specs.declared.direction.Direction.{Direction}
 use Rattle.bus_master.specs.Registers.{Master}
 use Rattle.bus_master.specs.Transfer.{Moving, Place, begun, direction_of, done_of, end_of, first_place, medium_of, transferred, with_medium, words_moved}
-use Rattle.bus_master.specs.Stores.{cells_of, DiffersInSmramAlone, HasSameShape, is_in_smram, IsStoreOf, transfer_of}
+use Rattle.board_chipset.specs.Stores.{IsStoreOf}
+use Rattle.bus_master.specs.Stores.{cells_of, DiffersInSmramAlone, HasSameShape, is_in_smram, transfer_of}
 use Rattle.bus_master.specs.UnderWay.{IsDone, StandsAt}
 use Rattle.bus_master.proofs.SmramLemmas.{AreAlike, hides_smram}
 

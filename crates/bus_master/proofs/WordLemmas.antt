@@ -15,13 +15,14 @@ use Rattle.board_spec.specs.Decode.{Bytes}
 use Rattle.board_spec.specs.Stored.{Cell}
 use Rattle.addr_decode.specs.MapRegs.{StandsFor, map_bytes}
 use Rattle.addr_decode.specs.Master.{master_area, master_denial}
-use Rattle.board_core.specs.declared.store.Store.{Store}
+use Rattle.board_chipset.specs.declared.store.Store.{Store}
 use Rattle.bus_master.specs.declared.done.End.{End}
 use Rattle.bus_master.specs.declared.direction.Direction.{Direction}
 use Rattle.bus_master.specs.declared.direction.Direction.TheVariants.{ToMemory, ToDisk}
 use Rattle.bus_master.specs.Cells.{Cells, put_in}
 use Rattle.bus_master.specs.Transfer.{Moving, Place, ◌and_then◌, abort_in, address_after, answered, is_used_up, kind_of, master_target, master_value, medium_of, moved_on, next_moved, next_sector, next_word, ready_for, region_found, sector_tested, table_tested, with_medium, word_moved, words_moved}
-use Rattle.bus_master.specs.Stores.{cells_of, HasSameShape, IsCell, IsStoreOf}
+use Rattle.board_chipset.specs.Stores.{IsStoreOf}
+use Rattle.bus_master.specs.Stores.{cells_of, HasSameShape, IsCell}
 use Rattle.bus_master.specs.UnderWay.{CameOn, HasSector, StandsAt}
 use Rattle.bus_master.proofs.HeldTargets.{master_value_same}
 use Rattle.bus_master.proofs.StepLemmas.{stands_skipped, stands_taken, taken, skipped, answered_stands, table_goes_on, sector_within, region_in_use}

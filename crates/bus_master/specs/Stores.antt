@@ -3,14 +3,15 @@ use Rattle.std.specs.Prelude.{ℕ, ◌≡◌, Bool, true, false, List, length}
 use Rattle.board_base.specs.declared.access.Kind.{Kind}
 use Rattle.board_base.specs.declared.target.Area.{Area}
 use Rattle.device_spec.specs.Ata.State.{sectors_of}
-use Rattle.board_spec.specs.Setup.{Setup, IsCardList, IsRomSize, installed}
+use Rattle.board_spec.specs.Setup.{Setup}
 use Rattle.board_spec.specs.Decode.{Bytes, is_smram_range}
 use Rattle.board_spec.specs.Stored.{Cell, DramCell, CardCell}
 use Rattle.dram_store.specs.Dram.{dram_at}
-use Rattle.pci_bars.specs.Contents.{IsBaseNumber, held, held_byte, HaveSizes}
-use Rattle.addr_decode.specs.MapRegs.{StandsFor, map_bytes}
+use Rattle.pci_bars.specs.Contents.{IsBaseNumber, held, held_byte}
+use Rattle.addr_decode.specs.MapRegs.{map_bytes}
 use Rattle.addr_decode.specs.Master.{master_area}
-use Rattle.board_core.specs.declared.store.Store.{Store}
+use Rattle.board_chipset.specs.declared.store.Store.{Store}
+use Rattle.board_chipset.specs.Stores.{IsStoreOf}
 use Rattle.bus_master.specs.Cells.{Cells}
 use Rattle.bus_master.specs.Registers.{Master}
 use Rattle.bus_master.specs.Transfer.{Moving, transferred, medium_of, with_medium}
@@ -25,21 +26,7 @@ abbrev pub IsCell : Cell → Type 0
 IsCell (DramCell addr) = Unit {0}
 IsCell (CardCell dev base off) = IsBaseNumber dev base
 
--- it is the store of a board with this setup and these registers: as many bytes as are installed, a buffer for each
--- base of the cards, and the ROM
-pub record IsStoreOf (setup : Setup) (bytes : Bytes) (store : Store) : Type 0 where
-  pub cards : IsCardList setup.cards
-  pub rom_size : IsRomSize (length setup.rom)
-  pub registers : StandsFor setup bytes (map_bytes store.regs)
-  pub memory : length store.dram ≡ installed setup
-  pub contents : HaveSizes setup store.contents
-  pub rom : store.rom.items ≡ setup.rom
-
--- some board has it
-abbrev pub IsSound : Store → Type 0
-IsSound store = (setup : Setup) × (bytes : Bytes) × IsStoreOf setup bytes store
-
--- of such a board an access of the bus master reaches this area
+-- of some board that can have this store an access of the bus master reaches this area
 pub record IsReached (store : Store) (area : Area) (addr : ℕ) (kind : Kind) : Type 0 where
   pub setup : Setup
   pub bytes : Bytes

@@ -2,7 +2,7 @@
 use Rattle.std.specs.Prelude.{ℕ, ◌≡◌, ◌≢◌, ◌<◌, ◌≤◌, ◌+◌, ◌%◌, ◌/◌, ◌*◌, Option, Some, None, Result, Ok, Err}
 use Rattle.device_spec.specs.Ata.State.{sectors_of}
 use Rattle.board_spec.specs.Stored.{Cell}
-use Rattle.board_core.specs.declared.store.Store.{Store}
+use Rattle.board_chipset.specs.declared.store.Store.{Store}
 use Rattle.board_spec.specs.Setup.{Setup}
 use Rattle.board_spec.specs.Decode.{Bytes}
 use Rattle.bus_master.specs.declared.done.End.{End}

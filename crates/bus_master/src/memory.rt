@@ -12,11 +12,12 @@ ghost use Rattle.addr_decode.specs.Master.{master_area};
 ghost use Rattle.board_stores.specs.Targets.{IsHeld};
 ghost use Rattle.bus_master.specs.Cells.{value_in, put_in};
 ghost use Rattle.bus_master.specs.Transfer.{master_target, master_value, medium_of, with_medium};
-ghost use Rattle.bus_master.specs.Stores.{cells_of, HasSameShape, IsCell, IsReached, IsStoreOf};
+ghost use Rattle.board_chipset.specs.Stores.{IsStoreOf};
+ghost use Rattle.bus_master.specs.Stores.{cells_of, HasSameShape, IsCell, IsReached};
 
 use ata_pio::Ata;
 use board_base::{Area, Target, Width};
-use board_core::Store;
+use board_chipset::Store;
 use board_spec::wide::read_at;
 use board_stores::target_in;
 

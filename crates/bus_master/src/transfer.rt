@@ -7,13 +7,14 @@ ghost use Rattle.board_spec.specs.Stored.{Cell};
 ghost use Rattle.dram_store.specs.Dram.{dram_at};
 ghost use Rattle.bus_master.specs.Registers.{is_started, Master};
 ghost use Rattle.bus_master.specs.Transfer.{direction_of, done_of, end_of, master_after, Moving, status_bits, with_medium};
-ghost use Rattle.bus_master.specs.Stores.{cells_of, DiffersInSmramAlone, HasSameShape, IsCell, IsSound, IsStoreOf, transfer_of};
+ghost use Rattle.board_chipset.specs.Stores.{IsSound, IsStoreOf};
+ghost use Rattle.bus_master.specs.Stores.{cells_of, DiffersInSmramAlone, HasSameShape, IsCell, transfer_of};
 
 use crate::direction::Direction;
 use crate::done::{Done, End};
 use crate::registers::{BusMaster, DIRECTION};
 use crate::under_way::UnderWay;
-use board_core::Store;
+use board_chipset::Store;
 use board_spec::bits::is_set;
 
 /// How many words a sector has.

@@ -15,7 +15,8 @@ ghost use Rattle.bus_master.specs.declared.done.End.{End};
 ghost use Rattle.bus_master.specs.declared.direction.Direction.{Direction};
 ghost use Rattle.bus_master.specs.Cells.{put_in};
 ghost use Rattle.bus_master.specs.Transfer.{Moving, abort_in, address_after, descriptor_read, first_place, is_used_up, kind_of, master_target, master_value, medium_of, moved_on, next_sector, next_word, ready_for, sector_tested, size_of, with_region, word_moved, words_moved};
-ghost use Rattle.bus_master.specs.Stores.{cells_of, HasSameShape, IsCell, IsReached, IsSound, IsStoreOf};
+ghost use Rattle.board_chipset.specs.Stores.{IsSound, IsStoreOf};
+ghost use Rattle.bus_master.specs.Stores.{cells_of, HasSameShape, IsCell, IsReached};
 ghost use Rattle.bus_master.specs.UnderWay.{CameOn, end_in, HasSector, IsDone, StandsAt};
 
 use crate::direction::Direction;
@@ -23,7 +24,7 @@ use crate::done::End;
 use crate::memory::{is_readable, read, set_word, word, write};
 use addr_decode::{MapRegs, decode_master, next_edge};
 use board_base::{Area, Denial, Kind, Width};
-use board_core::Store;
+use board_chipset::Store;
 use board_spec::bits::is_set;
 use board_spec::range::SMRAM_RANGE;
 use std::marker::Model;

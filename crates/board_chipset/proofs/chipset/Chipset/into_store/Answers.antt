@@ -1,4 +1,6 @@
-use Rattle.std.proofs.Common.{◌∙◌, sym}
+use Rattle.std.proofs.Common.{ap, ◌∙◌, refl, sym}
+use Rattle.board_spec.specs.Setup.{Setup}
+use Rattle.board_spec.specs.Registers.{byte_of}
 use Rattle.board_chipset.proofs.Lefts.{state_of}
 use Rattle.board_chipset.proofs.chipset.Chipset.into_store.Goals as goal
 
@@ -16,3 +18,32 @@ returns-clause-contents c = λ history left. rw (← c.self.view_is) (state_of c
 pub returns-clause-disk : goal.returns-clause-disk
 returns-clause-disk c = λ history left.
     rw (← c.self.view_is) (c.into_disk.ensures.disk ∙ (state_of c.self.view_is left).devices.others.disk)
+
+pub returns-clause-store : goal.returns-clause-store
+returns-clause-store c = λ history left.
+    let is = state_of c.self.view_is left in
+    rw (← c.self.view_is)
+    (record {
+      cards = is.fits.cards;
+      rom_size = is.fits.rom;
+      registers = rw c.copy-regs.ensures.equal (c.regs.ensures.stand c.self.inside.setup history is.registers);
+      memory = is.stores.dram.size;
+      contents = is.stores.contents.sizes;
+      rom = ap (λ (setup : Setup). setup.rom) c.setup.view_is;
+    })
+
+pub returns-clause-sound : goal.returns-clause-sound
+returns-clause-sound c =
+    let history = c.self.invariant.0 in
+    let is = state_of refl c.self.invariant.1 in (
+      c.self.inside.setup,
+      byte_of c.self.inside.setup history,
+      record {
+        cards = is.fits.cards;
+        rom_size = is.fits.rom;
+        registers = rw c.copy-regs.ensures.equal (c.regs.ensures.stand c.self.inside.setup history is.registers);
+        memory = is.stores.dram.size;
+        contents = is.stores.contents.sizes;
+        rom = ap (λ (setup : Setup). setup.rom) c.setup.view_is;
+      },
+    )

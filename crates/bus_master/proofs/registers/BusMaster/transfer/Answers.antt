@@ -3,10 +3,11 @@ use Rattle.device_spec.specs.Ata.State.{Disk, Medium}
 use Rattle.board_spec.specs.Setup.{Setup}
 use Rattle.board_spec.specs.Decode.{Bytes}
 use Rattle.board_spec.specs.Stored.{DramCell}
-use Rattle.board_core.specs.declared.store.Store.{Store}
+use Rattle.board_chipset.specs.declared.store.Store.{Store}
 use Rattle.bus_master.specs.Registers.{Master}
 use Rattle.bus_master.specs.Transfer.{Moving, Place, done_of, first_place, with_medium}
-use Rattle.bus_master.specs.Stores.{IsStoreOf, transfer_of}
+use Rattle.board_chipset.specs.Stores.{IsStoreOf}
+use Rattle.bus_master.specs.Stores.{transfer_of}
 use Rattle.bus_master.specs.UnderWay.{IsDone}
 use Rattle.bus_master.proofs.TransferLemmas.{all_moved, disk_is, done_is, same_transfer, smram_kept}
 use Rattle.bus_master.proofs.WordLemmas.{same_store}

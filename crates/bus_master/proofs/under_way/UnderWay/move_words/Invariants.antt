@@ -2,7 +2,8 @@ use Rattle.std.proofs.Common.{◌≡◌, ◌/◌, ◌%◌, ◌-◌, ◌≤◌, N
 use Rattle.board_spec.specs.Setup.{Setup}
 use Rattle.board_spec.specs.Decode.{Bytes}
 use Rattle.bus_master.specs.Transfer.{Moving, words_moved}
-use Rattle.bus_master.specs.Stores.{HasSameShape, IsStoreOf}
+use Rattle.board_chipset.specs.Stores.{IsStoreOf}
+use Rattle.bus_master.specs.Stores.{HasSameShape}
 use Rattle.bus_master.specs.UnderWay.{HasSector, StandsAt}
 use Rattle.bus_master.proofs.under_way.UnderWay.move_words.Given as goal
 
