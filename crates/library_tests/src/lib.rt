@@ -1,0 +1,5 @@
+//! Tests of the libraries that the program does not use.
+#![tactic(auto)]
+
+#[cfg(test)]
+mod bus_master;
