@@ -17,6 +17,8 @@ const TABLE_END: u8 = 7;
 
 /// The bits of the command that are kept: start, and the direction.
 const COMMAND_BITS: u8 = 0x09;
+/// The bit of the command that starts a transfer.
+const START: u32 = 0;
 /// The bit of the command that tells the direction, 1 from the disk to memory.
 pub(crate) const DIRECTION: u32 = 3;
 
@@ -56,6 +58,13 @@ impl BusMaster {
             status: 0,
             table: 0,
         }
+    }
+
+    /// Whether start of the command is 1, so that a transfer can go.
+    pub fn is_started(&self) -> bool
+        ensures started { result ≡ is_started self.now }
+    {
+        is_set(self.command.into(), START)
     }
 
     /// Reads the byte at an offset, 0 to 7: the command at 0, the status at 2, the table pointer at 4 to 7, its low

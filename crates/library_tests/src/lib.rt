@@ -1,5 +1,7 @@
-//! Tests of the libraries that the program does not use.
+//! Tests of what stands over the board: bus master, serial port, images, blame.
 #![tactic(auto)]
 
+#[cfg(test)]
+mod bus_master;
 #[cfg(test)]
 mod serial_port;
