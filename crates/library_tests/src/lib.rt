@@ -1,0 +1,5 @@
+//! Tests of the libraries that stand beside the board.
+#![tactic(auto)]
+
+#[cfg(test)]
+mod map_blame;
