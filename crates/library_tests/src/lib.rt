@@ -4,4 +4,6 @@
 #[cfg(test)]
 mod bus_master;
 #[cfg(test)]
+mod map_blame;
+#[cfg(test)]
 mod serial_port;
