@@ -2,8 +2,8 @@
 #![tactic(auto)]
 
 #[cfg(test)]
-mod bus_master;
-#[cfg(test)]
-mod map_blame;
+mod reports;
 #[cfg(test)]
 mod serial_port;
+#[cfg(test)]
+mod transfers;

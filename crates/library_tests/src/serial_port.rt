@@ -15,13 +15,21 @@ use uart_16550::{SerialBoard, SerialReply, Uart};
 
 // The offsets of the registers.
 const DATA: u8 = 0;
+
 const IER: u8 = 1;
+
 const IIR: u8 = 2;
+
 const FCR: u8 = 2;
+
 const LCR: u8 = 3;
+
 const MCR: u8 = 4;
+
 const LSR: u8 = 5;
+
 const MSR: u8 = 6;
+
 const SCR: u8 = 7;
 
 /// What is done to a UART: a register is read and must give this byte; one is written and nothing is sent; a byte is
