@@ -1,10 +1,10 @@
 //! What the registers of a 16550 read, and what a board with one on COM1 replies and is asked.
 
-ghost use Rattle.std.specs.Prelude.{◌≡◌, ◌≤◌, [], IfOk};
-ghost use Rattle.board_spec.specs.Setup.{IsCardList, Setup as Fitting, memory_of_cards};
+ghost use Rattle.std.specs.Prelude.{◌≡◌, false, [], IfOk};
+ghost use Rattle.board_spec.specs.Setup.{Setup as Fitting};
 ghost use Rattle.board_spec.specs.InRange.{IsInRange};
 
-use board_base::{Dev, PortAccess, Target, Width};
+use board_base::{Denial, Dev, PortAccess, Target, Width};
 use board_chipset::Chipset;
 use board_core::{Board, BoardOpen, Setup};
 use board_spec::{Event, Reply};
@@ -275,4 +275,251 @@ fn registers(rt: HostRuntime) {
     play(&rt, &ETBEI_RISES);
     play(&rt, &DIVISOR_LATCH);
     play(&rt, &LINE);
+}
+
+/// What is asked of a board with a serial port: a byte is written to a port or read from it, or two are read; the level
+/// of line 4; an acknowledge; or a byte comes from outside.
+#[derive(Clone, Copy, PartialEq, Eq, Debug)]
+enum Request {
+    Out(u16, u8),
+    In(u16),
+    InWord(u16),
+    Line4(bool),
+    Ack,
+    Comes(u8),
+}
+
+/// What must come: from the UART a value, a byte that is sent, or nothing; from a device of the board a value or none;
+/// all ones, where nobody answers. A byte that comes has no reply.
+#[derive(Clone, Copy)]
+enum Want {
+    Value(u8),
+    Sent(u8),
+    Done,
+    Gives(u32, Dev),
+    By(Dev),
+    Nobody(u32),
+}
+
+/// A row of requests.
+type Row = (Request, Want);
+
+/// What the board itself is asked in a row, and by whom.
+type Asked = (u8, Request);
+
+use Request::{Ack, Comes, In, InWord, Line4, Out};
+use Want::{By, Done, Gives, Nobody, Sent, Value};
+
+/// Two bytes are sent, and one that is looped back is not. The board is asked nothing.
+const HI: [Row; 4] = [
+    (Out(0x3F8, 0x48), Sent(0x48)),
+    (Out(0x3F8, 0x69), Sent(0x69)),
+    (Out(0x3FC, 0x10), Done),
+    (Out(0x3F8, 0x55), Done),
+];
+
+/// The 8259As get the vectors from 20h and 28h on. A byte that comes interrupts by line 4 until it is read.
+const RECEIVED: [Row; 16] = [
+    (Out(0x20, 0x11), By(Dev::Pic0)),
+    (Out(0x21, 0x20), By(Dev::Pic0)),
+    (Out(0x21, 0x04), By(Dev::Pic0)),
+    (Out(0x21, 0x01), By(Dev::Pic0)),
+    (Out(0xA0, 0x11), By(Dev::Pic1)),
+    (Out(0xA1, 0x28), By(Dev::Pic1)),
+    (Out(0xA1, 0x02), By(Dev::Pic1)),
+    (Out(0xA1, 0x01), By(Dev::Pic1)),
+    (Comes(0x41), Done),
+    (Out(0x3FC, 0x08), Done),
+    (Out(0x3F9, 0x01), Done),
+    (Ack, Gives(0x24, Dev::Vector(0))),
+    (In(0x3FA), Value(0x04)),
+    (In(0x3F8), Value(0x41)),
+    (In(0x3FA), Value(0x01)),
+    (In(0x3FD), Value(0x60)),
+];
+
+const RECEIVED_ASKED: [Asked; 11] = [
+    (0, Out(0x20, 0x11)),
+    (0, Out(0x21, 0x20)),
+    (0, Out(0x21, 0x04)),
+    (0, Out(0x21, 0x01)),
+    (0, Out(0xA0, 0x11)),
+    (0, Out(0xA1, 0x28)),
+    (0, Out(0xA1, 0x02)),
+    (0, Out(0xA1, 0x01)),
+    (8, Line4(true)),
+    (0, Ack),
+    (8, Line4(false)),
+];
+
+/// A hard reset with the line up: the board's step comes first, then line 4 goes down.
+const HARD_RESET: [Row; 8] = [
+    (Out(0x3FC, 0x08), Done),
+    (Out(0x3F9, 0x02), Done),
+    (Out(0xCF9, 0x06), By(Dev::Reset)),
+    (In(0x3FC), Value(0x00)),
+    (In(0x3F9), Value(0x00)),
+    (In(0x3FA), Value(0x01)),
+    (In(0x3FE), Value(0xB0)),
+    (InWord(0x3F8), Nobody(0xFFFF)),
+];
+
+const HARD_RESET_ASKED: [Asked; 4] = [
+    (8, Line4(true)),
+    (0, Out(0xCF9, 0x06)),
+    (8, Line4(false)),
+    (0, InWord(0x3F8)),
+];
+
+/// While the UART's line is up the script's level changes nothing on the board, and it is asked all the same. The
+/// script's level holds the line up when the UART's goes down, also by a hard reset.
+const SCRIPT_LEVEL: [Row; 10] = [
+    (Out(0x3FC, 0x08), Done),
+    (Out(0x3F9, 0x02), Done),
+    (Line4(false), By(Dev::Wires)),
+    (Line4(true), By(Dev::Wires)),
+    (In(0x3FA), Value(0x02)),
+    (Line4(false), By(Dev::Wires)),
+    (Line4(true), By(Dev::Wires)),
+    (Out(0x3F8, 0x48), Sent(0x48)),
+    (Out(0xCF9, 0x06), By(Dev::Reset)),
+    (Line4(false), By(Dev::Wires)),
+];
+
+const SCRIPT_LEVEL_ASKED: [Asked; 7] = [
+    (8, Line4(true)),
+    (0, Line4(true)),
+    (0, Line4(true)),
+    (0, Line4(false)),
+    (0, Line4(true)),
+    (0, Out(0xCF9, 0x06)),
+    (0, Line4(false)),
+];
+
+/// An access at a port.
+fn access(rt: &impl Abort, write: bool, port: u16, width: Width, value: u8) -> Event
+    requires value { write ≡ false → value ≡ 0 }
+    ensures in_range { (setup : Fitting) → IsInRange setup result }
+{
+    assert!(rt; width.is_aligned(u32::from(port)));
+    Event::Port(PortAccess {
+        write,
+        port,
+        width,
+        value: u32::from(value),
+    })
+}
+
+/// The event of a request. A byte that comes is none.
+fn event(rt: &impl Abort, request: Request) -> Event
+    ensures in_range { (setup : Fitting) → IsInRange setup result }
+{
+    match request {
+        Out(port, byte) => access(rt, true, port, Width::One, byte),
+        In(port) => access(rt, false, port, Width::One, 0),
+        InWord(port) => access(rt, false, port, Width::Two, 0),
+        Line4(on) => Event::Line { irq: 4, on },
+        _ => Event::Ack,
+    }
+}
+
+/// The reply that is wanted.
+fn reply(want: Want) -> SerialReply {
+    let (value, target, denial) = match want {
+        Value(byte) => return from_uart(Some(byte), None),
+        Sent(byte) => return from_uart(None, Some(byte)),
+        Done => return from_uart(None, None),
+        Gives(value, dev) => (Some(value), Target::Device(dev), None),
+        By(dev) => (None, Target::Device(dev), None),
+        Nobody(value) => (Some(value), Target::Abort, Some(Denial::NoRegister)),
+    };
+    SerialReply::Board(Reply::Bus {
+        value,
+        target,
+        denial,
+    })
+}
+
+fn from_uart(value: Option<u8>, sent: Option<u8>) -> SerialReply {
+    SerialReply::Uart { value, sent }
+}
+
+/// Does a request, and compares the reply.
+fn ask(rt: &impl Abort, serial: &mut SerialBoard<Board>, at: usize, row: Row) {
+    let (request, want) = row;
+    assert!(rt; serial.board().history().spare() >= 2);
+    match request {
+        Comes(byte) => {
+            assert!(rt; serial.room(), "at {at}");
+            serial.receive(byte);
+        }
+        _ => {
+            let got = serial.step(0, &event(rt, request));
+            assert_eq!(rt; got, reply(want), "at {at}");
+        }
+    }
+}
+
+/// A board of 8 MiB without cards and disk, and a ROM of 64 KiB.
+fn setup(alloc: Global) -> Result<Setup, AllocError>
+    ensures mib { IfOk result (λ setup. setup.mib ≡ 8) }
+    ensures cards { IfOk result (λ setup. setup.cards ≡ []) }
+{
+    Ok(Setup {
+        mib: 8,
+        cards: Vec::new(alloc),
+        rom: vec![in alloc; 0; 0x1_0000]?,
+        disk: None,
+    })
+}
+
+/// Asks a new board with a serial port a row, and compares what the board itself was asked.
+fn row(rt: &impl Abort, alloc: Global, rows: &[Row], asked: &[Asked]) -> Result<(), Fail> {
+    let mut board = Board::open(alloc, setup(alloc)?)?;
+    board.reserve(100)?;
+    let mut serial = SerialBoard::open(board);
+    for (at, row) in rows.iter().enumerate() {
+        ask(rt, &mut serial, at, *row);
+    }
+    let entries = serial.board().history().entries();
+    assert_eq!(rt; entries.len(), asked.len());
+    for (at, (entry, (actor, request))) in entries.iter().zip(asked).enumerate() {
+        assert_eq!(rt;
+            (entry.actor, entry.event),
+            (*actor, event(rt, *request)),
+            "at {at}"
+        );
+    }
+    Ok(())
+}
+
+#[test]
+fn board_with_a_serial_port(rt: HostRuntime) -> Result<(), Fail> {
+    let alloc = rt.alloc();
+    row(&rt, alloc, &HI, &[])?;
+    row(&rt, alloc, &RECEIVED, &RECEIVED_ASKED)?;
+    row(&rt, alloc, &HARD_RESET, &HARD_RESET_ASKED)?;
+    row(&rt, alloc, &SCRIPT_LEVEL, &SCRIPT_LEVEL_ASKED)
+}
+
+/// A byte that came is read over a chipset too, which keeps no history.
+#[test]
+fn chipset_with_a_serial_port(rt: HostRuntime) -> Result<(), Fail> {
+    let alloc = rt.alloc();
+    let mut serial = SerialBoard::open(Chipset::open(alloc, setup(alloc)?)?);
+    assert!(rt; serial.room());
+    serial.receive(0x41);
+    let rows = [
+        (Out(0x3FC, 0x08), Done),
+        (Out(0x3F9, 0x01), Done),
+        (In(0x3FA), Value(0x04)),
+        (In(0x3F8), Value(0x41)),
+        (Line4(true), By(Dev::Wires)),
+        (In(0x3FD), Value(0x60)),
+    ];
+    for (request, want) in rows {
+        let got = serial.step(0, &event(&rt, request));
+        assert_eq!(rt; got, reply(want));
+    }
+    Ok(())
 }

@@ -3,18 +3,23 @@ use Rattle.std.proofs.Common.{◌≡◌, ℕ, Bool, true, false, not, List, [], 
 use Rattle.std.specs.Prelude.{◌==◌, Option, Some, None}
 use Rattle.std.proofs.lemmas.Bool.{cases_Bool, ne_eqb}
 use Rattle.std.proofs.lemmas.List.{append-nil}
+use Rattle.board_spec.specs.declared.event.Event.{Event}
 use Rattle.board_spec.specs.declared.event.Event.TheVariants.{Memory, Wide, Port, Look as LookAt, Ack, Pulses, Time, Wire, Line, BadSector}
+use Rattle.board_spec.specs.Registers.{control_written, resets_hard}
 use Rattle.uart_16550.specs.declared.interrupt.Interrupt.{Interrupt}
 use Rattle.uart_16550.specs.declared.interrupt.Interrupt.TheVariants.{LineStatus, DataAvailable, TransmitterEmpty, ModemStatus}
 use Rattle.uart_16550.specs.declared.register.ReadRegister.{ReadRegister}
 use Rattle.uart_16550.specs.declared.register.ReadRegister.TheVariants as read
 use Rattle.uart_16550.specs.declared.register.WriteRegister.{WriteRegister}
 use Rattle.uart_16550.specs.declared.register.WriteRegister.TheVariants as write
+use Rattle.uart_16550.specs.declared.com1.Com1.{Com1}
 use Rattle.uart_16550.specs.Uart.{Uart, is_dlab, is_loopback, pending}
 use Rattle.uart_16550.specs.Reads.{register_read, front_of, rest_of, value_of, after_identity, after_value}
 use Rattle.uart_16550.specs.Writes.{register_written, is_emptying, with_value}
-use Rattle.uart_16550.specs.Com1.{com1_irq, is_for_uart}
-use Rattle.uart_16550.specs.Calls.{Call, Renews, Receives, Reads, Writes, after_call, brought, front_taken, taken, is_kept, is_keeping, after_calls, all_brought, all_taken, ReadInOrder, EventsAreCalls}
+use Rattle.uart_16550.specs.Com1.{com1_irq, is_for_uart, com1_after}
+use Rattle.uart_16550.specs.Calls.{Call, Renews, Receives, Reads, Writes, after_call, brought, front_taken, taken, is_kept, is_keeping, after_calls, all_brought, all_taken, ReadInOrder, calls_of}
+use Rattle.uart_16550.specs.Sent.{Happening, Comes, Happens, Sending, sending_after}
+use Rattle.uart_16550.specs.SerialOrder.{calls_for, all_calls, after_all, bytes_come, SerialReadsInOrder}
 
 front_and_rest : (queue : List ℕ) → front_taken queue read.Rbr (front_of queue) ++ rest_of queue ≡ queue
 front_and_rest [] = refl
@@ -79,20 +84,80 @@ calls_in_order uart (call ∷ later) kept =
     ∙ (ap (λ (bytes : List ℕ). bytes ++ all_brought later) (call_in_order uart call kept.0)
     ∙ append_assoc uart.queue (brought call) (all_brought later))))
 
--- ---- events
+-- ---- events of a board
 
-pub events_are_calls : EventsAreCalls
-events_are_calls resets (Port access) com1 = elim (cases_Bool (is_for_uart access)) [
+event_is_calls : (resets : Bool) (event : Event) (com1 : Com1) →
+    (com1_after resets event com1).uart ≡ after_calls com1.uart (calls_of resets event)
+event_is_calls resets (Port access) com1 = elim (cases_Bool (is_for_uart access)) [
   | inl uart ↦ elim (cases_Bool access.write) [ inl writes ↦ rw (uart, writes) refl | inr reads ↦ rw (uart, reads) refl ]
   | inr board ↦ elim (cases_Bool resets) [ inl hard ↦ rw (board, hard) refl | inr soft ↦ rw (board, soft) refl ]
 ]
-events_are_calls resets (Line irq on) com1 =
+event_is_calls resets (Line irq on) com1 =
     elim (cases_Bool (irq == com1_irq)) [ inl own ↦ rw own refl | inr other ↦ rw other refl ]
-events_are_calls resets (Memory access) com1 = refl
-events_are_calls resets (Wide access) com1 = refl
-events_are_calls resets (LookAt kind addr smm) com1 = refl
-events_are_calls resets Ack com1 = refl
-events_are_calls resets (Pulses count) com1 = refl
-events_are_calls resets (Time moment) com1 = refl
-events_are_calls resets (Wire dev on) com1 = refl
-events_are_calls resets (BadSector sector) com1 = refl
+event_is_calls resets (Memory access) com1 = refl
+event_is_calls resets (Wide access) com1 = refl
+event_is_calls resets (LookAt kind addr smm) com1 = refl
+event_is_calls resets Ack com1 = refl
+event_is_calls resets (Pulses count) com1 = refl
+event_is_calls resets (Time moment) com1 = refl
+event_is_calls resets (Wire dev on) com1 = refl
+event_is_calls resets (BadSector sector) com1 = refl
+
+event_brings_nothing : (resets : Bool) (event : Event) → all_brought (calls_of resets event) ≡ []
+event_brings_nothing resets (Port access) = elim (cases_Bool (is_for_uart access)) [
+  | inl uart ↦ elim (cases_Bool access.write) [ inl writes ↦ rw (uart, writes) refl | inr reads ↦ rw (uart, reads) refl ]
+  | inr board ↦ elim (cases_Bool resets) [ inl hard ↦ rw (board, hard) refl | inr soft ↦ rw (board, soft) refl ]
+]
+event_brings_nothing resets (Line irq on) = refl
+event_brings_nothing resets (Memory access) = refl
+event_brings_nothing resets (Wide access) = refl
+event_brings_nothing resets (LookAt kind addr smm) = refl
+event_brings_nothing resets Ack = refl
+event_brings_nothing resets (Pulses count) = refl
+event_brings_nothing resets (Time moment) = refl
+event_brings_nothing resets (Wire dev on) = refl
+event_brings_nothing resets (BadSector sector) = refl
+
+calls_in_turn : (uart : Uart) (first later : List Call) →
+    after_calls uart (first ++ later) ≡ after_calls (after_calls uart first) later
+calls_in_turn uart [] later = refl
+calls_in_turn uart (call ∷ first) later = calls_in_turn (after_call uart call) first later
+
+brought_in_turn : (first later : List Call) → all_brought (first ++ later) ≡ all_brought first ++ all_brought later
+brought_in_turn [] later = refl
+brought_in_turn (call ∷ first) later =
+    ap (λ (bytes : List ℕ). brought call ++ bytes) (brought_in_turn first later)
+    ∙ sym (append_assoc (brought call) (all_brought first) (all_brought later))
+
+happening_is_calls : (before : Sending) (happening : Happening) →
+    (sending_after before happening).com1.uart ≡ after_calls before.com1.uart (calls_for before happening)
+happening_is_calls before (Comes byte) = refl
+happening_is_calls before (Happens event) =
+    event_is_calls (resets_hard before.control (control_written event)) event before.com1
+
+run_is_calls : (before : Sending) (happenings : List Happening) →
+    (after_all before happenings).com1.uart ≡ after_calls before.com1.uart (all_calls before happenings)
+run_is_calls before [] = refl
+run_is_calls before (happening ∷ later) =
+    let next = sending_after before happening in
+    run_is_calls next later
+    ∙ (ap (λ (uart : Uart). after_calls uart (all_calls next later)) (happening_is_calls before happening)
+    ∙ sym (calls_in_turn before.com1.uart (calls_for before happening) (all_calls next later)))
+
+run_brings : (before : Sending) (happenings : List Happening) →
+    all_brought (all_calls before happenings) ≡ bytes_come happenings
+run_brings before [] = refl
+run_brings before (Comes byte ∷ later) =
+    ap (λ (bytes : List ℕ). byte ∷ bytes) (run_brings (sending_after before (Comes byte)) later)
+run_brings before (Happens event ∷ later) =
+    let next = sending_after before (Happens event) in
+    let resets = resets_hard before.control (control_written event) in
+    brought_in_turn (calls_of resets event) (all_calls next later)
+    ∙ (ap (λ (bytes : List ℕ). bytes ++ all_brought (all_calls next later)) (event_brings_nothing resets event)
+    ∙ run_brings next later)
+
+pub serial_in_order : SerialReadsInOrder
+serial_in_order before happenings kept =
+    ap (λ (uart : Uart). all_taken before.com1.uart (all_calls before happenings) ++ uart.queue) (run_is_calls before happenings)
+    ∙ (calls_in_order before.com1.uart (all_calls before happenings) kept
+    ∙ ap (λ (bytes : List ℕ). before.com1.uart.queue ++ bytes) (run_brings before happenings))

@@ -13,7 +13,7 @@ use Rattle.board_spec.specs.Registers.{control_written, control_after, reset_con
 use Rattle.board_spec.specs.Orders.{statement_of, statements_of}
 use Rattle.uart_16550.specs.declared.com1.Com1.{Com1}
 use Rattle.uart_16550.specs.Writes.{differ}
-use Rattle.uart_16550.specs.Com1.{is_for_uart, level_of, line_change, com1_after, asked, uart_after}
+use Rattle.uart_16550.specs.Com1.{is_for_uart, level_of, line_steps, com1_after, board_steps, uart_after}
 use Rattle.uart_16550.specs.Uart.{uart_at_reset}
 use Rattle.uart_16550.specs.Sent.{ControlFollows}
 use Rattle.uart_16550.proofs.SerialSteps.{statements_joined}
@@ -41,7 +41,7 @@ control_more (entry ∷ more) history =
     ∙ ap (control_over (reset_control history)) (sym (statements_joined (entry ∷ []) more)))
 
 -- levels of line 4 leave it
-control_of_change : (control : ℕ) (old new : Bool) → control_over control (line_change old new) ≡ control
+control_of_change : (control : ℕ) (old new : Bool) → control_over control (line_steps old new) ≡ control
 unfolding control_over
 control_of_change control old new = elim (cases_Bool (differ old new)) [ inl moves ↦ rw moves refl | inr stays ↦ rw stays refl ]
 
@@ -57,10 +57,10 @@ written_nothing : (write here one : Bool) (value : ℕ) → here ≡ false → (
 written_nothing true here one value is = rw is refl
 written_nothing false here one value is = refl
 
-control_asked : (control actor : ℕ) (resets : Bool) (event : Event) (com1 : Com1) →
-    control_over control (asked actor resets event com1) ≡ control_after control (control_written event)
+control_stepped : (control actor : ℕ) (resets : Bool) (event : Event) (com1 : Com1) →
+    control_over control (board_steps actor resets event com1) ≡ control_after control (control_written event)
 unfolding control_over
-control_asked control actor resets (Port access) com1 =
+control_stepped control actor resets (Port access) com1 =
     let next = com1_after resets (Port access) com1 in
     elim (cases_Bool (is_for_uart access)) [
       | inl uart ↦
@@ -75,19 +75,19 @@ control_asked control actor resets (Port access) com1 =
           (control_of_change (control_after control (control_written (Port access))) (level_of com1)
           (level_of (if resets then record com1 { uart = uart_at_reset } else com1)))
     ]
-control_asked control actor resets (Memory access) com1 = refl
-control_asked control actor resets (Wide access) com1 = refl
-control_asked control actor resets (LookAt kind addr smm) com1 = refl
-control_asked control actor resets Ack com1 = refl
-control_asked control actor resets (Pulses count) com1 = refl
-control_asked control actor resets (Time moment) com1 = refl
-control_asked control actor resets (Wire dev on) com1 = refl
-control_asked control actor resets (Line irq on) com1 = refl
-control_asked control actor resets (BadSector sector) com1 = refl
+control_stepped control actor resets (Memory access) com1 = refl
+control_stepped control actor resets (Wide access) com1 = refl
+control_stepped control actor resets (LookAt kind addr smm) com1 = refl
+control_stepped control actor resets Ack com1 = refl
+control_stepped control actor resets (Pulses count) com1 = refl
+control_stepped control actor resets (Time moment) com1 = refl
+control_stepped control actor resets (Wire dev on) com1 = refl
+control_stepped control actor resets (Line irq on) com1 = refl
+control_stepped control actor resets (BadSector sector) com1 = refl
 
 pub control_follows : ControlFollows
 control_follows history after actor event com1 goes_on =
     ap reset_control goes_on.grows
     ∙ (control_more goes_on.more history
     ∙ (ap (control_over (reset_control history)) goes_on.same
-    ∙ control_asked (reset_control history) actor (is_hard_reset history event) event com1))
+    ∙ control_stepped (reset_control history) actor (is_hard_reset history event) event com1))

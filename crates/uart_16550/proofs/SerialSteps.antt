@@ -14,7 +14,7 @@ use Rattle.board_spec.specs.Devices.{line_set, irq_of}
 use Rattle.board_spec.specs.Legal.{IsLegal, next_entry}
 use Rattle.board_spec.specs.Orders.{statement_of, statements_of}
 use Rattle.uart_16550.specs.declared.com1.Com1.{Com1}
-use Rattle.uart_16550.specs.Com1.{com1_irq, com1_actor, level_of, asked_event, line_change, change_asked, com1_after, asked, uart_access}
+use Rattle.uart_16550.specs.Com1.{com1_irq, com1_actor, level_of, board_event, line_steps, change_steps, com1_after, board_steps, uart_access}
 use Rattle.uart_16550.specs.Serial.{SetsLine, GoesOn, AreAnswered, AnsweredIsLegal, IsLeftAt, IsLeftAfter}
 
 -- a processor is not the port
@@ -49,9 +49,9 @@ answered_is_legal setup (entry ∷ before) answered =
 pub record IsPlain (event : Event) : Type 0 where
   pub access : uart_access event ≡ None
   pub after : (resets : Bool) (com1 : Com1) → com1_after resets event com1 ≡ com1
-  pub heard : (com1 : Com1) → asked_event com1 event ≡ event
+  pub heard : (com1 : Com1) → board_event com1 event ≡ event
   pub alone : (actor : ℕ) (resets : Bool) (com1 : Com1) →
-      asked actor resets event com1 ≡ record { actor = actor; event = event } ∷ []
+      board_steps actor resets event com1 ≡ record { actor = actor; event = event } ∷ []
   pub unset : line_set com1_irq event ≡ None
 
 pub is_plain : (event : Event) → ((access : PortAccess) → event ≡ Port access → ⊥) →
@@ -165,10 +165,10 @@ module _ {B : Type 0} (is_answer : Setup → List Entry → Event → Reply → 
       is_answer (setup_of old) history (Line irq level) reply → left_by new (next_entry history actor (Line irq level) reply ∷ history) →
       actor < com1_actor →
       IsLeftAfter is_answer setup_of left_by new (level_of (with_level com1 on)) history
-      (record { actor = actor; event = asked_event com1 (Line irq on) } ∷ [])
+      (record { actor = actor; event = board_event com1 (Line irq on) } ∷ [])
   level_given old new com1 irq on level history actor reply is level_is left_at same answer left below =
       one_step_as old new (level_of com1) (level_of (with_level com1 on)) history actor (Line irq level)
-      (asked_event com1 (Line irq on)) reply left_at same answer left (rw is level_is) below (rw (is, level_is) refl)
+      (board_event com1 (Line irq on)) reply left_at same answer left (rw is level_is) below (rw (is, level_is) refl)
 
   -- the script gives another line a level
   pub other_given : (old new : B) (com1 : Com1) (irq : ℕ) (on : Bool) (history : List Entry) (actor : ℕ) (reply : Reply) →
@@ -177,11 +177,11 @@ module _ {B : Type 0} (is_answer : Setup → List Entry → Event → Reply → 
       is_answer (setup_of old) history (Line irq on) reply → left_by new (next_entry history actor (Line irq on) reply ∷ history) →
       actor < com1_actor →
       IsLeftAfter is_answer setup_of left_by new (level_of com1) history
-      (record { actor = actor; event = asked_event com1 (Line irq on) } ∷ [])
+      (record { actor = actor; event = board_event com1 (Line irq on) } ∷ [])
   other_given old new com1 irq on history actor reply other left_at same answer left below =
       let is_other : (irq == com1_irq) ≡ false = ne_eqb irq com1_irq other in
       one_step_as old new (level_of com1) (level_of com1) history actor (Line irq on)
-      (asked_event com1 (Line irq on)) reply left_at same answer left (rw is_other refl) below (rw is_other refl)
+      (board_event com1 (Line irq on)) reply left_at same answer left (rw is_other refl) below (rw is_other refl)
 
   -- the board does something, and then something more
   pub then_more : (middle new : B) (level next : Bool) (before : List Entry) (first second : List Statement) →
@@ -204,12 +204,12 @@ module _ {B : Type 0} (is_answer : Setup → List Entry → Event → Reply → 
       left_by middle (next_entry history actor (Port access) reply ∷ history) → actor < com1_actor →
       was ≡ level_of com1 → now ≡ level_of next →
       ((after : List Entry) → IsLeftAt is_answer setup_of left_by middle was after →
-      IsLeftAfter is_answer setup_of left_by new now after (line_change was now)) →
+      IsLeftAfter is_answer setup_of left_by new now after (line_steps was now)) →
       IsLeftAfter is_answer setup_of left_by new (level_of next) history
-      (record { actor = actor; event = Port access } ∷ change_asked com1 next)
+      (record { actor = actor; event = Port access } ∷ change_steps com1 next)
   accessed old middle new com1 next history actor access reply was now left_at same answer left below was_is now_is moved =
       then_more middle new (level_of com1) (level_of next) history (record { actor = actor; event = Port access } ∷ [])
-      (change_asked com1 next)
+      (change_steps com1 next)
       (one_step old middle (level_of com1) (level_of com1) history actor (Port access) reply left_at same answer left refl
       (other_actor actor (Port access) below))
       (rw (was_is, now_is) at moved)
@@ -218,7 +218,7 @@ module _ {B : Type 0} (is_answer : Setup → List Entry → Event → Reply → 
   pub plain_step : (old new : B) (com1 : Com1) (history : List Entry) (actor : ℕ) (event : Event) (resets : Bool) (reply : Reply) →
       IsPlain event → IsLeftAt is_answer setup_of left_by old (level_of com1) history → setup_of new ≡ setup_of old →
       is_answer (setup_of old) history event reply → left_by new (next_entry history actor event reply ∷ history) →
-      actor < com1_actor → IsLeftAfter is_answer setup_of left_by new (level_of com1) history (asked actor resets event com1)
+      actor < com1_actor → IsLeftAfter is_answer setup_of left_by new (level_of com1) history (board_steps actor resets event com1)
   plain_step old new com1 history actor event resets reply plain left_at same answer left below =
       rw (plain.alone actor resets com1)
       (one_step old new (level_of com1) (level_of com1) history actor event reply left_at same answer left

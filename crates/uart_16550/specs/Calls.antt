@@ -2,7 +2,6 @@
 use Rattle.std.specs.Prelude.{ℕ, ◌≡◌, ◌==◌, Bool, true, false, not, if◌then◌else◌, List, [], ◌∷◌, ◌++◌, length}
 use Rattle.board_spec.specs.declared.event.Event.{Event}
 use Rattle.board_spec.specs.declared.event.Event.TheVariants.{Port}
-use Rattle.uart_16550.specs.declared.com1.Com1.{Com1}
 use Rattle.uart_16550.specs.declared.register.ReadRegister.{ReadRegister}
 use Rattle.uart_16550.specs.declared.register.ReadRegister.TheVariants.{Rbr}
 use Rattle.uart_16550.specs.declared.register.WriteRegister.{WriteRegister}
@@ -10,7 +9,7 @@ use Rattle.uart_16550.specs.declared.register.WriteRegister.TheVariants.{Thr, Fc
 use Rattle.uart_16550.specs.Uart.{Uart, uart_at_reset, is_dlab, is_loopback, received}
 use Rattle.uart_16550.specs.Reads.{register_read, byte_read, after_read}
 use Rattle.uart_16550.specs.Writes.{register_written, is_emptying, after_write}
-use Rattle.uart_16550.specs.Com1.{is_for_uart, offset_of, com1_after}
+use Rattle.uart_16550.specs.Com1.{is_for_uart, offset_of}
 
 -- a reset makes it new, a byte comes from outside, a register is read or written
 pub data Call : Type 0 where
@@ -89,8 +88,3 @@ calls_of resets (Port access) =
     then (if access.write then Writes (offset_of access) access.value else Reads (offset_of access)) ∷ []
     else (if resets then Renews ∷ [] else [])
 calls_of resets _ = []
-
-abbrev pub EventsAreCalls : Type 0
-EventsAreCalls =
-    (resets : Bool) (event : Event) (com1 : Com1) →
-    (com1_after resets event com1).uart ≡ after_calls com1.uart (calls_of resets event)

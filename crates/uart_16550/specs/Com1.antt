@@ -1,4 +1,4 @@
--- The serial port COM1 of a board: which accesses are for it, what an event makes of it, and what the board is asked.
+-- The serial port COM1 of a board: which accesses are for it, what an event makes of it, and which steps the board does.
 use Rattle.std.specs.Prelude.{ℕ, ◌-◌, ◌==◌, Bool, false, ◌&&◌, ◌||◌, if◌then◌else◌, List, [], ◌∷◌, Option, Some, None}
 use Rattle.board_base.specs.declared.access.PortAccess.{PortAccess}
 use Rattle.board_base.specs.Access.{bytes_of}
@@ -52,7 +52,7 @@ uart_reply access uart =
     if access.write then FromUart None (byte_sent uart (offset_of access) access.value)
     else FromUart (Some (byte_read uart (offset_of access))) None
 
--- ---- an event: what it makes of the port, and what it asks of the board
+-- ---- an event: what it makes of the port, and the steps that the board does for it
 
 -- the script sets the level of line 4, an access is for the UART, or a hard reset makes the UART new
 abbrev pub com1_after : (resets : Bool) → Event → Com1 → Com1
@@ -62,22 +62,22 @@ com1_after resets (Port access) com1 =
     if resets then record com1 { uart = uart_at_reset } else com1
 com1_after resets _ com1 = com1
 
--- the level of line 4 reaches the board as the or
-abbrev pub asked_event : Com1 → Event → Event
-asked_event com1 (Line irq on) = Line irq (if irq == com1_irq then is_interrupting com1.uart || on else on)
-asked_event com1 event = event
+-- of line 4 the board hears the or of the level and the UART's line
+abbrev pub board_event : Com1 → Event → Event
+board_event com1 (Line irq on) = Line irq (if irq == com1_irq then is_interrupting com1.uart || on else on)
+board_event com1 event = event
 
 -- the port itself moves line 4, where that changes
-abbrev pub line_change : (old new : Bool) → List Statement
-line_change old new = if differ old new then record { actor = com1_actor; event = Line com1_irq new } ∷ [] else []
+abbrev pub line_steps : (old new : Bool) → List Statement
+line_steps old new = if differ old new then record { actor = com1_actor; event = Line com1_irq new } ∷ [] else []
 
--- what the board is asked by the port, once something changed it
-abbrev pub change_asked : (old new : Com1) → List Statement
-change_asked old new = line_change (level_of old) (level_of new)
+-- the step by which the board hears of line 4, once something changed the port
+abbrev pub change_steps : (old new : Com1) → List Statement
+change_steps old new = line_steps (level_of old) (level_of new)
 
--- what the board is asked in all, in order
-abbrev pub asked : (actor : ℕ) → (resets : Bool) → Event → Com1 → List Statement
-asked actor resets (Port access) com1 =
-    let change = change_asked com1 (com1_after resets (Port access) com1) in
+-- all steps of the board for an event, in order
+abbrev pub board_steps : (actor : ℕ) → (resets : Bool) → Event → Com1 → List Statement
+board_steps actor resets (Port access) com1 =
+    let change = change_steps com1 (com1_after resets (Port access) com1) in
     if is_for_uart access then change else record { actor = actor; event = Port access } ∷ change
-asked actor resets event com1 = record { actor = actor; event = asked_event com1 event } ∷ []
+board_steps actor resets event com1 = record { actor = actor; event = board_event com1 event } ∷ []

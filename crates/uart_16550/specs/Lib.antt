@@ -7,3 +7,4 @@ pub mod Resets
 pub mod Serial
 pub mod Calls
 pub mod Sent
+pub mod SerialOrder

@@ -65,7 +65,7 @@ value_of uart Lsr = lsr_of uart
 value_of uart Msr = msr_of uart
 value_of uart Scr = uart.scr
 
--- an empty THR is told once
+-- a read of IIR that gives the empty THR clears it
 abbrev pub after_identity : Option Interrupt → Uart → Uart
 after_identity (Some TransmitterEmpty) uart = record uart { emptied = false }
 after_identity told uart = uart

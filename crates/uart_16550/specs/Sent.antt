@@ -8,7 +8,7 @@ use Rattle.board_spec.specs.Registers.{control_written, control_after, resets_ha
 use Rattle.uart_16550.specs.declared.com1.Com1.{Com1}
 use Rattle.uart_16550.specs.Uart.{Uart, received}
 use Rattle.uart_16550.specs.Writes.{byte_sent}
-use Rattle.uart_16550.specs.Com1.{com1_at_reset, uart_access, offset_of, com1_after, asked}
+use Rattle.uart_16550.specs.Com1.{com1_at_reset, uart_access, offset_of, com1_after, board_steps}
 use Rattle.uart_16550.specs.Serial.{GoesOn}
 
 -- what happens to the board: a byte comes from outside, or an event is done
@@ -46,10 +46,9 @@ abbrev pub bytes_sent : Sending → List Happening → List ℕ
 bytes_sent before [] = []
 bytes_sent before (happening ∷ later) = sent_by before happening ++ bytes_sent (sending_after before happening) later
 
--- the reset control register of a board with a serial port follows the events alone, so this is the same after each
--- history with what the board was asked
+-- the reset control register of the board follows the events alone: the steps that the port adds leave it
 abbrev pub ControlFollows : Type 0
 ControlFollows =
     (history after : List Entry) (actor : ℕ) (event : Event) (com1 : Com1) →
-    GoesOn history (asked actor (is_hard_reset history event) event com1) after →
+    GoesOn history (board_steps actor (is_hard_reset history event) event com1) after →
     reset_control after ≡ control_after (reset_control history) (control_written event)

@@ -9,8 +9,8 @@ use Rattle.uart_16550.specs.declared.modem.ModemChanges.{ModemChanges}
 use Rattle.uart_16550.specs.Names.{erbfi, etbei, elsi, edssi, dlab, dtr, rts, out1, out2, loop_enable}
 
 -- the registers that keep what is written; whether the FIFOs are on; the bytes received, the next to be read first;
--- whether a byte was lost since LSR was read; whether THR became empty and IIR did not tell it since; and what the
--- lines of the modem did since MSR was read
+-- whether a byte was lost since LSR was read; whether THR became empty and IIR was not read with that cause since; and
+-- what the lines of the modem did since MSR was read
 pub record Uart : Type 0 where
   pub ier : ℕ
   pub lcr : ℕ
@@ -76,12 +76,12 @@ lines_of mcr =
 abbrev pub is_any_change : ModemChanges → Bool
 is_any_change changes = changes.dcts || changes.ddsr || changes.teri || changes.ddcd
 
--- what each interrupt tells
-abbrev pub is_told : Uart → Interrupt → Bool
-is_told uart LineStatus = uart.overrun
-is_told uart DataAvailable = not (length uart.queue == 0)
-is_told uart TransmitterEmpty = uart.emptied
-is_told uart ModemStatus = is_any_change uart.changes
+-- what each interrupt is for
+abbrev pub has_condition : Uart → Interrupt → Bool
+has_condition uart LineStatus = uart.overrun
+has_condition uart DataAvailable = not (length uart.queue == 0)
+has_condition uart TransmitterEmpty = uart.emptied
+has_condition uart ModemStatus = is_any_change uart.changes
 
 -- the bit of IER that enables it
 abbrev pub enable_of : Interrupt → ℕ
@@ -91,9 +91,9 @@ enable_of TransmitterEmpty = etbei
 enable_of ModemStatus = edssi
 
 abbrev pub is_raised : Uart → Interrupt → Bool
-is_raised uart interrupt = is_bit uart.ier (enable_of interrupt) && is_told uart interrupt
+is_raised uart interrupt = is_bit uart.ier (enable_of interrupt) && has_condition uart interrupt
 
--- the pending interrupt is the first that is enabled and has something to tell
+-- the pending interrupt is the first that is raised, in the data sheet's order
 abbrev pub pending : Uart → Option Interrupt
 pending uart = find (is_raised uart) (LineStatus ∷ DataAvailable ∷ TransmitterEmpty ∷ ModemStatus ∷ [])
 

@@ -28,7 +28,7 @@ abbrev pub thr_written : Uart → ℕ → Uart
 thr_written uart byte =
     let empty : Uart = record uart { emptied = true } in if is_loopback uart then looped empty byte else empty
 
--- ---- IER, bits 3 to 0. Where ETBEI rises, the empty THR is told again
+-- ---- IER, bits 3 to 0. Where ETBEI rises, the empty THR interrupts again
 
 abbrev pub ier_written : Uart → ℕ → Uart
 ier_written uart byte =

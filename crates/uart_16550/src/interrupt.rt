@@ -1,4 +1,4 @@
-//! The interrupts of a UART (PC16550D data sheet, 8.6 and Table IV).
+//! The interrupts of a UART (PC16550D data sheet, 8.6, "Interrupt Identification Register").
 
 ghost use Rattle.std.specs.Prelude.{◌≡◌, ◌≤◌, ◌<◌};
 ghost use Rattle.uart_16550.specs.Uart.{enable_of};

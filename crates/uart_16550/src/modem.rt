@@ -1,4 +1,4 @@
-//! The lines of the modem: the bits of MSR (PC16550D data sheet, 8.8), and loopback (8.7).
+//! The lines of the modem: the bits of MSR (PC16550D data sheet, 8.9, "Modem Status Register"), and loopback (8.8).
 
 ghost use Rattle.std.specs.Prelude.{◌≡◌, ◌&&◌, not, true, false};
 ghost use Rattle.uart_16550.specs.Uart.{lines_of, no_changes, is_any_change};

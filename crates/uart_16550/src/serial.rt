@@ -9,7 +9,7 @@ ghost use Rattle.board_spec.specs.InRange.{IsInRange, IsBusAccess, is_free_line}
 ghost use Rattle.board_spec.specs.Registers.{is_hard_reset};
 ghost use Rattle.uart_16550.specs.declared.com1.SerialReply.TheVariants.{Board};
 ghost use Rattle.uart_16550.specs.Uart.{has_room, received, is_interrupting};
-ghost use Rattle.uart_16550.specs.Com1.{com1_at_reset, com1_after, com1_irq, com1_actor, is_for_uart, uart_access, uart_reply, asked_event, asked, change_asked};
+ghost use Rattle.uart_16550.specs.Com1.{com1_at_reset, com1_after, com1_irq, com1_actor, is_for_uart, uart_access, uart_reply, board_event, board_steps, change_steps};
 ghost use Rattle.uart_16550.specs.Serial.{IsLeftBy, IsAfter};
 
 use crate::com1::{COM1_IRQ, Com1, SerialReply, is_for_uart};
@@ -68,7 +68,7 @@ impl<B: SteppedBoard> SerialBoard<B> {
         ensures spare { (n : ℕ) → B.has_room self.old.board (n + 1) → B.has_room self.new.board n }
         ensures com1 { self.new.com1 ≡ record self.old.com1 { uart = received self.old.com1.uart byte } }
         ensures history { (history : List Entry) → IsLeftBy B.is_answer B.setup B.is_left_by self.old history
-            → IsAfter B.is_answer B.setup B.is_left_by self.new history (change_asked self.old.com1 self.new.com1) }
+            → IsAfter B.is_answer B.setup B.is_left_by self.new history (change_steps self.old.com1 self.new.com1) }
     {
         let old = self.com1.level();
         self.com1.uart.receive(byte);
@@ -88,12 +88,12 @@ impl<B: SteppedBoard> SerialBoard<B> {
             → result ≡ uart_reply access self.old.com1.uart }
         ensures board { uart_access event.now ≡ None → (reply : Reply) × (result ≡ Board reply)
             × ((history : List Entry) → IsLeftBy B.is_answer B.setup B.is_left_by self.old history
-            → B.is_answer (B.setup self.old.board) history (asked_event self.old.com1 event.now) reply) }
+            → B.is_answer (B.setup self.old.board) history (board_event self.old.com1 event.now) reply) }
         ensures com1 { (history : List Entry) → IsLeftBy B.is_answer B.setup B.is_left_by self.old history
             → self.new.com1 ≡ com1_after (is_hard_reset history event.now) event.now self.old.com1 }
         ensures history { (history : List Entry) → IsLeftBy B.is_answer B.setup B.is_left_by self.old history
             → IsAfter B.is_answer B.setup B.is_left_by self.new history
-            (asked actor (is_hard_reset history event.now) event.now self.old.com1) }
+            (board_steps actor (is_hard_reset history event.now) event.now self.old.com1) }
     {
         match event {
             Event::Port(access) => {
@@ -117,7 +117,7 @@ impl<B: SteppedBoard> SerialBoard<B> {
         ensures reply { result ≡ uart_reply access.now self.old.com1.uart }
         ensures com1 { self.new.com1 ≡ com1_after false (Port access.now) self.old.com1 }
         ensures history { (history : List Entry) → IsLeftBy B.is_answer B.setup B.is_left_by self.old history
-            → IsAfter B.is_answer B.setup B.is_left_by self.new history (change_asked self.old.com1 self.new.com1) }
+            → IsAfter B.is_answer B.setup B.is_left_by self.new history (change_steps self.old.com1 self.new.com1) }
     {
         let old = self.com1.level();
         let reply = self.com1.access(access);
@@ -139,7 +139,7 @@ impl<B: SteppedBoard> SerialBoard<B> {
             → self.new.com1 ≡ com1_after (is_hard_reset history (Port access.now)) (Port access.now) self.old.com1 }
         ensures history { (history : List Entry) → IsLeftBy B.is_answer B.setup B.is_left_by self.old history
             → IsAfter B.is_answer B.setup B.is_left_by self.new history
-            (record { actor = actor; event = Port access.now } ∷ change_asked self.old.com1 self.new.com1) }
+            (record { actor = actor; event = Port access.now } ∷ change_steps self.old.com1 self.new.com1) }
     {
         let resets = self.board.resets_hard(access);
         let old = self.com1.level();
@@ -159,10 +159,10 @@ impl<B: SteppedBoard> SerialBoard<B> {
         ensures setup { B.setup self.new.board ≡ B.setup self.old.board }
         ensures spare { (n : ℕ) → B.has_room self.old.board (n + 1) → B.has_room self.new.board n }
         ensures answer { (history : List Entry) → IsLeftBy B.is_answer B.setup B.is_left_by self.old history
-            → B.is_answer (B.setup self.old.board) history (asked_event self.old.com1 (Line irq on)) result }
+            → B.is_answer (B.setup self.old.board) history (board_event self.old.com1 (Line irq on)) result }
         ensures com1 { self.new.com1 ≡ com1_after false (Line irq on) self.old.com1 }
         ensures history { (history : List Entry) → IsLeftBy B.is_answer B.setup B.is_left_by self.old history
-            → IsAfter B.is_answer B.setup B.is_left_by self.new history (asked actor false (Line irq on) self.old.com1) }
+            → IsAfter B.is_answer B.setup B.is_left_by self.new history (board_steps actor false (Line irq on) self.old.com1) }
     {
         if irq == COM1_IRQ {
             self.com1.script_level = on;

@@ -11,11 +11,10 @@ ghost use Rattle.board_spec.specs.Legal.{next_entry};
 ghost use Rattle.board_spec.specs.Registers.{is_hard_reset};
 ghost use Rattle.uart_16550.specs.Resets.{is_reset};
 
-use addr_decode::MapChange;
 use board_base::PortAccess;
 use board_chipset::Chipset;
 use board_core::Board;
-use board_spec::{Event, Reply};
+use board_spec::{Event, MapChange, Reply};
 
 /// A board that does events, each in one step.
 pub trait SteppedBoard {

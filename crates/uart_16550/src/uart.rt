@@ -1,7 +1,7 @@
 //! The chip.
 
 ghost use Rattle.std.specs.Prelude.{◌≡◌, ◌<◌, true, false, [], ◌++◌, not, ◌==◌, length};
-ghost use Rattle.uart_16550.specs.Uart.{uart_at_reset, no_changes, is_dlab, is_loopback, is_full, has_room, received, is_told, is_raised, pending, is_interrupting};
+ghost use Rattle.uart_16550.specs.Uart.{uart_at_reset, no_changes, is_dlab, is_loopback, is_full, has_room, received, has_condition, is_raised, pending, is_interrupting};
 ghost use Rattle.uart_16550.specs.Calls.{bytes_taken, keeps_queue};
 ghost use Rattle.uart_16550.specs.Reads.{iir_of, lsr_of, msr_of, after_identity, value_of, after_value, byte_read, after_read};
 ghost use Rattle.uart_16550.specs.Writes.{looped, thr_written, ier_written, is_emptying, fcr_written, mcr_written, with_value, after_write, byte_sent};
@@ -123,9 +123,9 @@ impl Uart {
         self.queue.push(byte);
     }
 
-    /// Whether there is something that this interrupt would tell.
-    fn is_told(&self, interrupt: Interrupt) -> bool
-        ensures told { result ≡ is_told self.now interrupt }
+    /// Whether there is what this interrupt is for.
+    fn has_condition(&self, interrupt: Interrupt) -> bool
+        ensures condition { result ≡ has_condition self.now interrupt }
     {
         match interrupt {
             Interrupt::LineStatus => self.overrun,
@@ -135,11 +135,11 @@ impl Uart {
         }
     }
 
-    /// Whether this interrupt is enabled and has something to tell.
+    /// Whether there is what this interrupt is for, and IER enables it.
     fn is_raised(&self, interrupt: Interrupt) -> bool
         ensures raised { result ≡ is_raised self.now interrupt }
     {
-        is_set(self.ier.into(), interrupt.enable_bit()) && self.is_told(interrupt)
+        is_set(self.ier.into(), interrupt.enable_bit()) && self.has_condition(interrupt)
     }
 
     /// The interrupt that is raised; of several the first of this order.
@@ -169,7 +169,7 @@ impl Uart {
     }
 
     /// Reads the register at an offset, 0 to 7. RBR gives the front of the queue and takes it, and 0 where there is
-    /// none; IIR clears the empty transmitter that it tells, LSR the overrun, and MSR the changes of the lines.
+    /// none; IIR clears the empty THR where it gives that cause, LSR the overrun, and MSR the changes of the lines.
     pub fn port_read(&mut self, off: u8) -> u8
         requires off { off < 8 }
         ensures value { result ≡ byte_read self.old off }
