@@ -9,3 +9,4 @@ pub mod Causes
 pub mod OneStatus
 pub mod Exact
 pub mod WordLaws
+pub mod Opened

@@ -1,0 +1,16 @@
+-- A board that was opened has a disk of whole sectors, or none.
+use Rattle.std.proofs.Common.{◌≡◌, ℕ, Option, List, refl}
+use Rattle.std.specs.Prelude.{◌↔◌, Result, Ok, Err, OnOk}
+use Rattle.board_spec.specs.Setup.{IsDisk}
+use Rattle.board_chipset.specs.declared.setup.BoardOpen.{BoardOpen}
+use Rattle.board_chipset.specs.declared.setup.BoardOpen.TheVariants.{BadDisk}
+use Rattle.board_chipset.proofs.Openings.{disk_opened}
+
+pub opened_disk :
+    {T : Type 0} (result : Result T BoardOpen) (Fits : Type 0) (disk : Option (List ℕ)) → Fits →
+    (result ≡ Err BadDisk) ↔ (Fits × ¬ IsDisk disk) → OnOk result (IsDisk disk)
+opened_disk (Ok board) Fits disk fits bad =
+    disk_opened disk disk (Ok board) board
+    ((λ no. absurd (cc)), (λ none. let no : Ok board ≡ Err BadDisk = bad.1 (fits, none) in absurd (cc)))
+    refl refl
+opened_disk (Err fault) Fits disk fits bad = tt
