@@ -53,7 +53,8 @@ module _ (setup : Setup) (bytes : Bytes) (addr : ℕ) where
   same_kind Read x same = ap (λ (areas : List Area). slice_index_or areas 1 Abort) same
   same_kind Write x same = ap (λ (areas : List Area). slice_index_or areas 2 Abort) same
 
-  before_end : (found : Option ℕ) → IfSome found (IsNextEdge setup bytes addr) → (x : ℕ) → x < unwrap_or found 0xFFFF_FFFF →
+  before_end : (found : Option ℕ) → IfSome found (IsNextEdge setup bytes addr) → (x : ℕ) →
+      x < unwrap_or found 0xFFFF_FFFF →
       (x < unwrap_or found address_count) × (x < address_count)
   before_end None next x below = (omega arith, omega arith)
   before_end (Some edge) next x below = (below, omega (arith, next.is_edge.address))
@@ -64,7 +65,8 @@ module _ (setup : Setup) (bytes : Bytes) (addr : ℕ) where
       is_smram_range addr ≡ false → addr < address_count → (i : ℕ) →
       i < max ((unwrap_or found 0xFFFF_FFFF - addr) / 2) 1 →
       master_area setup bytes (address_after addr (2 * i)) kind ≡ master_area setup bytes addr kind
-  in_area kind found next none same outside fits zero below = ap (λ (at : ℕ). master_area setup bytes at kind) (omega arith)
+  in_area kind found next none same outside fits zero below =
+      ap (λ (at : ℕ). master_area setup bytes at kind) (omega arith)
   in_area kind found next none same outside fits (suc i) below =
       let x : ℕ = addr + 2 * suc i in
       let bounds : (x < unwrap_or found address_count) × (x < address_count) = before_end found next x (omega arith) in

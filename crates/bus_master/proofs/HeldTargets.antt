@@ -77,16 +77,20 @@ wide_same f g from Four same =
       same (from + 3) (omega arith) (omega arith),
     ) refl
 
-value_same : (setup : Setup) (rom : List ℕ) (contents : List (List ℕ)) (cells other : Cells) (target : Target) (addr : ℕ)
+value_same : (setup : Setup) (rom : List ℕ) (contents : List (List ℕ)) (cells other : Cells) (target : Target)
+    (addr : ℕ)
     (width : Width) →
     ((cell : Cell) → IsCell cell → cells cell ≡ other cell) → IsHeld rom contents target width →
     value_in setup cells target addr width ≡ value_in setup other target addr width
 value_same setup rom contents cells other (Dram row) addr width same held =
-    wide_same (λ at. cells (DramCell at)) (λ at. other (DramCell at)) addr width (λ at from below. same (DramCell at) tt)
+    wide_same (λ at. cells (DramCell at)) (λ at. other (DramCell at)) addr width
+    (λ at from below. same (DramCell at) tt)
 value_same setup rom contents cells other (Shadow row) addr width same held =
-    wide_same (λ at. cells (DramCell at)) (λ at. other (DramCell at)) addr width (λ at from below. same (DramCell at) tt)
+    wide_same (λ at. cells (DramCell at)) (λ at. other (DramCell at)) addr width
+    (λ at from below. same (DramCell at) tt)
 value_same setup rom contents cells other Smram addr width same held =
-    wide_same (λ at. cells (DramCell at)) (λ at. other (DramCell at)) addr width (λ at from below. same (DramCell at) tt)
+    wide_same (λ at. cells (DramCell at)) (λ at. other (DramCell at)) addr width
+    (λ at from below. same (DramCell at) tt)
 value_same setup rom contents cells other (Rom off) addr width same held = refl
 value_same setup rom contents cells other (Card dev base off) addr width same held =
     wide_same (λ at. cells (CardCell dev base at)) (λ at. other (CardCell dev base at)) off width
@@ -100,10 +104,12 @@ pub master_value_same : {setup : Setup} {bytes : Bytes} {store : Store} → IsSt
     ((cell : Cell) → IsCell cell → cells cell ≡ other cell) →
     master_value setup bytes cells addr width ≡ master_value setup bytes other addr width
 master_value_same {setup} {bytes} {store} is cells other addr width aligned same =
-    value_same setup store.rom.items store.contents cells other (master_target setup bytes Kind.Read addr) addr width same
+    value_same setup store.rom.items store.contents cells other
+    (master_target setup bytes Kind.Read addr) addr width same
     (held is addr Kind.Read width aligned)
 
-pub held_at : {store : Store} {area : Area} {addr : ℕ} {kind : Kind} (reached : IsReached store area addr kind) (width : Width) →
+pub held_at : {store : Store} {area : Area} {addr : ℕ} {kind : Kind} (reached : IsReached store area addr kind)
+    (width : Width) →
     addr % bytes_of width ≡ 0 → (target : Target) → target ≡ target_at reached.setup area addr →
     IsHeld store.rom.items store.contents target width
 held_at {store} {area} {addr} {kind} reached width aligned target is =

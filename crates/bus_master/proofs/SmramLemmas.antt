@@ -112,18 +112,21 @@ apart_put setup (CardArea dev base) addr value s apart = card_put dev base _ add
 apart_put setup AbortArea addr value s apart = refl
 
 -- an even address outside lies wholly outside
-apart : (addr s : ℕ) → addr % 2 ≡ 0 → is_smram_range addr ≡ false → is_smram_range s ≡ true → (s < addr) ⊎ (addr + 2 ≤ s)
+apart : (addr s : ℕ) → addr % 2 ≡ 0 → is_smram_range addr ≡ false → is_smram_range s ≡ true →
+    (s < addr) ⊎ (addr + 2 ≤ s)
 apart addr s evens outside inside = elim (cases_lt s addr) [
   | inl below ↦ inl below
   | inr from ↦ inr (grind (arith, nat_tests))
 ]
 
-write_keeps : (setup : Setup) (bytes : Bytes) (addr value s : ℕ) (cells : Cells) → addr % 2 ≡ 0 → is_smram_range s ≡ true →
+write_keeps : (setup : Setup) (bytes : Bytes) (addr value s : ℕ) (cells : Cells) → addr % 2 ≡ 0 → is_smram_range s
+    ≡ true →
     put_in setup (master_target setup bytes Write addr) addr Two value cells (DramCell s) ≡ cells (DramCell s)
 write_keeps setup bytes addr value s cells evens inside =
     none_put setup (master_target setup bytes Write addr) addr value s cells
     (elim (cases_Bool (is_smram_range addr)) [
-      | inl here ↦ off_put setup (master_area setup bytes addr Write) addr value s (off_dram setup bytes addr Write here)
+      | inl here ↦ off_put setup (master_area setup bytes addr Write) addr value s
+          (off_dram setup bytes addr Write here)
       | inr there ↦ apart_put setup (master_area setup bytes addr Write) addr value s (apart addr s evens there inside)
     ])
 
@@ -153,7 +156,8 @@ module _ (setup : Setup) (cells other : Cells) (alike : AreAlike cells other) wh
       (λ at from below. alike (CardCell dev base at) refl)
 
   off_alike : (area : Area) (addr : ℕ) (width : Width) → IsOffDram area →
-      value_in setup cells (target_at setup area addr) addr width ≡ value_in setup other (target_at setup area addr) addr width
+      value_in setup cells (target_at setup area addr) addr width
+      ≡ value_in setup other (target_at setup area addr) addr width
   off_alike (DramArea row) addr width off = absurd off
   off_alike (ShadowArea row) addr width off = absurd off
   off_alike SmramArea addr width off = absurd off
@@ -162,7 +166,8 @@ module _ (setup : Setup) (cells other : Cells) (alike : AreAlike cells other) wh
   off_alike AbortArea addr width off = refl
 
   out_alike : (area : Area) (addr : ℕ) (width : Width) → addr % bytes_of width ≡ 0 → is_smram_range addr ≡ false →
-      value_in setup cells (target_at setup area addr) addr width ≡ value_in setup other (target_at setup area addr) addr width
+      value_in setup cells (target_at setup area addr) addr width
+      ≡ value_in setup other (target_at setup area addr) addr width
   out_alike (DramArea row) addr width aligned out = dram_alike addr width aligned out
   out_alike (ShadowArea row) addr width aligned out = dram_alike addr width aligned out
   out_alike SmramArea addr width aligned out = dram_alike addr width aligned out
@@ -238,7 +243,8 @@ module _ (setup : Setup) (bytes : Bytes) (lba : ℕ) (start : Cells) where
   and_then_respects first step is_first is_step moving cells keeps alike =
       let one : Follows (first moving) (first (with_cells cells moving)) = is_first moving cells keeps alike in
       by_step (λ m. m and_then step)
-      (λ m others keeps' alike'. either (is_some m.end) (stays_as m others keeps' alike') (is_step m others keeps' alike'))
+      (λ m others keeps' alike'. either (is_some m.end) (stays_as m others keeps' alike')
+      (is_step m others keeps' alike'))
       (first moving) (first (with_cells cells moving)) one
 
   table_respects : Respects table_tested
@@ -251,7 +257,8 @@ module _ (setup : Setup) (bytes : Bytes) (lba : ℕ) (start : Cells) where
   unfolding sector_tested
   sector_respects moving cells keeps alike =
       either (next_word moving.place == 0 && not (is_readable moving.medium (next_sector lba moving.place)))
-      (ends_as (Some (Sector (next_sector lba moving.place))) moving cells keeps alike) (stays_as moving cells keeps alike)
+      (ends_as (Some (Sector (next_sector lba moving.place))) moving cells keeps alike)
+      (stays_as moving cells keeps alike)
 
   answered_respects : (kind : Kind) (addr : ℕ) → Respects (answered setup bytes kind addr)
   unfolding answered
@@ -287,7 +294,8 @@ module _ (setup : Setup) (bytes : Bytes) (lba : ℕ) (start : Cells) where
   found_respects : Respects (region_found setup bytes)
   unfolding region_found
   found_respects moving cells keeps alike =
-      either (is_used_up moving.place) (descriptor_respects moving cells keeps alike) (stays_as moving cells keeps alike)
+      either (is_used_up moving.place) (descriptor_respects moving cells keeps alike)
+      (stays_as moving cells keeps alike)
 
   word_respects : (direction : Direction) → Respects (word_moved setup bytes direction lba)
   unfolding word_moved
@@ -298,10 +306,12 @@ module _ (setup : Setup) (bytes : Bytes) (lba : ℕ) (start : Cells) where
           evens = even_after moving.place.addr keeps.evens;
           fours = keeps.fours;
           kept = λ addr inside.
-              write_keeps setup bytes moving.place.addr word addr moving.cells keeps.evens inside ∙ keeps.kept addr inside;
+              write_keeps setup bytes moving.place.addr word addr moving.cells keeps.evens inside
+              ∙ keeps.kept addr inside;
         };
         alike =
-            put_alike setup moving.cells cells alike (master_target setup bytes Write moving.place.addr) moving.place.addr word;
+            put_alike setup moving.cells cells alike
+            (master_target setup bytes Write moving.place.addr) moving.place.addr word;
         same = refl;
       }
   word_respects ToDisk moving cells keeps alike =
@@ -342,13 +352,19 @@ pub record IsHidden (moving other : Moving) (start : Cells) : Type 0 where
   pub kept : (addr : ℕ) → is_smram_range addr ≡ true → moving.cells (DramCell addr) ≡ start (DramCell addr)
   pub same : other ≡ with_cells other.cells moving
 
-pub hides_smram : (setup : Setup) (bytes : Bytes) (master : Master) (lba count : ℕ) (cells other : Cells) (medium : Medium) →
+pub hides_smram : (setup : Setup) (bytes : Bytes) (master : Master) (lba count : ℕ) (cells other : Cells)
+    (medium : Medium) →
     master.table % 4 ≡ 0 → AreAlike cells other →
-    IsHidden (transferred setup bytes master lba count cells medium) (transferred setup bytes master lba count other medium) cells
+    IsHidden (transferred setup bytes master lba count cells medium)
+    (transferred setup bytes master lba count other medium) cells
 unfolding transferred
 hides_smram setup bytes master lba count cells other medium fours alike =
     let is =
     words_follow setup bytes lba cells (direction_of master) (256 * count) (begun cells medium master.table)
     (begun other medium master.table)
-    (record { keeps = record { evens = refl; fours = fours; kept = λ addr inside. refl }; alike = alike; same = refl }) in
+    (record {
+      keeps = record { evens = refl; fours = fours; kept = λ addr inside. refl };
+      alike = alike;
+      same = refl;
+    }) in
     record { kept = is.keeps.kept; same = is.same }

@@ -38,15 +38,18 @@ module _ {store : Store} {place : Place} where
   stands_skipped {moving} {end} step is =
       subst (λ (m : Moving). StandsAt m store place (Some end)) (sym (skipped moving step end is.ends)) is
 
-pub stands_taken : {store new : Store} {place after : Place} {end : Option End} {moving : Moving} (step : Moving → Moving) →
-    StandsAt moving store place None → StandsAt (step moving) new after end → StandsAt (moving and_then step) new after end
+pub stands_taken : {store new : Store} {place after : Place} {end : Option End} {moving : Moving}
+    (step : Moving → Moving) →
+    StandsAt moving store place None → StandsAt (step moving) new after end →
+    StandsAt (moving and_then step) new after end
 stands_taken {store} {new} {place} {after} {end} {moving} step is next =
     subst (λ (m : Moving). StandsAt m new after end) (sym (taken moving step is.ends)) next
 
 module _ {store : Store} {place : Place} {moving : Moving} (is : StandsAt moving store place None) where
   -- ---- the table and the sector
 
-  pub table_over : (is_used_up place && place.is_last) ≡ true → StandsAt (table_tested moving) store place (Some Shorter)
+  pub table_over : (is_used_up place && place.is_last) ≡ true →
+      StandsAt (table_tested moving) store place (Some Shorter)
   unfolding table_tested
   table_over over =
       rw (sym (ap (λ (p : Place). is_used_up p && p.is_last) is.come) ∙ over)
@@ -66,20 +69,27 @@ module _ {store : Store} {place : Place} {moving : Moving} (is : StandsAt moving
       StandsAt (sector_tested lba moving) store place (if missing then Some (Sector (next_sector lba place)) else None)
   unfolding sector_tested
   sector_by lba true test =
-      rw (tested lba ∙ sym test) (record { cells = is.cells; medium = is.medium; come = is.come; ends = rw is.come refl })
+      rw (tested lba ∙ sym test) (record {
+        cells = is.cells;
+        medium = is.medium;
+        come = is.come;
+        ends = rw is.come refl;
+      })
   sector_by lba false test = rw (tested lba ∙ sym test) is
 
   pub sector_within : (lba : ℕ) → place.moved % 2 ≡ 0 → place.moved % 512 ≢ 0 →
       StandsAt (sector_tested lba moving) store place None
   sector_within lba whole within =
-      let inside : (next_word place == 0) ≡ false = ne_eqb (next_word place) 0 (λ (e : next_word place ≡ 0). within (omega (arith, e))) in
+      let inside : (next_word place == 0) ≡ false =
+      ne_eqb (next_word place) 0 (λ (e : next_word place ≡ 0). within (omega (arith, e))) in
       sector_by lba false (rw inside refl)
 
   pub sector_readable : (lba : ℕ) → is_readable (medium_of store.disk) (next_sector lba place) ≡ true →
       StandsAt (sector_tested lba moving) store place None
   sector_readable lba readable = sector_by lba false (rw readable (sym (and_right _ _ refl)))
 
-  pub sector_missing : (lba : ℕ) → place.moved % 512 ≡ 0 → is_readable (medium_of store.disk) (next_sector lba place) ≡ false →
+  pub sector_missing : (lba : ℕ) → place.moved % 512 ≡ 0 → is_readable (medium_of store.disk) (next_sector lba place)
+      ≡ false →
       StandsAt (sector_tested lba moving) store place (Some (Sector (next_sector lba place)))
   sector_missing lba first missing = sector_by lba true (rw (first, missing) refl)
 
@@ -113,14 +123,16 @@ module _ {store : Store} {place : Place} {moving : Moving} (is : StandsAt moving
       }
 
 module _ {store : Store} {place : Place} {moving : Moving} (is : StandsAt moving store place None) where
-  pub region_in_use : (setup : Setup) (bytes : Bytes) → place.left ≢ 0 → StandsAt (region_found setup bytes moving) store place None
+  pub region_in_use : (setup : Setup) (bytes : Bytes) → place.left ≢ 0 →
+      StandsAt (region_found setup bytes moving) store place None
   unfolding region_found
   region_in_use setup bytes left =
       let used : is_used_up moving.place ≡ false = sym (ap is_used_up is.come) ∙ ne_eqb place.left 0 left in
       rw used is
 
   pub region_read : (setup : Setup) (bytes : Bytes) (after : Place) (end : Option End) → place.left ≡ 0 →
-      StandsAt (descriptor_read setup bytes moving) store after end → StandsAt (region_found setup bytes moving) store after end
+      StandsAt (descriptor_read setup bytes moving) store after end →
+      StandsAt (region_found setup bytes moving) store after end
   unfolding region_found
   region_read setup bytes after end left next =
       let used : is_used_up moving.place ≡ true = sym (ap is_used_up is.come) ∙ rw left refl in
@@ -128,20 +140,23 @@ module _ {store : Store} {place : Place} {moving : Moving} (is : StandsAt moving
 
 -- ---- the two halves of a descriptor
 
-module _ {store : Store} {place : Place} {moving : Moving} (is : StandsAt moving store place None) (setup : Setup) (bytes : Bytes) where
+module _ {store : Store} {place : Place} {moving : Moving} (is : StandsAt moving store place None) (setup : Setup)
+    (bytes : Bytes) where
   abbrev abort_at : (addr : ℕ) → Option End
   abort_at addr = abort_in (master_area setup bytes addr Kind.Read) addr (master_denial setup bytes addr Kind.Read)
 
   first_half : (end : Option End) → end ≡ abort_at place.table →
       StandsAt (answered setup bytes Kind.Read moving.place.table moving) store place end
   first_half end ends =
-      answered_stands is setup bytes Kind.Read moving.place.table end (ends ∙ ap (λ (p : Place). abort_at p.table) is.come)
+      answered_stands is setup bytes Kind.Read moving.place.table end
+      (ends ∙ ap (λ (p : Place). abort_at p.table) is.come)
 
   pub descriptor_fails_first : (end : End) → Some end ≡ abort_at place.table →
       StandsAt (descriptor_read setup bytes moving) store place (Some end)
   descriptor_fails_first end ends =
       stands_skipped (region_taken setup bytes)
-      (stands_skipped (answered setup bytes Kind.Read (address_after moving.place.table 4)) (first_half (Some end) ends))
+      (stands_skipped (answered setup bytes Kind.Read (address_after moving.place.table 4))
+      (first_half (Some end) ends))
 
   second_half : (end : Option End) → None ≡ abort_at place.table → end ≡ abort_at (address_after place.table 4) →
       StandsAt
@@ -152,7 +167,8 @@ module _ {store : Store} {place : Place} {moving : Moving} (is : StandsAt moving
       (answered_stands (first_half None first) setup bytes Kind.Read (address_after moving.place.table 4) end
       (ends ∙ ap (λ (p : Place). abort_at (address_after p.table 4)) is.come))
 
-  pub descriptor_fails_second : (end : End) → None ≡ abort_at place.table → Some end ≡ abort_at (address_after place.table 4) →
+  pub descriptor_fails_second : (end : End) → None ≡ abort_at place.table → Some end
+      ≡ abort_at (address_after place.table 4) →
       StandsAt (descriptor_read setup bytes moving) store place (Some end)
   descriptor_fails_second end first ends = stands_skipped (region_taken setup bytes) (second_half (Some end) first ends)
 
@@ -164,12 +180,15 @@ module _ {store : Store} {place : Place} {moving : Moving} (is : StandsAt moving
       StandsAt (descriptor_read setup bytes moving) store after None
   descriptor_stands after base count of aligned is_after first second is_base is_count =
       let both = second_half None first second in
-      stands_taken (region_taken setup bytes) both (region_stands both after base count of aligned is_after is_base is_count)
+      stands_taken (region_taken setup bytes) both
+      (region_stands both after base count of aligned is_after is_base is_count)
 
 -- ---- the three tests one after another
 
-module _ {store : Store} {place : Place} {moving : Moving} (is : StandsAt moving store place None) (setup : Setup) (bytes : Bytes) (lba : ℕ) where
-  pub ready_over : (is_used_up place && place.is_last) ≡ true → StandsAt (ready_for setup bytes lba moving) store place (Some Shorter)
+module _ {store : Store} {place : Place} {moving : Moving} (is : StandsAt moving store place None) (setup : Setup)
+    (bytes : Bytes) (lba : ℕ) where
+  pub ready_over : (is_used_up place && place.is_last) ≡ true →
+      StandsAt (ready_for setup bytes lba moving) store place (Some Shorter)
   unfolding ready_for
   ready_over over =
       stands_skipped (region_found setup bytes)
@@ -180,7 +199,8 @@ module _ {store : Store} {place : Place} {moving : Moving} (is : StandsAt moving
     goes_on = stands_taken table_tested is (table_goes_on is over)
 
     pub ready_misses : (end : End) →
-        ((tested : Moving) → StandsAt tested store place None → StandsAt (sector_tested lba tested) store place (Some end)) →
+        ((tested : Moving) → StandsAt tested store place None →
+        StandsAt (sector_tested lba tested) store place (Some end)) →
         StandsAt (ready_for setup bytes lba moving) store place (Some end)
     unfolding ready_for
     ready_misses end misses =
@@ -190,7 +210,8 @@ module _ {store : Store} {place : Place} {moving : Moving} (is : StandsAt moving
     pub ready_at_region :
         ((tested : Moving) → StandsAt tested store place None → StandsAt (sector_tested lba tested) store place None) →
         (after : Place) (end : Option End) →
-        ((tested : Moving) → StandsAt tested store place None → StandsAt (region_found setup bytes tested) store after end) →
+        ((tested : Moving) → StandsAt tested store place None →
+        StandsAt (region_found setup bytes tested) store after end) →
         StandsAt (ready_for setup bytes lba moving) store after end
     unfolding ready_for
     ready_at_region there after end region =

@@ -41,7 +41,8 @@ alike : {store other : Store} → DiffersInSmramAlone store other → AreAlike (
 alike differs (DramCell addr) outside = sym (differs.dram addr outside)
 alike differs (CardCell dev base off) outside = rw (sym differs.contents) refl
 
-module _ (setup : Setup) (bytes : Bytes) (master : Master) (lba count : ℕ) (store : Store) (aligned : master.table % 4 ≡ 0) where
+module _ (setup : Setup) (bytes : Bytes) (master : Master) (lba count : ℕ) (store : Store)
+    (aligned : master.table % 4 ≡ 0) where
   pub smram_kept : (addr : ℕ) → is_smram_range addr ≡ true →
       (transfer_of setup bytes master lba count store).cells (DramCell addr) ≡ dram_at store.dram addr
   smram_kept =

@@ -40,7 +40,8 @@ same_store {setup} {bytes} {old} {new} of same = record {
   rom = rw same.rom of.rom;
 }
 
-medium_twice : (disk : Option Disk) (one other : Medium) → with_medium (with_medium disk one) other ≡ with_medium disk other
+medium_twice : (disk : Option Disk) (one other : Medium) → with_medium (with_medium disk one) other
+    ≡ with_medium disk other
 medium_twice None one other = refl
 medium_twice (Some disk) one other = refl
 
@@ -50,7 +51,12 @@ own_medium (Some disk) = refl
 
 pub same_shape : (store : Store) → HasSameShape store store
 same_shape store = record {
-  regs = refl; rom = refl; memory = refl; contents = λ dev base. refl; drive = own_medium store.disk; sectors = refl;
+  regs = refl;
+  rom = refl;
+  memory = refl;
+  contents = λ dev base. refl;
+  drive = own_medium store.disk;
+  sectors = refl;
 }
 
 pub shape_after : {old now new : Store} → HasSameShape old now → HasSameShape now new → HasSameShape old new
@@ -72,7 +78,8 @@ moving_is : {store : Store} {place : Place} {moving : Moving} → StandsAt movin
     record { cells = moving.cells; medium = medium_of store.disk; place = place; end = None } ≡ moving
 moving_is is = rw (is.medium, is.come, is.ends) refl
 
-module _ {setup : Setup} {bytes : Bytes} {store : Store} (of : IsStoreOf setup bytes store) {place : Place} {moving : Moving}
+module _ {setup : Setup} {bytes : Bytes} {store : Store} (of : IsStoreOf setup bytes store) {place : Place}
+    {moving : Moving}
     (is : StandsAt moving store place None) (lba : ℕ) (new : Store) where
   put_same : (target : Target) (value : ℕ) (cell : Cell) → IsCell cell →
       put_in setup target place.addr Width.Two value (cells_of store) cell
@@ -172,21 +179,25 @@ module _ (setup : Setup) (bytes : Bytes) (direction : Direction) (lba : ℕ) whe
 
   module _ {most : ℕ} {store : Store} {old new : Place} (words : ℕ) (moving : Moving) where
     -- the words so far and then some more
-    pub came_further : CameOn setup bytes direction lba most (words_moved setup bytes direction lba words moving) store old new None →
+    pub came_further : CameOn setup bytes direction lba most
+        (words_moved setup bytes direction lba words moving) store old new None →
         old.moved ≡ 2 * words → StandsAt (words_moved setup bytes direction lba (new.moved / 2) moving) store new None
     came_further on count =
         let total : new.moved / 2 ≡ on.words + words = omega (arith, on.moved refl, count) in
         subst (λ (m : Moving). StandsAt m store new None)
-        (sym (ap (λ n. words_moved setup bytes direction lba n moving) total ∙ words_add on.words words moving)) on.stands
+        (sym (ap (λ n. words_moved setup bytes direction lba n moving) total
+        ∙ words_add on.words words moving)) on.stands
 
     -- or an end, after which no more words are moved
     pub came_to_end : (total : ℕ) (end : End) →
-        CameOn setup bytes direction lba most (words_moved setup bytes direction lba words moving) store old new (Some end) →
+        CameOn setup bytes direction lba most (words_moved setup bytes direction lba words moving) store old new
+        (Some end) →
         words + most ≤ total → StandsAt (words_moved setup bytes direction lba total moving) store new (Some end)
     came_to_end total end on few =
         let count : total ≡ total - (on.words + words) + (on.words + words) = omega (arith, on.few, few) in
         let here : Moving = words_moved setup bytes direction lba (on.words + words) moving in
-        let is_here : here ≡ words_moved setup bytes direction lba on.words (words_moved setup bytes direction lba words moving) =
+        let is_here : here ≡ words_moved setup bytes direction lba on.words
+        (words_moved setup bytes direction lba words moving) =
         words_add on.words words moving in
         let ended : Some end ≡ here.end = on.stands.ends ∙ ap (λ (m : Moving). m.end) (sym is_here) in
         let all : words_moved setup bytes direction lba total moving ≡ here =
@@ -217,7 +228,8 @@ module _ (setup : Setup) (bytes : Bytes) (direction : Direction) (lba : ℕ) whe
         (stands_skipped (λ ready. answered setup bytes (kind_of direction) ready.place.addr ready) is)
 
     module _ (ready : StandsAt (ready_for setup bytes lba moving) store place None) where
-      pub reached_stands : (end : Option End) → end ≡ abort_in (master_area setup bytes place.addr (kind_of direction)) place.addr
+      pub reached_stands : (end : Option End) → end
+          ≡ abort_in (master_area setup bytes place.addr (kind_of direction)) place.addr
           (master_denial setup bytes place.addr (kind_of direction)) →
           StandsAt (reached_by moving) store place end
       unfolding reached_by
@@ -228,13 +240,16 @@ module _ (setup : Setup) (bytes : Bytes) (direction : Direction) (lba : ℕ) whe
           ∙ ap (λ (p : Place). abort_in (master_area setup bytes p.addr (kind_of direction)) p.addr
           (master_denial setup bytes p.addr (kind_of direction))) ready.come))
 
-      pub ends_unanswered : {end : End} → Some end ≡ abort_in (master_area setup bytes place.addr (kind_of direction)) place.addr
+      pub ends_unanswered : {end : End} → Some end
+          ≡ abort_in (master_area setup bytes place.addr (kind_of direction)) place.addr
           (master_denial setup bytes place.addr (kind_of direction)) →
           StandsAt (words_moved setup bytes direction lba 1 moving) store place (Some end)
       unfolding words_moved next_moved reached_by
-      ends_unanswered {end} ends = stands_skipped (word_moved setup bytes direction lba) (reached_stands (Some end) ends)
+      ends_unanswered {end} ends =
+          stands_skipped (word_moved setup bytes direction lba) (reached_stands (Some end) ends)
 
-    pub came_first : {end : Option End} → StandsAt (reached_by moving) store place end → StandsAt (came 0 moving) store place end
+    pub came_first : {end : Option End} → StandsAt (reached_by moving) store place end →
+        StandsAt (came 0 moving) store place end
     unfolding came
     came_first is = is
 
@@ -280,9 +295,11 @@ module _ (setup : Setup) (bytes : Bytes) (direction : Direction) (lba : ℕ) whe
         (master_denial setup bytes place.addr (kind_of direction)) →
         next_moved setup bytes direction lba moving ≡ word_moved setup bytes direction lba moving
     next_in_stretch left whole within answers =
-        subst (λ (m : Moving). next_moved setup bytes direction lba m ≡ word_moved setup bytes direction lba m) (moving_is is)
+        subst (λ (m : Moving). next_moved setup bytes direction lba m ≡ word_moved setup bytes direction lba m)
+        (moving_is is)
         (next_word_is moving.cells (medium_of store.disk) place (ne_eqb place.left 0 left)
-        (ne_eqb (place.moved % 512 / 2) 0 (λ (e : place.moved % 512 / 2 ≡ 0). within (omega (arith, e, whole)))) answers)
+        (ne_eqb (place.moved % 512 / 2) 0
+        (λ (e : place.moved % 512 / 2 ≡ 0). within (omega (arith, e, whole)))) answers)
 
   -- the first word of a stretch, where all before it went well
   first_in_stretch : {store : Store} {place : Place} (moving : Moving) → StandsAt (reached_by moving) store place None →
@@ -329,15 +346,18 @@ answers_in NobodysArea addr other denial denial' is = absurd (cc)
 pub address_on : (addr i : ℕ) → address_after (address_after addr 2) (2 * i) ≡ address_after addr (2 * (i + 1))
 address_on addr i = omega arith
 
-pub same_answers : (area one other : Area) (addr addr' : ℕ) (denial denial' : Option Denial) → area ≡ one → area ≡ other →
+pub same_answers : (area one other : Area) (addr addr' : ℕ) (denial denial' : Option Denial) → area ≡ one → area
+    ≡ other →
     None ≡ abort_in one addr denial → None ≡ abort_in other addr' denial'
 same_answers area one other addr addr' denial denial' is_one is_other answers =
     subst (λ (a : Area). None ≡ abort_in a addr' denial') is_other
-    (answers_in area addr addr' denial denial' (subst (λ (a : Area). None ≡ abort_in a addr denial) (sym is_one) answers))
+    (answers_in area addr addr' denial denial'
+    (subst (λ (a : Area). None ≡ abort_in a addr denial) (sym is_one) answers))
 
 -- ---- a stretch lies within a sector
 
-module _ (moved words done : ℕ) (whole : moved % 2 ≡ 0) (within : moved % 512 / 2 + words ≤ 256) (below : done < words) where
+module _ (moved words done : ℕ) (whole : moved % 2 ≡ 0) (within : moved % 512 / 2 + words ≤ 256)
+    (below : done < words) where
   pub inside_sector : 1 ≤ done → (moved + 2 * done) % 512 ≢ 0
   inside_sector some = λ e. omega (arith, whole, within, below, some, e)
 

@@ -41,7 +41,8 @@ abbrev pub HasSector : (lba : ℕ) → Store → Place → Type 0
 HasSector lba store place = place.moved % 512 ≢ 0 → next_sector lba place < sectors_of (medium_of store.disk)
 
 -- a step moved some words of the definition, at most so many. It tells how many, unless the transfer ended
-pub record CameOn (setup : Setup) (bytes : Bytes) (direction : Direction) (lba most : ℕ) (moving : Moving) (store : Store)
+pub record CameOn (setup : Setup) (bytes : Bytes) (direction : Direction) (lba most : ℕ) (moving : Moving)
+    (store : Store)
     (old new : Place) (end : Option End) : Type 0 where
   pub words : ℕ
   pub some : 1 ≤ words

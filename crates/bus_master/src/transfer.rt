@@ -22,9 +22,9 @@ const SECTOR_WORDS: u32 = 256;
 
 impl BusMaster {
     /// Moves `count` sectors, 1 to 256, from `lba` on, which is below 2^28, between the disk and the regions of the
-    /// table, where start is 1 (82371SB, 2.7). Words go in rising order, and each reaches what a bus master reaches at
-    /// its address. Ends early with Shorter where the table has too few bytes, with Abort where nobody answers, and with
-    /// Sector before the first word of a sector that does not exist or is bad. It takes no memory.
+    /// table, where start is 1 (82371SB, 2.7). Each word goes to what a bus master reaches at its address. Ends early
+    /// with Shorter where the table has too few bytes, with Abort where nobody answers, and with Sector before the first
+    /// word of a sector that does not exist or is bad. It takes no memory.
     pub fn transfer(&mut self, store: &mut Store, lba: u32, count: u32) -> Done
         requires started { is_started self.old ≡ true }
         requires some { 1 ≤ count }
@@ -36,13 +36,15 @@ impl BusMaster {
         ensures registers { (setup : Setup) (bytes : Bytes) → IsStoreOf setup bytes store.old
             → self.new ≡ master_after self.old (transfer_of setup bytes self.old lba count store.old) }
         ensures disk { (setup : Setup) (bytes : Bytes) → IsStoreOf setup bytes store.old
-            → store.new.disk ≡ with_medium store.old.disk (transfer_of setup bytes self.old lba count store.old).medium }
+            → store.new.disk
+            ≡ with_medium store.old.disk (transfer_of setup bytes self.old lba count store.old).medium }
         ensures cells { (setup : Setup) (bytes : Bytes) (cell : Cell) → IsStoreOf setup bytes store.old → IsCell cell
             → cells_of store.new cell ≡ (transfer_of setup bytes self.old lba count store.old).cells cell }
         ensures shape { HasSameShape store.old store.new }
         ensures sound { IsSound store.new }
         // Whatever SMRAM's register says, no byte of it changes.
-        ensures smram { (addr : ℕ) → is_smram_range addr ≡ true → dram_at store.new.dram addr ≡ dram_at store.old.dram addr }
+        ensures smram { (addr : ℕ) → is_smram_range addr ≡ true
+            → dram_at store.new.dram addr ≡ dram_at store.old.dram addr }
         // And nothing of it is told: with other bytes there the transfer does the same.
         ensures hidden { (setup : Setup) (bytes : Bytes) (other : Store) → IsStoreOf setup bytes store.old
             → DiffersInSmramAlone store.old other

@@ -65,9 +65,21 @@ impl Model for UnderWay {
 
     ghost Value = { Place };
 
-    ghost view = { λ w. record { table = w.table; addr = w.addr; left = w.left; is_last = w.is_last; moved = w.moved } };
+    ghost view = { λ w. record {
+      table = w.table;
+      addr = w.addr;
+      left = w.left;
+      is_last = w.is_last;
+      moved = w.moved;
+    } };
 
-    ghost invariant = { λ w. IsPlace (record { table = w.table; addr = w.addr; left = w.left; is_last = w.is_last; moved = w.moved }) };
+    ghost invariant = { λ w. IsPlace (record {
+      table = w.table;
+      addr = w.addr;
+      left = w.left;
+      is_last = w.is_last;
+      moved = w.moved;
+    }) };
 }
 
 /// The area that an access of the bus master reaches. Refused with Abort where nobody answers.
@@ -142,7 +154,11 @@ impl UnderWay {
     fn end(&self) -> End
         ensures end { result ≡ (if is_used_up self.now && self.now.is_last then End.Exact else End.Longer) }
     {
-        if self.is_over() { End::Exact } else { End::Longer }
+        if self.is_over() {
+            End::Exact
+        } else {
+            End::Longer
+        }
     }
 
     /// Moves so many words, at most 65,536, to or from the sectors from one on, and tells how it ended.

@@ -1,6 +1,6 @@
 //! Transfers of the bus master between a disk and the memory of a board of 8 MiB, and what its registers read.
 
-ghost use Rattle.std.specs.Prelude.{◌≡◌, ◌≤◌, ◌<◌, IfOk};
+ghost use Rattle.std.specs.Prelude.{◌≡◌, ◌≤◌, [], ◌∷◌, IfOk};
 ghost use Rattle.board_spec.specs.Setup.{IsCardList, memory_of_cards};
 ghost use Rattle.board_chipset.specs.Stores.{IsSound};
 

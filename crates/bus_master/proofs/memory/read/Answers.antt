@@ -16,5 +16,9 @@ pub returns : goal.returns
 returns c = record {
   value = λ setup bytes of reached.
       c.read_from.ensures.value setup of.rom
-      ∙ rw (c.target_in-target.ensures.target setup of.registers.cards.0 (sym of.rom ∙ sym c.deref.ensures.value), reached) refl;
+      ∙ rw (
+        c.target_in-target.ensures.target setup of.registers.cards.0
+            (sym of.rom ∙ sym c.deref.ensures.value),
+        reached,
+      ) refl;
 }

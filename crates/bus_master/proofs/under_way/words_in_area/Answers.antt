@@ -9,6 +9,8 @@ returns-then-contains-clause-area c = λ setup bytes kind i stands below.
 pub returns-clause-area : goal.returns-clause-area
 returns-clause-area c = λ setup bytes kind i stands below.
     let edge = c.next_edge.ensures in
-    in_area setup bytes c.args.addr kind c.next_edge.result (edge.next setup bytes stands) (edge.last setup bytes stands).0
-    (edge.equal setup bytes stands) (sym c.contains.ensures.inside ∙ c.if-contains.false) (omega (arith, c.ranges.addr.fits)) i
+    in_area setup bytes c.args.addr kind c.next_edge.result (edge.next setup bytes stands)
+    (edge.last setup bytes stands).0
+    (edge.equal setup bytes stands) (sym c.contains.ensures.inside ∙ c.if-contains.false)
+    (omega (arith, c.ranges.addr.fits)) i
     (rw (c.max.ensures, c.unwrap_or-end.ensures) at below)

@@ -57,7 +57,8 @@ returns-clause-smram c = λ addr inside.
 pub returns-clause-hidden : goal.returns-clause-hidden
 returns-clause-hidden c = λ setup bytes other of differs.
     let is = moved c setup bytes of in
-    let hidden = same_transfer setup bytes c.args.self.now c.args.lba c.args.count c.args.store.now (aligned c) differs in
+    let hidden =
+    same_transfer setup bytes c.args.self.now c.args.lba c.args.count c.args.store.now (aligned c) differs in
     let medium = ap (λ (moving : Moving). moving.medium) hidden in (
       done_is is c.moved.ensures.moved ∙ sym (ap done_of hidden),
       disk_is is c.transfer-end.ensures.shape

@@ -13,7 +13,8 @@ returns-in_err-make_ready-clause-moved c = λ setup bytes moving of is.
     let passed : c.from_residual.result ≡ Err c.in_err-make_ready.field-0.0 = search rules in
     rw passed
     (one_word setup bytes c.args.direction c.args.lba moving c.requires.most
-    (ends_before setup bytes c.args.direction c.args.lba moving (c.in_err-make_ready.ensures.ready setup bytes moving of is)))
+    (ends_before setup bytes c.args.direction c.args.lba moving
+    (c.in_err-make_ready.ensures.ready setup bytes moving of is)))
 
 pub answering-requires : goal.answering-requires
 answering-requires c = record { cards = cards_fitted c.requires.sound.2 }
@@ -25,7 +26,8 @@ returns-in_err-area-clause-moved c = λ setup bytes moving of is.
     let ends = rw (c.kind.ensures.kind, addr) at (c.in_err-area.ensures.end setup bytes of.registers) in
     rw passed
     (one_word setup bytes c.args.direction c.args.lba moving c.requires.most
-    (ends_unanswered setup bytes c.args.direction c.args.lba moving (c.in_ok-make_ready.ensures.ready setup bytes moving of is)
+    (ends_unanswered setup bytes c.args.direction c.args.lba moving
+    (c.in_ok-make_ready.ensures.ready setup bytes moving of is)
     ends))
 
 pub stretch-words-requires-clause-cards : goal.stretch-words-requires-clause-cards
@@ -96,18 +98,26 @@ returns-clause-moved c = λ setup bytes moving of is.
       few = omega (arith, all, c.stretch-words.ensures.most);
       stands =
           subst (λ (m : Moving). StandsAt m c.loop.store c.loop.self None)
-          (came_words setup bytes c.args.direction c.args.lba c.loop.counter moving (omega (arith, all, c.stretch-words.ensures.some)))
+          (came_words setup bytes c.args.direction c.args.lba c.loop.counter moving
+          (omega (arith, all, c.stretch-words.ensures.some)))
           (on.stands setup bytes moving of is);
       moved = λ none. omega (arith, on.moved, c.in_ok-make_ready.ensures.moved);
     }
 
 pub returns-clause-some : goal.returns-clause-some
 returns-clause-some c =
-    omega (arith, c.loop.invariant.moved, c.in_ok-make_ready.ensures.moved, c.stretch-words.ensures.some, c.loop-test.false)
+    omega
+    (arith, c.loop.invariant.moved, c.in_ok-make_ready.ensures.moved, c.stretch-words.ensures.some, c.loop-test.false)
 
 pub returns-clause-most : goal.returns-clause-most
 returns-clause-most c =
-    omega (arith, c.loop.invariant.moved, c.in_ok-make_ready.ensures.moved, c.stretch-words.ensures.most, c.loop.auto.counter-end)
+    omega (
+      arith,
+      c.loop.invariant.moved,
+      c.in_ok-make_ready.ensures.moved,
+      c.stretch-words.ensures.most,
+      c.loop.auto.counter-end,
+    )
 
 pub returns-clause-whole : goal.returns-clause-whole
 returns-clause-whole c =

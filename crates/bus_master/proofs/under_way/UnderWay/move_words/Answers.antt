@@ -14,7 +14,8 @@ loop-self-init c =
       sector = λ within. absurd (within (rw none refl));
       stands = λ setup bytes moving of is.
           subst
-          (λ n. StandsAt (words_moved setup bytes c.args.direction c.args.lba (n / 2) moving) c.args.store.now c.args.self.now None)
+          (λ n. StandsAt (words_moved setup bytes c.args.direction c.args.lba
+          (n / 2) moving) c.args.store.now c.args.self.now None)
           (sym none) (no_words setup bytes c.args.direction c.args.lba moving is);
     }
 
