@@ -4,3 +4,4 @@ pub mod WordLemmas
 pub mod SmramLemmas
 pub mod TransferLemmas
 pub mod AreaLemmas
+pub mod WayLemmas

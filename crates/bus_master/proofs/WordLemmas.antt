@@ -45,7 +45,7 @@ medium_twice : (disk : Option Disk) (one other : Medium) → with_medium (with_m
 medium_twice None one other = refl
 medium_twice (Some disk) one other = refl
 
-own_medium : (disk : Option Disk) → disk ≡ with_medium disk (medium_of disk)
+pub own_medium : (disk : Option Disk) → disk ≡ with_medium disk (medium_of disk)
 own_medium None = refl
 own_medium (Some disk) = refl
 

@@ -1,11 +1,11 @@
 //! Transfers between the disk and memory.
 
-ghost use Rattle.std.specs.Prelude.{ℕ, ◌≡◌, ◌<◌, ◌≤◌, ◌^◌, true, ◌%◌};
+ghost use Rattle.std.specs.Prelude.{ℕ, ◌≡◌, ◌<◌, ◌≤◌, ◌^◌, ◌%◌, true, false};
 ghost use Rattle.board_spec.specs.Setup.{Setup};
 ghost use Rattle.board_spec.specs.Decode.{Bytes, is_smram_range};
 ghost use Rattle.board_spec.specs.Stored.{Cell};
 ghost use Rattle.dram_store.specs.Dram.{dram_at};
-ghost use Rattle.bus_master.specs.Registers.{is_started, Master};
+ghost use Rattle.bus_master.specs.Registers.{is_started, is_to_memory};
 ghost use Rattle.bus_master.specs.Transfer.{direction_of, done_of, end_of, master_after, Moving, status_bits, with_medium};
 ghost use Rattle.board_chipset.specs.Stores.{IsSound, IsStoreOf};
 ghost use Rattle.bus_master.specs.Stores.{cells_of, DiffersInSmramAlone, HasSameShape, IsCell, transfer_of};
@@ -40,6 +40,9 @@ impl BusMaster {
             ≡ with_medium store.old.disk (transfer_of setup bytes self.old lba count store.old).medium }
         ensures cells { (setup : Setup) (bytes : Bytes) (cell : Cell) → IsStoreOf setup bytes store.old → IsCell cell
             → cells_of store.new cell ≡ (transfer_of setup bytes self.old lba count store.old).cells cell }
+        ensures to_memory { is_to_memory self.old ≡ true → store.new.disk ≡ store.old.disk }
+        ensures to_disk { is_to_memory self.old ≡ false → (cell : Cell) → IsCell cell
+            → cells_of store.new cell ≡ cells_of store.old cell }
         ensures shape { HasSameShape store.old store.new }
         ensures sound { IsSound store.new }
         // Whatever SMRAM's register says, no byte of it changes.
@@ -49,6 +52,7 @@ impl BusMaster {
         ensures hidden { (setup : Setup) (bytes : Bytes) (other : Store) → IsStoreOf setup bytes store.old
             → DiffersInSmramAlone store.old other
             → (result ≡ done_of (transfer_of setup bytes self.old lba count other))
+            × (self.new ≡ master_after self.old (transfer_of setup bytes self.old lba count other))
             × (store.new.disk ≡ with_medium other.disk (transfer_of setup bytes self.old lba count other).medium) }
     {
         let mut under_way = UnderWay::begin(self.table);

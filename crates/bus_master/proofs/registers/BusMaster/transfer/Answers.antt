@@ -5,12 +5,13 @@ use Rattle.board_spec.specs.Decode.{Bytes}
 use Rattle.board_spec.specs.Stored.{DramCell}
 use Rattle.board_chipset.specs.declared.store.Store.{Store}
 use Rattle.bus_master.specs.Registers.{Master}
-use Rattle.bus_master.specs.Transfer.{Moving, Place, done_of, first_place, with_medium}
+use Rattle.bus_master.specs.Transfer.{Moving, Place, done_of, end_of, first_place, medium_of, with_medium}
 use Rattle.board_chipset.specs.Stores.{IsStoreOf}
-use Rattle.bus_master.specs.Stores.{transfer_of}
+use Rattle.bus_master.specs.Stores.{cells_of, transfer_of}
 use Rattle.bus_master.specs.UnderWay.{IsDone}
 use Rattle.bus_master.proofs.TransferLemmas.{all_moved, disk_is, done_is, same_transfer, smram_kept}
-use Rattle.bus_master.proofs.WordLemmas.{same_store}
+use Rattle.bus_master.proofs.WordLemmas.{own_medium, same_store}
+use Rattle.bus_master.proofs.WayLemmas.{memory_kept, sectors_kept}
 use Rattle.bus_master.proofs.registers.BusMaster.transfer.Goals as goal
 
 abbrev of_store : (c : goal.After-moved) → Setup → Bytes → Moving
@@ -54,6 +55,22 @@ returns-clause-smram c = λ addr inside.
     (moved c sound.0 sound.1 sound.2).cells (DramCell addr) tt
     ∙ smram_kept sound.0 sound.1 c.args.self.now c.args.lba c.args.count c.args.store.now (aligned c) addr inside
 
+pub returns-clause-to_memory : goal.returns-clause-to_memory
+returns-clause-to_memory c = λ way.
+    let sound = c.requires.sound in
+    let store = c.args.store.now in
+    disk_is (moved c sound.0 sound.1 sound.2) c.transfer-end.ensures.shape
+    ∙ ap (λ (medium : Medium). with_medium store.disk medium)
+    (sectors_kept sound.0 sound.1 c.args.self.now c.args.lba c.args.count (cells_of store) (medium_of store.disk) way)
+    ∙ sym (own_medium store.disk)
+
+pub returns-clause-to_disk : goal.returns-clause-to_disk
+returns-clause-to_disk c = λ way cell there.
+    let sound = c.requires.sound in
+    let store = c.args.store.now in
+    (moved c sound.0 sound.1 sound.2).cells cell there
+    ∙ memory_kept sound.0 sound.1 c.args.self.now c.args.lba c.args.count (cells_of store) (medium_of store.disk) way cell
+
 pub returns-clause-hidden : goal.returns-clause-hidden
 returns-clause-hidden c = λ setup bytes other of differs.
     let is = moved c setup bytes of in
@@ -61,6 +78,10 @@ returns-clause-hidden c = λ setup bytes other of differs.
     same_transfer setup bytes c.args.self.now c.args.lba c.args.count c.args.store.now (aligned c) differs in
     let medium = ap (λ (moving : Moving). moving.medium) hidden in (
       done_is is c.moved.ensures.moved ∙ sym (ap done_of hidden),
+      c.end_transfer.ensures.ended (of_other c setup bytes other)
+          (ap end_of hidden ∙ sym is.ends)
+          (ap (λ (moving : Moving). moving.place.table) hidden ∙ ap (λ (place : Place). place.table) (sym is.come)
+          ∙ sym c.table.ensures.table),
       disk_is is c.transfer-end.ensures.shape
           ∙ ap (λ (m : Medium). with_medium c.args.store.now.disk m) (sym medium)
           ∙ ap (λ (disk : Option Disk). with_medium disk (of_other c setup bytes other).medium) (sym differs.disk),
