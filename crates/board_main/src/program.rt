@@ -55,16 +55,28 @@ where
     ensures ends { Ends (map string_bytes words.now) (asked words.now) (F.files folder)
         (W.contents output.old) (W.contents output.new) result }
 {
-    let status = match own_answer(words) {
-        Some(text) => write_own(output, text),
-        None => answer(rt, folder, words, output),
-    };
+    let status = answer(rt, folder, words, output);
     tell(rt.alloc(), errors, &status);
     status
 }
 
-/// Does what the words ask of the board, with the files of a folder, and writes it to `output`.
+/// Writes what the words ask for: the program's own answer, or that of the board.
 fn answer<R, F, W>(rt: &R, folder: F, words: &[String], output: &mut W) -> Status
+where
+    R: AllocGlobal + Threads + Wait + Sync,
+    F: Folder + Drop,
+    W: Write,
+    ensures ends { Ends (map string_bytes words.now) (asked words.now) (F.files folder)
+        (W.contents output.old) (W.contents output.new) result }
+{
+    match own_answer(words) {
+        Some(text) => write_own(output, text),
+        None => answer_of_board(rt, folder, words, output),
+    }
+}
+
+/// Does what the words ask of the board, with the files of a folder, and writes it to `output`.
+fn answer_of_board<R, F, W>(rt: &R, folder: F, words: &[String], output: &mut W) -> Status
 where
     R: AllocGlobal + Threads + Wait + Sync,
     F: Folder + Drop,
