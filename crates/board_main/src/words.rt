@@ -62,8 +62,14 @@ mod tests {
 
     /// Command lines whose first word is the program's name, and the words after it; none where one is not UTF-8.
     const LINES: [(&[&[u8]], Option<&[&str]>); 6] = [
-        (&[b"board", b"check", b"s", b"log"], Some(&["check", "s", "log"])),
-        (&[b"board", b"a", b"", b"b", b"c", b"d", b"e"], Some(&["a", "", "b", "c", "d", "e"])),
+        (
+            &[b"board", b"check", b"s", b"log"],
+            Some(&["check", "s", "log"]),
+        ),
+        (
+            &[b"board", b"a", b"", b"b", b"c", b"d", b"e"],
+            Some(&["a", "", "b", "c", "d", "e"]),
+        ),
         (&[b"board"], Some(&[])),
         (&[], Some(&[])),
         (&[b"board", b"replay", b"\xff"], None),

@@ -232,8 +232,11 @@ pub rise_pushed : (count : ℕ) (keep : List ℕ) → Rise count keep → Rise (
 rise_pushed count keep rise = record {
   rises =
       all_pairs_push (λ one later. one < later) keep (count + 1) rise.rises
-      (λ k d below. omega (arith, rise.most (get_or keep k d)
-      (list_any_at (λ other. other == get_or keep k d) keep k d below (eq-eqb _ _ refl))));
+      (λ k d below. omega (
+        arith,
+        rise.most (get_or keep k d)
+            (list_any_at (λ other. other == get_or keep k d) keep k d below (eq-eqb _ _ refl)),
+      ));
   most =
       λ number among. elim (among_either number (count + 1) keep among) [
         | inl earlier ↦ omega (arith, rise.most number earlier)

@@ -43,12 +43,13 @@ place_of number (first ∷ later) is = elim (cases_Bool (first == number)) [
 
 rise_is : (numbers : List ℕ) → AllPairs (λ one other. one < other) numbers → Rise numbers
 rise_is [] rises = tt
-rise_is (number ∷ later) rises =
-    ((λ other among.
-    let place = place_of other later among in
-    let below : number < get_or later place.k 0 = rises 0 (suc place.k) 0 (omega arith) (omega (arith, place.within)) in
-    omega (arith, below, place.is)),
-    rise_is later (rise_later number later rises))
+rise_is (number ∷ later) rises = (
+  (λ other among.
+      let place = place_of other later among in
+      let below : number < get_or later place.k 0 = rises 0 (suc place.k) 0 (omega arith) (omega (arith, place.within)) in
+      omega (arith, below, place.is)),
+  rise_is later (rise_later number later rises),
+)
 
 among_first : (number : ℕ) (later : List ℕ) → is_among number (number ∷ later) ≡ true
 among_first number later = let same : (number == number) ≡ true = eq-eqb number number refl in rw same refl

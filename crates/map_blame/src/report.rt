@@ -7,8 +7,8 @@ ghost use Rattle.board_spec.specs.Laws.{SameMapBytes};
 ghost use Rattle.map_blame.specs.Keep.{chosen};
 ghost use Rattle.map_blame.specs.Report.{IsBlame};
 
-use crate::keep::kept_changes;
 use crate::blamed::BlameReport;
+use crate::keep::kept_changes;
 use crate::watch::blamed_ranges;
 use addr_decode::MapRegs;
 use board_base::NoMemory;

@@ -123,7 +123,11 @@ impl Watched {
             return self;
         }
         let stands = stands(map, &range);
-        let since = if stands && !self.stands { number } else { since };
+        let since = if stands && !self.stands {
+            number
+        } else {
+            since
+        };
         Watched {
             blamed: Blamed { range, since },
             stands,
