@@ -2,4 +2,4 @@
 #![tactic(auto)]
 
 #[cfg(test)]
-mod map_blame;
+mod blamed_maps;
