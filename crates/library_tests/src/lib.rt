@@ -2,7 +2,7 @@
 #![tactic(auto)]
 
 #[cfg(test)]
-mod reports;
+mod blamed_maps;
 #[cfg(test)]
 mod serial_port;
 #[cfg(test)]
