@@ -444,20 +444,45 @@ fn from_uart(value: Option<u8>, sent: Option<u8>) -> SerialReply {
     SerialReply::Uart { value, sent }
 }
 
+/// The room of a board for more entries.
+fn spare(board: &Board) -> u32
+    ensures spare { result ≡ board.now.spare }
+{
+    board.history().spare()
+}
+
+/// Does an event of processor 0.
+fn step(rt: &impl Abort, serial: &mut SerialBoard<Board>, event: &Event) -> SerialReply
+    requires in_range { IsInRange serial.old.board.setup event.now }
+{
+    assert!(rt; spare(serial.board()) >= 2);
+    serial.step(0, event)
+}
+
+/// Receives a byte.
+fn receive(rt: &impl Abort, serial: &mut SerialBoard<Board>, byte: u8) {
+    assert!(rt; spare(serial.board()) >= 1);
+    assert!(rt; serial.room());
+    serial.receive(byte);
+}
+
 /// Does a request, and compares the reply.
 fn ask(rt: &impl Abort, serial: &mut SerialBoard<Board>, at: usize, row: Row) {
     let (request, want) = row;
-    assert!(rt; serial.board().history().spare() >= 2);
     match request {
-        Comes(byte) => {
-            assert!(rt; serial.room(), "at {at}");
-            serial.receive(byte);
-        }
+        Comes(byte) => receive(rt, serial, byte),
         _ => {
-            let got = serial.step(0, &event(rt, request));
+            let got = step(rt, serial, &event(rt, request));
             assert_eq!(rt; got, reply(want), "at {at}");
         }
     }
+}
+
+/// Does a request over a chipset, and compares the reply.
+fn ask_chipset(rt: &impl Abort, serial: &mut SerialBoard<Chipset>, row: Row) {
+    let (request, want) = row;
+    let got = serial.step(0, &event(rt, request));
+    assert_eq!(rt; got, reply(want));
 }
 
 /// A board of 8 MiB without cards and disk, and a ROM of 64 KiB.
@@ -517,9 +542,8 @@ fn chipset_with_a_serial_port(rt: HostRuntime) -> Result<(), Fail> {
         (Line4(true), By(Dev::Wires)),
         (In(0x3FD), Value(0x60)),
     ];
-    for (request, want) in rows {
-        let got = serial.step(0, &event(&rt, request));
-        assert_eq!(rt; got, reply(want));
+    for row in rows {
+        ask_chipset(&rt, &mut serial, row);
     }
     Ok(())
 }
