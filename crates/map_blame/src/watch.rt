@@ -31,7 +31,6 @@ pub fn blamed_ranges(
     map: FlatMap,
     changes: &[MapChange],
 ) -> Result<Vec<Blamed>, NoMemory>
-    requires version { map.version ≡ 0 }
     requires count { length changes.now < entry_limit }
     ensures ranges { IfOk result (λ ranges. (setup : Setup) → IsCardList setup.cards → IsAfter setup [] map
         → AreBlamed setup (reverse changes.now) ranges.items) }
@@ -44,7 +43,6 @@ pub fn blamed_ranges(
 
 /// A map after some changes.
 fn changed_map(map: &FlatMap, changes: &[MapChange]) -> FlatMap
-    requires version { map.now.version ≡ 0 }
     requires count { length changes.now < entry_limit }
     ensures after { (setup : Setup) → IsAfter setup [] map.now → IsAfter setup (reverse changes.now) result }
 {
@@ -78,7 +76,6 @@ fn begin(alloc: Global, first: &FlatMap, ranges: &[Range]) -> Result<Vec<Watched
 /// Watches ranges while some changes are made to a map after a reset.
 fn watch(watched: &mut [Watched], map: FlatMap, changes: &[MapChange])
     requires ranges { All IsWatchable watched.old }
-    requires version { map.version ≡ 0 }
     requires count { length changes.now < entry_limit }
     ensures length { length watched.new ≡ length watched.old }
     ensures ranges { (k : ℕ) (d : Watched) → k < length watched.old

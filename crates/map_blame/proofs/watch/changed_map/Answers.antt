@@ -8,7 +8,6 @@ use Rattle.map_blame.proofs.watch.changed_map.Goals as goal
 
 pub loop-change-preserved : goal.loop-change-preserved
 loop-change-preserved c = record {
-  version = omega (arith, c.apply.ensures.applied.version, c.loop-change.invariant.version);
   after = λ setup start.
       subst (λ (changes : List MapChange). IsAfter setup changes c.apply.new.self)
       (sym (taken_more c.args.changes.now c.loop-change.change-index no_change c.loop-change-test.true))

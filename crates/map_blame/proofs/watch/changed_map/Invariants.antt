@@ -6,6 +6,5 @@ use Rattle.map_blame.proofs.watch.changed_map.Given as goal
 
 abbrev pub invariant-loop-change : goal.invariant-loop-change
 invariant-loop-change l = record {
-  version : l.map.version ≡ l.change-index;
   after : (setup : Setup) → IsAfter setup [] l.fn.map → IsAfter setup (reverse (take l.change-index l.changes)) l.map;
 }

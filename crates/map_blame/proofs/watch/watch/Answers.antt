@@ -10,15 +10,11 @@ use Rattle.map_blame.proofs.watch.watch.Goals as goal
 
 pub loop-index-init : goal.loop-index-init
 loop-index-init c = record {
-  version = c.requires.version;
   count = refl;
   ranges = λ k d within. refl;
   after = λ setup start. start;
   watched = λ setup cards start all. all;
 }
-
-pub apply-bounds-requires : goal.apply-bounds-requires
-apply-bounds-requires c = record { version = omega (arith, c.loop-index.invariant.version, c.requires.count) }
 
 pub look_again-requires : goal.look_again-requires
 look_again-requires c = record {
@@ -34,7 +30,6 @@ loop-index-preserved c =
     let change = get_or c.args.changes.now index no_change in
     let more = taken_more c.args.changes.now index no_change c.loop-index-test.true in
     record {
-      version = omega (arith, c.apply-bounds.ensures.applied.version, c.loop-index.invariant.version);
       count = c.look_again.ensures.length ∙ c.loop-index.invariant.count;
       ranges = λ k d within.
           let known : k < length c.loop-index.watched = omega (arith, within, c.loop-index.invariant.count) in

@@ -7,7 +7,6 @@ use Rattle.map_blame.proofs.watch.watch.Given as goal
 
 abbrev pub invariant-loop-index : goal.invariant-loop-index
 invariant-loop-index l = record {
-  version : l.map.version ≡ l.index;
   count : length l.watched ≡ length l.fn.watched;
   ranges : (k : ℕ) (d : Watched) → k < length l.fn.watched →
       (slice_index_or l.watched k d).blamed.range ≡ (slice_index_or l.fn.watched k d).blamed.range;
