@@ -56,17 +56,17 @@ fn words_of(alloc: Global, line: &str) -> Result<Vec<String>, NoMemory>
 }
 
 /// How a command ends that writes to this output. What is said goes to `errors`.
-fn status_of<R: Files + AllocGlobal + Threads + Wait + Sync, W: Write, E: Write>(
+fn status_of<R: Files + AllocGlobal + Threads + Wait + Sync, W: Write + Drop, E: Write>(
     rt: &R,
     line: &str,
-    output: &mut W,
+    output: W,
     errors: &mut E,
 ) -> Status
     ensures usage { result ≡ Status.Usage
         → (is_own (words_in line.now) ≡ false) × (command_of (words_in line.now) ≡ None) }
 {
     match words_of(rt.alloc(), line) {
-        Ok(words) => run_words(rt, SystemFolder { rt }, &words, output, errors),
+        Ok(words) => run_words(rt, SystemFolder { rt }, &words, output, errors).0,
         Err(_) => Status::NoMemory,
     }
 }
@@ -78,11 +78,11 @@ fn tell<R: Files + AllocGlobal + Threads + Wait + Sync, W: Write>(
     line: &str,
     output: &str,
 ) {
-    let Ok(mut file) = File::create(rt, output) else {
+    let Ok(file) = File::create(rt, output) else {
         return;
     };
     let mut said = Vec::new(rt.alloc());
-    let status = status_of(rt, line, &mut file, &mut said);
+    let status = status_of(rt, line, file, &mut said);
     let _ = write!(out, "{line}: {} ", exit_code(&status));
     let _ = out.write_all(&said);
     if said.is_empty() {
@@ -98,7 +98,7 @@ fn main(rt: HostRuntime) -> ExitCode {
         tell(&rt, &mut rt.stdout(), line, "/dev/full");
     }
     for line in OWN {
-        let _ = status_of(&rt, line, &mut rt.stdout(), &mut rt.stderr());
+        let _ = status_of(&rt, line, rt.stdout(), &mut rt.stderr());
     }
     run_program(&rt, rt.stdout(), rt.stderr())
 }

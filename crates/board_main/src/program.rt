@@ -21,7 +21,7 @@ use std::thread::Threads;
 
 /// Does what the words of the command line ask for, with real files and this output. What is said where it is not
 /// done goes to `errors`. It tells the exit code, which is that of a status.
-pub fn run_program<R, W, E>(rt: &R, mut output: W, mut errors: E) -> ExitCode
+pub fn run_program<R, W, E>(rt: &R, output: W, mut errors: E) -> ExitCode
 where
     R: Env + Files + AllocGlobal + Threads + Wait + Sync,
     W: Write + Drop,
@@ -29,7 +29,7 @@ where
     ensures code { HasStatus (exit_status result) }
 {
     let status = match words_of(rt) {
-        Ok(words) => run_words(rt, SystemFolder { rt }, &words, &mut output, &mut errors),
+        Ok(words) => run_words(rt, SystemFolder { rt }, &words, output, &mut errors).0,
         Err(status) => {
             tell(rt.alloc(), &mut errors, &status);
             status
@@ -38,36 +38,37 @@ where
     ExitCode::from(exit_code(&status))
 }
 
-/// Does what these words ask for, with the files of a folder, and writes it to `output`. What is said where it is not
-/// done goes to `errors`. The status is Usage exactly where the words are neither the program's own nor a command.
+/// Does what these words ask for, with the files of a folder, and writes it to `output`, which is given back. What is
+/// said where it is not done goes to `errors`. The status is Usage exactly where the words are neither the program's own
+/// nor a command.
 pub fn run_words<R, F, W, E>(
     rt: &R,
     folder: F,
     words: &[String],
-    output: &mut W,
+    output: W,
     errors: &mut E,
-) -> Status
+) -> (Status, W)
 where
     R: AllocGlobal + Threads + Wait + Sync,
     F: Folder + Drop,
     W: Write,
     E: Write,
     ensures ends { Ends (map string_bytes words.now) (asked words.now) (F.files folder)
-        (W.contents output.old) (W.contents output.new) result }
+        (W.contents output) (W.contents result.1) result.0 }
 {
-    let status = answer(rt, folder, words, output);
+    let (status, output) = answer(rt, folder, words, output);
     tell(rt.alloc(), errors, &status);
-    status
+    (status, output)
 }
 
 /// Writes what the words ask for: the program's own answer, or that of the board.
-fn answer<R, F, W>(rt: &R, folder: F, words: &[String], output: &mut W) -> Status
+fn answer<R, F, W>(rt: &R, folder: F, words: &[String], output: W) -> (Status, W)
 where
     R: AllocGlobal + Threads + Wait + Sync,
     F: Folder + Drop,
     W: Write,
     ensures ends { Ends (map string_bytes words.now) (asked words.now) (F.files folder)
-        (W.contents output.old) (W.contents output.new) result }
+        (W.contents output) (W.contents result.1) result.0 }
 {
     match own_answer(words) {
         Some(text) => write_own(output, text),
@@ -76,30 +77,27 @@ where
 }
 
 /// Does what the words ask of the board, with the files of a folder, and writes it to `output`.
-fn answer_of_board<R, F, W>(rt: &R, folder: F, words: &[String], output: &mut W) -> Status
+fn answer_of_board<R, F, W>(rt: &R, folder: F, words: &[String], output: W) -> (Status, W)
 where
     R: AllocGlobal + Threads + Wait + Sync,
     F: Folder + Drop,
     W: Write,
-    ensures usage { (result ≡ Status.Usage) ↔ (asked words.now ≡ None) }
-    ensures answered { IsAnswered result (asked words.now) (F.files folder)
-        (W.contents output.old) (W.contents output.new) }
+    ensures usage { (result.0 ≡ Status.Usage) ↔ (asked words.now ≡ None) }
+    ensures answered { IsAnswered result.0 (asked words.now) (F.files folder) (W.contents output) (W.contents result.1) }
 {
     let mut shelf = FileShelf::new(folder);
     let mut out = OutSink::new(output);
     let status = board(rt, rt.alloc(), words, &mut shelf, &mut out, &QuietGate);
-    // No effect when it runs. The check reads from this use what the output has taken.
-    let _ = &*out.into_inner();
-    status
+    (status, out.into_inner())
 }
 
 /// Writes what the program answers of itself.
-fn write_own<W: Write>(output: &mut W, text: &str) -> Status
-    ensures written { IsOwnAnswer result text.now (W.contents output.old) (W.contents output.new) }
+fn write_own<W: Write>(mut output: W, text: &str) -> (Status, W)
+    ensures written { IsOwnAnswer result.0 text.now (W.contents output) (W.contents result.1) }
 {
     match output.write_all(text.as_bytes()) {
-        Ok(()) => Status::Done,
-        Err(_) => Status::WriteFault,
+        Ok(()) => (Status::Done, output),
+        Err(_) => (Status::WriteFault, output),
     }
 }
 
