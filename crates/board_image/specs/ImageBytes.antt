@@ -51,14 +51,15 @@ card_bytes card =
 abbrev pub disk_bytes : Setup → List ℕ
 disk_bytes setup = unwrap_or setup.disk []
 
+unfoldable pub size_bytes : Setup → (steps : ℕ) → List ℕ
+size_bytes setup steps =
+    to_le_bytes w32 (length setup.rom) ++ (to_le_bytes w32 (length (disk_bytes setup)) ++ to_le_bytes w32 steps)
+
+-- what stands before the cards. The byte after the disk's flag is reserved
 unfoldable pub head_bytes : Setup → (steps : ℕ) → List ℕ
 head_bytes setup steps =
-    magic
-    ++ (to_le_bytes w16 image_version
-    ++ (setup.mib ∷ length setup.cards ∷ flag_byte (is_some setup.disk) ∷ 0
-    ∷ (to_le_bytes w32 (length setup.rom)
-    ++ (to_le_bytes w32 (length (disk_bytes setup))
-    ++ to_le_bytes w32 steps))))
+    magic ++ (to_le_bytes w16 image_version
+    ++ (setup.mib ∷ length setup.cards ∷ flag_byte (is_some setup.disk) ∷ 0 ∷ size_bytes setup steps))
 
 -- ---- who asked what
 

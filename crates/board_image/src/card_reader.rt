@@ -1,9 +1,9 @@
 //! Reads cards.
 
-ghost use Rattle.std.specs.Prelude.{◌≡◌, ◌≤◌, ◌-◌, ◌<◌, ◌^◌, ◌∷◌, [], map, sum_by, option_map, IfOk};
+ghost use Rattle.std.specs.Prelude.{◌≡◌, ◌≤◌, ◌-◌, ◌<◌, ◌∷◌, [], map, sum_by, option_map, IfSome, IfOk};
 ghost use Rattle.std.specs.Int.{w8};
 ghost use Rattle.board_spec.specs.Limits.{most_card_memory};
-ghost use Rattle.board_spec.specs.Setup.{memory_of_cards, memory_size};
+ghost use Rattle.board_spec.specs.Setup.{IsBase, memory_of_cards, memory_size};
 ghost use Rattle.pci_bars.specs.Bases.{base_of};
 ghost use Rattle.board_image.specs.Fields.{Took, Filled, number};
 ghost use Rattle.board_image.specs.ImageFields.{base_in, rom_of, bases_fields, card_fields, cards_fields};
@@ -24,6 +24,7 @@ const MOST_CARD_MEMORY: u32 = 0x400_0000;
 /// The base that a byte says, and the bytes of memory that it decodes, which are at most the room.
 fn base_in(room: u32, byte: u8) -> Option<BaseSpec>
     ensures said { option_map base_of result ≡ base_in room byte }
+    ensures base { IfSome result (λ base. IsBase (base_of base)) }
 {
     if byte >= IO_BASE {
         let bits = byte - IO_BASE;
@@ -34,7 +35,7 @@ fn base_in(room: u32, byte: u8) -> Option<BaseSpec>
 
 /// The bytes of memory that a base decodes.
 fn memory_size(base: BaseSpec) -> u32
-    requires small { memory_size (base_of base) < 2 ^ 32 }
+    requires base { IsBase (base_of base) }
     ensures size { result ≡ memory_size (base_of base) }
 {
     match base {
@@ -82,16 +83,24 @@ fn rom_of(byte: u8) -> Option<Option<u8>>
     }
 }
 
+/// The expansion ROM of a card, where it has one.
+fn rom(fields: &mut Fields) -> Result<Option<u8>, Bad>
+    ensures took { Took (λ rom. rom) result fields.new (number w8 rom_of fields.old) }
+{
+    fields.byte_of(rom_of)
+}
+
 /// A card whose device number lies above that of the card before. It takes its memory from the room.
 #[tactic(auto, unfolding(crate::specs::ImageFields::card_fields))]
 fn card(fields: &mut Fields, above: u8, room: &mut u32) -> Result<CardSpec, Bad>
     requires above { above ≤ 9 }
     ensures took { Took (λ card. card) result fields.new (card_fields above room.old fields.old) }
     ensures room { IfOk result (λ card. room.new ≡ room.old - memory_of_cards (card ∷ [])) }
+    ensures last { IfOk result (λ card. card.dev ≤ 9) }
 {
     let dev = fields.byte(above + 1, LAST_DEVICE)?;
     let vga = fields.flag()?;
-    let rom = fields.byte_of(rom_of)?;
+    let rom = rom(fields)?;
     let count = fields.byte(0, BASE_COUNT as u8)?;
     let bases = bases(fields, count, room)?;
     Ok(CardSpec {

@@ -1,7 +1,7 @@
 //! Reads who asked what.
 
-ghost use Rattle.std.specs.Prelude.{◌≡◌, ◌≤◌, ◌-◌, ◌^◌, ◌%◌, ◌==◌};
-ghost use Rattle.std.specs.Int.{w8, w16, w32};
+ghost use Rattle.std.specs.Prelude.{◌≡◌, ◌≤◌, ◌-◌, ◌^◌, ◌%◌, ◌==◌, true, find, is_some, IfOk};
+ghost use Rattle.std.specs.Int.{w8, w16, w32, w64};
 ghost use Rattle.board_base.specs.Access.{bytes_of};
 ghost use Rattle.board_spec.specs.Setup.{Setup};
 ghost use Rattle.board_spec.specs.InRange.{is_free_line};
@@ -135,6 +135,7 @@ fn port(fields: &mut Fields) -> Result<PortAccess, Bad>
 /// The size of a wide access.
 fn wide_size(fields: &mut Fields) -> Result<u8, Bad>
     ensures took { Took (λ n. n) result fields.new (number_where w8 is_wide_size fields.old) }
+    ensures size { IfOk result (λ bytes. is_wide_size bytes ≡ true) }
 {
     let bytes = u8::from_le_bytes(fields.front()?);
     fields.past(1, matches!(bytes, 2 | 4 | 8))?;
@@ -143,7 +144,7 @@ fn wide_size(fields: &mut Fields) -> Result<u8, Bad>
 
 /// The address of a wide access.
 fn wide_addr(fields: &mut Fields, bytes: u8) -> Result<u32, Bad>
-    requires some { 1 ≤ bytes }
+    requires size { is_wide_size bytes ≡ true }
     ensures took { Took (λ n. n) result fields.new (number_where w32 (is_wide_place bytes) fields.old) }
 {
     let addr = u32::from_le_bytes(fields.front()?);
@@ -153,13 +154,25 @@ fn wide_addr(fields: &mut Fields, bytes: u8) -> Result<u32, Bad>
     Ok(addr)
 }
 
-/// The largest value of so many bytes.
+/// The largest value of a wide access.
 fn largest(bytes: u8) -> u64
-    requires some { 1 ≤ bytes }
-    requires most { bytes ≤ 8 }
+    requires size { is_wide_size bytes ≡ true }
     ensures largest { result ≡ 256 ^ bytes - 1 }
 {
-    u64::MAX >> (64 - 8 * u32::from(bytes))
+    match bytes {
+        2 => u16::MAX.into(),
+        4 => u32::MAX.into(),
+        _ => u64::MAX,
+    }
+}
+
+/// The value of a wide access.
+fn wide_value(fields: &mut Fields, writes: bool, bytes: u8) -> Result<u64, Bad>
+    requires size { is_wide_size bytes ≡ true }
+    ensures took { Took (λ n. n) result fields.new (within w64 0 (most_value writes bytes) fields.old) }
+{
+    let most = if writes { largest(bytes) } else { 0 };
+    fields.long(most)
 }
 
 /// A wide access.
@@ -171,8 +184,7 @@ fn wide(fields: &mut Fields) -> Result<WideAccess, Bad>
     let smm = fields.flag()?;
     let bytes = wide_size(fields)?;
     let addr = wide_addr(fields, bytes)?;
-    let most = if kind.is_write() { largest(bytes) } else { 0 };
-    let value = fields.long(most)?;
+    let value = wide_value(fields, kind.is_write(), bytes)?;
     Ok(WideAccess {
         kind,
         bytes,
@@ -220,14 +232,30 @@ fn moment(fields: &mut Fields) -> Result<Moment, Bad>
     Ok(Moment::new(year, month, day, hour, minute, second).unwrap())
 }
 
+/// Whether there is a card at a device number.
+fn has_card(cards: &[CardSpec], dev: u8) -> bool
+    ensures card { result ≡ is_some (find (λ card. card.dev == dev) cards.now) }
+{
+    cards.iter().any(|card| card.dev == dev)
+}
+
+/// The device number of a card.
+fn device(fields: &mut Fields, cards: &[CardSpec]) -> Result<u8, Bad>
+    ensures took { Took (λ n. n) result fields.new
+        (number_where w8 (λ dev. is_some (find (λ card. card.dev == dev) cards.now)) fields.old) }
+{
+    let dev = u8::from_le_bytes(fields.front()?);
+    fields.past(1, has_card(cards, dev))?;
+    Ok(dev)
+}
+
 /// A level of the interrupt pin of a card.
 #[tactic(auto, unfolding(crate::specs::EventFields::wire_fields))]
 fn wire(fields: &mut Fields, cards: &[CardSpec]) -> Result<Event, Bad>
     ensures took { (setup : Setup) → setup.cards ≡ cards.now
         → Took (λ event. event) result fields.new (wire_fields setup fields.old) }
 {
-    let dev = u8::from_le_bytes(fields.front()?);
-    fields.past(1, cards.iter().any(|card| card.dev == dev))?;
+    let dev = device(fields, cards)?;
     let on = fields.flag()?;
     Ok(Event::Wire { dev, on })
 }

@@ -32,15 +32,23 @@ fn width_byte(width: Width) -> u8
     width.bytes() as u8
 }
 
+/// Adds a number of 4 bytes.
+pub(crate) fn push_word(out: &mut Vec<u8>, value: u32) -> Result<(), NoMemory>
+    ensures added { OnOk result (out.new.items ≡ out.old.items ++ to_le_bytes w32 value) }
+{
+    out.extend_from_slice(&value.to_le_bytes())?;
+    Ok(())
+}
+
 /// Adds the fields of an access to memory.
 #[tactic(auto, unfolding(crate::specs::ImageBytes::memory_bytes))]
 fn push_memory(out: &mut Vec<u8>, access: &Access) -> Result<(), NoMemory>
     ensures added { OnOk result (out.new.items ≡ out.old.items ++ memory_bytes access.now) }
 {
-    out.extend_from_slice(&[kind_byte(access.kind), u8::from(access.smm), width_byte(access.width)])?;
-    out.extend_from_slice(&access.addr.to_le_bytes())?;
-    out.extend_from_slice(&access.value.to_le_bytes())?;
-    Ok(())
+    let width = width_byte(access.width);
+    out.extend_from_slice(&[kind_byte(access.kind), u8::from(access.smm), width])?;
+    push_word(out, access.addr)?;
+    push_word(out, access.value)
 }
 
 /// Adds the fields of a wide access.
@@ -49,7 +57,7 @@ fn push_wide(out: &mut Vec<u8>, access: &WideAccess) -> Result<(), NoMemory>
     ensures added { OnOk result (out.new.items ≡ out.old.items ++ wide_bytes access.now) }
 {
     out.extend_from_slice(&[kind_byte(access.kind), u8::from(access.smm), access.bytes])?;
-    out.extend_from_slice(&access.addr.to_le_bytes())?;
+    push_word(out, access.addr)?;
     out.extend_from_slice(&access.value.to_le_bytes())?;
     Ok(())
 }
@@ -61,8 +69,7 @@ fn push_port(out: &mut Vec<u8>, access: &PortAccess) -> Result<(), NoMemory>
 {
     out.extend_from_slice(&[u8::from(access.write), width_byte(access.width)])?;
     out.extend_from_slice(&access.port.to_le_bytes())?;
-    out.extend_from_slice(&access.value.to_le_bytes())?;
-    Ok(())
+    push_word(out, access.value)
 }
 
 /// Adds the fields of a look.
@@ -71,8 +78,7 @@ fn push_look(out: &mut Vec<u8>, kind: Kind, addr: u32, smm: bool) -> Result<(), 
     ensures added { OnOk result (out.new.items ≡ out.old.items ++ look_bytes kind addr smm) }
 {
     out.extend_from_slice(&[kind_byte(kind), u8::from(smm)])?;
-    out.extend_from_slice(&addr.to_le_bytes())?;
-    Ok(())
+    push_word(out, addr)
 }
 
 /// Adds the fields of a moment.
@@ -103,14 +109,6 @@ fn push_fields(out: &mut Vec<u8>, event: &Event) -> Result<(), NoMemory>
         Event::Line { irq, on } => push_level(out, *irq, *on),
         Event::BadSector(sector) => push_word(out, *sector),
     }
-}
-
-/// Adds a number of 4 bytes.
-fn push_word(out: &mut Vec<u8>, value: u32) -> Result<(), NoMemory>
-    ensures added { OnOk result (out.new.items ≡ out.old.items ++ to_le_bytes w32 value) }
-{
-    out.extend_from_slice(&value.to_le_bytes())?;
-    Ok(())
 }
 
 /// Adds a device or a line, and its level.

@@ -24,29 +24,27 @@ impl Model for Image {
 /// The bytes of an image, in pieces. Contracts see them joined.
 #[derive(Drop, Debug)]
 pub struct ImageBytes {
-    pieces: Vec<Vec<u8>>,
+    /// The head, and the cards.
+    pub(crate) front: Vec<u8>,
+    pub(crate) rom: Vec<u8>,
+    /// Empty where there is no disk.
+    pub(crate) disk: Vec<u8>,
+    pub(crate) steps: Vec<u8>,
 }
 
 impl Model for ImageBytes {
-    ghost use Rattle.std.specs.Prelude.{ℕ, List, flat_map};
+    ghost use Rattle.std.specs.Prelude.{◌++◌, ℕ, List};
 
     ghost Value = { List ℕ };
 
-    ghost view = { λ bytes. flat_map (λ piece. piece.items) bytes.pieces.items };
+    ghost view = { λ bytes. bytes.front.items ++ (bytes.rom.items ++ (bytes.disk.items ++ bytes.steps.items)) };
 }
 
 impl ImageBytes {
-    /// The bytes of these pieces.
-    pub(crate) fn of(pieces: Vec<Vec<u8>>) -> ImageBytes
-        ensures bytes { result ≡ flat_map (λ piece. piece.items) pieces.items }
-    {
-        ImageBytes { pieces }
-    }
-
     /// The pieces, in their order.
-    pub fn pieces(&self) -> &[Vec<u8>]
-        ensures bytes { flat_map (λ piece. piece.items) result.now ≡ self.now }
+    pub fn pieces(&self) -> [&[u8]; 4]
+        ensures bytes { flat_map (λ piece. piece.now) result ≡ self.now }
     {
-        &self.pieces
+        [&self.front, &self.rom, &self.disk, &self.steps]
     }
 }

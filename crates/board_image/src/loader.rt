@@ -10,6 +10,7 @@ ghost use Rattle.board_image.specs.ImageBytes.{IsImage};
 use crate::image::Image;
 use board_base::NoMemory;
 use board_core::{Board, BoardOpen, Setup};
+use board_spec::laws::law_one_replay;
 use std::alloc::Global;
 
 /// A fresh board.
@@ -38,5 +39,7 @@ pub fn load(alloc: Global, image: Image) -> Result<Board, NoMemory>
     let mut board = fresh(alloc, setup)?;
     board.reserve(steps.len() as u32)?;
     board.steps(&steps);
+    // No other history is legal and has these steps.
+    law_one_replay();
     Ok(board)
 }

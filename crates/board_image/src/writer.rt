@@ -1,13 +1,12 @@
 //! Writes an image.
 
-ghost use Rattle.std.specs.Prelude.{◌≡◌, ◌++◌, ◌<◌, ◌≤◌, ◌^◌, length, is_some, unwrap_or, flat_map, map, IfOk, OnOk};
-ghost use Rattle.board_spec.specs.Limits.{most_statements};
-ghost use Rattle.board_spec.specs.Setup.{IsCard, IsSetup};
+ghost use Rattle.std.specs.Prelude.{◌≡◌, ◌++◌, ◌∷◌, [], length, is_some, flat_map, map, All, IfOk, OnOk};
+ghost use Rattle.board_spec.specs.Setup.{IsBase, IsCard, IsSetup};
 ghost use Rattle.board_spec.specs.Orders.{statements_of};
 ghost use Rattle.pci_bars.specs.Bases.{base_of};
-ghost use Rattle.board_image.specs.ImageBytes.{base_byte, card_bytes, disk_bytes, head_bytes, image_bytes, IsImage};
+ghost use Rattle.board_image.specs.ImageBytes.{flag_byte, base_byte, card_bytes, disk_bytes, head_bytes, size_bytes, image_bytes, IsImage};
 
-use crate::event_writer::steps_piece;
+use crate::event_writer::{push_word, steps_piece};
 use crate::fields::MAGIC;
 use crate::head::VERSION;
 use crate::image::ImageBytes;
@@ -22,13 +21,24 @@ pub(crate) const IO_BASE: u8 = 0x80;
 
 /// The byte of a base.
 fn base_byte(base: BaseSpec) -> u8
-    requires small { base_byte (base_of base) < 256 }
+    requires base { IsBase (base_of base) }
     ensures byte { result ≡ base_byte (base_of base) }
 {
     match base {
         BaseSpec::Memory(bits) => bits,
         BaseSpec::Io(bits) => IO_BASE + bits,
     }
+}
+
+/// Adds bases.
+fn push_bases(out: &mut Vec<u8>, bases: &[BaseSpec]) -> Result<(), NoMemory>
+    requires bases { All IsBase (map base_of bases.now) }
+    ensures added { OnOk result (out.new.items ≡ out.old.items ++ map base_byte (map base_of bases.now)) }
+{
+    for base in bases {
+        out.push(base_byte(*base))?;
+    }
+    Ok(())
 }
 
 /// Adds a card.
@@ -39,10 +49,46 @@ fn push_card(out: &mut Vec<u8>, card: &CardSpec) -> Result<(), NoMemory>
 {
     let count = card.bases.len() as u8;
     out.extend_from_slice(&[card.dev, u8::from(card.vga), card.rom.unwrap_or(0), count])?;
-    for base in &card.bases {
-        out.push(base_byte(*base))?;
+    push_bases(out, &card.bases)
+}
+
+/// The bytes of the memory, the number of cards, and whether there is a disk. The last is reserved.
+fn fittings(setup: &Setup) -> [u8; 4]
+    requires fitted { IsSetup setup.now }
+    ensures bytes { result ≡ setup.now.mib ∷ length setup.now.cards ∷ flag_byte (is_some setup.now.disk) ∷ 0 ∷ [] }
+{
+    let has_disk = u8::from(setup.disk.is_some());
+    [setup.mib as u8, setup.cards.len() as u8, has_disk, 0]
+}
+
+/// The length of the ROM.
+fn rom_size(setup: &Setup) -> u32
+    requires fitted { IsSetup setup.now }
+    ensures size { result ≡ length setup.now.rom }
+{
+    setup.rom.len() as u32
+}
+
+/// The length of the disk, 0 where there is none.
+fn disk_size(setup: &Setup) -> u32
+    requires fitted { IsSetup setup.now }
+    ensures size { result ≡ length (disk_bytes setup.now) }
+{
+    match &setup.disk {
+        Some(disk) => disk.len() as u32,
+        None => 0,
     }
-    Ok(())
+}
+
+/// Adds the lengths of the ROM and of the disk, and the number of steps.
+#[tactic(auto, unfolding(crate::specs::ImageBytes::size_bytes))]
+fn push_sizes(out: &mut Vec<u8>, setup: &Setup, steps: u32) -> Result<(), NoMemory>
+    requires fitted { IsSetup setup.now }
+    ensures added { OnOk result (out.new.items ≡ out.old.items ++ size_bytes setup.now steps) }
+{
+    push_word(out, rom_size(setup))?;
+    push_word(out, disk_size(setup))?;
+    push_word(out, steps)
 }
 
 /// Adds the head.
@@ -51,18 +97,10 @@ fn push_head(out: &mut Vec<u8>, setup: &Setup, steps: u32) -> Result<(), NoMemor
     requires fitted { IsSetup setup.now }
     ensures added { OnOk result (out.new.items ≡ out.old.items ++ head_bytes setup.now steps) }
 {
-    let disk_size = match &setup.disk {
-        Some(disk) => disk.len() as u32,
-        None => 0,
-    };
     out.extend_from_slice(&MAGIC)?;
     out.extend_from_slice(&VERSION.to_le_bytes())?;
-    let has_disk = u8::from(setup.disk.is_some());
-    out.extend_from_slice(&[setup.mib as u8, setup.cards.len() as u8, has_disk, 0])?;
-    out.extend_from_slice(&(setup.rom.len() as u32).to_le_bytes())?;
-    out.extend_from_slice(&disk_size.to_le_bytes())?;
-    out.extend_from_slice(&steps.to_le_bytes())?;
-    Ok(())
+    out.extend_from_slice(&fittings(setup))?;
+    push_sizes(out, setup, steps)
 }
 
 /// The head, and the cards.
@@ -95,13 +133,10 @@ pub fn save(alloc: Global, setup: &Setup, history: &History) -> Result<ImageByte
     requires image { IsImage setup.now (statements_of history.now.entries) }
     ensures bytes { IfOk result (λ bytes. bytes ≡ image_bytes setup.now (statements_of history.now.entries)) }
 {
-    let mut pieces = Vec::with_capacity(alloc, PIECES)?;
-    pieces.push(front_piece(alloc, setup, history.len())?)?;
-    pieces.push(Vec::from_slice(alloc, &setup.rom)?)?;
-    pieces.push(disk_piece(alloc, setup)?)?;
-    pieces.push(steps_piece(alloc, history.entries())?)?;
-    Ok(ImageBytes::of(pieces))
+    Ok(ImageBytes {
+        front: front_piece(alloc, setup, history.len())?,
+        rom: Vec::from_slice(alloc, &setup.rom)?,
+        disk: disk_piece(alloc, setup)?,
+        steps: steps_piece(alloc, history.entries())?,
+    })
 }
-
-/// How many pieces an image has: the head with the cards, the ROM, the disk, the steps.
-const PIECES: usize = 4;
