@@ -1,2 +1,6 @@
 pub mod Loops
 pub mod ImageLoops
+pub mod Formats
+pub mod Numbers
+pub mod EventFormats
+pub mod StepFormats

@@ -1,6 +1,6 @@
 -- A board image: what a board is fitted with, and then who asked what of it, in order. The replies follow from these.
 -- Numbers have their low byte first.
-use Rattle.std.specs.Prelude.{ℕ, ◌≤◌, ◌<◌, ◌+◌, ◌++◌, Bool, true, false, List, [], ◌∷◌, length, map, flat_map, All, Option, is_some, unwrap_or, codes}
+use Rattle.std.specs.Prelude.{ℕ, ◌≤◌, ◌<◌, ◌+◌, ◌^◌, ◌++◌, Bool, true, false, List, [], ◌∷◌, length, map, flat_map, All, Option, is_some, unwrap_or, codes}
 use Rattle.std.specs.Int.{w16, w32, w64, to_le_bytes}
 use Rattle.board_base.specs.declared.access.Kind.{Kind}
 use Rattle.board_base.specs.declared.access.Kind.TheVariants.{Fetch, Read, Write}
@@ -141,9 +141,19 @@ image_bytes setup steps =
     head_bytes setup (length steps)
     ++ (flat_map card_bytes setup.cards ++ (setup.rom ++ (disk_bytes setup ++ flat_map step_bytes steps)))
 
+-- an address fits 32 bits, a port 16, a device number and a line 8
+abbrev pub FitsField : Event → Type 0
+FitsField (Memory access) = access.addr < 2 ^ 32
+FitsField (Port access) = access.port < 2 ^ 16
+FitsField (LookAt kind addr smm) = addr < 2 ^ 32
+FitsField (Wire dev on) = dev < 2 ^ 8
+FitsField (Line irq on) = irq < 2 ^ 8
+FitsField _ = Unit {0}
+
 -- a step that an image can say: of one of eight processors, and one that the board can do
 pub record IsImageStep (setup : Setup) (step : Statement) : Type 0 where
-  pub actor : step.actor < 8
+  pub actor : step.actor ≤ 7
+  pub fits : FitsField step.event
   pub event : IsInRange setup step.event
   pub sector : IsScriptSector step.event
 

@@ -4,7 +4,7 @@ ghost use Rattle.std.specs.Prelude.{◌≡◌, ◌++◌, ◌∷◌, [], length, 
 ghost use Rattle.board_spec.specs.Setup.{IsBase, IsCard, IsSetup};
 ghost use Rattle.board_spec.specs.Orders.{statements_of};
 ghost use Rattle.pci_bars.specs.Bases.{base_of};
-ghost use Rattle.board_image.specs.ImageBytes.{flag_byte, base_byte, card_bytes, disk_bytes, head_bytes, size_bytes, image_bytes, IsImage};
+ghost use Rattle.board_image.specs.ImageBytes.{flag_byte, base_byte, card_bytes, disk_bytes, head_bytes, size_bytes, image_bytes};
 
 use crate::event_writer::{push_word, steps_piece};
 use crate::fields::MAGIC;
@@ -127,10 +127,11 @@ fn disk_piece(alloc: Global, setup: &Setup) -> Result<Vec<u8>, NoMemory>
     }
 }
 
-/// The image of a board: its setup, and the processor and the event of each entry of its history. All of these are in
-/// the range that an image can say. The replies are not kept: `load` gives them again.
+/// The image of a board: its setup, and the processor and the event of each entry of its history. The replies are not
+/// kept: `load` gives them again. It can be read again where the history has at most 250,000 entries, of processors 0 to
+/// 7 and each in range.
 pub fn save(alloc: Global, setup: &Setup, history: &History) -> Result<ImageBytes, NoMemory>
-    requires image { IsImage setup.now (statements_of history.now.entries) }
+    requires fitted { IsSetup setup.now }
     ensures bytes { IfOk result (λ bytes. bytes ≡ image_bytes setup.now (statements_of history.now.entries)) }
 {
     Ok(ImageBytes {
