@@ -127,7 +127,7 @@ memory_format =
      last_format (λ (access : Access). access.value)
      (λ value. record { kind = kind; addr = addr; width = width; smm = smm; value = value })
      (within_format wide32 0 (most_value (is_write kind) (bytes_of width)) (most_fits (is_write kind) width))
-     (λ value. refl))
+     (λ value good. refl))
      (λ addr access any good. ap (λ (access : Access). access.addr) good.1))
      (λ width access any good. ap (λ (access : Access). access.width) good.1.1))
      (λ smm access any good. ap (λ (access : Access). access.smm) good.1.1.1))
@@ -152,7 +152,7 @@ port_format =
      last_format (λ (access : PortAccess). access.value)
      (λ value. record { write = write; port = port; width = width; value = value })
      (within_format wide32 0 (most_value write (bytes_of width)) (most_fits write width))
-     (λ value. refl))
+     (λ value good. refl))
      (λ port access any good. ap (λ (access : PortAccess). access.port) good.1))
      (λ width access any good. ap (λ (access : PortAccess). access.width) good.1.1))
      (λ write access any good. ap (λ (access : PortAccess). access.write) good.1.1.1))
@@ -174,7 +174,7 @@ size_to bytes (inl is) = rw is (omega arith, refl)
 size_to bytes (inr (inl is)) = rw is (omega arith, refl)
 size_to bytes (inr (inr is)) = rw is (omega arith, refl)
 
-either_true : (p q : Bool) → (p || q) ≡ true → (p ≡ true) ⊎ (q ≡ true)
+pub either_true : (p q : Bool) → (p || q) ≡ true → (p ≡ true) ⊎ (q ≡ true)
 either_true true q is = inl refl
 either_true false q is = inr is
 
@@ -238,7 +238,7 @@ wide_format =
      (λ value. record { kind = kind; bytes = bytes; smm = smm; addr = addr; value = value })
      (within_format wide64 0 (most_value (is_write kind) bytes)
      (wide_most_fits (is_write kind) bytes (size_from bytes good.1)))
-     (λ value. refl))
+     (λ value good. refl))
      (λ addr access any good. ap (λ (access : WideAccess). access.addr) good.1))
      (λ bytes access any good. ap (λ (access : WideAccess). access.bytes) good.1.1))
      (λ smm access any good. ap (λ (access : WideAccess). access.smm) good.1.1.1))

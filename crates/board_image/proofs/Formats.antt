@@ -41,14 +41,14 @@ not_err x y is = absurd cc
 pub err_is : {X : Type 0} (x y : ℕ) → ◌≡◌ {A = Result X ℕ} (Err x) (Err y) → x ≡ y
 err_is x y is = cc
 
-then_ok :
+pub then_ok :
     {A B : Type 0} (first : Result (A × List ℕ) ℕ) (next : A → Reads B) (value : B) (rest : List ℕ) →
     then_read first next ≡ Ok (value, rest) →
     (got : A × List ℕ) × (first ≡ Ok got) × (next got.0 got.1 ≡ Ok (value, rest))
 then_ok (Ok got) next value rest is = (got, refl, is)
 then_ok (Err left) next value rest is = absurd cc
 
-then_err :
+pub then_err :
     {A B : Type 0} (first : Result (A × List ℕ) ℕ) (next : A → Reads B) (left : ℕ) → then_read first next ≡ Err left →
     (first ≡ Err left) ⊎ ((got : A × List ℕ) × (first ≡ Ok got) × (next got.0 got.1 ≡ Err left))
 then_err (Ok got) next left is = inr (got, refl, is)
@@ -135,11 +135,11 @@ format_as m {reads = reads} other IsOther is few to from same = record {
 -- the last field of a value
 pub last_format :
     {A C : Type 0} {n : ℕ} {first : Reads A} {a_spelled : A → List ℕ} {IsGood : A → Type 0} (part : C → A)
-    (make : A → C) → IsFormat n first a_spelled IsGood → ((a : A) → part (make a) ≡ a) →
+    (make : A → C) → IsFormat n first a_spelled IsGood → ((a : A) → IsGood a → part (make a) ≡ a) →
     IsFormat n (first >>= λ a. gives (make a)) (λ c. a_spelled (part c)) (λ c. IsGood (part c) × (c ≡ make (part c)))
 last_format {A} {C} {n} {a_spelled = a_spelled} {IsGood = IsGood} part make one same =
     format_as n (λ c. a_spelled (part c)) (λ c. IsGood (part c) × (c ≡ make (part c)))
-    (then_format part one (λ a good. done_format (make a)) (λ a c good is. ap part is ∙ same a)) (omega arith)
+    (then_format part one (λ a good. done_format (make a)) (λ a c good is. ap part is ∙ same a good)) (omega arith)
     (λ c good. good) (λ c good. good) (λ c good. append-nil (a_spelled (part c)))
 
 -- a value made of the one that is read
@@ -175,7 +175,7 @@ abbrev pub AreGood : {S A : Type 0} → (S → A → S) → (S → A → Type 0)
 AreGood next IsGood s [] = Unit {0}
 AreGood next IsGood s (value ∷ later) = IsGood s value × AreGood next IsGood (next s value) later
 
-abbrev AreMany : {S A : Type 0} → (S → A → S) → (S → A → Type 0) → S → ℕ → List A → Type 0
+abbrev pub AreMany : {S A : Type 0} → (S → A → S) → (S → A → Type 0) → S → ℕ → List A → Type 0
 AreMany next IsGood s count values = (length values ≡ count) × AreGood next IsGood s values
 
 many_back :
@@ -280,12 +280,12 @@ many_format {n = n} {next = next} {many = many} {spelled = spelled} loop each s 
 
 -- ---- bytes
 
-cut_ok : {X : Type 0} (short : Bool) (left : ℕ) (value : X) (given : X) →
+pub cut_ok : {X : Type 0} (short : Bool) (left : ℕ) (value : X) (given : X) →
     cond short (Err left) (Ok value) ≡ Ok given → (short ≡ false) × (value ≡ given)
 cut_ok true left value given is = absurd cc
 cut_ok false left value given is = (refl, ok_is value given is)
 
-cut_bad : {X : Type 0} (short : Bool) (size : ℕ) (value : X) (left : ℕ) →
+pub cut_bad : {X : Type 0} (short : Bool) (size : ℕ) (value : X) (left : ℕ) →
     cond short (Err size) (Ok value) ≡ Err left → size ≡ left
 cut_bad {X} true size value left is = err_is {X = X} size left is
 cut_bad false size value left is = absurd cc

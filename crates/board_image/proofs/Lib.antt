@@ -4,3 +4,5 @@ pub mod Formats
 pub mod Numbers
 pub mod EventFormats
 pub mod StepFormats
+pub mod CardFormats
+pub mod ImageFormats

@@ -136,7 +136,7 @@ Tells {A} says code = (n : ℕ) (a : A) → says n ≡ Some a → n ≡ code a
 pub no_row : {A : Type 0} (code : A → ℕ) → Tells (λ n. None) code
 no_row code n a is = absurd cc
 
-some_is : {A : Type 0} (x y : A) → Some x ≡ Some y → x ≡ y
+pub some_is : {A : Type 0} (x y : A) → Some x ≡ Some y → x ≡ y
 some_is x y is = cc
 
 pub row : {A : Type 0} {later : ℕ → Option A} (code : A → ℕ) (k : ℕ) (x : A) → code x ≡ k → Tells later code →
@@ -153,7 +153,7 @@ row {A} {later} code k x is others n a told =
 
 -- ---- numbers that are good
 
-where_ok : {A : Type 0} (good : Bool) (x y : A) → where_true good x ≡ Some y → (good ≡ true) × (x ≡ y)
+pub where_ok : {A : Type 0} (good : Bool) (x y : A) → where_true good x ≡ Some y → (good ≡ true) × (x ≡ y)
 where_ok true x y is = (refl, some_is x y is)
 where_ok false x y is = absurd cc
 

@@ -46,7 +46,7 @@ moment_format =
      then_format (λ (m : Moment). m.hour) (byte_within 0 23 (omega arith)) (λ hour good.
      then_format (λ (m : Moment). m.minute) (byte_within 0 59 (omega arith)) (λ minute good.
      last_format (λ (m : Moment). m.second) (λ second. moment_of year month day hour minute second)
-     (byte_within 0 59 (omega arith)) (λ second. refl))
+     (byte_within 0 59 (omega arith)) (λ second good. refl))
      (λ minute m any good. ap (λ (m : Moment). m.minute) good.1))
      (λ hour m any good. ap (λ (m : Moment). m.hour) good.1.1))
      (λ day m any good. ap (λ (m : Moment). m.day) good.1.1.1))
@@ -122,7 +122,7 @@ look_format =
     (then_format look_kind kind_format (λ kind good.
      then_format look_smm flag_format (λ smm good.
      last_format look_addr (λ addr. LookAt kind addr smm) (within_format wide32 0 0xFFFF_FFFF (omega arith))
-     (λ addr. refl))
+     (λ addr good. refl))
      (λ smm event any good. ap look_smm good.1))
      (λ kind event any good. ap look_kind good.1.1))
     (omega arith)
@@ -135,7 +135,7 @@ unfolding wire_fields field_bytes
 wire_format setup =
     format_as 15 field_bytes (IsWire setup)
     (then_format level_number (byte_where (λ dev. is_some (card_at setup dev))) (λ dev good.
-     last_format level (λ on. Wire dev on) flag_format (λ on. refl))
+     last_format level (λ on. Wire dev on) flag_format (λ on good. refl))
      (λ dev event any good. ap level_number good.1))
     (omega arith)
     (λ event is. ((is.0, is.1), (tt, is.2)))
@@ -147,7 +147,7 @@ unfolding line_fields field_bytes
 line_format =
     format_as 15 field_bytes IsLine
     (then_format level_number (byte_where is_free_line) (λ irq good.
-     last_format level (λ on. Line irq on) flag_format (λ on. refl))
+     last_format level (λ on. Line irq on) flag_format (λ on good. refl))
      (λ irq event any good. ap level_number good.1))
     (omega arith)
     (λ event is. ((is.0, is.1), (tt, is.2)))
@@ -268,7 +268,7 @@ step_format setup =
     (then_format (λ (step : Statement). step.actor) (byte_within 0 7 (omega arith)) (λ actor good.
      then_format (λ (step : Statement). tag_of_event step.event) tag_format (λ tag good.
      last_format (λ (step : Statement). step.event) (λ event. record { actor = actor; event = event })
-     (event_format setup tag) (λ event. refl))
+     (event_format setup tag) (λ event good. refl))
      (λ tag step any good. tag_told setup tag step.event good.0))
      (λ actor step any good. ap (λ (step : Statement). step.actor) good.1.1))
     (omega arith)

@@ -102,14 +102,19 @@ steps_fields setup (suc count) = do
   later ← steps_fields setup count
   gives (step ∷ later)
 
--- nothing follows the last step
-unfoldable pub image_fields : Reads Saved
-image_fields = do
+unfoldable pub saved_fields : Reads Saved
+saved_fields = do
   head ← head_fields
   setup ← setup_fields head
   steps ← steps_fields setup head.steps
-  done ← ended
   gives (record { setup = setup; steps = steps })
+
+-- nothing follows the last step
+unfoldable pub image_fields : Reads Saved
+image_fields = do
+  saved ← saved_fields
+  done ← ended
+  gives saved
 
 -- the field at this offset is the first that is not whole or out of range, or the first byte too many
 pub record IsBadAt (bytes : List ℕ) (at : ℕ) : Type 0 where

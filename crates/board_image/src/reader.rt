@@ -7,7 +7,7 @@ ghost use Rattle.board_spec.specs.Setup.{Setup as Fitting};
 ghost use Rattle.board_image.specs.declared.fault.ImageFault.{ImageFault};
 ghost use Rattle.board_image.specs.ImageBytes.{Saved, image_bytes, IsImage};
 ghost use Rattle.board_image.specs.Fields.{Took, Filled, number_where, plain};
-ghost use Rattle.board_image.specs.ImageFields.{is_rom_size, is_disk_size, head_fields, setup_fields, steps_fields, image_fields, IsBadAt};
+ghost use Rattle.board_image.specs.ImageFields.{is_rom_size, is_disk_size, head_fields, setup_fields, steps_fields, saved_fields, image_fields, IsBadAt};
 
 use crate::card_reader::cards;
 use crate::event_reader::step;
@@ -118,16 +118,25 @@ fn steps(alloc: Global, fields: &mut Fields, cards: &[CardSpec], count: u32) -> 
     Ok(steps)
 }
 
-/// All fields of an image.
-#[tactic(auto, unfolding(crate::specs::ImageFields::image_fields))]
-fn image(alloc: Global, fields: &mut Fields) -> Result<Image, Fault>
-    ensures filled { Filled (λ image. image) result fields.new (image_fields fields.old) }
+/// What an image says.
+#[tactic(auto, unfolding(crate::specs::ImageFields::saved_fields))]
+fn saved(alloc: Global, fields: &mut Fields) -> Result<Image, Fault>
+    ensures filled { Filled (λ image. image) result fields.new (saved_fields fields.old) }
 {
     let head = head(fields)?;
     let setup = setup(alloc, fields, &head)?;
     let steps = steps(alloc, fields, &setup.cards, head.steps)?;
-    fields.end()?;
     Ok(Image { setup, steps })
+}
+
+/// What an image says, after which nothing follows.
+#[tactic(auto, unfolding(crate::specs::ImageFields::image_fields))]
+fn image(alloc: Global, fields: &mut Fields) -> Result<Image, Fault>
+    ensures filled { Filled (λ image. image) result fields.new (image_fields fields.old) }
+{
+    let image = saved(alloc, fields)?;
+    fields.end()?;
+    Ok(image)
 }
 
 /// The image that bytes are, or the offset of the first field that is not whole or out of range, or of the first byte
