@@ -75,9 +75,10 @@ bases_to : (bases : List Base) (room : ℕ) → AllByRecursion IsBase bases → 
     AreGood room_after IsBaseIn room bases
 bases_to [] room all fit = tt
 bases_to (base ∷ later) room all fit =
-    let whole = sum_by-cons memory_size base later in
-    ((all.0, omega (arith, whole, fit)),
-    bases_to later (room - memory_size base) all.1 (omega (arith, whole, fit)))
+    let whole = sum_by-cons memory_size base later in (
+      (all.0, omega (arith, whole, fit)),
+      bases_to later (room - memory_size base) all.1 (omega (arith, whole, fit)),
+    )
 
 bases_from : (bases : List Base) (room : ℕ) → AreGood room_after IsBaseIn room bases →
     AllByRecursion IsBase bases × (sum_by memory_size bases ≤ room)
@@ -101,8 +102,8 @@ bases_format room count =
     (many_format bases_loop base_format room count) (omega arith)
     (λ bases is. (is.0, bases_to bases room (recursion_from_All IsBase bases is.1.0) is.1.1))
     (λ bases good.
-      let all = bases_from bases room good.1 in
-      (good.0, (All-from_recursion IsBase bases all.0, all.1)))
+    let all = bases_from bases room good.1 in
+    (good.0, (All-from_recursion IsBase bases all.0, all.1)))
     (λ bases good. one_each bases)
 
 -- ---- an expansion ROM
@@ -110,7 +111,8 @@ bases_format room count =
 rom_said : (rom : Option ℕ) → IsExpansionRom rom → (unwrap_or rom 0 < 2 ^ 8) × (rom_of (unwrap_or rom 0) ≡ Some rom)
 rom_said None is = (omega arith, refl)
 rom_said (Some bits) is =
-    (omega (arith, is.1), rw (ne_eqb bits 0 (λ none. omega (arith, is.0, none)), le-leb 11 bits is.0, le-leb bits 24 is.1) refl)
+    (omega (arith, is.1), rw (ne_eqb bits 0 (λ none. omega (arith, is.0, none)), le-leb 11 bits is.0,
+    le-leb bits 24 is.1) refl)
 
 rom_told : (n : ℕ) (rom : Option ℕ) → n < 2 ^ 8 → rom_of n ≡ Some rom → (n ≡ unwrap_or rom 0) × IsExpansionRom rom
 rom_told n rom below is =
@@ -142,18 +144,18 @@ unfolding card_fields card_bytes
 card_format before =
     format_as 10 card_bytes (IsCardAfter before)
     (then_format (λ (card : FittedCard). card.dev) (byte_within (before.0 + 1) 9 (omega arith)) (λ dev good.
-     then_format (λ (card : FittedCard). card.vga) flag_format (λ vga good.
-     then_format (λ (card : FittedCard). card.rom) rom_format (λ rom good.
-     then_format (λ (card : FittedCard). length card.bases) (byte_within 0 6 (omega arith)) (λ count few.
-     last_format (λ (card : FittedCard). card.bases)
-     (λ bases. record { dev = dev; vga = vga; bases = bases; rom = rom })
-     (format_as 6 (map base_byte) (λ bases. (length bases ≡ count) × AreBasesIn before.1 bases)
-     (bases_format before.1 count) (omega (arith, few.1)) (λ bases is. is) (λ bases is. is) (λ bases is. refl))
-     (λ bases good. refl))
-     (λ count card any good. good.0.0))
-     (λ rom card any good. ap (λ (card : FittedCard). card.rom) good.1.1))
-     (λ vga card any good. ap (λ (card : FittedCard). card.vga) good.1.1.1))
-     (λ dev card any good. ap (λ (card : FittedCard). card.dev) good.1.1.1.1))
+    then_format (λ (card : FittedCard). card.vga) flag_format (λ vga good.
+    then_format (λ (card : FittedCard). card.rom) rom_format (λ rom good.
+    then_format (λ (card : FittedCard). length card.bases) (byte_within 0 6 (omega arith)) (λ count few.
+    last_format (λ (card : FittedCard). card.bases)
+    (λ bases. record { dev = dev; vga = vga; bases = bases; rom = rom })
+    (format_as 6 (map base_byte) (λ bases. (length bases ≡ count) × AreBasesIn before.1 bases)
+    (bases_format before.1 count) (omega (arith, few.1)) (λ bases is. is) (λ bases is. is) (λ bases is. refl))
+    (λ bases good. refl))
+    (λ count card any good. good.0.0))
+    (λ rom card any good. ap (λ (card : FittedCard). card.rom) good.1.1))
+    (λ vga card any good. ap (λ (card : FittedCard). card.vga) good.1.1.1))
+    (λ dev card any good. ap (λ (card : FittedCard). card.dev) good.1.1.1.1))
     (omega arith)
     (λ card is. (is.0, (tt, (is.1, (is.2, ((refl, is.3), refl))))))
     (λ card good. (good.0, good.1.1.0, good.1.1.1.0, good.1.1.1.1.0.1))
@@ -178,15 +180,16 @@ cards_to : (cards : List FittedCard) (above room : ℕ) → AllByRecursion IsCar
 cards_to [] above room all high rise fit = tt
 cards_to (card ∷ later) above room all high rise fit =
     let whole = memory_of_more card later in
-    let one = bases_of_one card in
-    ((
-      (omega (arith, high.0), all.0.last),
-      all.0.rom,
-      (omega arith, all.0.count),
-      (all.0.each, omega (arith, whole, fit)),
-    ),
-    cards_to later card.dev (room - memory_of_cards (card ∷ [])) all.1
-    (recursion_from_All (LiesAbove card.dev) later rise.0) rise.1 (omega (arith, whole, one, fit)))
+    let one = bases_of_one card in (
+      (
+        (omega (arith, high.0), all.0.last),
+        all.0.rom,
+        (omega arith, all.0.count),
+        (all.0.each, omega (arith, whole, fit)),
+      ),
+      cards_to later card.dev (room - memory_of_cards (card ∷ [])) all.1
+          (recursion_from_All (LiesAbove card.dev) later rise.0) rise.1 (omega (arith, whole, one, fit)),
+    )
 
 higher : (low high : ℕ) (cards : List FittedCard) → low ≤ high → AllByRecursion (LiesAbove high) cards →
     AllByRecursion (LiesAbove low) cards
@@ -213,13 +216,16 @@ cards_from (card ∷ later) above room some good =
     let rest = cards_from later card.dev (room - memory_of_cards (card ∷ [])) (omega (arith, low)) good.1 in
     let left = rest.fit in
     record {
-      each = (record {
-        first = omega (arith, low, some);
-        last = last;
-        count = few;
-        each = good.0.3.0;
-        rom = good.0.1;
-      }, rest.each);
+      each = (
+        record {
+          first = omega (arith, low, some);
+          last = last;
+          count = few;
+          each = good.0.3.0;
+          rom = good.0.1;
+        },
+        rest.each,
+      );
       high = (omega (arith, low), higher above card.dev later (omega (arith, low)) rest.high);
       rise = (All-from_recursion (LiesAbove card.dev) later rest.high, rest.rise);
       fit = omega (arith, whole, one, left, fits);
@@ -241,9 +247,9 @@ cards_format count room =
     format_as (10 * count) (flat_map card_bytes) (AreCardsOf count room)
     (many_format cards_loop card_format (1, room) count) (omega arith)
     (λ cards are.
-      let all = recursion_from_All IsCard cards are.1 in
-      (are.0, cards_to cards 1 room all (two_or_more cards all) are.2 are.3))
+    let all = recursion_from_All IsCard cards are.1 in
+    (are.0, cards_to cards 1 room all (two_or_more cards all) are.2 are.3))
     (λ cards good.
-      let are = cards_from cards 1 room (omega arith) good.1 in
-      (good.0, All-from_recursion IsCard cards are.each, are.rise, are.fit))
+    let are = cards_from cards 1 room (omega arith) good.1 in
+    (good.0, All-from_recursion IsCard cards are.each, are.rise, are.fit))
     (λ cards good. refl)

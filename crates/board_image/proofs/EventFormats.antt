@@ -120,25 +120,25 @@ unfolding memory_fields memory_bytes
 memory_format =
     format_as 15 memory_bytes CanSpellMemory
     (then_format (λ (access : Access). access.kind) kind_format (λ kind good.
-     then_format (λ (access : Access). access.smm) flag_format (λ smm good.
-     then_format (λ (access : Access). access.width) width_format (λ width good.
-     then_format (λ (access : Access). access.addr) (where_format wide32 (λ addr. addr % bytes_of width == 0))
-     (λ addr good.
-     last_format (λ (access : Access). access.value)
-     (λ value. record { kind = kind; addr = addr; width = width; smm = smm; value = value })
-     (within_format wide32 0 (most_value (is_write kind) (bytes_of width)) (most_fits (is_write kind) width))
-     (λ value good. refl))
-     (λ addr access any good. ap (λ (access : Access). access.addr) good.1))
-     (λ width access any good. ap (λ (access : Access). access.width) good.1.1))
-     (λ smm access any good. ap (λ (access : Access). access.smm) good.1.1.1))
-     (λ kind access any good. ap (λ (access : Access). access.kind) good.1.1.1.1))
+    then_format (λ (access : Access). access.smm) flag_format (λ smm good.
+    then_format (λ (access : Access). access.width) width_format (λ width good.
+    then_format (λ (access : Access). access.addr) (where_format wide32 (λ addr. addr % bytes_of width == 0))
+    (λ addr good.
+    last_format (λ (access : Access). access.value)
+    (λ value. record { kind = kind; addr = addr; width = width; smm = smm; value = value })
+    (within_format wide32 0 (most_value (is_write kind) (bytes_of width)) (most_fits (is_write kind) width))
+    (λ value good. refl))
+    (λ addr access any good. ap (λ (access : Access). access.addr) good.1))
+    (λ width access any good. ap (λ (access : Access). access.width) good.1.1))
+    (λ smm access any good. ap (λ (access : Access). access.smm) good.1.1.1))
+    (λ kind access any good. ap (λ (access : Access). access.kind) good.1.1.1.1))
     (omega arith)
     (λ access can.
-      let are = bus_to (is_write access.kind) (2 ^ 32) access.addr access.width access.value can.0 can.1 in
-      (tt, (tt, (tt, (are.0, (are.1, refl))))))
+    let are = bus_to (is_write access.kind) (2 ^ 32) access.addr access.width access.value can.0 can.1 in
+    (tt, (tt, (tt, (are.0, (are.1, refl))))))
     (λ access good.
-      bus_from (is_write access.kind) (2 ^ 32) access.addr access.width access.value
-      (good.1.1.1.0, good.1.1.1.1.0))
+    bus_from (is_write access.kind) (2 ^ 32) access.addr access.width access.value
+    (good.1.1.1.0, good.1.1.1.1.0))
     (λ access good. refl)
 
 pub port_format : IsFormat 15 port_fields port_bytes CanSpellPort
@@ -146,22 +146,22 @@ unfolding port_fields port_bytes
 port_format =
     format_as 15 port_bytes CanSpellPort
     (then_format (λ (access : PortAccess). access.write) flag_format (λ write good.
-     then_format (λ (access : PortAccess). access.width) width_format (λ width good.
-     then_format (λ (access : PortAccess). access.port) (where_format wide16 (λ port. port % bytes_of width == 0))
-     (λ port good.
-     last_format (λ (access : PortAccess). access.value)
-     (λ value. record { write = write; port = port; width = width; value = value })
-     (within_format wide32 0 (most_value write (bytes_of width)) (most_fits write width))
-     (λ value good. refl))
-     (λ port access any good. ap (λ (access : PortAccess). access.port) good.1))
-     (λ width access any good. ap (λ (access : PortAccess). access.width) good.1.1))
-     (λ write access any good. ap (λ (access : PortAccess). access.write) good.1.1.1))
+    then_format (λ (access : PortAccess). access.width) width_format (λ width good.
+    then_format (λ (access : PortAccess). access.port) (where_format wide16 (λ port. port % bytes_of width == 0))
+    (λ port good.
+    last_format (λ (access : PortAccess). access.value)
+    (λ value. record { write = write; port = port; width = width; value = value })
+    (within_format wide32 0 (most_value write (bytes_of width)) (most_fits write width))
+    (λ value good. refl))
+    (λ port access any good. ap (λ (access : PortAccess). access.port) good.1))
+    (λ width access any good. ap (λ (access : PortAccess). access.width) good.1.1))
+    (λ write access any good. ap (λ (access : PortAccess). access.write) good.1.1.1))
     (omega arith)
     (λ access can.
-      let are = bus_to access.write (2 ^ 16) access.port access.width access.value can.0 can.1 in
-      (tt, (tt, (are.0, (are.1, refl)))))
+    let are = bus_to access.write (2 ^ 16) access.port access.width access.value can.0 can.1 in
+    (tt, (tt, (are.0, (are.1, refl)))))
     (λ access good.
-      bus_from access.write (2 ^ 16) access.port access.width access.value (good.1.1.0, good.1.1.1.0))
+    bus_from access.write (2 ^ 16) access.port access.width access.value (good.1.1.0, good.1.1.1.0))
     (λ access good. refl)
 
 -- the sizes of wide accesses
@@ -198,21 +198,29 @@ wide_most_fits false bytes size = omega arith
 place_to : (bytes addr : ℕ) → (bytes ≡ 8) ⊎ (addr % bytes ≢ 0) → addr + bytes ≤ 0x1_0000_0000 → IsWideSize bytes →
     (addr < 2 ^ 32) × (is_wide_place bytes addr ≡ true)
 place_to bytes addr wide ends size =
-    let some : 1 ≤ bytes = elim size [ | inl is ↦ omega (arith, is) | inr (inl is) ↦ omega (arith, is) | inr (inr is) ↦ omega (arith, is) ] in
-    (omega (arith, ends, some),
-    and_from _ _ (elim wide [
-      | inl eight ↦ rw (eq-eqb bytes 8 eight) refl
-      | inr other ↦ rw (ne_eqb (addr % bytes) 0 other) (or-true (bytes == 8))
-    ]) (le-leb (addr + bytes) 0x1_0000_0000 ends))
+    let some : 1 ≤ bytes =
+        elim size [
+          | inl is ↦ omega (arith, is)
+          | inr (inl is) ↦ omega (arith, is)
+          | inr (inr is) ↦ omega (arith, is)
+        ] in (
+      omega (arith, ends, some),
+      and_from _ _ (elim wide [
+        | inl eight ↦ rw (eq-eqb bytes 8 eight) refl
+        | inr other ↦ rw (ne_eqb (addr % bytes) 0 other) (or-true (bytes == 8))
+      ]) (le-leb (addr + bytes) 0x1_0000_0000 ends),
+    )
 
 place_from : (bytes addr : ℕ) → is_wide_place bytes addr ≡ true →
     ((bytes ≡ 8) ⊎ (addr % bytes ≢ 0)) × (addr + bytes ≤ 0x1_0000_0000)
 place_from bytes addr is =
-    let both = and_parts (bytes == 8 || not (addr % bytes == 0)) (nat_le (addr + bytes) 0x1_0000_0000) is in
-    (elim (either_true (bytes == 8) (not (addr % bytes == 0)) both.0) [
-      | inl eight ↦ inl (eqb-true bytes 8 eight)
-      | inr other ↦ inr (λ same. let no : not (addr % bytes == 0) ≡ false = rw (eq-eqb (addr % bytes) 0 same) refl in cc)
-    ], leb-true (addr + bytes) 0x1_0000_0000 both.1)
+    let both = and_parts (bytes == 8 || not (addr % bytes == 0)) (nat_le (addr + bytes) 0x1_0000_0000) is in (
+      elim (either_true (bytes == 8) (not (addr % bytes == 0)) both.0) [
+        | inl eight ↦ inl (eqb-true bytes 8 eight)
+        | inr other ↦ inr (λ same. let no : not (addr % bytes == 0) ≡ false = rw (eq-eqb (addr % bytes) 0 same) refl in cc)
+      ],
+      leb-true (addr + bytes) 0x1_0000_0000 both.1,
+    )
 
 wide_fits_to : (writes : Bool) (bytes value : ℕ) → FitsBytes writes bytes value →
     Ranges 0 (most_value writes bytes) value
@@ -231,29 +239,39 @@ unfolding wide_fields wide_bytes
 wide_format =
     format_as 15 wide_bytes IsWideAccess
     (then_format (λ (access : WideAccess). access.kind) kind_format (λ kind good.
-     then_format (λ (access : WideAccess). access.smm) flag_format (λ smm good.
-     then_format (λ (access : WideAccess). access.bytes) (byte_where is_wide_size) (λ bytes good.
-     then_format (λ (access : WideAccess). access.addr) (where_format wide32 (is_wide_place bytes)) (λ addr placed.
-     last_format (λ (access : WideAccess). access.value)
-     (λ value. record { kind = kind; bytes = bytes; smm = smm; addr = addr; value = value })
-     (within_format wide64 0 (most_value (is_write kind) bytes)
-     (wide_most_fits (is_write kind) bytes (size_from bytes good.1)))
-     (λ value good. refl))
-     (λ addr access any good. ap (λ (access : WideAccess). access.addr) good.1))
-     (λ bytes access any good. ap (λ (access : WideAccess). access.bytes) good.1.1))
-     (λ smm access any good. ap (λ (access : WideAccess). access.smm) good.1.1.1))
-     (λ kind access any good. ap (λ (access : WideAccess). access.kind) good.1.1.1.1))
+    then_format (λ (access : WideAccess). access.smm) flag_format (λ smm good.
+    then_format (λ (access : WideAccess). access.bytes) (byte_where is_wide_size) (λ bytes good.
+    then_format (λ (access : WideAccess). access.addr) (where_format wide32 (is_wide_place bytes)) (λ addr placed.
+    last_format (λ (access : WideAccess). access.value)
+    (λ value. record { kind = kind; bytes = bytes; smm = smm; addr = addr; value = value })
+    (within_format wide64 0 (most_value (is_write kind) bytes)
+    (wide_most_fits (is_write kind) bytes (size_from bytes good.1)))
+    (λ value good. refl))
+    (λ addr access any good. ap (λ (access : WideAccess). access.addr) good.1))
+    (λ bytes access any good. ap (λ (access : WideAccess). access.bytes) good.1.1))
+    (λ smm access any good. ap (λ (access : WideAccess). access.smm) good.1.1.1))
+    (λ kind access any good. ap (λ (access : WideAccess). access.kind) good.1.1.1.1))
     (omega arith)
-    (λ access is.
-      (tt, (tt, (size_to access.bytes is.bytes, (place_to access.bytes access.addr is.wide is.ends is.bytes,
-      (wide_fits_to (is_write access.kind) access.bytes access.value is.fits, refl))))))
+    (λ access is. (
+      tt,
+      (
+        tt,
+        (
+          size_to access.bytes is.bytes,
+          (
+            place_to access.bytes access.addr is.wide is.ends is.bytes,
+            (wide_fits_to (is_write access.kind) access.bytes access.value is.fits, refl),
+          ),
+        ),
+      ),
+    ))
     (λ access good.
-      let size = size_from access.bytes good.1.1.0.1 in
-      let placed = place_from access.bytes access.addr good.1.1.1.0.1 in
-      record {
-        bytes = size;
-        wide = placed.0;
-        ends = placed.1;
-        fits = wide_fits_from (is_write access.kind) access.bytes access.value good.1.1.1.1.0;
-      })
+    let size = size_from access.bytes good.1.1.0.1 in
+    let placed = place_from access.bytes access.addr good.1.1.1.0.1 in
+    record {
+      bytes = size;
+      wide = placed.0;
+      ends = placed.1;
+      fits = wide_fits_from (is_write access.kind) access.bytes access.value good.1.1.1.1.0;
+    })
     (λ access good. refl)

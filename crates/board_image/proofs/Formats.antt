@@ -6,15 +6,13 @@ use Rattle.std.proofs.lemmas.Bool.{ltb-false, le-ltb}
 use Rattle.std.proofs.Math.Nat.{mul-suc}
 use Rattle.std.proofs.lemmas.List.{take_at, drop_at, length-append, length-take, take-append-drop, append-nil}
 use Rattle.board_image.specs.Fields.{Reads, then_read, gives, plain, ◌>>=◌}
+pub use Rattle.board_image.specs.Laws.{AreBytes}
 use Rattle.board_image.proofs.Loops.{IsLoop, with_later}
 
--- every number of a list is a byte
-abbrev pub AreBytes : List ℕ → Type 0
-AreBytes bytes = (k : ℕ) → get_or bytes k 0 < 256
-
--- values that are good are spelled in at most so many bytes, and read back whatever follows. What is read was spelled so
--- and is good. A bad field begins after at most so many bytes
-pub record IsFormat {A : Type 0} (most : ℕ) (reads : Reads A) (spelled : A → List ℕ) (IsGood : A → Type 0) : Type 0 where
+-- values that are good are spelled in at most so many bytes, and read back whatever follows. What is read was spelled
+-- so and is good. A bad field begins after at most so many bytes
+pub record IsFormat {A : Type 0} (most : ℕ) (reads : Reads A) (spelled : A → List ℕ) (IsGood : A → Type 0) :
+    Type 0 where
   pub back : (value : A) (rest : List ℕ) → IsGood value → reads (spelled value ++ rest) ≡ Ok (value, rest)
   pub taken : (bytes : List ℕ) (value : A) (rest : List ℕ) → AreBytes bytes → reads bytes ≡ Ok (value, rest) →
       (bytes ≡ spelled value ++ rest) × IsGood value
@@ -63,11 +61,14 @@ pub then_format :
     ((a : A) (c : C) → IsGoodA a → IsGoodC a c → part c ≡ a) →
     IsFormat (n + m) (first >>= next) (λ c. a_spelled (part c) ++ c_spelled (part c) c)
     (λ c. IsGoodA (part c) × IsGoodC (part c) c)
-then_format {n = n} {m = m} {first = first} {next = next} {a_spelled = a_spelled} {IsGoodA = IsGoodA} {c_spelled = c_spelled} {IsGoodC = IsGoodC} part one other same =
+then_format {n = n} {m = m} {first = first} {next = next} {a_spelled = a_spelled}
+    {IsGoodA = IsGoodA} {c_spelled = c_spelled} {IsGoodC = IsGoodC} part one other same =
     record {
       back = λ value rest good.
-          rw (append_assoc (a_spelled (part value)) (c_spelled (part value) value) rest,
-          one.back (part value) (c_spelled (part value) value ++ rest) good.0)
+          rw (
+            append_assoc (a_spelled (part value)) (c_spelled (part value) value) rest,
+            one.back (part value) (c_spelled (part value) value ++ rest) good.0,
+          )
           ((other (part value) good.0).back value rest good.1);
       taken = λ bytes value rest are is.
           let got = then_ok (first bytes) next value rest is in
@@ -76,7 +77,7 @@ then_format {n = n} {m = m} {first = first} {next = next} {a_spelled = a_spelled
           let told = same got.0.0 value a.1 c.1 in
           rw told (
             a.0 ∙ (ap (λ (later : List ℕ). a_spelled got.0.0 ++ later) c.0
-            ∙ sym (append_assoc (a_spelled got.0.0) (c_spelled got.0.0 value) rest)),
+                ∙ sym (append_assoc (a_spelled got.0.0) (c_spelled got.0.0 value) rest)),
             (a.1, c.1),
           );
       bad = λ bytes left are is.
@@ -154,10 +155,9 @@ made_format {A} {C} {first = first} {a_spelled = a_spelled} make other one same 
       let a = one.taken bytes got.0.0 got.0.1 are got.1 in
       let told = ok_is (make got.0.0, got.0.1) (value, rest) got.2 in
       let made : make got.0.0 ≡ value = ap (λ (pair : C × List ℕ). pair.0) told in
-      let after : got.0.1 ≡ rest = ap (λ (pair : C × List ℕ). pair.1) told in
-      (
+      let after : got.0.1 ≡ rest = ap (λ (pair : C × List ℕ). pair.1) told in (
         a.0 ∙ (ap (λ (front : List ℕ). front ++ got.0.1) (sym (same got.0.0) ∙ ap other made)
-        ∙ ap (λ (last : List ℕ). other value ++ last) after),
+            ∙ ap (λ (last : List ℕ). other value ++ last) after),
         (got.0.0, a.1, sym made),
       );
   bad = λ bytes left are is.
@@ -207,13 +207,15 @@ many_taken {A = A} {next = next} {spelled = spelled} {IsGood = IsGood} loop each
     let after : bytes ≡ rest = ap (λ (pair : List A × List ℕ). pair.1) told in
     subst (λ (values : List A). (bytes ≡ flat_map spelled values ++ rest) × AreMany next IsGood s 0 values) none
     (after, (refl, tt))
-many_taken {A = A} {one = one} {next = next} {many = many} {spelled = spelled} {IsGood = IsGood} loop each (suc count) s bytes values rest are is =
+many_taken {A = A} {one = one} {next = next} {many = many} {spelled = spelled}
+    {IsGood = IsGood} loop each (suc count) s bytes values rest are is =
     let first = then_ok (one s bytes) (with_later (λ value. many (next s value) count)) values rest
     (sym (loop.more s count bytes) ∙ is) in
     let value = first.0.0 in
     let a = (each s).taken bytes value first.0.1 are first.1 in
     let second = then_ok (many (next s value) count first.0.1) (λ later. gives (value ∷ later)) values rest first.2 in
-    let b = many_taken loop each count (next s value) first.0.1 second.0.0 second.0.1 (rest_of bytes _ _ are a.0) second.1 in
+    let b = many_taken loop each count (next s value) first.0.1 second.0.0 second.0.1
+    (rest_of bytes _ _ are a.0) second.1 in
     let told = ok_is (value ∷ second.0.0, second.0.1) (values, rest) second.2 in
     let made : value ∷ second.0.0 ≡ values = ap (λ (pair : List A × List ℕ). pair.0) told in
     let after : second.0.1 ≡ rest = ap (λ (pair : List A × List ℕ). pair.1) told in
@@ -222,7 +224,8 @@ many_taken {A = A} {one = one} {next = next} {many = many} {spelled = spelled} {
     ∙ (sym (append_assoc (spelled value) (flat_map spelled second.0.0) second.0.1)
     ∙ (ap (λ (front : List ℕ). front ++ second.0.1) (sym (flat_map-cons spelled value second.0.0))
     ∙ ap (λ (last : List ℕ). flat_map spelled (value ∷ second.0.0) ++ last) after))) in
-    subst (λ (values : List A). (bytes ≡ flat_map spelled values ++ rest) × AreMany next IsGood s (suc count) values) made
+    subst (λ (values : List A). (bytes ≡ flat_map spelled values ++ rest) × AreMany next IsGood s (suc count) values)
+    made
     (joined, (ap suc b.1.0, (a.1, b.1.1)))
 
 many_bad :
@@ -232,9 +235,10 @@ many_bad :
     (left ≤ length bytes) × (length bytes ≤ left + n * count)
 many_bad {A = A} loop each zero s bytes left are is =
     absurd (not_err {C = List A × List ℕ} ([], bytes) left (sym (loop.none s bytes) ∙ is))
-many_bad {A = A} {n = n} {one = one} {next = next} {many = many} {spelled = spelled} loop each (suc count) s bytes left are is =
+many_bad {A = A} {n = n} {one = one} {next = next} {many = many} {spelled = spelled} loop
+    each (suc count) s bytes left are is =
     elim (then_err (one s bytes) (with_later (λ value. many (next s value) count)) left
-        (sym (loop.more s count bytes) ∙ is)) [
+    (sym (loop.more s count bytes) ∙ is)) [
       | inl early ↦
           let bound = (each s).bad bytes left are early in
           (bound.0, omega (arith, bound.1, mul-suc n count))
@@ -259,7 +263,8 @@ many_size :
     length (flat_map spelled values) ≤ n * length values
 many_size next each [] s good = omega arith
 many_size {n = n} next {spelled = spelled} each (value ∷ later) s good =
-    let joined = ap length (flat_map-cons spelled value later) ∙ length-append (spelled value) (flat_map spelled later) in
+    let joined = ap length (flat_map-cons spelled value later)
+        ∙ length-append (spelled value) (flat_map spelled later) in
     let first = (each s).size value good.0 in
     let rest = many_size next each later (next s value) good.1 in
     omega (arith, joined, first, rest, mul-suc n (length later))
@@ -297,12 +302,14 @@ plain_format size = record {
       le-ltb _ _ (omega (arith, length-append value rest, long)) in
       rw (enough, take_at value rest size long, drop_at value rest size long) refl;
   taken = λ bytes value rest are is.
-      let told = cut_ok (nat_lt (length bytes) size) (length bytes) (take size bytes, drop size bytes) (value, rest) is in
+      let told = cut_ok (nat_lt (length bytes) size) (length bytes) (take size bytes, drop size bytes)
+      (value, rest) is in
       let front : take size bytes ≡ value = ap (λ (pair : List ℕ × List ℕ). pair.0) told.1 in
       let after : drop size bytes ≡ rest = ap (λ (pair : List ℕ × List ℕ). pair.1) told.1 in
-      let long : size ≤ length bytes = ltb-false _ _ told.0 in
-      (rw (← front, ← after) (sym (take-append-drop size bytes)),
-      rw (← front) (omega (arith, length-take size bytes, long)));
+      let long : size ≤ length bytes = ltb-false _ _ told.0 in (
+        rw (← front, ← after) (sym (take-append-drop size bytes)),
+        rw (← front) (omega (arith, length-take size bytes, long)),
+      );
   bad = λ bytes left are is.
       let same = cut_bad (nat_lt (length bytes) size) (length bytes) (take size bytes, drop size bytes) left is in
       (omega (arith, same), omega (arith, same));

@@ -42,10 +42,12 @@ exactly_format text = record {
       let told = chosen_ok (bytes_eq (take (length text) bytes) text) (tt, drop (length text) bytes) (done, rest)
       (length bytes) is in
       let front : take (length text) bytes ≡ text = (bytes_eq-Decides (take (length text) bytes) text).0 told.0 in
-      let after : drop (length text) bytes ≡ rest = ap (λ (pair : Unit {0} × List ℕ). pair.1) told.1 in
-      (sym (take-append-drop (length text) bytes)
-      ∙ (ap (λ (front : List ℕ). front ++ drop (length text) bytes) front
-      ∙ ap (λ (last : List ℕ). text ++ last) after), tt);
+      let after : drop (length text) bytes ≡ rest = ap (λ (pair : Unit {0} × List ℕ). pair.1) told.1 in (
+        sym (take-append-drop (length text) bytes)
+            ∙ (ap (λ (front : List ℕ). front ++ drop (length text) bytes) front
+            ∙ ap (λ (last : List ℕ). text ++ last) after),
+        tt,
+      );
   bad = λ bytes left are is.
       let same = chosen_bad (bytes_eq (take (length text) bytes) text) (tt, drop (length text) bytes) (length bytes)
       left is in
@@ -90,9 +92,11 @@ HasDiskSize true size = IsDiskSize size
 disk_size_to : (has_disk : Bool) (size : ℕ) → HasDiskSize has_disk size →
     (size < 2 ^ 32) × (is_disk_size has_disk size ≡ true)
 disk_size_to false size is = (omega (arith, is), eq-eqb size 0 is)
-disk_size_to true size (sectors, some, few, is) =
-    (omega (arith, few, is), and_from _ _ (eq-eqb (size % 512) 0 (omega (arith, is)))
-    (and_from _ _ (le-leb 512 size (omega (arith, some, is))) (le-leb size 0x200_0000 (omega (arith, few, is)))))
+disk_size_to true size (sectors, some, few, is) = (
+  omega (arith, few, is),
+  and_from _ _ (eq-eqb (size % 512) 0 (omega (arith, is)))
+      (and_from _ _ (le-leb 512 size (omega (arith, some, is))) (le-leb size 0x200_0000 (omega (arith, few, is)))),
+)
 
 disk_size_from : (has_disk : Bool) (size : ℕ) → is_disk_size has_disk size ≡ true → HasDiskSize has_disk size
 disk_size_from false size is = eqb-true size 0 is
@@ -132,44 +136,61 @@ unfolding head_fields
 head_format =
     format_as 26 head_spelled IsHead
     (then_format (λ (head : Head). tt) (exactly_format magic) (λ mark any.
-     then_format (λ (head : Head). image_version) (within_format wide16 image_version image_version (omega arith))
-     (λ version good.
-     then_format (λ (head : Head). head.mib) (byte_within 1 64 (omega arith)) (λ mib good.
-     then_format (λ (head : Head). head.cards) (byte_within 0 8 (omega arith)) (λ cards good.
-     then_format (λ (head : Head). head.has_disk) flag_format (λ has_disk any.
-     then_format (λ (head : Head). 0) (byte_within 0 0 (omega arith)) (λ reserved good.
-     then_format (λ (head : Head). head.rom_size) (where_format wide32 is_rom_size) (λ rom_size good.
-     then_format (λ (head : Head). head.disk_size) (where_format wide32 (is_disk_size has_disk)) (λ disk_size good.
-     last_format (λ (head : Head). head.steps)
-     (λ steps. record {
-       mib = mib;
-       cards = cards;
-       has_disk = has_disk;
-       rom_size = rom_size;
-       disk_size = disk_size;
-       steps = steps;
-     })
-     (within_format wide32 0 most_statements (omega arith)) (λ steps good. refl))
-     (λ disk_size head any good. ap (λ (head : Head). head.disk_size) good.1))
-     (λ rom_size head any good. ap (λ (head : Head). head.rom_size) good.1.1))
-     (λ reserved head zero good. only_zero reserved zero))
-     (λ has_disk head any good. ap (λ (head : Head). head.has_disk) good.1.1.1.1))
-     (λ cards head any good. ap (λ (head : Head). head.cards) good.1.1.1.1.1))
-     (λ mib head any good. ap (λ (head : Head). head.mib) good.1.1.1.1.1.1))
-     (λ version head is good. only_version version is))
-     (λ mark head any good. refl))
+    then_format (λ (head : Head). image_version) (within_format wide16 image_version image_version (omega arith))
+    (λ version good.
+    then_format (λ (head : Head). head.mib) (byte_within 1 64 (omega arith)) (λ mib good.
+    then_format (λ (head : Head). head.cards) (byte_within 0 8 (omega arith)) (λ cards good.
+    then_format (λ (head : Head). head.has_disk) flag_format (λ has_disk any.
+    then_format (λ (head : Head). 0) (byte_within 0 0 (omega arith)) (λ reserved good.
+    then_format (λ (head : Head). head.rom_size) (where_format wide32 is_rom_size) (λ rom_size good.
+    then_format (λ (head : Head). head.disk_size) (where_format wide32 (is_disk_size has_disk)) (λ disk_size good.
+    last_format (λ (head : Head). head.steps)
+    (λ steps. record {
+      mib = mib;
+      cards = cards;
+      has_disk = has_disk;
+      rom_size = rom_size;
+      disk_size = disk_size;
+      steps = steps;
+    })
+    (within_format wide32 0 most_statements (omega arith)) (λ steps good. refl))
+    (λ disk_size head any good. ap (λ (head : Head). head.disk_size) good.1))
+    (λ rom_size head any good. ap (λ (head : Head). head.rom_size) good.1.1))
+    (λ reserved head zero good. only_zero reserved zero))
+    (λ has_disk head any good. ap (λ (head : Head). head.has_disk) good.1.1.1.1))
+    (λ cards head any good. ap (λ (head : Head). head.cards) good.1.1.1.1.1))
+    (λ mib head any good. ap (λ (head : Head). head.mib) good.1.1.1.1.1.1))
+    (λ version head is good. only_version version is))
+    (λ mark head any good. refl))
     (omega arith)
-    (λ head is.
-      (tt, ((omega arith, omega arith), (is.mib, (is.cards, (tt, ((omega arith, omega arith),
-      (rom_size_to head.rom_size is.rom, (disk_size_to head.has_disk head.disk_size is.disk, (is.steps, refl))))))))))
+    (λ head is. (
+      tt,
+      (
+        (omega arith, omega arith),
+        (
+          is.mib,
+          (
+            is.cards,
+            (
+              tt,
+              (
+                (omega arith, omega arith),
+                (rom_size_to head.rom_size is.rom, (disk_size_to head.has_disk head.disk_size is.disk,
+                (is.steps, refl))),
+              ),
+            ),
+          ),
+        ),
+      ),
+    ))
     (λ head good.
-      record {
-        mib = good.1.1.0;
-        cards = good.1.1.1.0;
-        rom = rom_size_from head.rom_size good.1.1.1.1.1.1.0.1;
-        disk = disk_size_from head.has_disk head.disk_size good.1.1.1.1.1.1.1.0.1;
-        steps = good.1.1.1.1.1.1.1.1.0;
-      })
+    record {
+      mib = good.1.1.0;
+      cards = good.1.1.1.0;
+      rom = rom_size_from head.rom_size good.1.1.1.1.1.1.0.1;
+      disk = disk_size_from head.has_disk head.disk_size good.1.1.1.1.1.1.1.0.1;
+      steps = good.1.1.1.1.1.1.1.1.0;
+    })
     (λ head good. refl)
 
 -- ---- the setup
@@ -217,24 +238,24 @@ setup_format head is =
     let cards = is.cards.1 in
     format_as 34_078_800 setup_spelled (IsFitted head)
     (then_format (λ (setup : Setup). setup.cards) (cards_format head.cards most_card_memory) (λ cards good.
-     then_format (λ (setup : Setup). setup.rom) (plain_format head.rom_size) (λ rom good.
-     last_format disk_bytes
-     (λ disk. record { mib = head.mib; cards = cards; rom = rom; disk = disk_where head.has_disk disk })
-     (plain_format head.disk_size) (λ bytes long. disk_same head.has_disk bytes head.disk_size is.disk long))
-     (λ rom setup any good. ap (λ (setup : Setup). setup.rom) good.1))
-     (λ cards setup any good. ap (λ (setup : Setup). setup.cards) good.1.1))
+    then_format (λ (setup : Setup). setup.rom) (plain_format head.rom_size) (λ rom good.
+    last_format disk_bytes
+    (λ disk. record { mib = head.mib; cards = cards; rom = rom; disk = disk_where head.has_disk disk })
+    (plain_format head.disk_size) (λ bytes long. disk_same head.has_disk bytes head.disk_size is.disk long))
+    (λ rom setup any good. ap (λ (setup : Setup). setup.rom) good.1))
+    (λ cards setup any good. ap (λ (setup : Setup). setup.cards) good.1.1))
     (omega (arith, rom, disk, cards))
     (λ setup fit.
-      (fit.cards, (fit.rom, (fit.disk_size, made_of head.mib head.has_disk setup fit.mib fit.disk))))
+    (fit.cards, (fit.rom, (fit.disk_size, made_of head.mib head.has_disk setup fit.mib fit.disk))))
     (λ setup good.
-      record {
-        mib = ap (λ (setup : Setup). setup.mib) good.1.1.1;
-        cards = good.0;
-        rom = good.1.0;
-        disk =
-            ap (λ (setup : Setup). is_some setup.disk) good.1.1.1 ∙ disk_there head.has_disk (disk_bytes setup);
-        disk_size = good.1.1.0;
-      })
+    record {
+      mib = ap (λ (setup : Setup). setup.mib) good.1.1.1;
+      cards = good.0;
+      rom = good.1.0;
+      disk =
+          ap (λ (setup : Setup). is_some setup.disk) good.1.1.1 ∙ disk_there head.has_disk (disk_bytes setup);
+      disk_size = good.1.1.0;
+    })
     (λ setup good. refl)
 
 -- ---- the steps
@@ -299,46 +320,51 @@ unfolding saved_fields image_bytes head_bytes size_bytes
 saved_format =
     format_as 38_328_826 saved_spelled IsSaved
     (then_format head_of head_format (λ head is.
-     then_format (λ (saved : Saved). saved.setup) (setup_format head is) (λ setup fit.
-     last_format (λ (saved : Saved). saved.steps) (λ steps. record { setup = setup; steps = steps })
-     (steps_format setup head.steps is.steps.1) (λ steps good. refl))
-     (λ setup saved any good. ap (λ (saved : Saved). saved.setup) good.1))
-     (λ head saved is good.
-       same_head (head_of saved) head good.0.mib good.0.cards.0 good.0.disk good.0.rom good.0.disk_size
-       good.1.0.0))
+    then_format (λ (saved : Saved). saved.setup) (setup_format head is) (λ setup fit.
+    last_format (λ (saved : Saved). saved.steps) (λ steps. record { setup = setup; steps = steps })
+    (steps_format setup head.steps is.steps.1) (λ steps good. refl))
+    (λ setup saved any good. ap (λ (saved : Saved). saved.setup) good.1))
+    (λ head saved is good.
+    same_head (head_of saved) head good.0.mib good.0.cards.0 good.0.disk good.0.rom good.0.disk_size
+    good.1.0.0))
     (omega arith)
     (λ saved is.
-      let setup = saved.setup in
-      let cards = is.fitted.cards in
-      (record {
+    let setup = saved.setup in
+    let cards = is.fitted.cards in (
+      record {
         mib = (is.fitted.some_memory, is.fitted.most_memory);
         cards = (omega arith, cards.count);
         rom = is.fitted.rom;
         disk = disk_of_head setup.disk is.fitted.disk;
         steps = (omega arith, is.count);
-      }, (record {
-        mib = refl;
-        cards = (refl, cards.each, cards.rises, is.fitted.windows);
-        rom = refl;
-        disk = refl;
-        disk_size = refl;
-      }, ((refl, is.each), refl))))
+      },
+      (
+        record {
+          mib = refl;
+          cards = (refl, cards.each, cards.rises, is.fitted.windows);
+          rom = refl;
+          disk = refl;
+          disk_size = refl;
+        },
+        ((refl, is.each), refl),
+      ),
+    ))
     (λ saved good.
-      record {
-        fitted = record {
-          some_memory = good.0.mib.0;
-          most_memory = good.0.mib.1;
-          cards = record { count = good.0.cards.1; each = good.1.0.cards.1; rises = good.1.0.cards.2 };
-          windows = good.1.0.cards.3;
-          rom = good.0.rom;
-          disk = disk_of_setup saved.setup.disk good.0.disk;
-        };
-        count = good.0.steps.1;
-        each = good.1.1.0.1;
-      })
+    record {
+      fitted = record {
+        some_memory = good.0.mib.0;
+        most_memory = good.0.mib.1;
+        cards = record { count = good.0.cards.1; each = good.1.0.cards.1; rises = good.1.0.cards.2 };
+        windows = good.1.0.cards.3;
+        rom = good.0.rom;
+        disk = disk_of_setup saved.setup.disk good.0.disk;
+      };
+      count = good.0.steps.1;
+      each = good.1.1.0.1;
+    })
     (λ saved good.
-      grouped (head_spelled (head_of saved)) (flat_map card_bytes saved.setup.cards) saved.setup.rom
-      (disk_bytes saved.setup) (flat_map step_bytes saved.steps))
+    grouped (head_spelled (head_of saved)) (flat_map card_bytes saved.setup.cards) saved.setup.rom
+    (disk_bytes saved.setup) (flat_map step_bytes saved.steps))
 
 -- ---- nothing follows
 
@@ -368,19 +394,22 @@ pub image_taken : (bytes rest : List ℕ) (saved : Saved) → AreBytes bytes →
 unfolding image_fields
 image_taken bytes rest saved are is =
     let first = then_ok (saved_fields bytes) (λ (saved : Saved). λ left. then_read (ended left) (λ done. gives saved))
-        saved rest is in
+    saved rest is in
     let end = end_ok first.0.0 saved first.0.1 rest first.2 in
     let told = saved_format.taken bytes first.0.0 first.0.1 are first.1 in
-    subst (λ (saved : Saved). IsImage saved.setup saved.steps × (bytes ≡ image_bytes saved.setup saved.steps)) end.1
-    (told.1, told.0 ∙ (ap (λ (last : List ℕ). saved_spelled first.0.0 ++ last) end.0
-    ∙ append-nil (saved_spelled first.0.0)))
+    subst (λ (saved : Saved). IsImage saved.setup saved.steps × (bytes ≡ image_bytes saved.setup saved.steps)) end.1 (
+      told.1,
+      told.0 ∙ (ap (λ (last : List ℕ). saved_spelled first.0.0 ++ last) end.0
+          ∙ append-nil (saved_spelled first.0.0)),
+    )
 
 -- a bad field lies within the bytes, and not far from their start
 pub image_bad : (bytes : List ℕ) (left : ℕ) → AreBytes bytes → image_fields bytes ≡ Err left →
     (left ≤ length bytes) × (length bytes ≤ left + 38_328_826)
 unfolding image_fields
 image_bad bytes left are is =
-    elim (then_err (saved_fields bytes) (λ (saved : Saved). λ left. then_read (ended left) (λ done. gives saved)) left is) [
+    elim (then_err (saved_fields bytes) (λ (saved : Saved). λ left. then_read (ended left) (λ done. gives saved)) left
+        is) [
       | inl early ↦ saved_format.bad bytes left are early
       | inr late ↦
           let told = saved_format.taken bytes late.0.0 late.0.1 are late.1 in

@@ -36,7 +36,7 @@ pub goes_on :
 goes_on one next many loop front s count i bytes after value total below is so_far =
     let left : count - i ≡ suc (count - (i + 1)) = omega arith in
     let step : with_front front (many s (count - i) bytes)
-        ≡ with_front front (with_later (λ value. many (next s value) (count - (i + 1))) value after) =
+    ≡ with_front front (with_later (λ value. many (next s value) (count - (i + 1))) value after) =
     rw (left, loop.more s (count - (i + 1)) bytes, is) refl in
     sym (joined front value (many (next s value) (count - (i + 1)) after)) ∙ (sym step ∙ so_far)
 

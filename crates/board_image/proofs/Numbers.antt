@@ -109,7 +109,8 @@ number_format {size} {limit} wide {A} {says} code IsGood to from = record {
       let meant = from n value (wide.below front (front_bytes (byte_len size) bytes are)) told.0 in
       let spelled : to_le_bytes size (code value) ≡ front =
       ap (to_le_bytes size) (sym meant.0)
-      ∙ wide.back front (omega (arith, length-take (byte_len size) bytes, long)) (front_bytes (byte_len size) bytes are) in
+      ∙ wide.back front (omega (arith, length-take (byte_len size) bytes, long))
+      (front_bytes (byte_len size) bytes are) in
       (rw (spelled, ← told.1) (sym (take-append-drop (byte_len size) bytes)), meant.1);
   bad = λ bytes left are is.
       let same = said_bad (nat_lt (length bytes) (byte_len size))

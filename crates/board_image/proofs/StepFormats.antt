@@ -32,8 +32,8 @@ chosen_most false x y most one other = other
 few_days : (year month : ℕ) → days_in_month year month < 2 ^ 8
 few_days year month =
     let most : days_in_month year month ≤ 31 =
-        chosen_most _ _ _ 31 (chosen_most (is_leap year) 29 28 31 (omega arith) (omega arith))
-        (chosen_most _ 30 31 31 (omega arith) (omega arith)) in
+    chosen_most _ _ _ 31 (chosen_most (is_leap year) 29 28 31 (omega arith) (omega arith))
+    (chosen_most _ 30 31 31 (omega arith) (omega arith)) in
     omega (arith, most)
 
 moment_format : IsFormat 15 moment_fields moment_bytes IsMoment
@@ -41,39 +41,51 @@ unfolding moment_fields moment_bytes
 moment_format =
     format_as 15 moment_bytes IsMoment
     (then_format (λ (m : Moment). m.year) (within_format wide16 1980 2099 (omega arith)) (λ year good.
-     then_format (λ (m : Moment). m.month) (byte_within 1 12 (omega arith)) (λ month good.
-     then_format (λ (m : Moment). m.day) (byte_within 1 (days_in_month year month) (few_days year month)) (λ day good.
-     then_format (λ (m : Moment). m.hour) (byte_within 0 23 (omega arith)) (λ hour good.
-     then_format (λ (m : Moment). m.minute) (byte_within 0 59 (omega arith)) (λ minute good.
-     last_format (λ (m : Moment). m.second) (λ second. moment_of year month day hour minute second)
-     (byte_within 0 59 (omega arith)) (λ second good. refl))
-     (λ minute m any good. ap (λ (m : Moment). m.minute) good.1))
-     (λ hour m any good. ap (λ (m : Moment). m.hour) good.1.1))
-     (λ day m any good. ap (λ (m : Moment). m.day) good.1.1.1))
-     (λ month m any good. ap (λ (m : Moment). m.month) good.1.1.1.1))
-     (λ year m any good. ap (λ (m : Moment). m.year) good.1.1.1.1.1))
+    then_format (λ (m : Moment). m.month) (byte_within 1 12 (omega arith)) (λ month good.
+    then_format (λ (m : Moment). m.day) (byte_within 1 (days_in_month year month) (few_days year month)) (λ day good.
+    then_format (λ (m : Moment). m.hour) (byte_within 0 23 (omega arith)) (λ hour good.
+    then_format (λ (m : Moment). m.minute) (byte_within 0 59 (omega arith)) (λ minute good.
+    last_format (λ (m : Moment). m.second) (λ second. moment_of year month day hour minute second)
+    (byte_within 0 59 (omega arith)) (λ second good. refl))
+    (λ minute m any good. ap (λ (m : Moment). m.minute) good.1))
+    (λ hour m any good. ap (λ (m : Moment). m.hour) good.1.1))
+    (λ day m any good. ap (λ (m : Moment). m.day) good.1.1.1))
+    (λ month m any good. ap (λ (m : Moment). m.month) good.1.1.1.1))
+    (λ year m any good. ap (λ (m : Moment). m.year) good.1.1.1.1.1))
     (omega arith)
-    (λ m is.
-      ((is.date.year_low, is.date.year_high), ((is.date.month_low, is.date.month_high),
-      ((is.date.day_low, is.date.day_high), ((omega arith, is.time.hour_high), ((omega arith, is.time.minute_high),
-      ((omega arith, is.time.second_high), ap (λ (day : ℕ). record m { weekday = day }) is.weekday)))))))
+    (λ m is. (
+      (is.date.year_low, is.date.year_high),
+      (
+        (is.date.month_low, is.date.month_high),
+        (
+          (is.date.day_low, is.date.day_high),
+          (
+            (omega arith, is.time.hour_high),
+            (
+              (omega arith, is.time.minute_high),
+              ((omega arith, is.time.second_high), ap (λ (day : ℕ). record m { weekday = day }) is.weekday),
+            ),
+          ),
+        ),
+      ),
+    ))
     (λ m good.
-      record {
-        date = record {
-          year_low = good.0.0;
-          year_high = good.0.1;
-          month_low = good.1.0.0;
-          month_high = good.1.0.1;
-          day_low = good.1.1.0.0;
-          day_high = good.1.1.0.1;
-        };
-        weekday = ap (λ (m : Moment). m.weekday) good.1.1.1.1.1.1;
-        time = record {
-          hour_high = good.1.1.1.0.1;
-          minute_high = good.1.1.1.1.0.1;
-          second_high = good.1.1.1.1.1.0.1;
-        };
-      })
+    record {
+      date = record {
+        year_low = good.0.0;
+        year_high = good.0.1;
+        month_low = good.1.0.0;
+        month_high = good.1.0.1;
+        day_low = good.1.1.0.0;
+        day_high = good.1.1.0.1;
+      };
+      weekday = ap (λ (m : Moment). m.weekday) good.1.1.1.1.1.1;
+      time = record {
+        hour_high = good.1.1.1.0.1;
+        minute_high = good.1.1.1.1.0.1;
+        second_high = good.1.1.1.1.1.0.1;
+      };
+    })
     (λ m good. refl)
 
 -- ---- looks and levels
@@ -120,11 +132,11 @@ unfolding look_fields look_bytes field_bytes
 look_format =
     format_as 15 field_bytes IsLook
     (then_format look_kind kind_format (λ kind good.
-     then_format look_smm flag_format (λ smm good.
-     last_format look_addr (λ addr. LookAt kind addr smm) (within_format wide32 0 0xFFFF_FFFF (omega arith))
-     (λ addr good. refl))
-     (λ smm event any good. ap look_smm good.1))
-     (λ kind event any good. ap look_kind good.1.1))
+    then_format look_smm flag_format (λ smm good.
+    last_format look_addr (λ addr. LookAt kind addr smm) (within_format wide32 0 0xFFFF_FFFF (omega arith))
+    (λ addr good. refl))
+    (λ smm event any good. ap look_smm good.1))
+    (λ kind event any good. ap look_kind good.1.1))
     (omega arith)
     (λ event is. (tt, (tt, ((omega arith, omega (arith, is.0)), is.1))))
     (λ event good. (omega (arith, good.1.1.0.1), good.1.1.1))
@@ -135,8 +147,8 @@ unfolding wire_fields field_bytes
 wire_format setup =
     format_as 15 field_bytes (IsWire setup)
     (then_format level_number (byte_where (λ dev. is_some (card_at setup dev))) (λ dev good.
-     last_format level (λ on. Wire dev on) flag_format (λ on good. refl))
-     (λ dev event any good. ap level_number good.1))
+    last_format level (λ on. Wire dev on) flag_format (λ on good. refl))
+    (λ dev event any good. ap level_number good.1))
     (omega arith)
     (λ event is. ((is.0, is.1), (tt, is.2)))
     (λ event good. (good.0.0, good.0.1, good.1.1))
@@ -147,8 +159,8 @@ unfolding line_fields field_bytes
 line_format =
     format_as 15 field_bytes IsLine
     (then_format level_number (byte_where is_free_line) (λ irq good.
-     last_format level (λ on. Line irq on) flag_format (λ on good. refl))
-     (λ irq event any good. ap level_number good.1))
+    last_format level (λ on. Line irq on) flag_format (λ on good. refl))
+    (λ irq event any good. ap level_number good.1))
     (omega arith)
     (λ event is. ((is.0, is.1), (tt, is.2)))
     (λ event good. (good.0.0, good.0.1, good.1.1))
@@ -266,14 +278,14 @@ unfolding step_fields IsGoodEvent
 step_format setup =
     format_as 17 step_bytes (IsImageStep setup)
     (then_format (λ (step : Statement). step.actor) (byte_within 0 7 (omega arith)) (λ actor good.
-     then_format (λ (step : Statement). tag_of_event step.event) tag_format (λ tag good.
-     last_format (λ (step : Statement). step.event) (λ event. record { actor = actor; event = event })
-     (event_format setup tag) (λ event good. refl))
-     (λ tag step any good. tag_told setup tag step.event good.0))
-     (λ actor step any good. ap (λ (step : Statement). step.actor) good.1.1))
+    then_format (λ (step : Statement). tag_of_event step.event) tag_format (λ tag good.
+    last_format (λ (step : Statement). step.event) (λ event. record { actor = actor; event = event })
+    (event_format setup tag) (λ event good. refl))
+    (λ tag step any good. tag_told setup tag step.event good.0))
+    (λ actor step any good. ap (λ (step : Statement). step.actor) good.1.1))
     (omega arith)
     (λ step is. ((omega arith, is.actor), (tt, (spelled_to setup step.event is.fits is.event is.sector, refl))))
     (λ step good.
-      let is = spelled_from setup step.event good.1.1.0 in
-      record { actor = good.0.1; fits = is.0; event = is.1; sector = is.2 })
+    let is = spelled_from setup step.event good.1.1.0 in
+    record { actor = good.0.1; fits = is.0; event = is.1; sector = is.2 })
     (λ step good. refl)

@@ -65,7 +65,8 @@ ended (byte ∷ later) = Err (length (byte ∷ later))
 
 -- ---- calls that read
 
--- what a call gave, seen by `view`, and the bytes that it left are what is read. Where a field is bad they begin with it
+-- what a call gave, seen by `view`, and the bytes that it left are what is read. Where a field is bad they begin with
+-- it
 abbrev pub Took : {A B : Type 0} → (A → B) → Result A Bad → (after : List ℕ) → Result (B × List ℕ) ℕ → Type 0
 Took view (Ok value) after read = read ≡ Ok (view value, after)
 Took view (Err bad) after read = read ≡ Err (length after)

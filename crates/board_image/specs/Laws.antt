@@ -1,5 +1,5 @@
 -- What the bytes of images and their fields say of one another.
-use Rattle.std.specs.Prelude.{ℕ, ◌≡◌, ◌<◌, ◌++◌, ◌⊎◌, List, length}
+use Rattle.std.specs.Prelude.{ℕ, ◌≡◌, ◌<◌, ◌++◌, ◌⊎◌, List, get_or}
 use Rattle.board_spec.specs.declared.event.Entry.{Entry}
 use Rattle.board_spec.specs.declared.event.Statement.{Statement}
 use Rattle.board_spec.specs.Setup.{Setup}
@@ -21,9 +21,15 @@ pub record IsImageOf (bytes : List ℕ) : Type 0 where
   pub image : IsImage setup steps
   pub spelled : bytes ≡ image_bytes setup steps
 
+-- every number of a list is a byte
+abbrev pub AreBytes : List ℕ → Type 0
+AreBytes bytes = (k : ℕ) → get_or bytes k 0 < 256
+
 -- bytes are an image, or they are bad at one place, and not both
 pub record ImageOrBad : Type 0 where
-  pub one : (bytes : List ℕ) → ((k : ℕ) → k < 256 → Unit {0}) → IsImageOf bytes ⊎ ((at : ℕ) × IsBadAt bytes at)
+  pub either : (bytes : List ℕ) → AreBytes bytes → IsImageOf bytes ⊎ ((at : ℕ) × IsBadAt bytes at)
+  pub not_both : (bytes : List ℕ) (at : ℕ) → IsImageOf bytes → IsBadAt bytes at → ⊥
+  pub one_place : (bytes : List ℕ) (at other : ℕ) → IsBadAt bytes at → IsBadAt bytes other → at ≡ other
 
 -- a board that was saved, loaded and gone on with: its history is that of all statements, one after the other
 abbrev pub GoesOnAsSaved : Type 0

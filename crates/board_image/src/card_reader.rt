@@ -17,6 +17,7 @@ use std::alloc::Global;
 
 /// The device numbers of cards.
 const FIRST_DEVICE: u8 = 2;
+
 const LAST_DEVICE: u8 = 9;
 /// The most bytes behind the memory bases of all cards.
 const MOST_CARD_MEMORY: u32 = 0x400_0000;
@@ -58,7 +59,11 @@ fn base(fields: &mut Fields, room: &mut u32) -> Result<BaseSpec, Bad>
 }
 
 /// So many bases. They take their memory from the room.
-fn bases(fields: &mut Fields, count: u8, room: &mut u32) -> Result<ArrayVec<BaseSpec, BASE_COUNT>, Bad>
+fn bases(
+    fields: &mut Fields,
+    count: u8,
+    room: &mut u32,
+) -> Result<ArrayVec<BaseSpec, BASE_COUNT>, Bad>
     requires few { count ≤ 6 }
     ensures took { Took (λ bases. map base_of bases.items) result fields.new
         (bases_fields count room.old fields.old) }

@@ -24,6 +24,7 @@ const MOST_PULSES: u32 = 1_000_000;
 const LAST_SECTOR: u32 = 0xFFFF;
 /// The years of a moment.
 const FIRST_YEAR: u16 = 1980;
+
 const LAST_YEAR: u16 = 2099;
 
 /// The kind of access that a byte says.

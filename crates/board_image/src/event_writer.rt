@@ -87,7 +87,14 @@ fn push_moment(out: &mut Vec<u8>, moment: &Moment) -> Result<(), NoMemory>
     ensures added { OnOk result (out.new.items ≡ out.old.items ++ moment_bytes moment.now) }
 {
     out.extend_from_slice(&moment.year.to_le_bytes())?;
-    let Moment { month, day, hour, minute, second, .. } = *moment;
+    let Moment {
+        month,
+        day,
+        hour,
+        minute,
+        second,
+        ..
+    } = *moment;
     out.extend_from_slice(&[month, day, hour, minute, second])?;
     Ok(())
 }

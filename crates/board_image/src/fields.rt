@@ -161,6 +161,10 @@ impl<'a> Fields<'a> {
     pub fn end(&mut self) -> Result<(), Bad>
         ensures took { Took (λ _. tt) result self.new (ended self.old) }
     {
-        if self.rest.is_empty() { Ok(()) } else { Err(Bad) }
+        if self.rest.is_empty() {
+            Ok(())
+        } else {
+            Err(Bad)
+        }
     }
 }

@@ -1,12 +1,11 @@
 //! Makes a board of an image.
 
-ghost use Rattle.std.specs.Prelude.{◌≡◌, ◌<◌, List, [], length, IfOk};
+ghost use Rattle.std.specs.Prelude.{◌≡◌, List, [], IfOk};
 ghost use Rattle.board_spec.specs.declared.event.Entry.{Entry};
 ghost use Rattle.board_spec.specs.Setup.{IsSetup};
 ghost use Rattle.board_spec.specs.Legal.{IsLegal};
 ghost use Rattle.board_spec.specs.Orders.{IsReplayOf, statements_of};
-ghost use Rattle.board_spec.specs.Limits.{entry_limit};
-ghost use Rattle.board_core.specs.Steps.{AreInRange};
+ghost use Rattle.board_image.specs.ImageBytes.{IsImage};
 
 use crate::image::Image;
 use board_base::NoMemory;
@@ -29,9 +28,7 @@ fn fresh(alloc: Global, setup: Setup) -> Result<Board, NoMemory>
 /// The board of an image, as each that `read_image` gives: it did the steps of the image. So a board that was saved and
 /// loaded has the history that it had, and goes on from there.
 pub fn load(alloc: Global, image: Image) -> Result<Board, NoMemory>
-    requires fitted { IsSetup image.setup }
-    requires in_range { AreInRange image.setup image.steps }
-    requires few { length image.steps < entry_limit }
+    requires image { IsImage image.setup image.steps }
     ensures setup { IfOk result (λ board. board.setup ≡ image.setup) }
     ensures replay { IfOk result (λ board. IsReplayOf image.setup image.steps board.entries) }
     ensures saved { IfOk result (λ board. (history : List Entry) → IsLegal image.setup history

@@ -27,6 +27,7 @@ const SECTOR: u32 = 512;
 const MOST_DISK: u32 = 0x1_0000 * SECTOR;
 /// The most memory in MiB, and the most cards.
 const MOST_MIB: u8 = 64;
+
 const MOST_CARDS: u8 = 8;
 
 /// The length of a ROM.
@@ -107,7 +108,12 @@ fn setup(alloc: Global, fields: &mut Fields, head: &Head) -> Result<Setup, Fault
 }
 
 /// So many steps of a board with these cards.
-fn steps(alloc: Global, fields: &mut Fields, cards: &[CardSpec], count: u32) -> Result<Vec<Statement>, Fault>
+fn steps(
+    alloc: Global,
+    fields: &mut Fields,
+    cards: &[CardSpec],
+    count: u32,
+) -> Result<Vec<Statement>, Fault>
     ensures filled { (setup : Fitting) → setup.cards ≡ cards.now
         → Filled (λ steps. steps.items) result fields.new (steps_fields setup count fields.old) }
 {

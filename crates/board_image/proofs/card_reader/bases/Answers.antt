@@ -15,9 +15,9 @@ pub returns-in_err-base-clause-took : goal.returns-in_err-base-clause-took
 returns-in_err-base-clause-took c =
     let p = err_from_is_err_and c.from_residual.result c.from_residual.ensures.1 in
     rw p.1 (stops base_field room_after bases_in bases_loop (map base_of c.loop.bases.items) c.loop.room c.args.count
-        c.loop.counter c.loop.fields (length c.base.new.fields)
-        (bases_fields c.args.count c.args.room.now c.args.fields.now) c.loop-test.true c.in_err-base.ensures.took
-        c.loop.invariant.read)
+    c.loop.counter c.loop.fields (length c.base.new.fields)
+    (bases_fields c.args.count c.args.room.now c.args.fields.now) c.loop-test.true c.in_err-base.ensures.took
+    c.loop.invariant.read)
 
 pub push-requires : goal.push-requires
 push-requires c = (omega arith, omega (arith, c.loop.invariant.count, c.requires.few, c.loop-test.true))
@@ -27,7 +27,7 @@ room_left : (room now : ℕ) (bases : List BaseSpec) (base : BaseSpec) →
     now - memory_size (base_of base) ≡ room - sum_by memory_size (map base_of (bases ++ base ∷ []))
 room_left room now bases base is =
     let all : sum_by memory_size (map base_of (bases ++ base ∷ []))
-        ≡ sum_by memory_size (map base_of bases) + memory_size (base_of base) =
+    ≡ sum_by memory_size (map base_of bases) + memory_size (base_of base) =
     rw (map_push base_of bases base) (sum_by_push memory_size (map base_of bases) (base_of base)) in
     rw (is, all) (omega arith)
 
@@ -35,7 +35,7 @@ pub loop-preserved : goal.loop-preserved
 loop-preserved c =
     let base = c.in_ok-base.field-0 in
     let pushed : map base_of c.push.new.self.items ≡ map base_of c.loop.bases.items ++ base_of base ∷ [] =
-        rw c.push.ensures.items (map_push base_of c.loop.bases.items base) in
+    rw c.push.ensures.items (map_push base_of c.loop.bases.items base) in
     record {
       read = rw (pushed, c.in_ok-base.ensures.room) (goes_on base_field room_after bases_in bases_loop
           (map base_of c.loop.bases.items) c.loop.room c.args.count c.loop.counter c.loop.fields c.base.new.fields

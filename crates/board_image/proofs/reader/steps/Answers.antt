@@ -10,8 +10,8 @@ pub returns-in_err-step : goal.returns-in_err-step
 returns-in_err-step c =
     let p = err_from_is_err_and c.from_residual-in_err-step.result c.from_residual-in_err-step.ensures.1 in
     record {
-      filled = λ setup same. rw (p.1, p.2) (stops step_fields same_setup steps_fields steps_loop c.loop.steps.items setup
-          c.args.count c.loop.counter c.loop.fields (length c.step.new.fields)
+      filled = λ setup same. rw (p.1, p.2) (stops step_fields same_setup steps_fields steps_loop c.loop.steps.items
+          setup c.args.count c.loop.counter c.loop.fields (length c.step.new.fields)
           (steps_fields setup c.args.count c.args.fields.now) c.loop-test.true (c.in_err-step.ensures.took setup same)
           (c.loop.invariant setup same));
     }

@@ -8,4 +8,5 @@ use Rattle.board_image.proofs.reader.steps.Given as goal
 abbrev pub invariant-loop : goal.invariant-loop
 invariant-loop l =
     (setup : Setup) → setup.cards ≡ l.cards →
-    with_front l.steps.items (steps_fields setup (l.count - l.counter) l.fields) ≡ steps_fields setup l.count l.fn.fields
+    with_front l.steps.items (steps_fields setup (l.count - l.counter) l.fields)
+    ≡ steps_fields setup l.count l.fn.fields

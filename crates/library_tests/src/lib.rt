@@ -1,0 +1,5 @@
+//! Tests of the libraries that stand on the board.
+#![tactic(auto)]
+
+#[cfg(test)]
+mod board_image;
