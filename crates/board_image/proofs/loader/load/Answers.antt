@@ -13,7 +13,8 @@ in_range setup other steps others same all is =
 
 pub steps-requires-clause-in_range : goal.steps-requires-clause-in_range
 steps-requires-clause-in_range c =
-    in_range c.args.image.setup _ c.args.image.steps _ (search rules) (search rules) c.requires.image
+    in_range c.args.image.setup c.reserve.new.self.setup c.args.image.steps c.deref.result.now (search rules)
+    (search rules) c.requires.image
 
 pub returns-clause-saved : goal.returns-clause-saved
 returns-clause-saved c history legal same =
