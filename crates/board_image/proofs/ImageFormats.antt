@@ -1,0 +1,421 @@
+-- The fields of a whole image.
+use Rattle.std.proofs.Common.{◌≡◌, ℕ, zero, suc, ◌+◌, ◌-◌, ◌*◌, ◌%◌, ◌/◌, ◌^◌, ◌<◌, ◌≤◌, ◌⊎◌, inl, inr, Bool, true, false, cond, List, [], ◌∷◌, ◌++◌, length, take, drop, Option, Some, None, Result, Ok, Err, refl, sym, ap, subst, ◌∙◌, append_assoc, arith}
+use Rattle.std.specs.Prelude.{nat_le, ◌==◌, ◌&&◌, ◌||◌, flat_map, All, is_some, unwrap_or, bytes_eq}
+use Rattle.std.specs.List.{AllByRecursion}
+use Rattle.std.specs.Int.{w8, w16, w32, to_le_bytes}
+use Rattle.std.proofs.lemmas.Bool.{and_from, and_parts, eq-eqb, eqb-true, leb-true, le-leb}
+use Rattle.std.proofs.lemmas.List.{take_at, drop_at, take-append-drop, length-append, nil_from_length, append-nil}
+use Rattle.std.proofs.lemmas.List.Elements.{recursion_from_All, All-from_recursion}
+use Rattle.std.proofs.lemmas.Slice.Eq.{bytes_eq-Decides}
+use Rattle.board_spec.specs.declared.event.Statement.{Statement}
+use Rattle.board_spec.specs.Setup.{Setup, FittedCard, IsSetup, IsRomSize, IsDisk, IsDiskSize}
+use Rattle.board_spec.specs.Limits.{most_statements, most_card_memory}
+use Rattle.board_image.specs.declared.head.Head.{Head}
+use Rattle.board_image.specs.ImageBytes.{Saved, magic, image_version, flag_byte, card_bytes, disk_bytes, size_bytes, head_bytes, step_bytes, image_bytes, IsImageStep, IsImage}
+use Rattle.board_image.specs.Fields.{Reads, then_read, gives, exactly, ended}
+use Rattle.board_image.specs.ImageFields.{is_rom_size, is_disk_size, disk_where, head_fields, setup_fields, steps_fields, saved_fields, image_fields}
+use Rattle.board_image.proofs.Formats.{AreBytes, rest_of, ok_is, not_err, err_is, then_ok, then_err, IsFormat, format_as, then_format, last_format, many_format, plain_format, AreGood}
+use Rattle.board_image.proofs.Numbers.{wide16, wide32, byte_within, within_format, where_format, Ranges}
+use Rattle.board_image.proofs.EventFormats.{Any, either_true, flag_format}
+use Rattle.board_image.proofs.StepFormats.{step_format}
+use Rattle.board_image.proofs.CardFormats.{AreCardsOf, cards_format}
+use Rattle.board_image.proofs.ImageLoops.{same_setup, steps_loop}
+
+-- ---- fixed bytes
+
+chosen_ok : {X : Type 0} (test : Bool) (value given : X) (left : ℕ) →
+    cond test (Ok value) (Err left) ≡ Ok given → (test ≡ true) × (value ≡ given)
+chosen_ok true value given left is = (refl, ok_is value given is)
+chosen_ok false value given left is = absurd cc
+
+chosen_bad : {X : Type 0} (test : Bool) (value : X) (size left : ℕ) →
+    cond test (Ok value) (Err size) ≡ Err left → size ≡ left
+chosen_bad true value size left is = absurd cc
+chosen_bad {X} false value size left is = err_is {X = X} size left is
+
+exactly_format : (text : List ℕ) → IsFormat (length text) (exactly text) (λ done. text) Any
+exactly_format text = record {
+  back = λ done rest any.
+      let same : bytes_eq text text ≡ true = (bytes_eq-Decides text text).1 refl in
+      rw (take_at text rest (length text) refl, drop_at text rest (length text) refl, same) refl;
+  taken = λ bytes done rest are is.
+      let told = chosen_ok (bytes_eq (take (length text) bytes) text) (tt, drop (length text) bytes) (done, rest)
+      (length bytes) is in
+      let front : take (length text) bytes ≡ text = (bytes_eq-Decides (take (length text) bytes) text).0 told.0 in
+      let after : drop (length text) bytes ≡ rest = ap (λ (pair : Unit {0} × List ℕ). pair.1) told.1 in (
+        sym (take-append-drop (length text) bytes)
+            ∙ (ap (λ (front : List ℕ). front ++ drop (length text) bytes) front
+            ∙ ap (λ (last : List ℕ). text ++ last) after),
+        tt,
+      );
+  bad = λ bytes left are is.
+      let same = chosen_bad (bytes_eq (take (length text) bytes) text) (tt, drop (length text) bytes) (length bytes)
+      left is in
+      (omega (arith, same), omega (arith, same));
+  size = λ done any. omega arith;
+}
+
+-- ---- the head
+
+rom_size_to : (size : ℕ) → IsRomSize size → (size < 2 ^ 32) × (is_rom_size size ≡ true)
+rom_size_to size (inl is) = rw is (omega arith, refl)
+rom_size_to size (inr (inl is)) = rw is (omega arith, refl)
+rom_size_to size (inr (inr (inl is))) = rw is (omega arith, refl)
+rom_size_to size (inr (inr (inr is))) = rw is (omega arith, refl)
+
+rom_size_from : (size : ℕ) → is_rom_size size ≡ true → IsRomSize size
+rom_size_from size is =
+    elim (either_true (size == 0x1_0000 || size == 0x2_0000 || size == 0x4_0000) (size == 0x8_0000) is) [
+      | inl three ↦
+          elim (either_true (size == 0x1_0000 || size == 0x2_0000) (size == 0x4_0000) three) [
+            | inl two ↦
+                elim (either_true (size == 0x1_0000) (size == 0x2_0000) two) [
+                  | inl a ↦ inl (eqb-true size 0x1_0000 a)
+                  | inr b ↦ inr (inl (eqb-true size 0x2_0000 b))
+                ]
+            | inr c ↦ inr (inr (inl (eqb-true size 0x4_0000 c)))
+          ]
+      | inr d ↦ inr (inr (inr (eqb-true size 0x8_0000 d)))
+    ]
+
+rom_most : (size : ℕ) → IsRomSize size → size ≤ 0x8_0000
+rom_most size (inl is) = omega (arith, is)
+rom_most size (inr (inl is)) = omega (arith, is)
+rom_most size (inr (inr (inl is))) = omega (arith, is)
+rom_most size (inr (inr (inr is))) = omega (arith, is)
+
+-- the length that a disk has, and 0 where there is none
+abbrev HasDiskSize : (has_disk : Bool) → ℕ → Type 0
+HasDiskSize false size = size ≡ 0
+HasDiskSize true size = IsDiskSize size
+
+disk_size_to : (has_disk : Bool) (size : ℕ) → HasDiskSize has_disk size →
+    (size < 2 ^ 32) × (is_disk_size has_disk size ≡ true)
+disk_size_to false size is = (omega (arith, is), eq-eqb size 0 is)
+disk_size_to true size (sectors, some, few, is) = (
+  omega (arith, few, is),
+  and_from _ _ (eq-eqb (size % 512) 0 (omega (arith, is)))
+      (and_from _ _ (le-leb 512 size (omega (arith, some, is))) (le-leb size 0x200_0000 (omega (arith, few, is)))),
+)
+
+disk_size_from : (has_disk : Bool) (size : ℕ) → is_disk_size has_disk size ≡ true → HasDiskSize has_disk size
+disk_size_from false size is = eqb-true size 0 is
+disk_size_from true size is =
+    let first = and_parts (size % 512 == 0) (nat_le 512 size && nat_le size 0x200_0000) is in
+    let other = and_parts (nat_le 512 size) (nat_le size 0x200_0000) first.1 in
+    let whole = eqb-true (size % 512) 0 first.0 in
+    let some = leb-true 512 size other.0 in
+    let few = leb-true size 0x200_0000 other.1 in
+    (size / 512, omega (arith, some), omega (arith, few), omega (arith, whole))
+
+disk_most : (has_disk : Bool) (size : ℕ) → HasDiskSize has_disk size → size ≤ 0x200_0000
+disk_most false size is = omega (arith, is)
+disk_most true size (sectors, some, few, is) = omega (arith, few, is)
+
+record IsHead (head : Head) : Type 0 where
+  pub mib : Ranges 1 64 head.mib
+  pub cards : Ranges 0 8 head.cards
+  pub rom : IsRomSize head.rom_size
+  pub disk : HasDiskSize head.has_disk head.disk_size
+  pub steps : Ranges 0 most_statements head.steps
+
+abbrev head_spelled : Head → List ℕ
+head_spelled head =
+    magic ++ (to_le_bytes w16 image_version
+    ++ (head.mib ∷ head.cards ∷ flag_byte head.has_disk ∷ 0
+    ∷ (to_le_bytes w32 head.rom_size ++ (to_le_bytes w32 head.disk_size ++ to_le_bytes w32 head.steps))))
+
+only_version : (n : ℕ) → Ranges image_version image_version n → image_version ≡ n
+only_version n is = omega (arith, is.0, is.1)
+
+only_zero : (n : ℕ) → Ranges 0 0 n → 0 ≡ n
+only_zero n is = omega (arith, is.1)
+
+head_format : IsFormat 26 head_fields head_spelled IsHead
+unfolding head_fields
+head_format =
+    format_as 26 head_spelled IsHead
+    (then_format (λ (head : Head). tt) (exactly_format magic) (λ mark any.
+    then_format (λ (head : Head). image_version) (within_format wide16 image_version image_version (omega arith))
+    (λ version good.
+    then_format (λ (head : Head). head.mib) (byte_within 1 64 (omega arith)) (λ mib good.
+    then_format (λ (head : Head). head.cards) (byte_within 0 8 (omega arith)) (λ cards good.
+    then_format (λ (head : Head). head.has_disk) flag_format (λ has_disk any.
+    then_format (λ (head : Head). 0) (byte_within 0 0 (omega arith)) (λ reserved good.
+    then_format (λ (head : Head). head.rom_size) (where_format wide32 is_rom_size) (λ rom_size good.
+    then_format (λ (head : Head). head.disk_size) (where_format wide32 (is_disk_size has_disk)) (λ disk_size good.
+    last_format (λ (head : Head). head.steps)
+    (λ steps. record {
+      mib = mib;
+      cards = cards;
+      has_disk = has_disk;
+      rom_size = rom_size;
+      disk_size = disk_size;
+      steps = steps;
+    })
+    (within_format wide32 0 most_statements (omega arith)) (λ steps good. refl))
+    (λ disk_size head any good. ap (λ (head : Head). head.disk_size) good.1))
+    (λ rom_size head any good. ap (λ (head : Head). head.rom_size) good.1.1))
+    (λ reserved head zero good. only_zero reserved zero))
+    (λ has_disk head any good. ap (λ (head : Head). head.has_disk) good.1.1.1.1))
+    (λ cards head any good. ap (λ (head : Head). head.cards) good.1.1.1.1.1))
+    (λ mib head any good. ap (λ (head : Head). head.mib) good.1.1.1.1.1.1))
+    (λ version head is good. only_version version is))
+    (λ mark head any good. refl))
+    (omega arith)
+    (λ head is. (
+      tt,
+      (
+        (omega arith, omega arith),
+        (
+          is.mib,
+          (
+            is.cards,
+            (
+              tt,
+              (
+                (omega arith, omega arith),
+                (rom_size_to head.rom_size is.rom, (disk_size_to head.has_disk head.disk_size is.disk,
+                (is.steps, refl))),
+              ),
+            ),
+          ),
+        ),
+      ),
+    ))
+    (λ head good.
+    record {
+      mib = good.1.1.0;
+      cards = good.1.1.1.0;
+      rom = rom_size_from head.rom_size good.1.1.1.1.1.1.0.1;
+      disk = disk_size_from head.has_disk head.disk_size good.1.1.1.1.1.1.1.0.1;
+      steps = good.1.1.1.1.1.1.1.1.0;
+    })
+    (λ head good. refl)
+
+-- ---- the setup
+
+record IsFitted (head : Head) (setup : Setup) : Type 0 where
+  pub mib : setup.mib ≡ head.mib
+  pub cards : AreCardsOf head.cards most_card_memory setup.cards
+  pub rom : length setup.rom ≡ head.rom_size
+  pub disk : is_some setup.disk ≡ head.has_disk
+  pub disk_size : length (disk_bytes setup) ≡ head.disk_size
+
+abbrev setup_spelled : Setup → List ℕ
+setup_spelled setup = flat_map card_bytes setup.cards ++ (setup.rom ++ disk_bytes setup)
+
+-- a disk is the bytes that it has
+disk_same : (has_disk : Bool) (bytes : List ℕ) (size : ℕ) → HasDiskSize has_disk size → length bytes ≡ size →
+    unwrap_or (disk_where has_disk bytes) [] ≡ bytes
+disk_same true bytes size is long = refl
+disk_same false bytes size is long = sym (nil_from_length bytes (long ∙ is))
+
+disk_told : (disk : Option (List ℕ)) → disk ≡ disk_where (is_some disk) (unwrap_or disk [])
+disk_told None = refl
+disk_told (Some bytes) = refl
+
+disk_there : (has_disk : Bool) (bytes : List ℕ) → is_some (disk_where has_disk bytes) ≡ has_disk
+disk_there true bytes = refl
+disk_there false bytes = refl
+
+made_of : (mib : ℕ) (has_disk : Bool) (setup : Setup) → setup.mib ≡ mib → is_some setup.disk ≡ has_disk →
+    setup ≡ record {
+      mib = mib;
+      cards = setup.cards;
+      rom = setup.rom;
+      disk = disk_where has_disk (disk_bytes setup);
+    }
+made_of mib has_disk setup is there =
+    rw (← is, ← there) (ap (λ (disk : Option (List ℕ)). record setup { disk = disk }) (disk_told setup.disk))
+
+setup_format : (head : Head) → IsHead head →
+    IsFormat 34_078_800 (setup_fields head) setup_spelled (IsFitted head)
+unfolding setup_fields
+setup_format head is =
+    let rom = rom_most head.rom_size is.rom in
+    let disk = disk_most head.has_disk head.disk_size is.disk in
+    let cards = is.cards.1 in
+    format_as 34_078_800 setup_spelled (IsFitted head)
+    (then_format (λ (setup : Setup). setup.cards) (cards_format head.cards most_card_memory) (λ cards good.
+    then_format (λ (setup : Setup). setup.rom) (plain_format head.rom_size) (λ rom good.
+    last_format disk_bytes
+    (λ disk. record { mib = head.mib; cards = cards; rom = rom; disk = disk_where head.has_disk disk })
+    (plain_format head.disk_size) (λ bytes long. disk_same head.has_disk bytes head.disk_size is.disk long))
+    (λ rom setup any good. ap (λ (setup : Setup). setup.rom) good.1))
+    (λ cards setup any good. ap (λ (setup : Setup). setup.cards) good.1.1))
+    (omega (arith, rom, disk, cards))
+    (λ setup fit.
+    (fit.cards, (fit.rom, (fit.disk_size, made_of head.mib head.has_disk setup fit.mib fit.disk))))
+    (λ setup good.
+    record {
+      mib = ap (λ (setup : Setup). setup.mib) good.1.1.1;
+      cards = good.0;
+      rom = good.1.0;
+      disk =
+          ap (λ (setup : Setup). is_some setup.disk) good.1.1.1 ∙ disk_there head.has_disk (disk_bytes setup);
+      disk_size = good.1.1.0;
+    })
+    (λ setup good. refl)
+
+-- ---- the steps
+
+steps_to : (setup : Setup) (steps : List Statement) → AllByRecursion (IsImageStep setup) steps →
+    AreGood same_setup IsImageStep setup steps
+steps_to setup [] all = tt
+steps_to setup (step ∷ later) all = (all.0, steps_to setup later all.1)
+
+steps_from : (setup : Setup) (steps : List Statement) → AreGood same_setup IsImageStep setup steps →
+    AllByRecursion (IsImageStep setup) steps
+steps_from setup [] good = tt
+steps_from setup (step ∷ later) good = (good.0, steps_from setup later good.1)
+
+steps_format : (setup : Setup) (count : ℕ) → count ≤ most_statements →
+    IsFormat 4_250_000 (steps_fields setup count) (flat_map step_bytes)
+    (λ steps. (length steps ≡ count) × All (IsImageStep setup) steps)
+steps_format setup count few =
+    format_as 4_250_000 (flat_map step_bytes) (λ steps. (length steps ≡ count) × All (IsImageStep setup) steps)
+    (many_format steps_loop step_format setup count) (omega (arith, few))
+    (λ steps are. (are.0, steps_to setup steps (recursion_from_All (IsImageStep setup) steps are.1)))
+    (λ steps good. (good.0, All-from_recursion (IsImageStep setup) steps (steps_from setup steps good.1)))
+    (λ steps good. refl)
+
+-- ---- the whole
+
+-- the head of an image
+abbrev head_of : Saved → Head
+head_of saved = record {
+  mib = saved.setup.mib;
+  cards = length saved.setup.cards;
+  has_disk = is_some saved.setup.disk;
+  rom_size = length saved.setup.rom;
+  disk_size = length (disk_bytes saved.setup);
+  steps = length saved.steps;
+}
+
+same_head : (head other : Head) → head.mib ≡ other.mib → head.cards ≡ other.cards → head.has_disk ≡ other.has_disk →
+    head.rom_size ≡ other.rom_size → head.disk_size ≡ other.disk_size → head.steps ≡ other.steps → head ≡ other
+same_head head other a b c d e f = rw (← a, ← b, ← c, ← d, ← e, ← f) refl
+
+abbrev saved_spelled : Saved → List ℕ
+saved_spelled saved = image_bytes saved.setup saved.steps
+
+abbrev IsSaved : Saved → Type 0
+IsSaved saved = IsImage saved.setup saved.steps
+
+disk_of_head : (disk : Option (List ℕ)) → IsDisk disk → HasDiskSize (is_some disk) (length (unwrap_or disk []))
+disk_of_head None is = refl
+disk_of_head (Some bytes) is = is
+
+disk_of_setup : (disk : Option (List ℕ)) → HasDiskSize (is_some disk) (length (unwrap_or disk [])) → IsDisk disk
+disk_of_setup None is = tt
+disk_of_setup (Some bytes) is = is
+
+grouped : (head cards rom disk steps : List ℕ) →
+    head ++ ((cards ++ (rom ++ disk)) ++ steps) ≡ head ++ (cards ++ (rom ++ (disk ++ steps)))
+grouped head cards rom disk steps = simp append_assoc
+
+saved_format : IsFormat 38_328_826 saved_fields saved_spelled IsSaved
+unfolding saved_fields image_bytes head_bytes size_bytes
+saved_format =
+    format_as 38_328_826 saved_spelled IsSaved
+    (then_format head_of head_format (λ head is.
+    then_format (λ (saved : Saved). saved.setup) (setup_format head is) (λ setup fit.
+    last_format (λ (saved : Saved). saved.steps) (λ steps. record { setup = setup; steps = steps })
+    (steps_format setup head.steps is.steps.1) (λ steps good. refl))
+    (λ setup saved any good. ap (λ (saved : Saved). saved.setup) good.1))
+    (λ head saved is good.
+    same_head (head_of saved) head good.0.mib good.0.cards.0 good.0.disk good.0.rom good.0.disk_size
+    good.1.0.0))
+    (omega arith)
+    (λ saved is.
+    let setup = saved.setup in
+    let cards = is.fitted.cards in (
+      record {
+        mib = (is.fitted.some_memory, is.fitted.most_memory);
+        cards = (omega arith, cards.count);
+        rom = is.fitted.rom;
+        disk = disk_of_head setup.disk is.fitted.disk;
+        steps = (omega arith, is.count);
+      },
+      (
+        record {
+          mib = refl;
+          cards = (refl, cards.each, cards.rises, is.fitted.windows);
+          rom = refl;
+          disk = refl;
+          disk_size = refl;
+        },
+        ((refl, is.each), refl),
+      ),
+    ))
+    (λ saved good.
+    record {
+      fitted = record {
+        some_memory = good.0.mib.0;
+        most_memory = good.0.mib.1;
+        cards = record { count = good.0.cards.1; each = good.1.0.cards.1; rises = good.1.0.cards.2 };
+        windows = good.1.0.cards.3;
+        rom = good.0.rom;
+        disk = disk_of_setup saved.setup.disk good.0.disk;
+      };
+      count = good.0.steps.1;
+      each = good.1.1.0.1;
+    })
+    (λ saved good.
+    grouped (head_spelled (head_of saved)) (flat_map card_bytes saved.setup.cards) saved.setup.rom
+    (disk_bytes saved.setup) (flat_map step_bytes saved.steps))
+
+-- ---- nothing follows
+
+end_ok : (saved value : Saved) (left rest : List ℕ) → then_read (ended left) (λ done. gives saved) ≡ Ok (value, rest) →
+    (left ≡ []) × (saved ≡ value)
+end_ok saved value [] rest is = (refl, ap (λ (pair : Saved × List ℕ). pair.0) (ok_is (saved, []) (value, rest) is))
+end_ok saved value (byte ∷ later) rest is = absurd cc
+
+end_bad : (saved : Saved) (left : List ℕ) (bad : ℕ) → then_read (ended left) (λ done. gives saved) ≡ Err bad →
+    length left ≡ bad
+end_bad saved [] bad is = absurd (not_err (saved, []) bad is)
+end_bad saved (byte ∷ later) bad is = err_is {X = Saved × List ℕ} (length (byte ∷ later)) bad is
+
+-- the bytes of an image are read as it
+pub image_back : (setup : Setup) (steps : List Statement) → IsImage setup steps →
+    image_fields (image_bytes setup steps) ≡ Ok (record { setup = setup; steps = steps }, [])
+unfolding image_fields
+image_back setup steps is =
+    let saved : Saved = record { setup = setup; steps = steps } in
+    let read : saved_fields (image_bytes setup steps) ≡ Ok (saved, []) =
+    ap saved_fields (sym (append-nil (image_bytes setup steps))) ∙ saved_format.back saved [] is in
+    rw read refl
+
+-- what is read is an image, and the bytes are its
+pub image_taken : (bytes rest : List ℕ) (saved : Saved) → AreBytes bytes → image_fields bytes ≡ Ok (saved, rest) →
+    IsImage saved.setup saved.steps × (bytes ≡ image_bytes saved.setup saved.steps)
+unfolding image_fields
+image_taken bytes rest saved are is =
+    let first = then_ok (saved_fields bytes) (λ (saved : Saved). λ left. then_read (ended left) (λ done. gives saved))
+    saved rest is in
+    let end = end_ok first.0.0 saved first.0.1 rest first.2 in
+    let told = saved_format.taken bytes first.0.0 first.0.1 are first.1 in
+    subst (λ (saved : Saved). IsImage saved.setup saved.steps × (bytes ≡ image_bytes saved.setup saved.steps)) end.1 (
+      told.1,
+      told.0 ∙ (ap (λ (last : List ℕ). saved_spelled first.0.0 ++ last) end.0
+          ∙ append-nil (saved_spelled first.0.0)),
+    )
+
+-- a bad field lies within the bytes, and not far from their start
+pub image_bad : (bytes : List ℕ) (left : ℕ) → AreBytes bytes → image_fields bytes ≡ Err left →
+    (left ≤ length bytes) × (length bytes ≤ left + 38_328_826)
+unfolding image_fields
+image_bad bytes left are is =
+    elim (then_err (saved_fields bytes) (λ (saved : Saved). λ left. then_read (ended left) (λ done. gives saved)) left
+        is) [
+      | inl early ↦ saved_format.bad bytes left are early
+      | inr late ↦
+          let told = saved_format.taken bytes late.0.0 late.0.1 are late.1 in
+          let same = end_bad late.0.0 late.0.1 left late.2 in
+          let few = saved_format.size late.0.0 told.1 in
+          let whole : length bytes ≡ length (saved_spelled late.0.0) + length late.0.1 =
+          ap length told.0 ∙ length-append (saved_spelled late.0.0) late.0.1 in
+          (omega (arith, same, whole), omega (arith, same, whole, few))
+    ]

@@ -1,0 +1,53 @@
+use Rattle.std.proofs.Common.{◌≡◌, ◌-◌, ◌+◌, ℕ, ◌<◌, ◌++◌, List, [], ◌∷◌, length, ap, ◌∙◌, sym, arith}
+use Rattle.std.specs.Prelude.{map, sum_by}
+use Rattle.std.proofs.lemmas.Result.{err_from_is_err_and}
+use Rattle.std.proofs.lemmas.List.{map_push, length_push}
+use Rattle.std.proofs.lemmas.List.Sums.{sum_by_push}
+use Rattle.board_spec.specs.Setup.{Base, memory_size}
+use Rattle.pci_bars.specs.declared.spec.BaseSpec.{BaseSpec}
+use Rattle.pci_bars.specs.Bases.{base_of}
+use Rattle.board_image.specs.ImageFields.{bases_fields}
+use Rattle.board_image.proofs.Loops.{goes_on, stops, is_done}
+use Rattle.board_image.proofs.ImageLoops.{base_field, room_after, bases_in, bases_loop}
+use Rattle.board_image.proofs.card_reader.bases.Goals as goal
+
+pub returns-in_err-base-clause-took : goal.returns-in_err-base-clause-took
+returns-in_err-base-clause-took c =
+    let p = err_from_is_err_and c.from_residual.result c.from_residual.ensures.1 in
+    rw p.1 (stops base_field room_after bases_in bases_loop (map base_of c.loop.bases.items) c.loop.room c.args.count
+    c.loop.counter c.loop.fields (length c.base.new.fields)
+    (bases_fields c.args.count c.args.room.now c.args.fields.now) c.loop-test.true c.in_err-base.ensures.took
+    c.loop.invariant.read)
+
+pub push-requires : goal.push-requires
+push-requires c = (omega arith, omega (arith, c.loop.invariant.count, c.requires.few, c.loop-test.true))
+
+room_left : (room now : ℕ) (bases : List BaseSpec) (base : BaseSpec) →
+    now ≡ room - sum_by memory_size (map base_of bases) →
+    now - memory_size (base_of base) ≡ room - sum_by memory_size (map base_of (bases ++ base ∷ []))
+room_left room now bases base is =
+    let all : sum_by memory_size (map base_of (bases ++ base ∷ []))
+    ≡ sum_by memory_size (map base_of bases) + memory_size (base_of base) =
+    rw (map_push base_of bases base) (sum_by_push memory_size (map base_of bases) (base_of base)) in
+    rw (is, all) (omega arith)
+
+pub loop-preserved : goal.loop-preserved
+loop-preserved c =
+    let base = c.in_ok-base.field-0 in
+    let pushed : map base_of c.push.new.self.items ≡ map base_of c.loop.bases.items ++ base_of base ∷ [] =
+    rw c.push.ensures.items (map_push base_of c.loop.bases.items base) in
+    record {
+      read = rw (pushed, c.in_ok-base.ensures.room) (goes_on base_field room_after bases_in bases_loop
+          (map base_of c.loop.bases.items) c.loop.room c.args.count c.loop.counter c.loop.fields c.base.new.fields
+          (base_of base) (bases_fields c.args.count c.args.room.now c.args.fields.now) c.loop-test.true
+          c.in_ok-base.ensures.took c.loop.invariant.read);
+      room = rw (c.push.ensures.items, c.in_ok-base.ensures.room)
+          (room_left c.args.room.now c.loop.room c.loop.bases.items base c.loop.invariant.room);
+      count = rw c.push.ensures.items (length_push c.loop.bases.items base ∙ ap (λ n. n + 1) c.loop.invariant.count);
+    }
+
+pub returns-clause-took : goal.returns-clause-took
+returns-clause-took c =
+    is_done base_field room_after bases_in bases_loop (map base_of c.loop.bases.items) c.loop.room c.args.count
+    c.loop.counter c.loop.fields (bases_fields c.args.count c.args.room.now c.args.fields.now) c.loop-test.false
+    c.loop.invariant.read

@@ -1,0 +1,22 @@
+use Rattle.std.proofs.Common.{◌≡◌, List, ◌++◌, refl, ap, ◌∙◌}
+use Rattle.std.specs.Prelude.{map, reverse}
+use Rattle.std.proofs.lemmas.List.{reverse-append, map-append}
+use Rattle.board_spec.specs.declared.event.Entry.{Entry}
+use Rattle.board_spec.specs.Orders.{statement_of, statements_of}
+use Rattle.board_image.proofs.laws.law_goes_on.Goals as goal
+
+one_after_other : (more first : List Entry) →
+    statements_of (more ++ first) ≡ statements_of first ++ statements_of more
+one_after_other more first = rw (reverse-append more first, map-append statement_of (reverse first) (reverse more)) refl
+
+pub returns : goal.returns
+returns c = record {
+  goes_on = λ setup saved loaded more legal replay all. (
+    c.law_one_replay.ensures.one setup (statements_of saved) loaded saved replay
+        (record { legal = legal; same = refl }),
+    record {
+      legal = all;
+      same = one_after_other more loaded ∙ ap (λ first. first ++ statements_of more) replay.same;
+    },
+  );
+}

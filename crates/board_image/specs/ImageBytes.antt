@@ -1,0 +1,164 @@
+-- A board image: what a board is fitted with, and then who asked what of it, in order. The replies follow from these.
+-- Numbers have their low byte first.
+use Rattle.std.specs.Prelude.{ℕ, ◌≤◌, ◌<◌, ◌+◌, ◌^◌, ◌++◌, Bool, true, false, List, [], ◌∷◌, length, map, flat_map, All, Option, is_some, unwrap_or, codes}
+use Rattle.std.specs.Int.{w16, w32, w64, to_le_bytes}
+use Rattle.board_base.specs.declared.access.Kind.{Kind}
+use Rattle.board_base.specs.declared.access.Kind.TheVariants.{Fetch, Read, Write}
+use Rattle.board_base.specs.declared.access.Access.{Access}
+use Rattle.board_base.specs.declared.access.PortAccess.{PortAccess}
+use Rattle.board_base.specs.declared.access.WideAccess.{WideAccess}
+use Rattle.board_base.specs.declared.moment.Moment.{Moment}
+use Rattle.board_base.specs.Access.{bytes_of}
+use Rattle.board_spec.specs.declared.event.Event.{Event}
+use Rattle.board_spec.specs.declared.event.Event.TheVariants.{Memory, Wide, Port, Look as LookAt, Ack, Pulses, Time, Wire, Line, BadSector}
+use Rattle.board_spec.specs.declared.event.Statement.{Statement}
+use Rattle.board_spec.specs.Setup.{Base, MemoryBase, IoBase, FittedCard, Setup, IsSetup}
+use Rattle.board_spec.specs.InRange.{IsInRange, IsScriptSector}
+use Rattle.board_spec.specs.Limits.{most_statements}
+use Rattle.board_image.specs.declared.tag.Tag.{Tag}
+use Rattle.board_image.specs.declared.tag.Tag.TheVariants as tags
+
+-- what an image says: a setup, and who asked what, the oldest first
+pub record Saved : Type 0 where
+  pub setup : Setup
+  pub steps : List Statement
+
+-- ---- what the board is fitted with
+
+abbrev pub magic : List ℕ
+magic = codes "BOARDIMG"
+
+abbrev pub image_version : ℕ
+image_version = 1
+
+abbrev pub flag_byte : Bool → ℕ
+flag_byte false = 0
+flag_byte true = 1
+
+-- the bit that says of a base that it is for I/O ports
+abbrev pub io_base : ℕ
+io_base = 0x80
+
+abbrev pub base_byte : Base → ℕ
+base_byte (MemoryBase bits) = bits
+base_byte (IoBase bits) = io_base + bits
+
+-- 0 stands where a card has no expansion ROM
+unfoldable pub card_bytes : FittedCard → List ℕ
+card_bytes card =
+    card.dev ∷ flag_byte card.vga ∷ unwrap_or card.rom 0 ∷ length card.bases ∷ map base_byte card.bases
+
+abbrev pub disk_bytes : Setup → List ℕ
+disk_bytes setup = unwrap_or setup.disk []
+
+unfoldable pub size_bytes : Setup → (steps : ℕ) → List ℕ
+size_bytes setup steps =
+    to_le_bytes w32 (length setup.rom) ++ (to_le_bytes w32 (length (disk_bytes setup)) ++ to_le_bytes w32 steps)
+
+-- what stands before the cards. The byte after the disk's flag is reserved
+unfoldable pub head_bytes : Setup → (steps : ℕ) → List ℕ
+head_bytes setup steps =
+    magic ++ (to_le_bytes w16 image_version
+    ++ (setup.mib ∷ length setup.cards ∷ flag_byte (is_some setup.disk) ∷ 0 ∷ size_bytes setup steps))
+
+-- ---- who asked what
+
+-- the number of each kind of event
+abbrev pub tag_byte : Tag → ℕ
+tag_byte tags.Memory = 1
+tag_byte tags.Port = 2
+tag_byte tags.Look = 3
+tag_byte tags.Ack = 4
+tag_byte tags.Pulses = 5
+tag_byte tags.Time = 6
+tag_byte tags.Wire = 7
+tag_byte tags.Line = 8
+tag_byte tags.BadSector = 9
+tag_byte tags.Wide = 10
+
+abbrev pub tag_of_event : Event → Tag
+tag_of_event (Memory access) = tags.Memory
+tag_of_event (Port access) = tags.Port
+tag_of_event (LookAt kind addr smm) = tags.Look
+tag_of_event Ack = tags.Ack
+tag_of_event (Pulses count) = tags.Pulses
+tag_of_event (Time moment) = tags.Time
+tag_of_event (Wire dev on) = tags.Wire
+tag_of_event (Line irq on) = tags.Line
+tag_of_event (BadSector sector) = tags.BadSector
+tag_of_event (Wide access) = tags.Wide
+
+abbrev pub kind_byte : Kind → ℕ
+kind_byte Fetch = 0
+kind_byte Read = 1
+kind_byte Write = 2
+
+unfoldable pub memory_bytes : Access → List ℕ
+memory_bytes access =
+    kind_byte access.kind ∷ flag_byte access.smm ∷ bytes_of access.width
+    ∷ (to_le_bytes w32 access.addr ++ to_le_bytes w32 access.value)
+
+unfoldable pub wide_bytes : WideAccess → List ℕ
+wide_bytes access =
+    kind_byte access.kind ∷ flag_byte access.smm ∷ access.bytes
+    ∷ (to_le_bytes w32 access.addr ++ to_le_bytes w64 access.value)
+
+unfoldable pub port_bytes : PortAccess → List ℕ
+port_bytes access =
+    flag_byte access.write ∷ bytes_of access.width
+    ∷ (to_le_bytes w16 access.port ++ to_le_bytes w32 access.value)
+
+unfoldable pub look_bytes : (kind : Kind) (addr : ℕ) (smm : Bool) → List ℕ
+look_bytes kind addr smm = kind_byte kind ∷ flag_byte smm ∷ to_le_bytes w32 addr
+
+unfoldable pub moment_bytes : Moment → List ℕ
+moment_bytes moment =
+    to_le_bytes w16 moment.year ++ moment.month ∷ moment.day ∷ moment.hour ∷ moment.minute ∷ moment.second ∷ []
+
+-- the fields of an event
+unfoldable pub field_bytes : Event → List ℕ
+field_bytes (Memory access) = memory_bytes access
+field_bytes (Port access) = port_bytes access
+field_bytes (LookAt kind addr smm) = look_bytes kind addr smm
+field_bytes Ack = []
+field_bytes (Pulses count) = to_le_bytes w32 count
+field_bytes (Time moment) = moment_bytes moment
+field_bytes (Wire dev on) = dev ∷ flag_byte on ∷ []
+field_bytes (Line irq on) = irq ∷ flag_byte on ∷ []
+field_bytes (BadSector sector) = to_le_bytes w32 sector
+field_bytes (Wide access) = wide_bytes access
+
+abbrev pub event_bytes : Event → List ℕ
+event_bytes event = tag_byte (tag_of_event event) ∷ field_bytes event
+
+abbrev pub step_bytes : Statement → List ℕ
+step_bytes step = step.actor ∷ event_bytes step.event
+
+-- ---- the whole
+
+unfoldable pub image_bytes : Setup → List Statement → List ℕ
+image_bytes setup steps =
+    head_bytes setup (length steps)
+    ++ (flat_map card_bytes setup.cards ++ (setup.rom ++ (disk_bytes setup ++ flat_map step_bytes steps)))
+
+-- an address fits 32 bits, a port 16, a device number and a line 8
+abbrev pub FitsField : Event → Type 0
+FitsField (Memory access) = access.addr < 2 ^ 32
+FitsField (Port access) = access.port < 2 ^ 16
+FitsField (LookAt kind addr smm) = addr < 2 ^ 32
+FitsField (Wire dev on) = dev < 2 ^ 8
+FitsField (Line irq on) = irq < 2 ^ 8
+FitsField _ = Unit {0}
+
+-- a step that an image can say: of one of eight processors, and one that the board can do
+pub record IsImageStep (setup : Setup) (step : Statement) : Type 0 where
+  pub actor : step.actor ≤ 7
+  pub fits : FitsField step.event
+  pub event : IsInRange setup step.event
+  pub sector : IsScriptSector step.event
+
+-- what an image can say: a board that can be opened, and steps that it can do
+pub record IsImage (setup : Setup) (steps : List Statement) : Type 0 where
+  pub fitted : IsSetup setup
+  pub count : length steps ≤ most_statements
+  pub each : All (IsImageStep setup) steps

@@ -1,0 +1,123 @@
+-- The fields of an image, each with the values that it can have after those before it, and the first that is bad.
+use Rattle.std.specs.Prelude.{ℕ, zero, suc, ◌≡◌, ◌+◌, ◌-◌, ◌%◌, ◌==◌, Bool, true, false, nat_le, nat_lt, ◌&&◌, ◌||◌, if◌then◌else◌, List, [], ◌∷◌, length, Option, Some, None, Result, Ok, Err}
+use Rattle.std.specs.Int.{w8, w16, w32}
+use Rattle.board_spec.specs.declared.event.Statement.{Statement}
+use Rattle.board_spec.specs.Setup.{Base, MemoryBase, IoBase, FittedCard, Setup, memory_of_cards, memory_size}
+use Rattle.board_spec.specs.Limits.{most_statements, most_card_memory}
+use Rattle.board_image.specs.declared.head.Head.{Head}
+use Rattle.board_image.specs.ImageBytes.{Saved, magic, image_version, io_base}
+use Rattle.board_image.specs.Fields.{Reads, gives, ◌>>=◌, number, number_where, within, where_true, plain, exactly, ended}
+use Rattle.board_image.specs.EventFields.{flag_field, step_fields}
+
+-- ---- the head
+
+abbrev pub is_rom_size : ℕ → Bool
+is_rom_size size = size == 0x1_0000 || size == 0x2_0000 || size == 0x4_0000 || size == 0x8_0000
+
+-- 1 to 65,536 whole sectors, and 0 without a disk
+abbrev pub is_disk_size : (has_disk : Bool) → ℕ → Bool
+is_disk_size false size = size == 0
+is_disk_size true size = size % 512 == 0 && (nat_le 512 size && nat_le size 0x200_0000)
+
+unfoldable pub head_fields : Reads Head
+head_fields = do
+  mark ← exactly magic
+  version ← within w16 image_version image_version
+  mib ← within w8 1 64
+  cards ← within w8 0 8
+  has_disk ← flag_field
+  reserved ← within w8 0 0
+  rom_size ← number_where w32 is_rom_size
+  disk_size ← number_where w32 (is_disk_size has_disk)
+  steps ← within w32 0 most_statements
+  gives (record {
+    mib = mib;
+    cards = cards;
+    has_disk = has_disk;
+    rom_size = rom_size;
+    disk_size = disk_size;
+    steps = steps;
+  })
+
+-- ---- the cards
+
+abbrev pub base_of_byte : ℕ → Base
+base_of_byte byte = if nat_le io_base byte then IoBase (byte - io_base) else MemoryBase byte
+
+-- a memory base has 16 bytes to 16 MiB and an I/O base 4 to 256 ports, and the memory bases of all cards fit
+abbrev pub has_room : (room : ℕ) → Base → Bool
+has_room room (MemoryBase bits) = nat_le 4 bits && (nat_le bits 24 && nat_le (memory_size (MemoryBase bits)) room)
+has_room room (IoBase bits) = nat_le 2 bits && nat_le bits 8
+
+-- a base where so many bytes are left for memory
+abbrev pub base_in : (room : ℕ) → ℕ → Option Base
+base_in room byte = where_true (has_room room (base_of_byte byte)) (base_of_byte byte)
+
+unfoldable pub bases_fields : (count room : ℕ) → Reads (List Base)
+bases_fields zero room = gives []
+bases_fields (suc count) room = do
+  base ← number w8 (base_in room)
+  later ← bases_fields count (room - memory_size base)
+  gives (base ∷ later)
+
+-- 0, or an expansion ROM of 2 KiB to 16 MiB
+abbrev pub rom_of : ℕ → Option (Option ℕ)
+rom_of bits = if bits == 0 then Some None else where_true (nat_le 11 bits && nat_le bits 24) (Some bits)
+
+-- a card whose device number lies above that of the card before
+unfoldable pub card_fields : (above room : ℕ) → Reads FittedCard
+card_fields above room = do
+  dev ← within w8 (above + 1) 9
+  vga ← flag_field
+  rom ← number w8 rom_of
+  count ← within w8 0 6
+  bases ← bases_fields count room
+  gives (record { dev = dev; vga = vga; bases = bases; rom = rom })
+
+unfoldable pub cards_fields : (count above room : ℕ) → Reads (List FittedCard)
+cards_fields zero above room = gives []
+cards_fields (suc count) above room = do
+  card ← card_fields above room
+  later ← cards_fields count card.dev (room - memory_of_cards (card ∷ []))
+  gives (card ∷ later)
+
+-- ---- the whole
+
+abbrev pub disk_where : (has_disk : Bool) → List ℕ → Option (List ℕ)
+disk_where false bytes = None
+disk_where true bytes = Some bytes
+
+-- the first device number is 2
+unfoldable pub setup_fields : Head → Reads Setup
+setup_fields head = do
+  cards ← cards_fields head.cards 1 most_card_memory
+  rom ← plain head.rom_size
+  disk ← plain head.disk_size
+  gives (record { mib = head.mib; cards = cards; rom = rom; disk = disk_where head.has_disk disk })
+
+unfoldable pub steps_fields : Setup → (count : ℕ) → Reads (List Statement)
+steps_fields setup zero = gives []
+steps_fields setup (suc count) = do
+  step ← step_fields setup
+  later ← steps_fields setup count
+  gives (step ∷ later)
+
+unfoldable pub saved_fields : Reads Saved
+saved_fields = do
+  head ← head_fields
+  setup ← setup_fields head
+  steps ← steps_fields setup head.steps
+  gives (record { setup = setup; steps = steps })
+
+-- nothing follows the last step
+unfoldable pub image_fields : Reads Saved
+image_fields = do
+  saved ← saved_fields
+  done ← ended
+  gives saved
+
+-- the field at this offset is the first that is not whole or out of range, or the first byte too many
+pub record IsBadAt (bytes : List ℕ) (at : ℕ) : Type 0 where
+  pub left : ℕ
+  pub place : at + left ≡ length bytes
+  pub bad : image_fields bytes ≡ Err left

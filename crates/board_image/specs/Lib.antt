@@ -1,0 +1,5 @@
+pub mod ImageBytes
+pub mod Fields
+pub mod EventFields
+pub mod ImageFields
+pub mod Laws

@@ -1,0 +1,133 @@
+//! Reads cards.
+
+ghost use Rattle.std.specs.Prelude.{◌≡◌, ◌≤◌, ◌-◌, ◌<◌, ◌∷◌, [], map, sum_by, option_map, IfSome, IfOk};
+ghost use Rattle.std.specs.Int.{w8};
+ghost use Rattle.board_spec.specs.Limits.{most_card_memory};
+ghost use Rattle.board_spec.specs.Setup.{IsBase, memory_of_cards, memory_size};
+ghost use Rattle.pci_bars.specs.Bases.{base_of};
+ghost use Rattle.board_image.specs.Fields.{Took, Filled, number};
+ghost use Rattle.board_image.specs.ImageFields.{base_in, rom_of, bases_fields, card_fields, cards_fields};
+
+use crate::fault::{Bad, Fault};
+use crate::fields::Fields;
+use crate::writer::IO_BASE;
+use arrayvec::ArrayVec;
+use pci_bars::{BASE_COUNT, BaseSpec, CardSpec};
+use std::alloc::Global;
+
+/// The device numbers of cards.
+const FIRST_DEVICE: u8 = 2;
+
+const LAST_DEVICE: u8 = 9;
+/// The most bytes behind the memory bases of all cards.
+const MOST_CARD_MEMORY: u32 = 0x400_0000;
+
+/// The base that a byte says, and the bytes of memory that it decodes, which are at most the room.
+fn base_in(room: u32, byte: u8) -> Option<BaseSpec>
+    ensures said { option_map base_of result ≡ base_in room byte }
+    ensures base { IfSome result (λ base. IsBase (base_of base)) }
+{
+    if byte >= IO_BASE {
+        let bits = byte - IO_BASE;
+        return (2..=8).contains(&bits).then_some(BaseSpec::Io(bits));
+    }
+    ((4..=24).contains(&byte) && 1 << byte <= room).then_some(BaseSpec::Memory(byte))
+}
+
+/// The bytes of memory that a base decodes.
+fn memory_size(base: BaseSpec) -> u32
+    requires base { IsBase (base_of base) }
+    ensures size { result ≡ memory_size (base_of base) }
+{
+    match base {
+        BaseSpec::Memory(bits) => 1 << bits,
+        BaseSpec::Io(_) => 0,
+    }
+}
+
+/// A base. It takes its memory from the room.
+fn base(fields: &mut Fields, room: &mut u32) -> Result<BaseSpec, Bad>
+    ensures took { Took base_of result fields.new (number w8 (base_in room.old) fields.old) }
+    ensures room { IfOk result (λ base. room.new ≡ room.old - memory_size (base_of base)) }
+{
+    let byte = u8::from_le_bytes(fields.front()?);
+    let said = base_in(*room, byte);
+    fields.past(1, said.is_some())?;
+    let base = said.unwrap();
+    *room -= memory_size(base);
+    Ok(base)
+}
+
+/// So many bases. They take their memory from the room.
+fn bases(
+    fields: &mut Fields,
+    count: u8,
+    room: &mut u32,
+) -> Result<ArrayVec<BaseSpec, BASE_COUNT>, Bad>
+    requires few { count ≤ 6 }
+    ensures took { Took (λ bases. map base_of bases.items) result fields.new
+        (bases_fields count room.old fields.old) }
+    ensures room { IfOk result (λ bases. room.new
+        ≡ room.old - sum_by memory_size (map base_of bases.items)) }
+{
+    let mut bases = ArrayVec::new();
+    for _ in 0..count {
+        bases.push(base(fields, room)?);
+    }
+    Ok(bases)
+}
+
+/// The expansion ROM that a byte says: log2 of its size.
+fn rom_of(byte: u8) -> Option<Option<u8>>
+    ensures said { result ≡ rom_of byte }
+{
+    match byte {
+        0 => Some(None),
+        11..=24 => Some(Some(byte)),
+        _ => None,
+    }
+}
+
+/// The expansion ROM of a card, where it has one.
+fn rom(fields: &mut Fields) -> Result<Option<u8>, Bad>
+    ensures took { Took (λ rom. rom) result fields.new (number w8 rom_of fields.old) }
+{
+    fields.byte_of(rom_of)
+}
+
+/// A card whose device number lies above that of the card before. It takes its memory from the room.
+#[tactic(auto, unfolding(crate::specs::ImageFields::card_fields))]
+fn card(fields: &mut Fields, above: u8, room: &mut u32) -> Result<CardSpec, Bad>
+    requires above { above ≤ 9 }
+    ensures took { Took (λ card. card) result fields.new (card_fields above room.old fields.old) }
+    ensures room { IfOk result (λ card. room.new ≡ room.old - memory_of_cards (card ∷ [])) }
+    ensures last { IfOk result (λ card. card.dev ≤ 9) }
+{
+    let dev = fields.byte(above + 1, LAST_DEVICE)?;
+    let vga = fields.flag()?;
+    let rom = rom(fields)?;
+    let count = fields.byte(0, BASE_COUNT as u8)?;
+    let bases = bases(fields, count, room)?;
+    Ok(CardSpec {
+        dev,
+        vga,
+        bases,
+        rom,
+    })
+}
+
+/// So many cards.
+pub(crate) fn cards(alloc: Global, fields: &mut Fields, count: u8) -> Result<Vec<CardSpec>, Fault>
+    ensures filled { Filled (λ cards. cards.items) result fields.new
+        (cards_fields count 1 most_card_memory fields.old) }
+{
+    let mut cards = Vec::with_capacity(alloc, usize::from(count))?;
+    let mut above = FIRST_DEVICE - 1;
+    let mut room = MOST_CARD_MEMORY;
+    for _ in 0..count {
+        let card = card(fields, above, &mut room)?;
+        above = card.dev;
+        cards.push(card)?;
+    }
+    Ok(cards)
+}

@@ -1,0 +1,23 @@
+//! Images of boards: the setup of a board, and who asked what of it, as bytes. The replies follow from these, so a
+//! board that is loaded from its image goes on as the board that was saved.
+#![tactic(auto)]
+
+mod card_reader;
+mod event_reader;
+mod event_writer;
+mod fault;
+mod fields;
+mod head;
+mod image;
+pub mod laws;
+mod loader;
+mod reader;
+mod tag;
+mod writer;
+
+pub use board_spec::Statement;
+pub use fault::ImageFault;
+pub use image::{Image, ImageBytes};
+pub use loader::load;
+pub use reader::read_image;
+pub use writer::save;
