@@ -163,7 +163,8 @@ impl<B: SteppedBoard> SerialBoard<B> {
             → B.is_answer (B.setup self.old.board) history (board_event self.old.com1 (Line irq on)) result }
         ensures com1 { self.new.com1 ≡ com1_after false (Line irq on) self.old.com1 }
         ensures history { (history : List Entry) → IsLeftBy B.is_answer B.setup B.is_left_by self.old history
-            → IsAfter B.is_answer B.setup B.is_left_by self.new history (board_steps actor false (Line irq on) self.old.com1) }
+            → IsAfter B.is_answer B.setup B.is_left_by self.new history
+            (board_steps actor false (Line irq on) self.old.com1) }
     {
         if irq == COM1_IRQ {
             self.com1.script_level = on;
