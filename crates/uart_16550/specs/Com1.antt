@@ -1,4 +1,4 @@
--- The serial port COM1 of a board: which accesses are for it, what an event makes of it, and which steps the board does.
+-- The serial port COM1 of a board: which accesses are for it, what an event makes of it, and what the board does.
 use Rattle.std.specs.Prelude.{ℕ, ◌-◌, ◌==◌, Bool, false, ◌&&◌, ◌||◌, if◌then◌else◌, List, [], ◌∷◌, Option, Some, None}
 use Rattle.board_base.specs.declared.access.PortAccess.{PortAccess}
 use Rattle.board_base.specs.Access.{bytes_of}

@@ -38,7 +38,8 @@ pub record GoesOn (before : List Entry) (statements : List Statement) (after : L
   pub same : statements_of more ≡ statements
 
 -- an entry is the next of a history: its number is one more than its processor's entries, and its reply is an answer
-pub record IsNextBy (is_answer : List Entry → Event → Reply → Type 0) (before : List Entry) (entry : Entry) : Type 0 where
+pub record IsNextBy (is_answer : List Entry → Event → Reply → Type 0) (before : List Entry)
+    (entry : Entry) : Type 0 where
   pub number : entry.seq ≡ length (entries_by entry.actor before) + 1
   pub answer : is_answer before entry.event entry.reply
 

@@ -23,8 +23,8 @@ bytes_come [] = []
 bytes_come (Comes byte ∷ later) = byte ∷ bytes_come later
 bytes_come (Happens event ∷ later) = bytes_come later
 
--- while no byte was looped and no queue was emptied by FCR or a hard reset, the bytes read from the queue and those still
--- in it are the bytes received, in order
+-- while no byte was looped and no queue was emptied by FCR or a hard reset, the bytes read from the queue and those
+-- still in it are the bytes received, in order
 abbrev pub SerialReadsInOrder : Type 0
 SerialReadsInOrder =
     (before : Sending) (happenings : List Happening) → AllKeep before.com1.uart (all_calls before happenings) →

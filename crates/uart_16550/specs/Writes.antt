@@ -19,7 +19,7 @@ register_written dlab off =
     if off == 5 then Lsr else
     if off == 6 then Msr else Scr
 
--- ---- THR: a byte is sent at once, so THR is empty again. In loopback it comes back, and is lost where the queue is full
+-- ---- THR: a byte is sent at once, so THR is empty again. In loopback it comes back, and is lost in a full queue
 
 abbrev pub looped : Uart → ℕ → Uart
 looped uart byte = if is_full uart then record uart { overrun = true } else received uart byte

@@ -1,4 +1,4 @@
-//! The registers and their bits, by the names of the PC16550D data sheet (8.0, "Registers"). Bits count from the lowest.
+//! The registers and their bits, by the names of the PC16550D data sheet (8.0, "Registers"). Bit 0 is the lowest.
 
 ghost use Rattle.std.specs.Prelude.{◌≡◌, ◌≤◌, ◌<◌, ◌^◌};
 ghost use Rattle.uart_16550.specs.Uart.{flag};

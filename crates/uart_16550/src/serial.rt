@@ -20,8 +20,8 @@ use board_base::PortAccess;
 use board_spec::{Event, Reply};
 use std::marker::Model;
 
-/// A board with a 16550 on COM1: ports 3F8h to 3FFh, interrupt line 4. Contracts see the board and the port. Some history
-/// left it, in which each reply is the answer, and line 4 has the or of the UART's line and the level that the script set.
+/// A board with a 16550 on COM1: ports 3F8h to 3FFh, interrupt line 4. Contracts see the board and the port. Some
+/// history left it, in which each reply is an answer, and line 4 has the or of the UART's line and the script's level.
 #[derive(Drop)]
 pub struct SerialBoard<B: SteppedBoard> {
     board: B,
@@ -38,7 +38,8 @@ impl<B: SteppedBoard> Model for SerialBoard<B> {
     ghost view = { λ serial. record { board = serial.board; com1 = serial.com1 } };
 
     ghost invariant = { λ serial.
-        (history : List Entry) × IsLeftBy B.is_answer B.setup B.is_left_by (record { board = serial.board; com1 = serial.com1 }) history };
+        (history : List Entry)
+        × IsLeftBy B.is_answer B.setup B.is_left_by (record { board = serial.board; com1 = serial.com1 }) history };
 }
 
 impl<B: SteppedBoard> SerialBoard<B> {
@@ -75,9 +76,9 @@ impl<B: SteppedBoard> SerialBoard<B> {
         move_line(&mut self.board, old, self.com1.level());
     }
 
-    /// Does an event of a processor, 0 to 7, and tells the reply. An access of one byte at 3F8h to 3FFh is for the UART,
-    /// before any card, and all else for the board, which hears of line 4 the or of the UART's line and the script's
-    /// level. A hard reset makes the UART new after the board's step. It takes no memory.
+    /// Does an event of a processor, 0 to 7, and tells the reply. An access of one byte at 3F8h to 3FFh is for the
+    /// UART, before any card, and all else for the board, which hears of line 4 the or of the UART's line and the
+    /// script's level. A hard reset makes the UART new after the board's step. It takes no memory.
     pub fn step(&mut self, actor: u8, event: &Event) -> SerialReply
         requires in_range { IsInRange (B.setup self.old.board) event.now }
         requires actor { actor < com1_actor }
@@ -162,7 +163,8 @@ impl<B: SteppedBoard> SerialBoard<B> {
             → B.is_answer (B.setup self.old.board) history (board_event self.old.com1 (Line irq on)) result }
         ensures com1 { self.new.com1 ≡ com1_after false (Line irq on) self.old.com1 }
         ensures history { (history : List Entry) → IsLeftBy B.is_answer B.setup B.is_left_by self.old history
-            → IsAfter B.is_answer B.setup B.is_left_by self.new history (board_steps actor false (Line irq on) self.old.com1) }
+            → IsAfter B.is_answer B.setup B.is_left_by self.new history
+            (board_steps actor false (Line irq on) self.old.com1) }
     {
         if irq == COM1_IRQ {
             self.com1.script_level = on;
