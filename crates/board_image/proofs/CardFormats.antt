@@ -110,9 +110,14 @@ bases_format room count =
 
 rom_said : (rom : Option ℕ) → IsExpansionRom rom → (unwrap_or rom 0 < 2 ^ 8) × (rom_of (unwrap_or rom 0) ≡ Some rom)
 rom_said None is = (omega arith, refl)
-rom_said (Some bits) is =
-    (omega (arith, is.1), rw (ne_eqb bits 0 (λ none. omega (arith, is.0, none)), le-leb 11 bits is.0,
-    le-leb bits 24 is.1) refl)
+rom_said (Some bits) is = (
+  omega (arith, is.1),
+  rw (
+    ne_eqb bits 0 (λ none. omega (arith, is.0, none)),
+    le-leb 11 bits is.0,
+    le-leb bits 24 is.1,
+  ) refl,
+)
 
 rom_told : (n : ℕ) (rom : Option ℕ) → n < 2 ^ 8 → rom_of n ≡ Some rom → (n ≡ unwrap_or rom 0) × IsExpansionRom rom
 rom_told n rom below is =

@@ -199,11 +199,11 @@ place_to : (bytes addr : ℕ) → (bytes ≡ 8) ⊎ (addr % bytes ≢ 0) → add
     (addr < 2 ^ 32) × (is_wide_place bytes addr ≡ true)
 place_to bytes addr wide ends size =
     let some : 1 ≤ bytes =
-        elim size [
-          | inl is ↦ omega (arith, is)
-          | inr (inl is) ↦ omega (arith, is)
-          | inr (inr is) ↦ omega (arith, is)
-        ] in (
+    elim size [
+      | inl is ↦ omega (arith, is)
+      | inr (inl is) ↦ omega (arith, is)
+      | inr (inr is) ↦ omega (arith, is)
+    ] in (
       omega (arith, ends, some),
       and_from _ _ (elim wide [
         | inl eight ↦ rw (eq-eqb bytes 8 eight) refl

@@ -264,7 +264,7 @@ many_size :
 many_size next each [] s good = omega arith
 many_size {n = n} next {spelled = spelled} each (value ∷ later) s good =
     let joined = ap length (flat_map-cons spelled value later)
-        ∙ length-append (spelled value) (flat_map spelled later) in
+    ∙ length-append (spelled value) (flat_map spelled later) in
     let first = (each s).size value good.0 in
     let rest = many_size next each later (next s value) good.1 in
     omega (arith, joined, first, rest, mul-suc n (length later))

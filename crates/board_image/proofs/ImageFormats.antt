@@ -175,8 +175,13 @@ head_format =
               tt,
               (
                 (omega arith, omega arith),
-                (rom_size_to head.rom_size is.rom, (disk_size_to head.has_disk head.disk_size is.disk,
-                (is.steps, refl))),
+                (
+                  rom_size_to head.rom_size is.rom,
+                  (
+                    disk_size_to head.has_disk head.disk_size is.disk,
+                    (is.steps, refl),
+                  ),
+                ),
               ),
             ),
           ),
@@ -409,7 +414,7 @@ pub image_bad : (bytes : List ℕ) (left : ℕ) → AreBytes bytes → image_fie
 unfolding image_fields
 image_bad bytes left are is =
     elim (then_err (saved_fields bytes) (λ (saved : Saved). λ left. then_read (ended left) (λ done. gives saved)) left
-        is) [
+    is) [
       | inl early ↦ saved_format.bad bytes left are early
       | inr late ↦
           let told = saved_format.taken bytes late.0.0 late.0.1 are late.1 in

@@ -21,7 +21,7 @@ pub loop-preserved : goal.loop-preserved
 loop-preserved c =
     let card = c.in_ok-card.card in
     let dev : card.dev ≡ c.card-in-loop.inside.dev =
-        sym (ap (λ (card : FittedCard). card.dev) c.card-in-loop.view_is) in
+    sym (ap (λ (card : FittedCard). card.dev) c.card-in-loop.view_is) in
     record {
       read = rw (c.in_ok-push.ensures.items, c.in_ok-card.ensures.room, ← dev) (goes_on card_after past_card cards_after
           cards_loop c.loop.cards.items

@@ -11,6 +11,6 @@ returns c = record {
       let one : Saved × List ℕ = (record { setup = setup; steps = steps }, []) in
       let two : Saved × List ℕ = (record { setup = other; steps = others }, []) in
       let read = ok_is one two (sym (image_back setup steps is)
-          ∙ (ap image_fields same ∙ image_back other others is_other)) in
+      ∙ (ap image_fields same ∙ image_back other others is_other)) in
       (ap (λ (pair : Saved × List ℕ). pair.0.setup) read, ap (λ (pair : Saved × List ℕ). pair.0.steps) read);
 }
