@@ -35,6 +35,7 @@ impl Chipset {
     pub fn ask(&mut self, event: &Event) -> Result<Reply, OutOfRange>
         ensures refused { IsErr result ↔ ¬ IsInRange self.old.setup event.now }
         ensures fault { IfErr result (λ fault. IsFault self.old.setup event.now fault) }
+        ensures in_range { IfOk result (λ _. IsInRange self.old.setup event.now) }
         ensures unchanged { OnErr result (self.new ≡ self.old) }
         ensures setup { self.new.setup ≡ self.old.setup }
         ensures answer { IfOk result (λ reply. (history : List Entry) → IsLeftBy self.old history

@@ -41,8 +41,8 @@ unfoldable pub cycle_said : EventRecord → Kind → Width → Option Event
 cycle_said said kind width =
     if said.addr % bytes_of width == 0
     then (if nat_lt said.value (2 ^ 32)
-      then Some (Memory (record { kind = kind; addr = said.addr; width = width; smm = said.smm == 1; value = said.value }))
-      else None)
+    then Some (Memory (record { kind = kind; addr = said.addr; width = width; smm = said.smm == 1; value = said.value }))
+    else None)
     else Some (Wide (wide_access kind said))
 
 -- an access to memory of 1, 2, 4 or 8 bytes
@@ -81,7 +81,7 @@ two_digits digits below = digits / 10 ^ below % 100
 unfoldable pub digits_said : (digits : ℕ) → Option Event
 digits_said digits =
     moment_said (digits / 10 ^ 10) (two_digits digits 8) (two_digits digits 6)
-      (two_digits digits 4) (two_digits digits 2) (two_digits digits 0)
+    (two_digits digits 4) (two_digits digits 2) (two_digits digits 0)
 
 -- a level, 0 or 1, of something that has a number of one byte
 unfoldable pub level_said : EventRecord → (ℕ → Bool → Event) → Option Event

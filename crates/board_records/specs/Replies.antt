@@ -23,8 +23,15 @@ use Rattle.board_records.specs.Numbers.{dram_target, shadow_target, smram_target
 abbrev pub placed : (target unit base offset : ℕ) → PartRecord
 placed target unit base offset =
     record {
-      offset = offset; target = target; unit = unit; base = base;
-      denial = 0; denial_dev = 0; denial_fun = 0; denial_off = 0; reserved = 0
+      offset = offset;
+      target = target;
+      unit = unit;
+      base = base;
+      denial = 0;
+      denial_dev = 0;
+      denial_fun = 0;
+      denial_off = 0;
+      reserved = 0;
     }
 
 -- nothing: the record of zeros
@@ -64,9 +71,21 @@ part_said target denial = with_denial (target_said target) denial
 -- what every record has of what stands after the step
 unfoldable pub blank : AfterStep → ReplyRecord
 blank after = record {
-  value = 0; version = after.version; seen = 0; lo = 0; hi = 0;
-  form = 0; has_value = 0; parts = 0; interrupt = flag after.interrupt; reset = reset_number after.reset;
-  part0 = no_part; part1 = no_part; part2 = no_part; part3 = no_part; reserved = 0
+  value = 0;
+  version = after.version;
+  seen = 0;
+  lo = 0;
+  hi = 0;
+  form = 0;
+  has_value = 0;
+  parts = 0;
+  interrupt = flag after.interrupt;
+  reset = reset_number after.reset;
+  part0 = no_part;
+  part1 = no_part;
+  part2 = no_part;
+  part3 = no_part;
+  reserved = 0;
 }
 
 abbrev pub with_value : ReplyRecord → Option ℕ → ReplyRecord
@@ -86,7 +105,12 @@ with_parts said (parts.Four a b c d) =
 unfoldable pub look_said : Look → AfterStep → ReplyRecord
 look_said look after =
     record (blank after) {
-      form = look_reply; parts = 1; part0 = area_said look.area; seen = look.version; lo = look.lo; hi = look.hi
+      form = look_reply;
+      parts = 1;
+      part0 = area_said look.area;
+      seen = look.version;
+      lo = look.lo;
+      hi = look.hi;
     }
 
 unfoldable pub bus_said : Option ℕ → Target → Option Denial → AfterStep → ReplyRecord

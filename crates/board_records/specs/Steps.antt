@@ -19,7 +19,7 @@ abbrev pub after_entry : Setup → Entry → List Entry → AfterStep
 after_entry setup entry before = record {
   version = version_of setup (entry ∷ before) % version_count;
   interrupt = is_interrupting setup (entry ∷ before);
-  reset = reset_of before entry.event
+  reset = reset_of before entry.event;
 }
 
 -- of a chipset as each history leaves it, this event was answered by this reply, and the record is that of the reply

@@ -1,10 +1,10 @@
 //! A chipset's calls in numbers.
 
-ghost use Rattle.std.specs.Prelude.{◌≡◌, ◌≢◌, [], IfOk, IfErr, OnErr, IsSomeAnd};
-ghost use Rattle.board_chipset.specs.Chipset.{IsLeftBy};
+ghost use Rattle.std.specs.Prelude.{◌≡◌, ◌≢◌, IfOk, IfErr, OnErr, IsSomeAnd};
 ghost use Rattle.board_chipset.specs.OutOfRange.{IsFault};
+ghost use Rattle.board_records.specs.Doors.{Opens};
 ghost use Rattle.board_records.specs.Events.{event_said};
-ghost use Rattle.board_records.specs.Statuses.{ok, IsRefusal};
+ghost use Rattle.board_records.specs.Statuses.{ok, closed, IsRefusal};
 ghost use Rattle.board_records.specs.Steps.{IsStep};
 
 use crate::event::{EventRecord, event_of};
@@ -12,12 +12,11 @@ use crate::reply::{AfterStep, ReplyRecord, record_of};
 use crate::status::{BAD_SIZE, NO_EVENT, NO_MEMORY, OK, fault_status, open_status};
 use board_chipset::{Chipset, OutOfRange, Setup};
 use board_spec::Event;
-use std::alloc::Global;
+use std::alloc::{AllocError, Global};
 
 /// A chipset over copies of these bytes, without cards. A disk of no bytes is none.
-pub fn open(alloc: Global, mib: u32, rom: &[u8], disk: &[u8]) -> Result<Chipset, u32>
-    ensures fresh { IfOk result (λ chipset. (chipset.setup.mib ≡ mib) × (chipset.setup.cards ≡ [])
-        × (chipset.setup.rom ≡ rom.now) × IsLeftBy chipset []) }
+pub(crate) fn open(alloc: Global, mib: u32, rom: &[u8], disk: &[u8]) -> Result<Chipset, u32>
+    ensures fresh { IfOk result (Opens mib rom.now) }
     ensures refused { IfErr result (λ status. status ≢ ok) }
 {
     if mib < 1 || mib > 64 {
@@ -43,8 +42,7 @@ pub fn open(alloc: Global, mib: u32, rom: &[u8], disk: &[u8]) -> Result<Chipset,
 }
 
 /// A copy of a disk's bytes. No bytes are no disk.
-fn copy_disk(alloc: Global, disk: &[u8]) -> Result<Option<Vec<u8>>, AllocError>
-{
+fn copy_disk(alloc: Global, disk: &[u8]) -> Result<Option<Vec<u8>>, AllocError> {
     if disk.is_empty() {
         return Ok(None);
     }
@@ -53,11 +51,12 @@ fn copy_disk(alloc: Global, disk: &[u8]) -> Result<Option<Vec<u8>>, AllocError>
 
 /// Does the event that a record says, and tells its reply by another. Refused with why where the record says none
 /// (`NO_EVENT`) or one that is out of range; then nothing has changed.
-pub fn step(chipset: &mut Chipset, event: &EventRecord, reply: &mut ReplyRecord) -> u32
+pub(crate) fn step(chipset: &mut Chipset, event: &EventRecord, reply: &mut ReplyRecord) -> u32
     ensures done { result ≡ ok → IsSomeAnd (event_said event.now) (IsStep chipset.old chipset.new reply.new) }
     ensures refused { result ≢ ok → IsRefusal chipset.old.setup (event_said event.now) result }
     ensures unchanged { result ≢ ok → chipset.new ≡ chipset.old }
     ensures untold { result ≢ ok → reply.new ≡ reply.old }
+    ensures open { result ≢ closed }
 {
     let Some(asked) = event_of(event) else {
         return NO_EVENT;
