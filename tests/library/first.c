@@ -41,7 +41,6 @@ int main(void) {
     show(board_write(&b, 0xCC000, 1, false, 2, &r), &r, 1);
     show(board_read(&b, 0xCC000, 1, false, &r), &r, 1);
     show(board_fetch(&b, 0xFFFFFFF0, 4, false, &r), &r, 4);
-    show(board_in(&b, 0x61, 1, &r), &r, 1);
     show(board_out(&b, 0xCF9, 1, 6, &r), &r, 1);
     printf("reset %u\n", r.reset);
     board_close(&b);
