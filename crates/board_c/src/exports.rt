@@ -1,0 +1,77 @@
+//! The functions that C calls. One call at a time is inside a handle, and its pointers are good: what the caller owes.
+
+ghost use Rattle.std.specs.Prelude.{◌≡◌, ◌≢◌, true, false, IsSomeAnd};
+ghost use Rattle.board_records.specs.Doors.{Opens, OnBoth};
+ghost use Rattle.board_records.specs.Events.{event_said};
+ghost use Rattle.board_records.specs.Statuses.{ok, closed, IsRefusal};
+ghost use Rattle.board_records.specs.Steps.{IsStep};
+
+use crate::handle::Handle;
+use board_records::status::{CLOSED, NO_MEMORY, OK};
+use board_records::{Door, EventRecord, ReplyRecord};
+use std::alloc::Global;
+
+/// Opens a board over copies of these bytes, without cards. A disk of no bytes is none. `CLOSED` where the handle is open
+/// already; a handle that is refused is as before.
+#[unsafe(no_mangle)]
+pub extern "C" fn board_open(
+    alloc: Global,
+    handle: &mut Handle,
+    mib: u32,
+    rom: &[u8],
+    disk: &[u8],
+) -> u32
+    ensures done { result ≡ ok → (handle.new.full ≡ true) × IsSomeAnd handle.new.held (Opens mib rom.now) }
+    ensures twice { handle.old.full ≡ true → result ≡ closed }
+    ensures held { handle.old.full ≡ true → handle.new.held ≡ handle.old.held }
+    ensures refused { result ≢ ok → handle.new.full ≡ handle.old.full }
+{
+    if let Some(board) = handle.take(alloc) {
+        handle.put(board);
+        return CLOSED;
+    }
+    let board = match Door::open(alloc, mib, rom, disk) {
+        Ok(board) => board,
+        Err(status) => return status,
+    };
+    let Ok(boxed) = Box::new(alloc, board) else {
+        return NO_MEMORY;
+    };
+    handle.put(boxed);
+    OK
+}
+
+/// Does the event that a record says, and tells its reply by another. `CLOSED` exactly where the handle is closed; refused
+/// with why where the record says no event, or one that is out of range. Then nothing has changed.
+#[unsafe(no_mangle)]
+pub extern "C" fn board_step(
+    alloc: Global,
+    handle: &mut Handle,
+    event: &EventRecord,
+    reply: &mut ReplyRecord,
+) -> u32
+    ensures kept { handle.new.full ≡ handle.old.full }
+    ensures closed { handle.old.full ≡ false → result ≡ closed }
+    ensures open { handle.old.full ≡ true → result ≢ closed }
+    ensures done { result ≡ ok → IsSomeAnd (event_said event.now)
+        (λ asked. OnBoth handle.old.held handle.new.held (λ old new. IsStep old new reply.new asked)) }
+    ensures refused { handle.old.full ≡ true → result ≢ ok
+        → IsSomeAnd handle.old.held (λ chipset. IsRefusal chipset.setup (event_said event.now) result) }
+    ensures unchanged { handle.old.full ≡ true → result ≢ ok → handle.new.held ≡ handle.old.held }
+    ensures untold { result ≢ ok → reply.new ≡ reply.old }
+{
+    let Some(mut board) = handle.take(alloc) else {
+        return CLOSED;
+    };
+    let status = board.step(event, reply);
+    handle.put(board);
+    status
+}
+
+/// Frees the board. The handle is closed from then on.
+#[unsafe(no_mangle)]
+pub extern "C" fn board_close(alloc: Global, handle: &mut Handle)
+    ensures closed { handle.new.full ≡ false }
+{
+    let _ended = handle.take(alloc);
+}

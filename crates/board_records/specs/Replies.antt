@@ -1,0 +1,126 @@
+-- The record of a reply, with what stands after its step.
+use Rattle.std.specs.Prelude.{ℕ, Bool, true, false, Option, Some, None}
+use Rattle.board_base.specs.declared.target.Reg.{Reg}
+use Rattle.board_base.specs.declared.target.Area.{Area}
+use Rattle.board_base.specs.declared.target.Area.TheVariants as areas
+use Rattle.board_base.specs.declared.target.Target.{Target}
+use Rattle.board_base.specs.declared.target.Target.TheVariants as targets
+use Rattle.board_base.specs.declared.target.Denial.{Denial}
+use Rattle.board_base.specs.declared.target.Denial.TheVariants.{Register, Confadd, NoRegister}
+use Rattle.board_spec.specs.declared.event.Part.{Part}
+use Rattle.board_spec.specs.declared.event.Parts.{Parts}
+use Rattle.board_spec.specs.declared.event.Parts.TheVariants as parts
+use Rattle.board_spec.specs.declared.event.Look.{Look}
+use Rattle.board_spec.specs.declared.event.Reply.{Reply}
+use Rattle.board_spec.specs.declared.event.Reply.TheVariants as replies
+use Rattle.board_records.specs.declared.reply.PartRecord.{PartRecord}
+use Rattle.board_records.specs.declared.reply.ReplyRecord.{ReplyRecord}
+use Rattle.board_records.specs.declared.reply.AfterStep.{AfterStep}
+use Rattle.board_records.specs.Numbers.{dram_target, shadow_target, smram_target, rom_target, card_target, device_target, config_target, abort_target, device_number, register_denial, confadd_denial, no_register_denial, bus_reply, parts_reply, look_reply, reset_number, flag}
+
+-- ---- one part
+
+abbrev pub placed : (target unit base offset : ℕ) → PartRecord
+placed target unit base offset =
+    record {
+      offset = offset;
+      target = target;
+      unit = unit;
+      base = base;
+      denial = 0;
+      denial_dev = 0;
+      denial_fun = 0;
+      denial_off = 0;
+      reserved = 0;
+    }
+
+-- nothing: the record of zeros
+abbrev pub no_part : PartRecord
+no_part = placed 0 0 0 0
+
+abbrev pub target_said : Target → PartRecord
+target_said (targets.Dram row) = placed dram_target row 0 0
+target_said (targets.Shadow row) = placed shadow_target row 0 0
+target_said targets.Smram = placed smram_target 0 0 0
+target_said (targets.Rom offset) = placed rom_target 0 0 offset
+target_said (targets.Card dev base offset) = placed card_target dev base offset
+target_said (targets.Device dev) = placed device_target (device_number dev) 0 0
+target_said (targets.Config reg) = placed config_target reg.dev reg.fun reg.off
+target_said targets.Abort = placed abort_target 0 0 0
+
+abbrev pub area_said : Area → PartRecord
+area_said (areas.Dram row) = placed dram_target row 0 0
+area_said (areas.Shadow row) = placed shadow_target row 0 0
+area_said areas.Smram = placed smram_target 0 0 0
+area_said areas.Rom = placed rom_target 0 0 0
+area_said (areas.Card dev base) = placed card_target dev base 0
+area_said areas.Abort = placed abort_target 0 0 0
+
+abbrev pub with_denial : PartRecord → Option Denial → PartRecord
+with_denial part None = part
+with_denial part (Some (Register reg)) =
+    record part { denial = register_denial; denial_dev = reg.dev; denial_fun = reg.fun; denial_off = reg.off }
+with_denial part (Some Confadd) = record part { denial = confadd_denial }
+with_denial part (Some NoRegister) = record part { denial = no_register_denial }
+
+unfoldable pub part_said : Target → Option Denial → PartRecord
+part_said target denial = with_denial (target_said target) denial
+
+-- ---- the whole
+
+-- what every record has of what stands after the step
+unfoldable pub blank : AfterStep → ReplyRecord
+blank after = record {
+  value = 0;
+  version = after.version;
+  seen = 0;
+  lo = 0;
+  hi = 0;
+  form = 0;
+  has_value = 0;
+  parts = 0;
+  interrupt = flag after.interrupt;
+  reset = reset_number after.reset;
+  part0 = no_part;
+  part1 = no_part;
+  part2 = no_part;
+  part3 = no_part;
+  reserved = 0;
+}
+
+abbrev pub with_value : ReplyRecord → Option ℕ → ReplyRecord
+with_value said None = said
+with_value said (Some value) = record said { value = value; has_value = 1 }
+
+abbrev pub of_part : Part → PartRecord
+of_part part = part_said part.target part.denial
+
+abbrev pub with_parts : ReplyRecord → Parts → ReplyRecord
+with_parts said (parts.Two a b) = record said { parts = 2; part0 = of_part a; part1 = of_part b }
+with_parts said (parts.Three a b c) =
+    record said { parts = 3; part0 = of_part a; part1 = of_part b; part2 = of_part c }
+with_parts said (parts.Four a b c d) =
+    record said { parts = 4; part0 = of_part a; part1 = of_part b; part2 = of_part c; part3 = of_part d }
+
+unfoldable pub look_said : Look → AfterStep → ReplyRecord
+look_said look after =
+    record (blank after) {
+      form = look_reply;
+      parts = 1;
+      part0 = area_said look.area;
+      seen = look.version;
+      lo = look.lo;
+      hi = look.hi;
+    }
+
+unfoldable pub bus_said : Option ℕ → Target → Option Denial → AfterStep → ReplyRecord
+bus_said value target denial after =
+    with_value (record (blank after) { form = bus_reply; parts = 1; part0 = part_said target denial }) value
+
+unfoldable pub wide_said : Parts → Option ℕ → AfterStep → ReplyRecord
+wide_said parts value after = with_value (with_parts (record (blank after) { form = parts_reply }) parts) value
+
+unfoldable pub record_said : Reply → AfterStep → ReplyRecord
+record_said (replies.Bus value target denial) after = bus_said value target denial after
+record_said (replies.Parts parts value) after = wide_said parts value after
+record_said (replies.Saw look) after = look_said look after

@@ -1,0 +1,47 @@
+-- How a call ends, as a number.
+use Rattle.std.specs.Prelude.{ℕ, ◌≡◌, Option, Some, None}
+use Rattle.board_spec.specs.declared.event.Event.{Event}
+use Rattle.board_spec.specs.Setup.{Setup}
+use Rattle.board_chipset.specs.declared.setup.BoardOpen.{BoardOpen}
+use Rattle.board_chipset.specs.declared.setup.BoardOpen.TheVariants.{BadRom, BadDisk, NoMemory}
+use Rattle.board_chipset.specs.declared.in_range.OutOfRange.{OutOfRange}
+use Rattle.board_chipset.specs.declared.in_range.OutOfRange.TheVariants as faults
+use Rattle.board_chipset.specs.OutOfRange.{IsFault}
+
+abbrev pub ok : ℕ
+ok = 0
+
+-- the handle holds no board, or at an open it holds one
+abbrev pub closed : ℕ
+closed = 1
+
+abbrev pub no_memory : ℕ
+no_memory = 2
+
+abbrev pub bad_size : ℕ
+bad_size = 3
+
+-- a record names no event
+abbrev pub no_event : ℕ
+no_event = 7
+
+abbrev pub open_status : BoardOpen → ℕ
+open_status BadRom = 5
+open_status BadDisk = 6
+open_status NoMemory = no_memory
+
+abbrev pub fault_status : OutOfRange → ℕ
+fault_status faults.Alignment = 8
+fault_status faults.Value = 9
+fault_status faults.Bytes = 10
+fault_status faults.Aligned = 11
+fault_status faults.End = 12
+fault_status faults.Pulses = 13
+fault_status faults.Date = 14
+fault_status faults.Device = 15
+fault_status faults.Line = 16
+
+-- why the event of a record is refused: there is none, or its first field that is out of range
+abbrev pub IsRefusal : Setup → Option Event → (status : ℕ) → Type 0
+IsRefusal setup None status = status ≡ no_event
+IsRefusal setup (Some asked) status = (fault : OutOfRange) × IsFault setup asked fault × (status ≡ fault_status fault)

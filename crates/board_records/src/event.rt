@@ -1,0 +1,276 @@
+//! Events as records of numbers.
+
+ghost use Rattle.std.specs.Prelude.{◌≡◌, ◌==◌, option_map, option_and_then};
+ghost use Rattle.board_spec.specs.declared.event.Event.TheVariants.{Line, Look as LookAt, Wide, Wire};
+ghost use Rattle.board_records.specs.Events.{event_said, asked_by, kind_said, direction_said, width_said, wide_access, cycle_said, access_said, port_said, moment_said, digits_said, level_said, pulses_said};
+
+use crate::numbers::{
+    ACK_EVENT, BAD_SECTOR_EVENT, FETCH_KIND, LINE_EVENT, LOOK_EVENT, MEMORY_EVENT, PORT_EVENT,
+    PULSES_EVENT, READ_KIND, TIME_EVENT, WIRE_EVENT, WRITE_KIND,
+};
+use board_base::{Access, Kind, Moment, PortAccess, WideAccess, Width};
+use board_spec::Event;
+
+/// What is asked of a board, in numbers: what is asked (`MEMORY_EVENT` ..), the kind of an access (`FETCH_KIND` ..) and
+/// its count of bytes, an address, port, device, line or sector, and a value, count, moment or level. What an event
+/// has no use for is not read. `reserved` is 0.
+#[repr(C)]
+#[derive(Clone, Copy, PartialEq, Eq, Debug, Default)]
+pub struct EventRecord {
+    pub value: u64,
+    pub addr: u32,
+    pub what: u8,
+    pub kind: u8,
+    pub bytes: u8,
+    pub smm: u8,
+    pub reserved: u64,
+}
+
+impl EventRecord {
+    /// Whether the access is made in system management mode.
+    fn is_smm(&self) -> bool
+        ensures smm { result ≡ (self.now.smm == 1) }
+    {
+        self.smm == 1
+    }
+}
+
+/// The event that a record says. None exactly where a number of it names nothing, or does not fit where it goes. The
+/// event may still be out of range.
+#[tactic(auto, unfolding(crate::specs::Events::event_said))]
+pub fn event_of(record: &EventRecord) -> Option<Event>
+    ensures said { result ≡ event_said record.now }
+{
+    if record.reserved != 0 || record.smm > 1 {
+        return None;
+    }
+    asked_by(record)
+}
+
+/// The event by the number of what is asked.
+#[tactic(auto, unfolding(crate::specs::Events::asked_by))]
+fn asked_by(record: &EventRecord) -> Option<Event>
+    ensures said { result ≡ asked_by record.now }
+{
+    match record.what {
+        MEMORY_EVENT => memory_event(record),
+        PORT_EVENT => port_event(record),
+        LOOK_EVENT => look_event(record),
+        ACK_EVENT => Some(Event::Ack),
+        PULSES_EVENT => pulses_event(record.value),
+        TIME_EVENT => time_event(record.value),
+        WIRE_EVENT => wire_event(record),
+        LINE_EVENT => line_event(record),
+        BAD_SECTOR_EVENT => Some(Event::BadSector(record.addr)),
+        _ => None,
+    }
+}
+
+/// The kind of an access.
+#[tactic(auto, unfolding(crate::specs::Events::kind_said))]
+fn kind_of(number: u8) -> Option<Kind>
+    ensures said { result ≡ kind_said number }
+{
+    match number {
+        FETCH_KIND => Some(Kind::Fetch),
+        READ_KIND => Some(Kind::Read),
+        WRITE_KIND => Some(Kind::Write),
+        _ => None,
+    }
+}
+
+/// Whether a port is written.
+#[tactic(auto, unfolding(crate::specs::Events::direction_said))]
+fn direction_of(number: u8) -> Option<bool>
+    ensures said { result ≡ direction_said number }
+{
+    match number {
+        READ_KIND => Some(false),
+        WRITE_KIND => Some(true),
+        _ => None,
+    }
+}
+
+/// The width of this many bytes.
+#[tactic(auto, unfolding(crate::specs::Events::width_said))]
+fn width_of(bytes: u8) -> Option<Width>
+    ensures said { result ≡ width_said bytes }
+{
+    match bytes {
+        1 => Some(Width::One),
+        2 => Some(Width::Two),
+        4 => Some(Width::Four),
+        _ => None,
+    }
+}
+
+fn memory_event(record: &EventRecord) -> Option<Event>
+    ensures said { result ≡ option_and_then (access_said record.now) (kind_said record.now.kind) }
+{
+    match kind_of(record.kind) {
+        Some(kind) => access_event(record, kind),
+        None => None,
+    }
+}
+
+#[tactic(auto, unfolding(crate::specs::Events::access_said))]
+fn access_event(record: &EventRecord, kind: Kind) -> Option<Event>
+    ensures said { result ≡ access_said record.now kind }
+{
+    if record.bytes == 8 {
+        return Some(wide_event(record, kind));
+    }
+    match width_of(record.bytes) {
+        Some(width) => cycle_event(record, kind, width),
+        None => None,
+    }
+}
+
+#[tactic(auto, unfolding(crate::specs::Events::cycle_said))]
+fn cycle_event(record: &EventRecord, kind: Kind, width: Width) -> Option<Event>
+    ensures said { result ≡ cycle_said record.now kind width }
+{
+    if !width.is_aligned(record.addr) {
+        return Some(wide_event(record, kind));
+    }
+    let Ok(value) = u32::try_from(record.value) else {
+        return None;
+    };
+    Some(Event::Memory(Access {
+        kind,
+        addr: record.addr,
+        width,
+        smm: record.is_smm(),
+        value,
+    }))
+}
+
+fn wide_event(record: &EventRecord, kind: Kind) -> Event
+    ensures wide { result ≡ Wide (wide_access kind record.now) }
+{
+    Event::Wide(WideAccess {
+        kind,
+        bytes: record.bytes,
+        smm: record.is_smm(),
+        addr: record.addr,
+        value: record.value,
+    })
+}
+
+fn look_event(record: &EventRecord) -> Option<Event>
+    ensures said { result ≡ option_map (λ kind. LookAt kind record.now.addr (record.now.smm == 1)) (kind_said record.now.kind) }
+{
+    match kind_of(record.kind) {
+        Some(kind) => Some(Event::Look {
+            kind,
+            addr: record.addr,
+            smm: record.is_smm(),
+        }),
+        None => None,
+    }
+}
+
+fn port_event(record: &EventRecord) -> Option<Event>
+    ensures said { result ≡ option_and_then (λ width. option_and_then (port_said record.now width) (direction_said record.now.kind)) (width_said record.now.bytes) }
+{
+    match width_of(record.bytes) {
+        Some(width) => directed_port_event(record, width),
+        None => None,
+    }
+}
+
+fn directed_port_event(record: &EventRecord, width: Width) -> Option<Event>
+    ensures said { result ≡ option_and_then (port_said record.now width) (direction_said record.now.kind) }
+{
+    match direction_of(record.kind) {
+        Some(write) => bus_port_event(record, width, write),
+        None => None,
+    }
+}
+
+#[tactic(auto, unfolding(crate::specs::Events::port_said))]
+fn bus_port_event(record: &EventRecord, width: Width, write: bool) -> Option<Event>
+    ensures said { result ≡ port_said record.now width write }
+{
+    let Ok(port) = u16::try_from(record.addr) else {
+        return None;
+    };
+    let Ok(value) = u32::try_from(record.value) else {
+        return None;
+    };
+    Some(Event::Port(PortAccess {
+        write,
+        port,
+        width,
+        value,
+    }))
+}
+
+#[tactic(auto, unfolding(crate::specs::Events::pulses_said))]
+fn pulses_event(count: u64) -> Option<Event>
+    ensures said { result ≡ pulses_said count }
+{
+    match u32::try_from(count) {
+        Ok(count) => Some(Event::Pulses(count)),
+        Err(_) => None,
+    }
+}
+
+/// A moment as the digits of year, month, day, hour, minute and second.
+#[tactic(auto, unfolding(crate::specs::Events::digits_said))]
+fn time_event(digits: u64) -> Option<Event>
+    ensures said { result ≡ digits_said digits }
+{
+    let year = digits / 10_000_000_000;
+    let month = (digits / 100_000_000 % 100) as u8;
+    let day = (digits / 1_000_000 % 100) as u8;
+    let hour = (digits / 10_000 % 100) as u8;
+    let minute = (digits / 100 % 100) as u8;
+    let second = (digits % 100) as u8;
+    moment_event(year, month, day, hour, minute, second)
+}
+
+#[tactic(auto, unfolding(crate::specs::Events::moment_said))]
+fn moment_event(year: u64, month: u8, day: u8, hour: u8, minute: u8, second: u8) -> Option<Event>
+    ensures said { result ≡ moment_said year month day hour minute second }
+{
+    let Ok(year) = u16::try_from(year) else {
+        return None;
+    };
+    match Moment::new(year, month, day, hour, minute, second) {
+        Some(moment) => Some(Event::Time(moment)),
+        None => None,
+    }
+}
+
+#[tactic(auto, unfolding(crate::specs::Events::level_said))]
+fn wire_event(record: &EventRecord) -> Option<Event>
+    ensures said { result ≡ level_said record.now Wire }
+{
+    let Ok(dev) = u8::try_from(record.addr) else {
+        return None;
+    };
+    if record.value > 1 {
+        return None;
+    }
+    Some(Event::Wire {
+        dev,
+        on: record.value == 1,
+    })
+}
+
+#[tactic(auto, unfolding(crate::specs::Events::level_said))]
+fn line_event(record: &EventRecord) -> Option<Event>
+    ensures said { result ≡ level_said record.now Line }
+{
+    let Ok(irq) = u8::try_from(record.addr) else {
+        return None;
+    };
+    if record.value > 1 {
+        return None;
+    }
+    Some(Event::Line {
+        irq,
+        on: record.value == 1,
+    })
+}

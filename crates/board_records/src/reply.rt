@@ -1,0 +1,295 @@
+//! Replies as records of numbers.
+
+ghost use Rattle.std.specs.Prelude.{◌≡◌, Some};
+ghost use Rattle.board_base.specs.declared.target.Denial.TheVariants.{Register};
+ghost use Rattle.board_records.specs.Numbers.{device_number, reset_number};
+ghost use Rattle.board_records.specs.Replies.{placed, target_said, area_said, with_denial, part_said, blank, with_value, with_parts, look_said, bus_said, wide_said, record_said, of_part};
+
+use crate::numbers::{
+    ABORT_TARGET, ATA_DEVICE, BUS_REPLY, CARD_TARGET, CLOCK_DEVICE, CONFADD_DENIAL, CONFADD_DEVICE,
+    CONFIG_TARGET, DEVICE_TARGET, DRAM_TARGET, ELCR_DEVICE, HARD_RESET, KEYBOARD_DEVICE,
+    LOOK_REPLY, NO_REGISTER_DENIAL, NO_RESET, PARTS_REPLY, PIC0_DEVICE, PIC1_DEVICE, PIT_DEVICE,
+    REGISTER_DENIAL, RESET_DEVICE, ROM_TARGET, SHADOW_TARGET, SMRAM_TARGET, SOFT_RESET,
+    SPURIOUS0_DEVICE, SPURIOUS1_DEVICE, SYSTEM_DEVICE, VECTOR0_DEVICE, VECTOR1_DEVICE,
+    WIRES_DEVICE,
+};
+use board_base::{Area, Denial, Dev, Reg, Target};
+use board_chipset::ResetKind;
+use board_spec::{Look, Part, Parts, Reply};
+
+/// What answered an access, or one part of it, and what denied it: a target (`DRAM_TARGET` ..), the row of DRAM, the
+/// device (a PCI device of a card or register, `PIT_DEVICE` .. of the board), the base of a card or function of a
+/// register, and the offset in it; a denial (`REGISTER_DENIAL` ..) and of a register where it lies.
+#[repr(C)]
+#[derive(Clone, Copy, PartialEq, Eq, Debug, Default)]
+pub struct PartRecord {
+    pub offset: u32,
+    pub target: u8,
+    pub unit: u8,
+    pub base: u8,
+    pub denial: u8,
+    pub denial_dev: u8,
+    pub denial_fun: u8,
+    pub denial_off: u8,
+    pub reserved: u8,
+}
+
+/// A reply in numbers: what was read, where anything was; which reply it is (`BUS_REPLY` ..) and how many of its parts
+/// are filled; of a look the version of the map before it and the interval; and what stands after the step: the version
+/// of the map, whether INT is asserted, and the reset that the step made (`NO_RESET` ..).
+#[repr(C)]
+#[derive(Clone, Copy, PartialEq, Eq, Debug, Default)]
+pub struct ReplyRecord {
+    pub value: u64,
+    pub version: u32,
+    pub seen: u32,
+    pub lo: u32,
+    pub hi: u32,
+    pub form: u8,
+    pub has_value: u8,
+    pub parts: u8,
+    pub interrupt: u8,
+    pub reset: u32,
+    pub part0: PartRecord,
+    pub part1: PartRecord,
+    pub part2: PartRecord,
+    pub part3: PartRecord,
+    pub reserved: u64,
+}
+
+/// What stands after a step: the version of the map, whether INT is asserted, and the reset that the step made.
+#[derive(Clone, Copy, PartialEq, Eq, Debug)]
+pub struct AfterStep {
+    pub version: u32,
+    pub interrupt: bool,
+    pub reset: ResetKind,
+}
+
+/// The record of a reply, with what stands after its step.
+#[tactic(auto, unfolding(crate::specs::Replies::record_said))]
+pub fn record_of(reply: &Reply, after: AfterStep) -> ReplyRecord
+    ensures said { result ≡ record_said reply.now after }
+{
+    match reply {
+        Reply::Bus {
+            value,
+            target,
+            denial,
+        } => bus_record(*value, *target, *denial, after),
+        Reply::Parts { parts, value } => wide_record(*parts, *value, after),
+        Reply::Saw(look) => look_record(*look, after),
+    }
+}
+
+#[tactic(auto, unfolding(crate::specs::Replies::bus_said))]
+fn bus_record(
+    value: Option<u32>,
+    target: Target,
+    denial: Option<Denial>,
+    after: AfterStep,
+) -> ReplyRecord
+    ensures said { result ≡ bus_said value target denial after }
+{
+    let record = ReplyRecord {
+        form: BUS_REPLY,
+        parts: 1,
+        part0: part_record(target, denial),
+        ..blank(after)
+    };
+    match value {
+        Some(value) => valued(record, value.into()),
+        None => record,
+    }
+}
+
+#[tactic(auto, unfolding(crate::specs::Replies::wide_said))]
+fn wide_record(parts: Parts, value: Option<u64>, after: AfterStep) -> ReplyRecord
+    ensures said { result ≡ wide_said parts value after }
+{
+    let record = parted(
+        ReplyRecord {
+            form: PARTS_REPLY,
+            ..blank(after)
+        },
+        parts,
+    );
+    match value {
+        Some(value) => valued(record, value),
+        None => record,
+    }
+}
+
+#[tactic(auto, unfolding(crate::specs::Replies::look_said))]
+fn look_record(look: Look, after: AfterStep) -> ReplyRecord
+    ensures said { result ≡ look_said look after }
+{
+    ReplyRecord {
+        form: LOOK_REPLY,
+        parts: 1,
+        part0: area_record(look.area),
+        seen: look.version,
+        lo: look.lo,
+        hi: look.hi,
+        ..blank(after)
+    }
+}
+
+/// What every record has of what stands after the step.
+#[tactic(auto, unfolding(crate::specs::Replies::blank))]
+fn blank(after: AfterStep) -> ReplyRecord
+    ensures blank { result ≡ blank after }
+{
+    ReplyRecord {
+        version: after.version,
+        interrupt: u8::from(after.interrupt),
+        reset: reset_number(after.reset),
+        ..ReplyRecord::default()
+    }
+}
+
+fn valued(record: ReplyRecord, value: u64) -> ReplyRecord
+    ensures value { result ≡ with_value «record» (Some value) }
+{
+    ReplyRecord {
+        value,
+        has_value: 1,
+        ..record
+    }
+}
+
+fn parted(record: ReplyRecord, parts: Parts) -> ReplyRecord
+    ensures parts { result ≡ with_parts «record» parts }
+{
+    match parts {
+        Parts::Two(a, b) => ReplyRecord {
+            parts: 2,
+            part0: of_part(a),
+            part1: of_part(b),
+            ..record
+        },
+        Parts::Three(a, b, c) => ReplyRecord {
+            parts: 3,
+            part0: of_part(a),
+            part1: of_part(b),
+            part2: of_part(c),
+            ..record
+        },
+        Parts::Four(a, b, c, d) => ReplyRecord {
+            parts: 4,
+            part0: of_part(a),
+            part1: of_part(b),
+            part2: of_part(c),
+            part3: of_part(d),
+            ..record
+        },
+    }
+}
+
+fn of_part(part: Part) -> PartRecord
+    ensures part { result ≡ of_part part }
+{
+    part_record(part.target, part.denial)
+}
+
+#[tactic(auto, unfolding(crate::specs::Replies::part_said))]
+fn part_record(target: Target, denial: Option<Denial>) -> PartRecord
+    ensures said { result ≡ part_said target denial }
+{
+    let record = target_record(target);
+    match denial {
+        Some(Denial::Register(reg)) => denied_by(record, reg),
+        Some(Denial::Confadd) => PartRecord {
+            denial: CONFADD_DENIAL,
+            ..record
+        },
+        Some(Denial::NoRegister) => PartRecord {
+            denial: NO_REGISTER_DENIAL,
+            ..record
+        },
+        None => record,
+    }
+}
+
+fn denied_by(record: PartRecord, reg: Reg) -> PartRecord
+    ensures denied { result ≡ with_denial «record» (Some (Register reg)) }
+{
+    PartRecord {
+        denial: REGISTER_DENIAL,
+        denial_dev: reg.dev,
+        denial_fun: reg.fun,
+        denial_off: reg.off,
+        ..record
+    }
+}
+
+fn target_record(target: Target) -> PartRecord
+    ensures said { result ≡ target_said target }
+{
+    match target {
+        Target::Dram(row) => placed(DRAM_TARGET, row, 0, 0),
+        Target::Shadow(row) => placed(SHADOW_TARGET, row, 0, 0),
+        Target::Smram => placed(SMRAM_TARGET, 0, 0, 0),
+        Target::Rom(offset) => placed(ROM_TARGET, 0, 0, offset),
+        Target::Card(dev, base, offset) => placed(CARD_TARGET, dev, base, offset),
+        Target::Device(dev) => placed(DEVICE_TARGET, device_number(dev), 0, 0),
+        Target::Config(reg) => placed(CONFIG_TARGET, reg.dev, reg.fun, reg.off.into()),
+        Target::Abort => placed(ABORT_TARGET, 0, 0, 0),
+    }
+}
+
+fn area_record(area: Area) -> PartRecord
+    ensures said { result ≡ area_said area }
+{
+    match area {
+        Area::Dram(row) => placed(DRAM_TARGET, row, 0, 0),
+        Area::Shadow(row) => placed(SHADOW_TARGET, row, 0, 0),
+        Area::Smram => placed(SMRAM_TARGET, 0, 0, 0),
+        Area::Rom => placed(ROM_TARGET, 0, 0, 0),
+        Area::Card(dev, base) => placed(CARD_TARGET, dev, base, 0),
+        Area::Abort => placed(ABORT_TARGET, 0, 0, 0),
+    }
+}
+
+fn placed(target: u8, unit: u8, base: u8, offset: u32) -> PartRecord
+    ensures placed { result ≡ placed target unit base offset }
+{
+    PartRecord {
+        offset,
+        target,
+        unit,
+        base,
+        ..PartRecord::default()
+    }
+}
+
+fn device_number(dev: Dev) -> u8
+    ensures number { result ≡ device_number dev }
+{
+    match dev {
+        Dev::Confadd => CONFADD_DEVICE,
+        Dev::Reset => RESET_DEVICE,
+        Dev::Pic0 => PIC0_DEVICE,
+        Dev::Pic1 => PIC1_DEVICE,
+        Dev::Pit => PIT_DEVICE,
+        Dev::System => SYSTEM_DEVICE,
+        Dev::Keyboard => KEYBOARD_DEVICE,
+        Dev::Clock => CLOCK_DEVICE,
+        Dev::Elcr => ELCR_DEVICE,
+        Dev::Ata => ATA_DEVICE,
+        Dev::Wires => WIRES_DEVICE,
+        Dev::Vector(0) => VECTOR0_DEVICE,
+        Dev::Vector(_) => VECTOR1_DEVICE,
+        Dev::Spurious(0) => SPURIOUS0_DEVICE,
+        Dev::Spurious(_) => SPURIOUS1_DEVICE,
+    }
+}
+
+fn reset_number(reset: ResetKind) -> u32
+    ensures number { result ≡ reset_number reset }
+{
+    match reset {
+        ResetKind::None => NO_RESET,
+        ResetKind::Soft => SOFT_RESET,
+        ResetKind::Hard => HARD_RESET,
+    }
+}

@@ -1,0 +1,67 @@
+//! How a call ends, as a number.
+
+ghost use Rattle.std.specs.Prelude.{◌≡◌};
+ghost use Rattle.board_records.specs.Statuses.{fault_status, open_status};
+
+use board_chipset::{BoardOpen, OutOfRange};
+
+/// Done.
+pub const OK: u32 = 0;
+/// The handle holds no board; or, at an open, it holds one.
+pub const CLOSED: u32 = 1;
+/// There was no memory.
+pub const NO_MEMORY: u32 = 2;
+/// The memory of the guest is not of 1 to 64 MiB.
+pub const BAD_SIZE: u32 = 3;
+/// The ROM is not of 64, 128, 256 or 512 KiB.
+pub const BAD_ROM: u32 = 5;
+/// The disk is not of 1 to 65,536 whole sectors of 512 bytes.
+pub const BAD_DISK: u32 = 6;
+/// A record names no event.
+pub const NO_EVENT: u32 = 7;
+/// An address or a port is no multiple of the width.
+pub const ALIGNMENT: u32 = 8;
+/// A value does not fit the width, or is not 0 where nothing is written.
+pub const VALUE: u32 = 9;
+/// A wide access has not 2, 4 or 8 bytes.
+pub const BYTES: u32 = 10;
+/// One bus cycle moves a wide access.
+pub const ALIGNED: u32 = 11;
+/// A wide access ends past FFFFFFFFh.
+pub const END: u32 = 12;
+/// A count of pulses is not 1 to 1,000,000.
+pub const PULSES: u32 = 13;
+/// The clock cannot have a date or time.
+pub const DATE: u32 = 14;
+/// No card has the device number.
+pub const DEVICE: u32 = 15;
+/// The line cannot be set from outside.
+pub const LINE: u32 = 16;
+
+/// The status of an event that is out of range.
+pub fn fault_status(fault: OutOfRange) -> u32
+    ensures status { result ≡ fault_status fault }
+{
+    match fault {
+        OutOfRange::Alignment => ALIGNMENT,
+        OutOfRange::Value => VALUE,
+        OutOfRange::Bytes => BYTES,
+        OutOfRange::Aligned => ALIGNED,
+        OutOfRange::End => END,
+        OutOfRange::Pulses => PULSES,
+        OutOfRange::Date => DATE,
+        OutOfRange::Device => DEVICE,
+        OutOfRange::Line => LINE,
+    }
+}
+
+/// The status of a board that was not opened.
+pub fn open_status(fault: BoardOpen) -> u32
+    ensures status { result ≡ open_status fault }
+{
+    match fault {
+        BoardOpen::BadRom => BAD_ROM,
+        BoardOpen::BadDisk => BAD_DISK,
+        BoardOpen::NoMemory => NO_MEMORY,
+    }
+}

@@ -1,0 +1,237 @@
+/* board.h: the proved PC board (82441FX, 82371SB, two 8259A, 8254, MC146818, ATA by PIO) as a C library.
+ *
+ * A board is a handle of two words, which the caller keeps; every call takes a pointer to it. A call that is refused
+ * leaves the board and the reply as they were. Nothing prints, traps or ends the process.
+ *
+ * The caller owes: each pointer is good for what it points to, and rom and disk are not NULL, also where they have no
+ * bytes; one call at a time is inside a handle, which the caller's lock sees to; a handle is zeros or what a call left,
+ * and is not copied to go on with both; malloc, realloc and free are those of one heap. */
+#ifndef BOARD_H
+#define BOARD_H
+#include <stdbool.h>
+#include <stddef.h>
+#include <stdint.h>
+#ifdef __cplusplus
+extern "C" {
+#endif
+
+/* The version of this interface. */
+#define BOARD_INTERFACE 1u
+
+/* A handle. Zeros are a closed one. */
+typedef struct board {
+    void *at;
+    bool open;
+} board;
+
+/* How a call ends. */
+enum board_status {
+    BOARD_OK = 0,
+    BOARD_CLOSED = 1,     /* the handle holds no board; or, at board_open, it holds one */
+    BOARD_NO_MEMORY = 2,
+    BOARD_BAD_SIZE = 3,   /* the guest's memory is not of 1 to 64 MiB */
+    BOARD_BAD_ROM = 5,    /* the ROM is not of 64, 128, 256 or 512 KiB */
+    BOARD_BAD_DISK = 6,   /* the disk is not of 1 to 65,536 whole sectors of 512 bytes */
+    BOARD_NO_EVENT = 7,   /* the record names no event */
+    BOARD_ALIGNMENT = 8,  /* an address or a port is no multiple of the width */
+    BOARD_VALUE = 9,      /* a value does not fit the width, or is not 0 where nothing is written */
+    BOARD_BYTES = 10,     /* a wide access has not 2, 4 or 8 bytes */
+    BOARD_ALIGNED = 11,   /* one bus cycle moves a wide access */
+    BOARD_END = 12,       /* a wide access ends past FFFFFFFFh */
+    BOARD_PULSES = 13,    /* a count of pulses is not 1 to 1,000,000 */
+    BOARD_DATE = 14,      /* the clock cannot have a date or time */
+    BOARD_DEVICE = 15,    /* no card has the device number */
+    BOARD_LINE = 16       /* the line cannot be set from outside */
+};
+
+/* What is asked. */
+enum board_what {
+    BOARD_MEMORY = 1,     /* kind, addr, bytes 1, 2, 4 or 8, smm, value; one bus cycle where it is aligned */
+    BOARD_PORT = 2,       /* kind BOARD_READ or BOARD_WRITE, addr, bytes 1, 2 or 4, value */
+    BOARD_LOOK = 3,       /* kind, addr, smm: where would such an access land? */
+    BOARD_ACK = 4,        /* interrupt acknowledge */
+    BOARD_PULSE = 5,      /* value: 1 to 1,000,000 pulses of the 8254's clock */
+    BOARD_TIME = 6,       /* value: year, month, day, hour, minute, second as digits, 20261128143000 */
+    BOARD_WIRE = 7,       /* INTA# of the card at device addr takes the level value, 0 or 1 */
+    BOARD_IRQ = 8,        /* interrupt request line addr takes the level value, 0 or 1 */
+    BOARD_BAD_SECTOR = 9  /* sector addr of the disk goes bad */
+};
+
+enum board_kind { BOARD_FETCH = 1, BOARD_READ = 2, BOARD_WRITE = 3 };
+
+/* An event. What it has no use for is not read; reserved is 0. */
+typedef struct board_event {
+    uint64_t value;
+    uint32_t addr;
+    uint8_t what;  /* board_what */
+    uint8_t kind;  /* board_kind */
+    uint8_t bytes;
+    uint8_t smm;   /* 1 in system management mode */
+    uint64_t reserved;
+} board_event;
+
+/* What answered. */
+enum board_target {
+    BOARD_NOTHING = 0, /* a part that is not filled */
+    BOARD_DRAM = 1,    /* unit: the row */
+    BOARD_SHADOW = 2,  /* unit: the row */
+    BOARD_SMRAM = 3,
+    BOARD_ROM = 4,     /* offset */
+    BOARD_CARD = 5,    /* unit: its device; base; offset */
+    BOARD_IS_DEVICE = 6, /* unit: board_device */
+    BOARD_CONFIG = 7,  /* unit: the device; base: the function; offset */
+    BOARD_ABORT = 8    /* nobody: reads give all ones, writes are lost */
+};
+
+enum board_device {
+    BOARD_CONFADD = 1,
+    BOARD_RESET_CONTROL,
+    BOARD_PIC0,
+    BOARD_PIC1,
+    BOARD_PIT,
+    BOARD_SYSTEM,
+    BOARD_KEYBOARD,
+    BOARD_CLOCK,
+    BOARD_ELCR,
+    BOARD_ATA,
+    BOARD_WIRES,
+    BOARD_VECTOR0,
+    BOARD_VECTOR1,
+    BOARD_SPURIOUS0,
+    BOARD_SPURIOUS1
+};
+
+enum board_denial { BOARD_NOT_DENIED = 0, BOARD_BY_REGISTER = 1, BOARD_BY_CONFADD = 2, BOARD_BY_NO_REGISTER = 3 };
+
+/* What answered an access, or one part of a wide one, and what denied it. */
+typedef struct board_part {
+    uint32_t offset;
+    uint8_t target; /* board_target */
+    uint8_t unit;
+    uint8_t base;
+    uint8_t denial; /* board_denial; of a register where it lies follows */
+    uint8_t denial_dev;
+    uint8_t denial_fun;
+    uint8_t denial_off;
+    uint8_t reserved;
+} board_part;
+
+enum board_form { BOARD_BUS_REPLY = 1, BOARD_PARTS_REPLY = 2, BOARD_LOOK_REPLY = 3 };
+
+enum board_reset { BOARD_NO_RESET = 0, BOARD_SOFT_RESET = 1, BOARD_HARD_RESET = 2 };
+
+/* A reply, and what stands after its step. */
+typedef struct board_reply {
+    uint64_t value;    /* what was read; 0 where nothing was */
+    uint32_t version;  /* of the map after the step: it has changed where this has */
+    uint32_t seen;     /* of a look: the version of the map before it */
+    uint32_t lo;       /* of a look: the longest interval with this area, first and last address */
+    uint32_t hi;
+    uint8_t form;      /* board_form */
+    uint8_t has_value;
+    uint8_t parts;     /* how many of part[] are filled, 1 to 4 */
+    uint8_t interrupt; /* 1 where INT is asserted after the step, so that a processor may acknowledge */
+    uint32_t reset;    /* board_reset: the reset that the step made */
+    board_part part[4];
+    uint64_t reserved;
+} board_reply;
+
+/* Opens a board over copies of the ROM's and the disk's bytes, without cards. A disk of no bytes is none. */
+uint32_t board_open(board *handle, uint32_t mib, const uint8_t *rom, size_t rom_bytes, const uint8_t *disk, size_t disk_bytes);
+/* Does an event, and tells the reply. */
+uint32_t board_step(board *handle, const board_event *event, board_reply *reply);
+/* Frees the board. The handle is closed from then on. */
+void board_close(board *handle);
+
+/* ---- over board_step */
+
+static inline uint32_t board_ask(board *handle, uint8_t what, uint8_t kind, uint32_t addr, uint8_t bytes, uint8_t smm, uint64_t value, board_reply *reply) {
+    board_event event = {value, addr, what, kind, bytes, smm, 0};
+    return board_step(handle, &event, reply);
+}
+
+static inline uint32_t board_fetch(board *handle, uint32_t addr, uint8_t bytes, bool smm, board_reply *reply) {
+    return board_ask(handle, BOARD_MEMORY, BOARD_FETCH, addr, bytes, smm, 0, reply);
+}
+
+static inline uint32_t board_read(board *handle, uint32_t addr, uint8_t bytes, bool smm, board_reply *reply) {
+    return board_ask(handle, BOARD_MEMORY, BOARD_READ, addr, bytes, smm, 0, reply);
+}
+
+static inline uint32_t board_write(board *handle, uint32_t addr, uint8_t bytes, bool smm, uint64_t value, board_reply *reply) {
+    return board_ask(handle, BOARD_MEMORY, BOARD_WRITE, addr, bytes, smm, value, reply);
+}
+
+static inline uint32_t board_look(board *handle, uint8_t kind, uint32_t addr, bool smm, board_reply *reply) {
+    return board_ask(handle, BOARD_LOOK, kind, addr, 0, smm, 0, reply);
+}
+
+/* The widest cycle of 4, 2 or 1 bytes that begins at a port and is aligned, of these many bytes. */
+static inline uint8_t board_cycle(uint32_t port, uint32_t bytes) {
+    if (bytes >= 4 && port % 4 == 0) return 4;
+    return bytes >= 2 && port % 2 == 0 ? 2 : 1;
+}
+
+/* Reads a port of 1, 2 or 4 bytes. Where it is not aligned the bus cuts it into cycles in rising order, and the reply is
+ * the last one's but for the value, which is the whole. */
+static inline uint32_t board_in(board *handle, uint16_t port, uint8_t bytes, board_reply *reply) {
+    uint64_t value = 0;
+    uint32_t done = 0, status = BOARD_BYTES;
+    if (bytes != 1 && bytes != 2 && bytes != 4) return BOARD_BYTES;
+    if ((uint32_t)port + bytes > 0x10000) return BOARD_END;
+    while (done < bytes) {
+        uint8_t cycle = board_cycle(port + done, bytes - done);
+        status = board_ask(handle, BOARD_PORT, BOARD_READ, port + done, cycle, 0, 0, reply);
+        if (status != BOARD_OK) return status;
+        value |= reply->value << (8 * done);
+        done += cycle;
+    }
+    reply->value = value;
+    return status;
+}
+
+/* Writes a port of 1, 2 or 4 bytes, cut as board_in cuts. Each cut makes its own reset: reply->reset is the strongest. */
+static inline uint32_t board_out(board *handle, uint16_t port, uint8_t bytes, uint32_t value, board_reply *reply) {
+    uint32_t done = 0, reset = BOARD_NO_RESET, status = BOARD_BYTES;
+    if (bytes != 1 && bytes != 2 && bytes != 4) return BOARD_BYTES;
+    if ((uint32_t)port + bytes > 0x10000) return BOARD_END;
+    if (bytes < 4 && value >> (8 * bytes) != 0) return BOARD_VALUE;
+    while (done < bytes) {
+        uint8_t cycle = board_cycle(port + done, bytes - done);
+        uint32_t part = (uint32_t)(((uint64_t)value >> (8 * done)) & ((1ull << (8 * cycle)) - 1));
+        status = board_ask(handle, BOARD_PORT, BOARD_WRITE, port + done, cycle, 0, part, reply);
+        if (status != BOARD_OK) return status;
+        if (reply->reset > reset) reset = reply->reset;
+        done += cycle;
+    }
+    reply->reset = reset;
+    return status;
+}
+
+/* Acknowledges the interrupt: reply->value is its vector. */
+static inline uint32_t board_ack(board *handle, board_reply *reply) {
+    return board_ask(handle, BOARD_ACK, 0, 0, 0, 0, 0, reply);
+}
+
+static inline uint32_t board_pulse(board *handle, uint32_t pulses, board_reply *reply) {
+    return board_ask(handle, BOARD_PULSE, 0, 0, 0, 0, pulses, reply);
+}
+
+static inline uint32_t board_time(board *handle, uint32_t year, uint32_t month, uint32_t day, uint32_t hour, uint32_t minute, uint32_t second, board_reply *reply) {
+    uint64_t digits = ((((year * 100ull + month) * 100 + day) * 100 + hour) * 100 + minute) * 100 + second;
+    if (month > 99 || day > 99 || hour > 99 || minute > 99 || second > 99) return BOARD_NO_EVENT;
+    return board_ask(handle, BOARD_TIME, 0, 0, 0, 0, digits, reply);
+}
+
+static inline uint32_t board_irq(board *handle, uint8_t line, bool level, board_reply *reply) {
+    return board_ask(handle, BOARD_IRQ, 0, line, 0, 0, level, reply);
+}
+
+static inline uint32_t board_wire(board *handle, uint8_t device, bool level, board_reply *reply) {
+    return board_ask(handle, BOARD_WIRE, 0, device, 0, 0, level, reply);
+}
+
+#ifdef __cplusplus
+}
+#endif
+#endif
