@@ -452,7 +452,7 @@ fn spare(board: &Board) -> u32
 }
 
 /// Does an event of processor 0.
-fn step(rt: &impl Abort, serial: &mut SerialBoard<Board>, event: &Event) -> SerialReply
+fn perform(rt: &impl Abort, serial: &mut SerialBoard<Board>, event: &Event) -> SerialReply
     requires in_range { IsInRange serial.old.board.setup event.now }
 {
     assert!(rt; spare(serial.board()) >= 2);
@@ -472,7 +472,7 @@ fn ask(rt: &impl Abort, serial: &mut SerialBoard<Board>, at: usize, row: Row) {
     match request {
         Comes(byte) => receive(rt, serial, byte),
         _ => {
-            let got = step(rt, serial, &event(rt, request));
+            let got = perform(rt, serial, &event(rt, request));
             assert_eq!(rt; got, reply(want), "at {at}");
         }
     }
