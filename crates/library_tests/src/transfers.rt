@@ -202,7 +202,7 @@ fn row(
     assert!(rt; 1 <= count && count <= 256);
     assert!(rt; lba < 0x1000_0000);
     assert_eq!(rt; bus.transfer(&mut store, lba, count), Done { end, moved });
-    assert_eq!(rt; bus.port_read(0), command - 1);
+    assert_eq!(rt; bus.port_read(0), command & 0xFE);
     assert_eq!(rt; bus.port_read(2), status);
     assert_eq!(rt; table(&bus), pointer_after);
     for it in held {
