@@ -1,7 +1,7 @@
 //! The functions that C calls. One call at a time is inside a handle, and its pointers are good: what the caller owes.
 
 ghost use Rattle.std.specs.Prelude.{◌≡◌, ◌≢◌, true, false, IsSomeAnd};
-ghost use Rattle.board_records.specs.Doors.{Opens, OnBoth};
+ghost use Rattle.board_records.specs.Doors.{Opens, IsOpenRefusal, OnBoth};
 ghost use Rattle.board_records.specs.Events.{event_said};
 ghost use Rattle.board_records.specs.Statuses.{ok, closed, IsRefusal};
 ghost use Rattle.board_records.specs.Steps.{IsStep};
@@ -21,10 +21,11 @@ pub extern "C" fn board_open(
     rom: &[u8],
     disk: &[u8],
 ) -> u32
-    ensures done { result ≡ ok → (handle.new.full ≡ true) × IsSomeAnd handle.new.held (Opens mib rom.now) }
+    ensures done { result ≡ ok → (handle.new.full ≡ true) × IsSomeAnd handle.new.held (Opens mib rom.now disk.now) }
     ensures twice { handle.old.full ≡ true → result ≡ closed }
     ensures held { handle.old.full ≡ true → handle.new.held ≡ handle.old.held }
-    ensures refused { result ≢ ok → handle.new.full ≡ handle.old.full }
+    ensures refused { handle.old.full ≡ false → result ≢ ok → IsOpenRefusal mib rom.now disk.now result }
+    ensures kept { result ≢ ok → handle.new.full ≡ handle.old.full }
 {
     if let Some(board) = handle.take(alloc) {
         handle.put(board);

@@ -21,13 +21,19 @@ no_memory = 2
 abbrev pub bad_size : ℕ
 bad_size = 3
 
+abbrev pub bad_rom : ℕ
+bad_rom = 5
+
+abbrev pub bad_disk : ℕ
+bad_disk = 6
+
 -- a record names no event
 abbrev pub no_event : ℕ
 no_event = 7
 
 abbrev pub open_status : BoardOpen → ℕ
-open_status BadRom = 5
-open_status BadDisk = 6
+open_status BadRom = bad_rom
+open_status BadDisk = bad_disk
 open_status NoMemory = no_memory
 
 abbrev pub fault_status : OutOfRange → ℕ

@@ -1,8 +1,8 @@
 //! A chipset's calls in numbers.
 
-ghost use Rattle.std.specs.Prelude.{◌≡◌, ◌≢◌, IfOk, IfErr, OnErr, IsSomeAnd};
+ghost use Rattle.std.specs.Prelude.{◌≡◌, ◌≢◌, IfOk, IfErr, OnErr, IsSomeAnd, option_map};
 ghost use Rattle.board_chipset.specs.OutOfRange.{IsFault};
-ghost use Rattle.board_records.specs.Doors.{Opens};
+ghost use Rattle.board_records.specs.Doors.{Opens, IsOpenRefusal, disk_of};
 ghost use Rattle.board_records.specs.Events.{event_said};
 ghost use Rattle.board_records.specs.Statuses.{ok, closed, IsRefusal};
 ghost use Rattle.board_records.specs.Steps.{IsStep};
@@ -16,8 +16,8 @@ use std::alloc::{AllocError, Global};
 
 /// A chipset over copies of these bytes, without cards. A disk of no bytes is none.
 pub(crate) fn open(alloc: Global, mib: u32, rom: &[u8], disk: &[u8]) -> Result<Chipset, u32>
-    ensures fresh { IfOk result (Opens mib rom.now) }
-    ensures refused { IfErr result (λ status. status ≢ ok) }
+    ensures fresh { IfOk result (Opens mib rom.now disk.now) }
+    ensures refused { IfErr result (IsOpenRefusal mib rom.now disk.now) }
 {
     if mib < 1 || mib > 64 {
         return Err(BAD_SIZE);
@@ -42,7 +42,9 @@ pub(crate) fn open(alloc: Global, mib: u32, rom: &[u8], disk: &[u8]) -> Result<C
 }
 
 /// A copy of a disk's bytes. No bytes are no disk.
-fn copy_disk(alloc: Global, disk: &[u8]) -> Result<Option<Vec<u8>>, AllocError> {
+fn copy_disk(alloc: Global, disk: &[u8]) -> Result<Option<Vec<u8>>, AllocError>
+    ensures copy { IfOk result (λ copy. option_map (λ bytes. bytes.items) copy ≡ disk_of disk.now) }
+{
     if disk.is_empty() {
         return Ok(None);
     }

@@ -1,7 +1,7 @@
 //! A chipset whose calls are in numbers.
 
 ghost use Rattle.std.specs.Prelude.{◌≡◌, ◌≢◌, IfOk, IfErr, IsSomeAnd};
-ghost use Rattle.board_records.specs.Doors.{Opens, OnBoth};
+ghost use Rattle.board_records.specs.Doors.{Opens, IsOpenRefusal, OnBoth};
 ghost use Rattle.board_records.specs.Events.{event_said};
 ghost use Rattle.board_records.specs.Statuses.{ok, closed, IsRefusal};
 ghost use Rattle.board_records.specs.Steps.{IsStep};
@@ -32,8 +32,8 @@ impl Door {
     /// A chipset over copies of these bytes, without cards, as after power-on. A disk of no bytes is none. Refused with
     /// `BAD_SIZE`, `BAD_ROM`, `BAD_DISK` or `NO_MEMORY`.
     pub fn open(alloc: Global, mib: u32, rom: &[u8], disk: &[u8]) -> Result<Door, u32>
-        ensures fresh { IfOk result (λ door. IsSomeAnd door (Opens mib rom.now)) }
-        ensures refused { IfErr result (λ status. status ≢ ok) }
+        ensures fresh { IfOk result (λ door. IsSomeAnd door (Opens mib rom.now disk.now)) }
+        ensures refused { IfErr result (IsOpenRefusal mib rom.now disk.now) }
     {
         Ok(Door {
             chipset: open(alloc, mib, rom, disk)?,
