@@ -4,6 +4,7 @@ use Rattle.std.specs.Prelude.{ℕ, ◌≡◌, ◌<◌, ◌≤◌, List, length, 
 use Rattle.board_spec.specs.Setup.{Setup, IsRomSize, IsDiskSize, IsDisk}
 use Rattle.script_spec.specs.ScriptText.{Script as Said, IsScriptText, IsScriptBad}
 use Rattle.script_spec.specs.Checks.{IsLogOf, DiffersAt}
+use Rattle.command_texts.specs.Fitted.{fitted}
 use Rattle.board_run.specs.declared.status.Which.{Which}
 use Rattle.board_run.specs.declared.status.Which.TheVariants.{Script, Rom, Disk, Log}
 use Rattle.board_run.specs.declared.status.Status.{Status}
@@ -26,11 +27,7 @@ limit_of Log = 0x400_0000
 abbrev pub disk_of : Files → Said → Option (List ℕ)
 disk_of files script = option_map files script.disk
 
--- the memory and the cards that a script says, with these images
-abbrev pub fitted : Said → (rom : List ℕ) → (disk : Option (List ℕ)) → Setup
-fitted script rom disk = record { mib = script.mib; cards = script.cards; rom = rom; disk = disk }
-
--- and with the images that it names
+-- the memory and the cards that a script says, with the images that it names
 abbrev pub setup_of : Files → Said → Setup
 setup_of files script = fitted script (files script.rom) (disk_of files script)
 

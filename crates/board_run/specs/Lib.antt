@@ -9,4 +9,3 @@ pub mod Output
 pub mod Outcomes
 pub mod Calls
 pub mod Statuses
-pub mod Fresh

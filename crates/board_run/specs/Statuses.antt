@@ -90,12 +90,6 @@ abbrev pub IsDiskNotTaken : Option (List ℕ) → ShelfCall → Status → Type 
 IsDiskNotTaken None shelf status = ⊥
 IsDiskNotTaken (Some name) shelf status = IsNotTaken Disk name shelf status
 
--- why no board was opened with a good ROM and this disk
-abbrev pub IsNotOpened : Option (List ℕ) → BoardOpen → Type 0
-IsNotOpened disk BadRom = ⊥
-IsNotOpened disk BadDisk = ¬ IsDisk disk
-IsNotOpened disk NoMemoryForBoard = Unit {0}
-
 -- a script of this name is good, and a board is fitted as it asks
 pub record IsReady (files : Files) (name : List ℕ) (script : Said) (setup : Setup) : Type 0 where
   pub good : IsGood files name script

@@ -1,8 +1,8 @@
-use Rattle.board_run.proofs.MadeScripts.{rom_fits, rom_opens, disk_opens}
-use Rattle.board_run.proofs.made.made_board.Goals as goal
+use Rattle.command_texts.proofs.MadeScripts.{rom_fits, rom_opens, disk_opens}
+use Rattle.command_texts.proofs.made.made_board.Goals as goal
 
-pub open-requires-clause-size : goal.open-requires-clause-size
-open-requires-clause-size c = rom_fits c.in_ok-rom.rom.items c.law_made_script.ensures.setup c.in_ok-rom.ensures.bytes
+pub open_board-requires-clause-size : goal.open_board-requires-clause-size
+open_board-requires-clause-size c = rom_fits c.in_ok-rom.rom.items c.law_made_script.ensures.setup c.in_ok-rom.ensures.bytes
 
 pub unreachable-requires : goal.unreachable-requires
 unreachable-requires c = rom_opens _ _ c.in-Err-BadRom.ensures.refused c.in-Err-BadRom.field-0-is

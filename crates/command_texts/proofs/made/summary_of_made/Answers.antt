@@ -1,8 +1,8 @@
 use Rattle.std.proofs.Common.{◌∙◌, ap}
 use Rattle.board_core.specs.Kept.{Standing}
 use Rattle.script_text.specs.Script.{said_of}
-use Rattle.board_run.proofs.MadeScripts.{made_result}
-use Rattle.board_run.proofs.made.summary_of_made.Goals as goal
+use Rattle.command_texts.proofs.MadeScripts.{made_result}
+use Rattle.command_texts.proofs.made.summary_of_made.Goals as goal
 
 pub returns : goal.returns
 returns c = record {

@@ -1,6 +1,6 @@
 use Rattle.script_text.specs.Script.{said_of}
-use Rattle.board_run.proofs.Statements.{in_range}
-use Rattle.board_run.proofs.replay.check_log.Goals as goal
+use Rattle.command_texts.proofs.Statements.{in_range}
+use Rattle.command_texts.proofs.replay.check_log.Goals as goal
 
 pub check_log-requires-clause-in_range : goal.check_log-requires-clause-in_range
 check_log-requires-clause-in_range c =

@@ -1,11 +1,10 @@
 use Rattle.std.proofs.Common.{◌∙◌, ap, ◌++◌, ◌∷◌, []}
 use Rattle.std.specs.Prelude.{codes, decimal}
 use Rattle.board_spec.specs.Text.{line_feed}
-use Rattle.board_run.proofs.replay.verdict_on_log.Goals as goal
+use Rattle.command_texts.proofs.replay.verdict_on_log.Goals as goal
 
 pub returns-clause-text : goal.returns-clause-text
 returns-clause-text c = record {
-  fits = c.requires.fits;
   legal = c.in_ok-count.ensures.log.log;
   said =
       c.in_ok-text.ensures.text

@@ -13,8 +13,8 @@ use Rattle.make_script.specs.Images.{rom_image, disk_image}
 use Rattle.make_script.specs.MadeScript.{made_setup}
 use Rattle.board_chipset.specs.declared.setup.BoardOpen.{BoardOpen}
 use Rattle.board_chipset.specs.declared.setup.BoardOpen.TheVariants.{BadRom, BadDisk}
-use Rattle.board_run.specs.Texts.{HasSummary, IsMakeText, made_setup_of}
-use Rattle.board_run.specs.Statuses.{IsNotOpened}
+use Rattle.command_texts.specs.Replays.{HasSummary, IsMakeText, made_setup_of}
+use Rattle.command_texts.specs.Fitted.{IsNotOpened}
 
 -- ---- how long the text is
 

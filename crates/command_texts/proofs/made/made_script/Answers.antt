@@ -5,8 +5,8 @@ use Rattle.script_text.specs.declared.fault.ScriptFault.{ScriptFault}
 use Rattle.script_text.specs.Faults.{OnBad}
 use Rattle.make_script.specs.MakeText.{make_text}
 use Rattle.make_script.specs.MadeScript.{made_script}
-use Rattle.board_run.proofs.MadeScripts.{text_is_short}
-use Rattle.board_run.proofs.made.made_script.Goals as goal
+use Rattle.command_texts.proofs.MadeScripts.{text_is_short}
+use Rattle.command_texts.proofs.made.made_script.Goals as goal
 
 pub read_script-requires : goal.read_script-requires
 read_script-requires c =

@@ -1,5 +1,5 @@
-use Rattle.board_run.proofs.MapLemmas.{map_text-more}
-use Rattle.board_run.proofs.replay.push_map.Goals as goal
+use Rattle.command_texts.proofs.MapLemmas.{map_text-more}
+use Rattle.command_texts.proofs.replay.push_map.Goals as goal
 
 pub loop-range-preserved : goal.loop-range-preserved
 loop-range-preserved c =

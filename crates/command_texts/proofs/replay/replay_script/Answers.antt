@@ -13,8 +13,8 @@ use Rattle.script_text.specs.Script.{said_of}
 use Rattle.script_spec.specs.Phases.{lists_of}
 use Rattle.log_check.proofs.PhaseLists.{phases_cut, phases_more, statements_cut, length_cut, all_of_phase}
 use Rattle.std.proofs.Math.Nat.{le-max_right}
-use Rattle.board_run.proofs.Statements.{in_range}
-use Rattle.board_run.proofs.replay.replay_script.Goals as goal
+use Rattle.command_texts.proofs.Statements.{in_range}
+use Rattle.command_texts.proofs.replay.replay_script.Goals as goal
 
 pub loop-phase-init : goal.loop-phase-init
 loop-phase-init c =

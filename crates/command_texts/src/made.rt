@@ -6,9 +6,9 @@ ghost use Rattle.script_spec.specs.ScriptRange.{IsInRangeScript};
 ghost use Rattle.script_text.specs.Script.{said_of};
 ghost use Rattle.make_script.specs.MakeText.{make_text};
 ghost use Rattle.make_script.specs.Laws.{most_rounds};
-ghost use Rattle.board_run.specs.Texts.{HasSummary, IsMakeText, made_setup_of};
+ghost use Rattle.command_texts.specs.Replays.{HasSummary, IsMakeText, made_setup_of};
 
-use crate::prepare::open;
+use crate::board::open_board;
 use crate::replay::replay_script;
 use board_base::NoMemory;
 use board_core::{Board, BoardOpen};
@@ -19,7 +19,7 @@ use script_text::{Script, ScriptFault, read_script};
 use std::alloc::Global;
 
 /// The script of so many rounds, read from its text.
-pub(crate) fn made_script(alloc: Global, rounds: u32) -> Result<Script, NoMemory>
+fn made_script(alloc: Global, rounds: u32) -> Result<Script, NoMemory>
     requires most { rounds ≤ most_rounds }
     ensures says { IfOk result (λ script. IsScriptText (make_text rounds) (said_of script)) }
     ensures in_range { IfOk result (λ script. IsInRangeScript (said_of script)) }
@@ -34,7 +34,7 @@ pub(crate) fn made_script(alloc: Global, rounds: u32) -> Result<Script, NoMemory
 }
 
 /// The board that the script is made for, with the images that are made.
-pub(crate) fn made_board(alloc: Global, script: &Script) -> Result<Board, NoMemory>
+fn made_board(alloc: Global, script: &Script) -> Result<Board, NoMemory>
     requires in_range { IsInRangeScript (said_of script.now) }
     ensures fresh { IfOk result (λ board. board ≡ record {
       setup = made_setup_of (said_of script.now);
@@ -45,7 +45,7 @@ pub(crate) fn made_board(alloc: Global, script: &Script) -> Result<Board, NoMemo
     law_made_script();
     let rom = make_rom(alloc)?;
     let disk = make_disk(alloc)?;
-    match open(alloc, script, rom, Some(disk)) {
+    match open_board(alloc, script, rom, Some(disk)) {
         Ok(board) => Ok(board),
         Err(BoardOpen::NoMemory) => Err(NoMemory),
         Err(BoardOpen::BadRom) => unreachable!(),
@@ -70,7 +70,7 @@ fn summary_of(alloc: Global, board: &Board) -> Result<Text, NoMemory>
 }
 
 /// The summary of the replay of the script of so many rounds, 1 to 20,000. No file is read.
-pub(crate) fn summary_of_made(alloc: Global, rounds: u32) -> Result<Text, NoMemory>
+pub fn summary_of_made(alloc: Global, rounds: u32) -> Result<Text, NoMemory>
     requires most { rounds ≤ most_rounds }
     ensures text { IfOk result (λ text. IsMakeText rounds text) }
 {

@@ -11,10 +11,8 @@ ghost use Rattle.script_spec.specs.Checks.{IsLogOf, DiffersAt};
 ghost use Rattle.script_text.specs.Script.{said_of};
 ghost use Rattle.log_check.specs.declared.fault.CheckFault.{CheckFault};
 ghost use Rattle.log_check.specs.Checked.{IsCheckedLog, StandsAfter};
-ghost use Rattle.board_run.specs.declared.status.Which.{Which};
-ghost use Rattle.board_run.specs.Asked.{limit_of};
-ghost use Rattle.board_run.specs.Fresh.{IsFreshFor};
-ghost use Rattle.board_run.specs.Texts.{IsReplayText, IsMapText, IsLegalText};
+ghost use Rattle.command_texts.specs.Fresh.{IsFreshFor};
+ghost use Rattle.command_texts.specs.Replays.{IsReplayText, IsMapText, IsLegalText};
 
 use board_base::NoMemory;
 use board_core::Board;
@@ -66,7 +64,7 @@ pub fn check_log(
 }
 
 /// The log of a script's replay on its board. The memory of the script is given back before the log takes its own.
-pub(crate) fn log_of_replay(
+pub fn log_of_replay(
     alloc: Global,
     board: &mut Board,
     script: Script,
@@ -95,7 +93,7 @@ fn push_map(text: &mut String, ranges: &[Range]) -> Result<(), NoMemory>
 }
 
 /// The address map after a script's replay on its board.
-pub(crate) fn map_after_replay(
+pub fn map_after_replay(
     alloc: Global,
     board: &mut Board,
     script: &Script,
@@ -121,14 +119,13 @@ fn legal_text(alloc: Global, count: u32) -> Result<Text, NoMemory>
 }
 
 /// `legal` and the number of entries of a log, where it is that of a legal and complete history of a script.
-pub(crate) fn verdict_on_log(
+pub fn verdict_on_log(
     alloc: Global,
     board: &mut Board,
     script: &Script,
     log: &[u8],
 ) -> Result<Text, CheckFault>
     requires fresh { IsFreshFor (said_of script.now) board.old }
-    requires fits { length log.now ≤ limit_of Which.Log }
     ensures text { IfOk result (λ text. IsLegalText board.old.setup (said_of script.now) log.now text) }
     ensures differs { (line : ℕ) → result ≡ Err (CheckFault.Differs line)
         → DiffersAt board.old.setup (said_of script.now).version (said_of script.now).phases log.now line }

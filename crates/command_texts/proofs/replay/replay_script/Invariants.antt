@@ -4,7 +4,7 @@ use Rattle.board_spec.specs.Legal.{IsLegal}
 use Rattle.board_spec.specs.Orders.{statements_of}
 use Rattle.board_spec.specs.OrderLaws.{in_file_order}
 use Rattle.script_spec.specs.Phases.{lists_of}
-use Rattle.board_run.proofs.replay.replay_script.Given as goal
+use Rattle.command_texts.proofs.replay.replay_script.Given as goal
 
 abbrev pub invariant-loop-phase : goal.invariant-loop-phase
 invariant-loop-phase l = record {
