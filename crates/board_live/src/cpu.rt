@@ -32,7 +32,7 @@ pub struct Cpu {
     pub ghost opens: { Opens (setup_in pass) (opened_in pass) (opened_of viewer.front.seen.log) } by { Opens-prop (setup_in pass) (opened_in pass) (opened_of viewer.front.seen.log) },
 }
 
-/// Lets a viewer meet a note of the publisher, and asks with a new one until it does.
+/// Has a viewer meet a note of the publisher: with new notes, until it does.
 fn meet<R: Wait>(rt: &R, publisher: &mut Publisher, viewer: &mut Viewer)
     requires own { publisher.old.front.seen.book ≡ viewer.old.front.seen.book }
     ensures same { (publisher.new ≡ publisher.old) × (viewer.new ≡ viewer.old) }
