@@ -145,8 +145,8 @@ impl Cpu {
         }
     }
 
-    /// Looks at the newest map: how many map writes led to it, and the longest interval round an address in which this
-    /// kind of access has one area. It neither waits nor takes memory, and needs no turn.
+    /// Looks at the newest map that it finds: how many map writes led to it, and the longest interval round an address
+    /// in which this kind of access has one area. It neither waits nor takes memory, and needs no turn.
     pub fn look(&mut self, addr: u32, kind: Kind, smm: bool) -> Look
         ensures pass { (self.new.number ≡ self.old.number) × (self.new.pass ≡ self.old.pass) }
         ensures later { Extends (known_of self.old) (known_of self.new) }
