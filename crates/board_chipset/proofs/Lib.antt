@@ -14,3 +14,6 @@ pub mod Lefts
 pub mod Openings
 pub mod Exact
 pub mod ResetLemmas
+pub mod LoadSteps
+pub mod CardChecks
+pub mod PortAccessSteps

@@ -1,9 +1,12 @@
 pub mod Chipset
 pub mod Faults
 pub mod Kept
+pub mod Loads
 pub mod OutOfRange
+pub mod PortAccesses
 pub mod Ports
 pub mod Resets
+pub mod Setups
 pub mod Steps
 pub mod Stores
 pub mod Versions

@@ -3,12 +3,16 @@
 #![tactic(auto)]
 
 mod bytes;
+mod card_check;
+mod check;
 mod chipset;
 mod in_range;
+mod load;
 mod looks;
 mod memory;
 mod monitor;
 mod outside;
+mod port_access;
 mod ports;
 mod registers;
 mod reset_control;
@@ -18,8 +22,12 @@ mod step;
 mod store;
 mod wide;
 
+pub use check::SetupFault;
 pub use chipset::Chipset;
+pub use dram_store::PastTheEnd;
 pub use in_range::OutOfRange;
+pub use load::NoClockByte;
+pub use port_access::PortReply;
 pub use reset_control::ResetKind;
 pub use setup::{BoardOpen, Setup, is_rom_size};
 pub use store::Store;

@@ -1,0 +1,26 @@
+use Rattle.std.proofs.Common.{◌≡◌, ◌≢◌, ℕ, ◌/◌, ◌%◌, ◌≤◌, true, not, sym, ◌∙◌, arith}
+use Rattle.std.specs.Prelude.{◌↔◌, ◌==◌, IsTrue, nat_le}
+use Rattle.std.proofs.lemmas.Bool.{eqb-true}
+use Rattle.std.proofs.lemmas.Bool.Decides.{nat_tests}
+use Rattle.board_spec.specs.Setup.{IsDiskSize}
+use Rattle.board_chipset.proofs.check.is_disk_size.Goals.{then-size-ne0, else-size-ne0}
+use Rattle.board_chipset.proofs.check.is_disk_size.Goals as goal
+
+decided : (size : ℕ) → size ≢ 0 → size % 512 ≡ 0 → IsTrue (nat_le (size / 512) 65536) ↔ IsDiskSize size
+decided size some whole = (
+  λ few. (size / 512, omega (arith, some, whole), grind (arith, nat_tests), omega (arith, whole)),
+  λ is. let sectors = is.0 in let most = is.2 in let e = is.3 in grind (arith, nat_tests),
+)
+
+no_zero : (size : ℕ) → size ≡ 0 → not (size == 0) ≡ true → ⊥
+no_zero size is some = let f : not (0 == 0) ≡ true = rw is at some in cc
+
+pub returns-then-size-eq0 : goal.returns-then-size-eq0
+returns-then-size-eq0 c = elim c.if-size-ne0.branch [
+  | then-size-ne0 w ↦
+      let whole : (c.args.size % 512 == 0) ≡ true = sym w.value-is ∙ c.if-size-eq0.true in
+      record { size = decided c.args.size w.if-size-ne0.true (eqb-true _ _ whole) }
+  | else-size-ne0 w ↦
+      let some : not (c.args.size == 0) ≡ true = sym w.value-is ∙ c.if-size-eq0.true in
+      absurd (no_zero c.args.size w.if-size-ne0.false some)
+]

@@ -1,0 +1,83 @@
+use Rattle.std.proofs.Common.{◌≡◌, ℕ, false, ◌+◌, ◌-◌, ◌*◌, ◌%◌, ◌^◌, ◌∙◌, ap, refl, subst, length, arith, get_or}
+use Rattle.std.proofs.lemmas.List.{take_all, length-map}
+use Rattle.board_base.specs.declared.access.Width.TheVariants.{One}
+use Rattle.board_spec.specs.Setup.{Setup}
+use Rattle.board_stores.specs.declared.ports.PortCycle.{PortCycle}
+use Rattle.board_stores.specs.PortCycles.{port_accesses}
+use Rattle.board_chipset.specs.PortAccesses.{IsStep}
+use Rattle.board_chipset.proofs.PortAccessSteps.{none_done, cycle_done, shifted, room, shift_most, at_next, at_first, inside, item, placed_item, on_bus, bytes_placed, below_all}
+use Rattle.board_chipset.proofs.chipset.Chipset.cycles.Goals as goal
+
+none : PortCycle
+none = record { access = record { write = false; port = 0; width = One; value = 0 } }
+
+pub loop-cycle-init : goal.loop-cycle-init
+loop-cycle-init c = record {
+  setup = refl;
+  done = none_done c.args.self.now.setup c.args.self.now c.args.first;
+  at = at_first c.args.first c.requires.follow.0 (port_accesses c.args.cycles.now) c.requires.follow.1 c.requires.follow.2;
+}
+
+pub cycle-read-requires : goal.cycle-read-requires
+unfolding none
+cycle-read-requires c = record {
+  bus = on_bus c.args.cycles.now c.loop-cycle.cycle-index none c.loop-cycle-test.true c.requires.bus;
+}
+
+pub overflow_sub-value : goal.overflow_sub-value
+unfolding none
+overflow_sub-value c =
+    (placed_item c.args.cycles.now c.loop-cycle.cycle-index none c.loop-cycle-test.true c.loop-cycle.invariant.at).from
+
+pub overflow_mul-value : goal.overflow_mul-value
+unfolding none
+overflow_mul-value c =
+    let placed = placed_item c.args.cycles.now c.loop-cycle.cycle-index none c.loop-cycle-test.true c.loop-cycle.invariant.at in
+    omega (arith, shift_most placed)
+
+pub overflow_shl-value : goal.overflow_shl-value
+unfolding none
+overflow_shl-value c =
+    let placed = placed_item c.args.cycles.now c.loop-cycle.cycle-index none c.loop-cycle-test.true c.loop-cycle.invariant.at in
+    omega (arith, shift_most placed)
+
+pub overflow_add-value : goal.overflow_add-value
+unfolding none
+overflow_add-value c =
+    let placed = placed_item c.args.cycles.now c.loop-cycle.cycle-index none c.loop-cycle-test.true c.loop-cycle.invariant.at in
+    let cycle = (get_or c.args.cycles.now c.loop-cycle.cycle-index none).access in
+    let d = cycle.port - c.args.first in
+    let is = shifted cycle.width d c.loop-cycle.value c.cycle-read.result.0 (room placed) placed.small c.cycle-read.ensures.small in
+    let all = below_all cycle.width d _ (room placed)
+    (bytes_placed cycle.width d c.loop-cycle.value c.cycle-read.result.0 (room placed) placed.small c.cycle-read.ensures.small) in
+    rw is (omega (arith, all))
+
+pub loop-cycle-preserved : goal.loop-cycle-preserved
+unfolding none
+loop-cycle-preserved c =
+    let cycles = c.args.cycles.now in
+    let i = c.loop-cycle.cycle-index in
+    let within = c.loop-cycle-test.true in
+    let placed = placed_item cycles i none within c.loop-cycle.invariant.at in
+    let cycle = (get_or cycles i none).access in
+    let d = cycle.port - c.args.first in
+    let read = c.cycle-read.result.0 in
+    let small = c.cycle-read.ensures.small in
+    let is : c.loop-cycle.value + read * 2 ^ (8 * d) % 2 ^ 32 ≡ c.loop-cycle.value + read * 256 ^ d =
+    ap (λ (n : ℕ). c.loop-cycle.value + n) (shifted cycle.width d c.loop-cycle.value read (room placed) placed.small small) in
+    record {
+      setup = c.cycle-read.ensures.setup ∙ c.loop-cycle.invariant.setup;
+      done = cycle_done c.args.self.now.setup c.args.self.now c.loop-cycle.self c.cycle-read.new.self c.args.first
+          c.loop-cycle.value read _ c.loop-cycle.reset c.cycle-read.result.1 c.or-reset.result (port_accesses cycles) i cycle
+          (inside cycles i none within) (item cycles i none within) c.loop-cycle.invariant.done
+          (subst (λ (setup : Setup). IsStep setup c.loop-cycle.self cycle c.cycle-read.new.self read c.cycle-read.result.1)
+          c.loop-cycle.invariant.setup c.cycle-read.ensures.step)
+          is c.or-reset.ensures.stronger;
+      at = at_next placed read _ small is;
+    }
+
+pub returns-clause-done : goal.returns-clause-done
+returns-clause-done c =
+    let whole = take_all c.loop-cycle.cycle-index (port_accesses c.args.cycles.now)
+    (omega (arith, c.loop-cycle-test.false, length-map c.args.cycles.now (λ (cycle : PortCycle). cycle.access))) in
+    rw whole at c.loop-cycle.invariant.done

@@ -1,0 +1,31 @@
+use Rattle.std.proofs.Common.{◌≡◌, ◌∙◌, ◌+◌, ap, length, arith}
+use Rattle.board_spec.specs.Setup.{Setup, installed}
+use Rattle.board_chipset.proofs.Lefts.{left_by, state_of}
+use Rattle.board_chipset.proofs.LoadSteps.{load_left, load_kept, load_refused}
+use Rattle.board_chipset.specs.Chipset.{IsLeftBy}
+use Rattle.board_chipset.proofs.chipset.Chipset.write_dram.Goals as goal
+
+pub invariant_of-self : goal.invariant_of-self
+invariant_of-self c =
+    let (history, left) = rw c.self.view_is at c.self.invariant in
+    let kept = load_kept c.self.inside.setup c.self.inside.state c.load.new.self c.args.addr c.args.bytes.now
+    c.load.result c.law_left_alone.ensures.left c.load.ensures.fits c.load.ensures.bytes
+    c.load.ensures.size (λ k. omega (arith, c.type_inv.bytes k)) c.load.ensures.same history
+    (state_of c.self.view_is left) in
+    (kept.0, left_by kept.1)
+
+pub returns-clause-refused : goal.returns-clause-refused
+returns-clause-refused c =
+    let (history, left) = rw c.self.view_is at c.self.invariant in
+    let size = (state_of c.self.view_is left).stores.dram.size in
+    load_refused c.load.result (length c.self.inside.state.stores.dram) (installed c.args.self.now.setup)
+    (c.args.addr + length c.args.bytes.now)
+    (rw (← c.self.view_is) size) c.load.ensures.fits c.load.ensures.refused
+
+pub returns-clause-left : goal.returns-clause-left
+unfolding IsLeftBy
+returns-clause-left c =
+    rw (← c.self.view_is)
+    (load_left c.self.inside.setup c.self.inside.state c.load.new.self c.args.addr c.args.bytes.now c.load.result
+    c.law_left_alone.ensures.left c.load.ensures.fits c.load.ensures.bytes
+    c.load.ensures.size (λ k. omega (arith, c.type_inv.bytes k)))

@@ -1,0 +1,28 @@
+-- The first field of a setup that no board can have, in the order in which they stand here.
+use Rattle.std.specs.Prelude.{ℕ, ◌≤◌, ◌<◌, List, [], ◌∷◌, length}
+use Rattle.board_spec.specs.Limits.{most_card_memory}
+use Rattle.board_spec.specs.Setup.{FittedCard, Setup, IsCard, IsCardList, IsRomSize, IsDisk, memory_of_cards}
+use Rattle.board_chipset.specs.declared.check.SetupFault.{SetupFault}
+use Rattle.board_chipset.specs.declared.check.SetupFault.TheVariants.{Memory, Cards, Windows, Rom, Disk, NoMemory}
+
+-- 1 to 64 MiB are installed
+abbrev pub IsMemory : ℕ → Type 0
+IsMemory mib = (1 ≤ mib) × (mib ≤ 64)
+
+-- cards in range, each with a device number above that of the card before
+unfoldable pub RiseFrom : (above : ℕ) → List FittedCard → Type 0
+RiseFrom above [] = Unit {0}
+RiseFrom above (card ∷ later) = (above < card.dev) × IsCard card × RiseFrom card.dev later
+
+abbrev pub AreWindows : Setup → Type 0
+AreWindows setup = memory_of_cards setup.cards ≤ most_card_memory
+
+abbrev pub IsSetupFault : Setup → SetupFault → Type 0
+IsSetupFault setup Memory = ¬ IsMemory setup.mib
+IsSetupFault setup Cards = IsMemory setup.mib × ¬ IsCardList setup.cards
+IsSetupFault setup Windows = IsMemory setup.mib × IsCardList setup.cards × ¬ AreWindows setup
+IsSetupFault setup Rom =
+    IsMemory setup.mib × IsCardList setup.cards × AreWindows setup × ¬ IsRomSize (length setup.rom)
+IsSetupFault setup Disk =
+    IsMemory setup.mib × IsCardList setup.cards × AreWindows setup × IsRomSize (length setup.rom) × ¬ IsDisk setup.disk
+IsSetupFault setup NoMemory = ⊥

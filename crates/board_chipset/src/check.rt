@@ -1,0 +1,108 @@
+//! A setup of which nothing was proved, tested field after field.
+
+ghost use Rattle.std.specs.Prelude.{◌≡◌, ◌≤◌, ◌↔◌, ◌⊎◌, [], length, IsTrue, MatchResult, IfOk, IfErr, Err, option_map};
+ghost use Rattle.board_spec.specs.Setup.{IsDisk, IsDiskSize, IsSetup};
+ghost use Rattle.board_chipset.specs.Chipset.{IsLeftBy};
+ghost use Rattle.board_chipset.specs.Setups.{IsMemory, IsSetupFault};
+
+use crate::card_check::{are_cards, fit_windows};
+use crate::chipset::Chipset;
+use crate::setup::{Setup, is_rom_size};
+use std::alloc::Global;
+use thiserror::Error;
+
+/// The most memory, in MiB.
+const MOST_MIB: u32 = 64;
+/// How many bytes a sector of a disk has.
+const SECTOR: usize = 512;
+/// The most sectors of a disk.
+const MOST_SECTORS: usize = 0x1_0000;
+
+/// Why a setup opens no chipset: the first of its fields that no board can have, or want of memory.
+#[derive(Clone, Copy, PartialEq, Eq, Debug, Error)]
+pub enum SetupFault {
+    /// The memory is not of 1 to 64 MiB.
+    #[error("a memory that is not of 1 to 64 MiB")]
+    Memory,
+    /// The cards are more than eight, not in rising order of device, or one of them is out of range.
+    #[error("cards that are more than eight, not in rising order of device, or out of range")]
+    Cards,
+    /// The memory bases of the cards have more than 64 MiB together.
+    #[error("cards with more than 64 MiB of memory together")]
+    Windows,
+    /// The ROM is not of 64, 128, 256 or 512 KiB.
+    #[error("a ROM that is not of 64, 128, 256 or 512 KiB")]
+    Rom,
+    /// The disk is not of 1 to 65,536 whole sectors of 512 bytes.
+    #[error("a disk that is not of 1 to 65,536 whole sectors of 512 bytes")]
+    Disk,
+    /// There was no memory.
+    #[error("out of memory")]
+    NoMemory,
+}
+
+impl Setup {
+    /// Tests the memory, the cards, the memory of their bases, the ROM and the disk, in this order. Refused with the
+    /// first of them that no board can have.
+    pub fn check(&self) -> Result<(), SetupFault>
+        ensures exact { MatchResult result (λ _. IsSetup self.now) (λ fault. IsSetupFault self.now fault) }
+    {
+        if !is_memory(self.mib) {
+            return Err(SetupFault::Memory);
+        }
+        if !are_cards(&self.cards) {
+            return Err(SetupFault::Cards);
+        }
+        if !fit_windows(&self.cards) {
+            return Err(SetupFault::Windows);
+        }
+        if !is_rom_size(self.rom().len()) {
+            return Err(SetupFault::Rom);
+        }
+        if !is_disk(self.disk()) {
+            return Err(SetupFault::Disk);
+        }
+        Ok(())
+    }
+}
+
+impl Chipset {
+    /// The chipset of a setup of which nothing is known, as `open` gives it. Refused with the first field of the setup
+    /// that no board can have, and with NoMemory only where there is none.
+    pub fn open_checked(alloc: Global, setup: Setup) -> Result<Chipset, SetupFault>
+        ensures fresh { IfOk result (λ chipset. (chipset.setup ≡ setup) × IsLeftBy chipset []) }
+        ensures fits { IfOk result (λ _. IsSetup setup) }
+        ensures refused { IfErr result (λ fault. (fault ≡ SetupFault.NoMemory) ⊎ IsSetupFault setup fault) }
+        ensures memory { result ≡ Err SetupFault.NoMemory → IsSetup setup }
+    {
+        setup.check()?;
+        match Chipset::open(alloc, setup) {
+            Ok(chipset) => Ok(chipset),
+            Err(_) => Err(SetupFault::NoMemory),
+        }
+    }
+}
+
+/// Whether so many MiB can be installed.
+fn is_memory(mib: u32) -> bool
+    ensures memory { IsTrue result ↔ IsMemory mib }
+{
+    1 <= mib && mib <= MOST_MIB
+}
+
+/// Whether a disk has 1 to 65,536 whole sectors, where one is fitted.
+fn is_disk(disk: Option<&[u8]>) -> bool
+    ensures disk { IsTrue result ↔ IsDisk (option_map (λ bytes. bytes.now) disk.entry) }
+{
+    match disk {
+        Some(bytes) => is_disk_size(bytes.len()),
+        None => true,
+    }
+}
+
+/// Whether so many bytes are 1 to 65,536 whole sectors.
+fn is_disk_size(size: usize) -> bool
+    ensures size { IsTrue result ↔ IsDiskSize size }
+{
+    size != 0 && size % SECTOR == 0 && size / SECTOR <= MOST_SECTORS
+}

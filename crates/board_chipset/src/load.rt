@@ -1,0 +1,51 @@
+//! Bytes that are written to a chipset from outside the bus.
+
+ghost use Rattle.std.specs.Prelude.{◌≡◌, ◌≤◌, ◌<◌, ◌+◌, ◌↔◌, ◌++◌, List, length, IsErr, OnOk, OnErr};
+ghost use Rattle.board_spec.specs.declared.event.Entry.{Entry};
+ghost use Rattle.board_spec.specs.Setup.{installed};
+ghost use Rattle.board_chipset.specs.Chipset.{IsLeftBy};
+ghost use Rattle.board_chipset.specs.Loads.{WriteAll, WriteClockByte};
+
+use crate::chipset::Chipset;
+use board_devices::law_left_alone;
+use cmos_clock::CLOCK_BYTES;
+use dram_store::PastTheEnd;
+use thiserror::Error;
+
+/// The clock has no byte at an address: there are 128.
+#[derive(Clone, Copy, PartialEq, Eq, Debug, Error)]
+#[error("the clock has no byte at this address")]
+pub struct NoClockByte;
+
+impl Chipset {
+    /// Puts bytes into the DRAM from an address on, for a loader, as if writes had put them there one after another.
+    /// Refused exactly where they do not all lie in the installed memory; then nothing has changed. It takes no memory.
+    pub fn write_dram(&mut self, addr: u32, bytes: &[u8]) -> Result<(), PastTheEnd>
+        ensures refused { IsErr result ↔ installed self.old.setup < addr + length bytes.now }
+        ensures unchanged { OnErr result (self.new ≡ self.old) }
+        ensures setup { self.new.setup ≡ self.old.setup }
+        ensures left { OnOk result ((history entries : List Entry) → IsLeftBy self.old history
+            → WriteAll addr bytes.now entries → IsLeftBy self.new (entries ++ history)) }
+    {
+        law_left_alone();
+        self.state.stores.dram.load(addr, bytes)
+    }
+
+    /// Writes the byte of the clock at an address below 128, as a processor does by ports 70h and 71h that writes the
+    /// index back after it: registers A and B take what a write changes of them, and C and D nothing. Refused exactly
+    /// where the address is not below 128; then nothing has changed.
+    pub fn set_clock_byte(&mut self, address: u8, byte: u8) -> Result<(), NoClockByte>
+        ensures refused { IsErr result ↔ 128 ≤ address }
+        ensures unchanged { OnErr result (self.new ≡ self.old) }
+        ensures setup { self.new.setup ≡ self.old.setup }
+        ensures left { OnOk result ((history later : List Entry) → IsLeftBy self.old history
+            → WriteClockByte history address byte later → IsLeftBy self.new later) }
+    {
+        if usize::from(address) >= CLOCK_BYTES {
+            return Err(NoClockByte);
+        }
+        let routes = &self.state.registers.south.routes;
+        self.state.devices.set_clock_byte(routes, address, byte);
+        Ok(())
+    }
+}
