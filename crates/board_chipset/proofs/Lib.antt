@@ -14,3 +14,4 @@ pub mod Lefts
 pub mod Openings
 pub mod Exact
 pub mod ResetLemmas
+pub mod Placed

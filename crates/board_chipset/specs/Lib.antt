@@ -2,6 +2,7 @@ pub mod Chipset
 pub mod Faults
 pub mod Kept
 pub mod OutOfRange
+pub mod Places
 pub mod Ports
 pub mod Resets
 pub mod Steps

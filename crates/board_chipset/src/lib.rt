@@ -4,6 +4,7 @@
 
 mod bytes;
 mod chipset;
+mod decode;
 mod in_range;
 mod looks;
 mod memory;
