@@ -17,3 +17,4 @@ pub mod ResetLemmas
 pub mod LoadSteps
 pub mod CardChecks
 pub mod PortAccessSteps
+pub mod Placed

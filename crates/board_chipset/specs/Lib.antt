@@ -4,6 +4,7 @@ pub mod Kept
 pub mod Loads
 pub mod OutOfRange
 pub mod PortAccesses
+pub mod Places
 pub mod Ports
 pub mod Resets
 pub mod Setups

@@ -6,6 +6,7 @@ mod bytes;
 mod card_check;
 mod check;
 mod chipset;
+mod decode;
 mod in_range;
 mod load;
 mod looks;

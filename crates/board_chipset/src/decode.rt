@@ -1,0 +1,46 @@
+//! Where an access would land: it is not made, and nothing changes.
+
+ghost use Rattle.std.specs.Prelude.{◌≡◌, List};
+ghost use Rattle.board_spec.specs.declared.event.Entry.{Entry};
+ghost use Rattle.board_spec.specs.Answer.{part_answer};
+ghost use Rattle.board_chipset.specs.Chipset.{IsLeftBy};
+ghost use Rattle.board_chipset.specs.Places.{place_of, port_part};
+
+use crate::chipset::Chipset;
+use board_base::{Access, PortAccess};
+use board_spec::{Event, Part};
+use board_stores::decoded;
+
+impl Chipset {
+    /// What would answer an access of one bus cycle, to memory or to a port, and what would deny it. None where the event
+    /// is no such access.
+    pub fn decode(&self, event: &Event) -> Option<Part>
+        ensures place { (history : List Entry) → IsLeftBy self.now history
+            → result ≡ place_of self.now.setup history event.now }
+    {
+        match event {
+            Event::Memory(access) => Some(self.decode_memory(access)),
+            Event::Port(access) => Some(self.decode_port(access)),
+            _ => None,
+        }
+    }
+
+    /// What would answer an access to memory.
+    fn decode_memory(&self, access: &Access) -> Part
+        ensures part { (history : List Entry) → IsLeftBy self.now history
+            → result ≡ part_answer self.now.setup history access.now }
+    {
+        decoded(self.state.registers.regs(), self.setup.rom(), access)
+    }
+
+    /// What would answer an access to a port.
+    fn decode_port(&self, access: &PortAccess) -> Part
+        ensures part { (history : List Entry) → IsLeftBy self.now history
+            → result ≡ port_part self.now.setup history access.now }
+    {
+        let disk = self.state.devices.has_disk();
+        let registers = &self.state.registers;
+        let (target, denial) = registers.decode_port(access.port, access.width, disk);
+        Part { target, denial }
+    }
+}
