@@ -1,5 +1,5 @@
 -- Cards and bases that are tested one after another.
-use Rattle.std.proofs.Common.{◌≡◌, ℕ, suc, ◌+◌, ◌<◌, ◌≤◌, List, [], ◌∷◌, length, get_or, drop, map, sum_by, refl, sym, ◌∙◌, subst, ap, arith}
+use Rattle.std.proofs.Common.{◌≡◌, ℕ, suc, ◌+◌, ◌<◌, ◌≤◌, List, [], ◌∷◌, length, get_or, drop, map, sum_by, refl, ◌∙◌, subst, ap, arith}
 use Rattle.std.specs.Prelude.{◌↔◌, All}
 use Rattle.std.proofs.Math.Seq.{drop-cons}
 use Rattle.std.proofs.lemmas.List.{drop_all, get_or-map, length-map}
@@ -62,10 +62,11 @@ rise_from : (above : ℕ) (cards : List FittedCard) → All (λ card. above < ca
     Rises cards → RiseFrom above cards
 unfolding RiseFrom
 rise_from above [] higher each rise = tt
-rise_from above (card ∷ later) higher each rise =
-    (All-head (λ (other : FittedCard). above < other.dev) card later higher,
-    All-head IsCard card later each,
-    rise_from card.dev later rise.0 (All-tail IsCard card later each) rise.1)
+rise_from above (card ∷ later) higher each rise = (
+  All-head (λ (other : FittedCard). above < other.dev) card later higher,
+  All-head IsCard card later each,
+  rise_from card.dev later rise.0 (All-tail IsCard card later each) rise.1,
+)
 
 pub card_list : (cards : List FittedCard) → length cards ≤ 8 → RiseFrom 1 cards → IsCardList cards
 card_list cards few is = record { count = few; each = each_card 1 cards is; rises = rises 1 cards is }
@@ -86,9 +87,10 @@ pub bases_more : (bases : List BaseSpec) (i : ℕ) (d : BaseSpec) → i < length
 bases_more bases i d within fits so_far =
     let here = base_next bases i d within in
     let base = base_of (get_or bases i d) in
-    let later = map base_of (drop (i + 1) bases) in
-    (λ all. All-tail IsBase base later (rw here at (so_far.0 all)),
-    λ rest. so_far.1 (rw here (All-cons IsBase base later fits rest)))
+    let later = map base_of (drop (i + 1) bases) in (
+      λ all. All-tail IsBase base later (rw here at (so_far.0 all)),
+      λ rest. so_far.1 (rw here (All-cons IsBase base later fits rest)),
+    )
 
 pub bases_not : (bases : List BaseSpec) (i : ℕ) (d : BaseSpec) → i < length bases →
     ¬ IsBase (base_of (get_or bases i d)) →

@@ -1,5 +1,5 @@
 -- The state after bytes were written from outside.
-use Rattle.std.proofs.Common.{◌≡◌, ℕ, zero, suc, ◌+◌, ◌-◌, ◌<◌, ◌≤◌, true, false, ◌&&◌, List, [], ◌∷◌, ◌++◌, length, Option, Some, None, refl, sym, ◌∙◌, ap, subst, arith, ◌⊎◌, inl, inr}
+use Rattle.std.proofs.Common.{◌≡◌, ℕ, zero, suc, ◌+◌, ◌-◌, ◌<◌, ◌≤◌, false, ◌&&◌, List, [], ◌∷◌, ◌++◌, length, Some, None, refl, sym, ◌∙◌, ap, subst, arith, ◌⊎◌, inl, inr}
 use Rattle.std.specs.Prelude.{◌↔◌, Result, Ok, Err, IsErr, OnOk, OnErr, ◌==◌, nat_le, nat_lt, if◌then◌else◌, slice_index, unwrap_or}
 use Rattle.std.proofs.lemmas.Bool.{cases_eq}
 use Rattle.std.proofs.lemmas.Bool.Decides.{nat_tests}
@@ -20,12 +20,11 @@ use Rattle.board_spec.specs.Devices.{clock_of, device_reached}
 use Rattle.dram_store.specs.declared.dram.PastTheEnd.{PastTheEnd}
 use Rattle.dram_store.specs.Dram.{dram_at, IsDramOf, IsWritten}
 use Rattle.pci_bars.specs.Contents.{IsContentsOf}
-use Rattle.board_devices.specs.Devices.{DevicesValue, AreDevicesOf, AreRoutesOf}
+use Rattle.board_devices.specs.Devices.{DevicesValue, AreDevicesOf}
 use Rattle.board_devices.specs.Events.{PassesBy}
 use Rattle.board_devices.specs.Laws.{LeavesDevices}
 use Rattle.board_devices.specs.Outside.{byte_out, WritesClock, PutsClockByte}
 use Rattle.board_stores.specs.Puts.{HasStores}
-use Rattle.board_stores.specs.declared.stores.Stores.{Stores}
 use Rattle.board_chipset.specs.declared.registers.Registers.{Registers}
 use Rattle.board_chipset.specs.declared.state.State.{State}
 use Rattle.board_chipset.specs.Kept.{HasRegisters, IsStateOf}
@@ -193,15 +192,17 @@ made_length addr bytes (suc n) = ap (λ (k : ℕ). suc k) (made_length addr byte
 made_each : (addr : ℕ) (bytes : List ℕ) (n : ℕ) → WriteInTurn addr bytes (made addr bytes n)
 unfolding WriteInTurn made dram_entry
 made_each addr bytes zero = tt
-made_each addr bytes (suc n) =
-    (rw (made_length addr bytes n)
-    (record { smm = false; target = Dram 0; denial = None; event = refl; reply = refl; in_dram = refl }),
-    made_each addr bytes n)
+made_each addr bytes (suc n) = (
+  rw (made_length addr bytes n)
+      (record { smm = false; target = Dram 0; denial = None; event = refl; reply = refl; in_dram = refl }),
+  made_each addr bytes n,
+)
 
 pub some_entries : (addr : ℕ) (bytes : List ℕ) → (entries : List Entry) × WriteAll addr bytes entries
-some_entries addr bytes =
-    (made addr bytes (length bytes),
-    record { all = made_length addr bytes (length bytes); each = made_each addr bytes (length bytes) })
+some_entries addr bytes = (
+  made addr bytes (length bytes),
+  record { all = made_length addr bytes (length bytes); each = made_each addr bytes (length bytes) },
+)
 
 -- ---- what `load` tells
 
@@ -310,14 +311,15 @@ clock_entry port byte = record {
 pub some_clock_entries : (history : List Entry) (address byte : ℕ) →
     (later : List Entry) × WriteClockByte history address byte later
 unfolding clock_entry
-some_clock_entries history address byte =
-    (clock_entry index_port (clock_of history).index ∷ clock_entry data_port byte ∷ clock_entry index_port address ∷ history,
-    record {
-      to_address = clock_entry index_port address;
-      to_byte = clock_entry data_port byte;
-      back = clock_entry index_port (clock_of history).index;
-      are_last = refl;
-      first = record { event = refl; reached = refl };
-      second = record { event = refl; reached = refl };
-      third = record { event = refl; reached = refl };
-    })
+some_clock_entries history address byte = (
+  clock_entry index_port (clock_of history).index ∷ clock_entry data_port byte ∷ clock_entry index_port address ∷ history,
+  record {
+    to_address = clock_entry index_port address;
+    to_byte = clock_entry data_port byte;
+    back = clock_entry index_port (clock_of history).index;
+    are_last = refl;
+    first = record { event = refl; reached = refl };
+    second = record { event = refl; reached = refl };
+    third = record { event = refl; reached = refl };
+  },
+)

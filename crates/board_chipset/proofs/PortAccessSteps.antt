@@ -1,5 +1,5 @@
 -- The cycles of an access to ports, done one after another.
-use Rattle.std.proofs.Common.{◌≡◌, ℕ, zero, suc, ◌+◌, ◌-◌, ◌*◌, ◌%◌, ◌^◌, ◌<◌, ◌≤◌, List, [], ◌∷◌, ◌++◌, length, get_or, take, drop, refl, sym, ◌∙◌, ap, subst, arith, lit<}
+use Rattle.std.proofs.Common.{◌≡◌, ℕ, zero, suc, ◌+◌, ◌-◌, ◌*◌, ◌%◌, ◌^◌, ◌<◌, ◌≤◌, List, [], ◌∷◌, ◌++◌, length, get_or, take, drop, refl, ◌∙◌, ap, subst, arith, lit<}
 use Rattle.std.specs.Prelude.{reverse}
 use Rattle.std.proofs.lemmas.List.{take_more, reverse-append, get_or-map, length-map}
 use Rattle.std.proofs.Math.Seq.{drop-cons}
@@ -9,8 +9,6 @@ use Rattle.board_base.specs.declared.access.Width.TheVariants.{One, Two, Four}
 use Rattle.board_base.specs.declared.access.PortAccess.{PortAccess}
 use Rattle.board_base.specs.Access.{bytes_of}
 use Rattle.board_base.proofs.WidthLemmas.{some_bytes}
-use Rattle.board_spec.specs.declared.event.Event.TheVariants.{Port}
-use Rattle.board_spec.specs.declared.event.Entry.{Entry}
 use Rattle.board_spec.specs.Setup.{Setup}
 use Rattle.board_spec.specs.InRange.{IsBusAccess}
 use Rattle.board_stores.specs.declared.ports.PortCycle.{PortCycle}
@@ -18,8 +16,7 @@ use Rattle.board_stores.specs.PortCycles.{Follow, port_accesses, AreBusCycles}
 use Rattle.board_stores.proofs.CutLemmas.{byte_power}
 use Rattle.board_chipset.specs.declared.reset_control.ResetKind.{ResetKind}
 use Rattle.board_chipset.specs.declared.reset_control.ResetKind.TheVariants.{None as NoReset}
-use Rattle.board_chipset.specs.Chipset.{Running, IsLeftBy}
-use Rattle.board_chipset.specs.Resets.{reset_of}
+use Rattle.board_chipset.specs.Chipset.{Running}
 use Rattle.board_chipset.specs.PortAccesses.{AnswerInTurn, IsDone, IsStep, bytes_read, read_by, value_read, stronger, strongest}
 
 pub none_done : (setup : Setup) (start : Running) (first : ℕ) → IsDone setup start first [] start 0 NoReset

@@ -1,5 +1,5 @@
 -- A guest's access to ports, which need not be aligned: the bus cuts it into aligned cycles, and each has its answer.
-use Rattle.std.specs.Prelude.{ℕ, ◌≡◌, ◌+◌, ◌-◌, ◌*◌, ◌%◌, ◌^◌, ◌≤◌, if◌then◌else◌, List, [], ◌∷◌, ◌++◌, reverse, Option, Some, None}
+use Rattle.std.specs.Prelude.{ℕ, ◌≡◌, ◌+◌, ◌-◌, ◌*◌, ◌%◌, ◌^◌, ◌≤◌, if◌then◌else◌, List, [], ◌∷◌, ◌++◌, reverse, Some, None}
 use Rattle.board_base.specs.declared.access.PortAccess.{PortAccess}
 use Rattle.board_base.specs.Access.{bytes_of}
 use Rattle.board_spec.specs.declared.event.Event.{Event}

@@ -12,6 +12,7 @@ use pci_bars::{BaseSpec, CardSpec};
 const MOST_CARDS: usize = 8;
 /// The device numbers of cards.
 const FIRST_DEVICE: u8 = 2;
+
 const LAST_DEVICE: u8 = 9;
 /// The most bytes behind the memory bases of all cards.
 const MOST_CARD_MEMORY: u32 = 0x400_0000;

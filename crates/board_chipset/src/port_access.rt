@@ -100,7 +100,8 @@ fn bytes_read(cycle: &PortAccess, reply: &Reply) -> u32
 {
     match reply {
         Reply::Bus {
-            value: Some(value), ..
+            value: Some(value),
+            ..
         } => *value & cycle.width.largest(),
         _ => 0,
     }

@@ -1,6 +1,7 @@
 //! What a chipset refuses of events, setups and bytes of which nothing was proved: of each field the first good value and
 //! the first bad one.
 
+use OutOfRange::{Aligned, Alignment, Bytes, Date, Device, End, Line, Pulses, Value};
 use arrayvec::ArrayVec;
 use board_base::Width::{self, Four, One, Two};
 use board_base::{Access, Kind, Moment, PortAccess, WideAccess};
@@ -10,8 +11,6 @@ use pci_bars::{BaseSpec, CardSpec};
 use std::alloc::{AllocError, Global};
 use std::process::Abort;
 use std::test::Fail;
-
-use OutOfRange::{Aligned, Alignment, Bytes, Date, Device, End, Line, Pulses, Value};
 
 fn memory(kind: Kind, addr: u32, width: Width, value: u32) -> Event {
     Event::Memory(Access {
@@ -67,23 +66,75 @@ fn line(irq: u8) -> Event {
 fn rows() -> [(Event, Event, OutOfRange); 24] {
     let (read, write) = (Kind::Read, Kind::Write);
     [
-        (memory(read, 0x1000, Two, 0), memory(read, 0x1001, Two, 0), Alignment),
-        (memory(read, 0x1000, Four, 0), memory(read, 0x1002, Four, 0), Alignment),
-        (memory(write, 0x1000, One, 0xFF), memory(write, 0x1000, One, 0x100), Value),
-        (memory(write, 0x1000, Two, 0xFFFF), memory(write, 0x1000, Two, 0x1_0000), Value),
-        (memory(read, 0x1000, One, 0), memory(read, 0x1000, One, 1), Value),
-        (memory(Kind::Fetch, 0x1000, Four, 0), memory(Kind::Fetch, 0x1000, Four, 1), Value),
-        (port(false, 0x1F0, Two, 0), port(false, 0x1F1, Two, 0), Alignment),
-        (port(false, 0xCFC, Four, 0), port(false, 0xCFE, Four, 0), Alignment),
-        (port(true, 0x80, One, 0xFF), port(true, 0x80, One, 0x100), Value),
+        (
+            memory(read, 0x1000, Two, 0),
+            memory(read, 0x1001, Two, 0),
+            Alignment,
+        ),
+        (
+            memory(read, 0x1000, Four, 0),
+            memory(read, 0x1002, Four, 0),
+            Alignment,
+        ),
+        (
+            memory(write, 0x1000, One, 0xFF),
+            memory(write, 0x1000, One, 0x100),
+            Value,
+        ),
+        (
+            memory(write, 0x1000, Two, 0xFFFF),
+            memory(write, 0x1000, Two, 0x1_0000),
+            Value,
+        ),
+        (
+            memory(read, 0x1000, One, 0),
+            memory(read, 0x1000, One, 1),
+            Value,
+        ),
+        (
+            memory(Kind::Fetch, 0x1000, Four, 0),
+            memory(Kind::Fetch, 0x1000, Four, 1),
+            Value,
+        ),
+        (
+            port(false, 0x1F0, Two, 0),
+            port(false, 0x1F1, Two, 0),
+            Alignment,
+        ),
+        (
+            port(false, 0xCFC, Four, 0),
+            port(false, 0xCFE, Four, 0),
+            Alignment,
+        ),
+        (
+            port(true, 0x80, One, 0xFF),
+            port(true, 0x80, One, 0x100),
+            Value,
+        ),
         (port(false, 0x80, One, 0), port(false, 0x80, One, 1), Value),
         (wide(read, 8, 0x1000, 0), wide(read, 9, 0x1000, 0), Bytes),
         (wide(read, 2, 0x1001, 0), wide(read, 1, 0x1001, 0), Bytes),
         (wide(read, 4, 0x1001, 0), wide(read, 4, 0x1000, 0), Aligned),
-        (wide(read, 8, 0xFFFF_FFF8, 0), wide(read, 8, 0xFFFF_FFF9, 0), End),
-        (wide(read, 4, 0xFFFF_FFFB, 0), wide(read, 4, 0xFFFF_FFFD, 0), End),
-        (wide(write, 2, 0x1001, 0xFFFF), wide(write, 2, 0x1001, 0x1_0000), Value),
-        (wide(write, 4, 0x1001, 0xFFFF_FFFF), wide(write, 4, 0x1001, 0x1_0000_0000), Value),
+        (
+            wide(read, 8, 0xFFFF_FFF8, 0),
+            wide(read, 8, 0xFFFF_FFF9, 0),
+            End,
+        ),
+        (
+            wide(read, 4, 0xFFFF_FFFB, 0),
+            wide(read, 4, 0xFFFF_FFFD, 0),
+            End,
+        ),
+        (
+            wide(write, 2, 0x1001, 0xFFFF),
+            wide(write, 2, 0x1001, 0x1_0000),
+            Value,
+        ),
+        (
+            wide(write, 4, 0x1001, 0xFFFF_FFFF),
+            wide(write, 4, 0x1001, 0x1_0000_0000),
+            Value,
+        ),
         (wide(read, 8, 0x1000, 0), wide(read, 8, 0x1000, 1), Value),
         (Event::Pulses(1), Event::Pulses(0), Pulses),
         (Event::Pulses(1_000_000), Event::Pulses(1_000_001), Pulses),
@@ -190,9 +241,17 @@ fn cards_are_tested(rt: HostRuntime) -> Result<(), Fail> {
     ];
     for (dev, base, rom, expected) in rows {
         let fitted = [card(dev, base, rom)];
-        opens(&rt, alloc, setup(alloc, 1, &fitted, 0x1_0000, 512)?, expected);
+        opens(
+            &rt,
+            alloc,
+            setup(alloc, 1, &fitted, 0x1_0000, 512)?,
+            expected,
+        );
     }
-    let same = [card(3, BaseSpec::Io(4), None), card(3, BaseSpec::Io(4), None)];
+    let same = [
+        card(3, BaseSpec::Io(4), None),
+        card(3, BaseSpec::Io(4), None),
+    ];
     opens(&rt, alloc, setup(alloc, 1, &same, 0x1_0000, 512)?, cards);
     windows(&rt, alloc)
 }
@@ -208,7 +267,12 @@ fn windows(rt: &impl Abort, alloc: Global) -> Result<(), Fail> {
     ];
     opens(rt, alloc, setup(alloc, 1, &many, 0x1_0000, 512)?, None);
     many[4] = card(6, BaseSpec::Memory(4), None);
-    opens(rt, alloc, setup(alloc, 1, &many, 0x1_0000, 512)?, Some(SetupFault::Windows));
+    opens(
+        rt,
+        alloc,
+        setup(alloc, 1, &many, 0x1_0000, 512)?,
+        Some(SetupFault::Windows),
+    );
     Ok(())
 }
 
@@ -228,7 +292,13 @@ fn bytes_are_written_from_outside(rt: HostRuntime) -> Result<(), Fail> {
     assert!(rt; chipset.write_dram(0xF_FFFF, &[0x55, 0x66]).is_err());
     assert!(rt; chipset.write_dram(0x10_0000, &[]).is_ok());
     assert!(rt; chipset.write_dram(0x10_0001, &[]).is_err());
-    let bytes = [(0x7FFE, 0), (0x7FFF, 0x11), (0x8000, 0x22), (0x8001, 0x33), (0x8002, 0)];
+    let bytes = [
+        (0x7FFE, 0),
+        (0x7FFF, 0x11),
+        (0x8000, 0x22),
+        (0x8001, 0x33),
+        (0x8002, 0),
+    ];
     for (addr, byte) in bytes {
         assert_eq!(rt; byte_at(&rt, &mut chipset, addr), Some(byte), "at {addr}");
     }

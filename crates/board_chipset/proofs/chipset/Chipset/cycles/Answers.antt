@@ -1,4 +1,4 @@
-use Rattle.std.proofs.Common.{◌≡◌, ℕ, false, ◌+◌, ◌-◌, ◌*◌, ◌%◌, ◌^◌, ◌∙◌, ap, refl, subst, length, arith, get_or}
+use Rattle.std.proofs.Common.{◌≡◌, ℕ, false, ◌+◌, ◌-◌, ◌*◌, ◌%◌, ◌^◌, ◌∙◌, ap, refl, subst, arith, get_or}
 use Rattle.std.proofs.lemmas.List.{take_all, length-map}
 use Rattle.board_base.specs.declared.access.Width.TheVariants.{One}
 use Rattle.board_spec.specs.Setup.{Setup}

@@ -1,4 +1,4 @@
-use Rattle.std.proofs.Common.{ap, ◌∙◌, refl, sym}
+use Rattle.std.proofs.Common.{ap, ◌∙◌, refl}
 use Rattle.board_spec.specs.Setup.{Setup}
 use Rattle.board_spec.specs.Registers.{byte_of}
 use Rattle.board_chipset.proofs.Lefts.{state_of}

@@ -1,6 +1,4 @@
-use Rattle.std.proofs.Common.{◌≡◌, ◌∙◌, ap}
 use Rattle.board_spec.specs.Registers.{control_written}
-use Rattle.board_chipset.specs.Resets.{reset_by_written}
 use Rattle.board_chipset.proofs.Lefts.{state_of}
 use Rattle.board_chipset.proofs.ResetLemmas.{hard_exactly}
 use Rattle.board_chipset.proofs.chipset.Chipset.reset_of.Goals as goal

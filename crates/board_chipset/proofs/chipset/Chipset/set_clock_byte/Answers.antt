@@ -1,4 +1,3 @@
-use Rattle.std.proofs.Common.{refl}
 use Rattle.board_chipset.proofs.Lefts.{left_by, state_of}
 use Rattle.board_chipset.proofs.LoadSteps.{clock_set, some_clock_entries}
 use Rattle.board_chipset.proofs.chipset.Chipset.set_clock_byte.Goals as goal

@@ -1,4 +1,4 @@
-use Rattle.std.proofs.Common.{◌≡◌, ◌∙◌, ◌∷◌, sym, refl}
+use Rattle.std.proofs.Common.{◌∷◌, sym, refl}
 use Rattle.board_spec.specs.declared.event.Entry.{Entry}
 use Rattle.board_chipset.proofs.Lefts.{can_do, left_by, state_of}
 use Rattle.board_chipset.proofs.Exact.{exactly}

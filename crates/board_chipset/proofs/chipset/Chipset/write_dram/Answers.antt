@@ -1,5 +1,5 @@
-use Rattle.std.proofs.Common.{◌≡◌, ◌∙◌, ◌+◌, ap, length, arith}
-use Rattle.board_spec.specs.Setup.{Setup, installed}
+use Rattle.std.proofs.Common.{◌+◌, length, arith}
+use Rattle.board_spec.specs.Setup.{installed}
 use Rattle.board_chipset.proofs.Lefts.{left_by, state_of}
 use Rattle.board_chipset.proofs.LoadSteps.{load_left, load_kept, load_refused}
 use Rattle.board_chipset.specs.Chipset.{IsLeftBy}

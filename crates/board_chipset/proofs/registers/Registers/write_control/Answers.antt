@@ -1,4 +1,4 @@
-use Rattle.std.proofs.Common.{◌≡◌, ◌∙◌, true, false, sym, refl, arith}
+use Rattle.std.proofs.Common.{◌≡◌, ◌∙◌, true, false, sym, refl}
 use Rattle.board_spec.specs.Registers.{byte_of, is_hard_value}
 use Rattle.board_chipset.proofs.RegisterSteps.{follows}
 use Rattle.board_chipset.proofs.registers.Registers.write_control.Goals as goal
