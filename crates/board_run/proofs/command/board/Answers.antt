@@ -1,5 +1,5 @@
 use Rattle.board_run.proofs.Exact.{exact}
-use Rattle.board_run.specs.Words.{asked}
+use Rattle.command_words.specs.Words.{asked}
 use Rattle.board_run.proofs.command.board.Goals as goal
 
 pub returns-clause-exact : goal.returns-clause-exact
