@@ -3,8 +3,7 @@
 ghost use Rattle.std.specs.Prelude.{◌≡◌, Some, IfOk};
 ghost use Rattle.script_text.specs.Script.{said_of};
 ghost use Rattle.command_texts.specs.Fresh.{IsFreshFor};
-ghost use Rattle.command_files.specs.Known.{board_of};
-ghost use Rattle.board_run.specs.Boards.{HasBoard};
+ghost use Rattle.command_files.specs.Known.{HasBoard, board_of};
 
 use board_base::NoMemory;
 use board_core::{Board, BoardOpen};

@@ -8,9 +8,8 @@ ghost use Rattle.command_texts.specs.Serial.{IsSerialText};
 ghost use Rattle.command_texts.specs.Blame.{IsBlameText};
 ghost use Rattle.command_words.specs.Words.{IsTransfer, IsCommand, Check, Resume};
 ghost use Rattle.command_words.specs.Commands.{said_alone, said_by};
-ghost use Rattle.command_files.specs.Known.{HasRead};
+ghost use Rattle.command_files.specs.Known.{HasBoard, HasImage, HasRead};
 ghost use Rattle.command_files.specs.Asked.{CanBeDone};
-ghost use Rattle.board_run.specs.Boards.{HasBoard, HasImage};
 ghost use Rattle.board_run.specs.Texts.{OnBoard, IsRunText, IsTextFor};
 ghost use Rattle.board_run.specs.Statuses.{StopsAt};
 
