@@ -8,7 +8,7 @@ use Rattle.command_files.specs.Known.{Files}
 use Rattle.command_files.specs.Asked.{AsksFor}
 use Rattle.command_files.specs.Outcomes.{ShelfCall, OfFiles}
 use Rattle.board_run.specs.Outcomes.{SinkCall, PutsText, PutsTextFront, IsCaused, Answers, IsQuietFor, IsExact}
-use Rattle.command_files.proofs.OneStatus.{one_status}
+use Rattle.command_files.specs.Laws.{OneStatus}
 use Rattle.board_run.specs.Texts.{IsCommandText}
 use Rattle.command_files.proofs.Refusals.{at_files}
 
@@ -29,7 +29,7 @@ quiet_shelf_for NoMemory quiet_shelf quiet_sink quiet = quiet
 done_of_text : (command : Command) (files : Files) (text : List ℕ) → IsCommandText command files text → AsksFor command files Done
 done_of_text command files text is = (is.known, is.read, is.done)
 
-module _ (command : Command) (files : Files) (shelf : ShelfCall) (sink : SinkCall) (told : shelf.files ≡ Some files) (wanted : Status)
+module _ (one_status : OneStatus) (command : Command) (files : Files) (shelf : ShelfCall) (sink : SinkCall) (told : shelf.files ≡ Some files) (wanted : Status)
     (asks : AsksFor command files wanted)
     (quiet : IsQuietFor wanted (¬ Rose shelf.faults_before shelf.faults_now) (¬ Rose sink.faults_before sink.faults_now)) where
   abbrev Quiet : Type 0
@@ -62,18 +62,18 @@ module _ (command : Command) (files : Files) (shelf : ShelfCall) (sink : SinkCal
   left NoMemory is = inr refl
 
 exact_for :
-    (command : Option Command) (told : Option Files) (shelf : ShelfCall) (sink : SinkCall) (status : Status) → shelf.files ≡ told →
+    OneStatus → (command : Option Command) (told : Option Files) (shelf : ShelfCall) (sink : SinkCall) (status : Status) → shelf.files ≡ told →
     IsCaused status command shelf sink →
     IsExact status command told (¬ Rose shelf.faults_before shelf.faults_now) (¬ Rose sink.faults_before sink.faults_now)
-exact_for None told shelf sink status told_is is = λ wanted has quiet. absurd has
-exact_for (Some command) None shelf sink status told_is is = λ wanted has quiet. absurd has
-exact_for (Some command) (Some files) shelf sink status told_is is = λ wanted has quiet.
-    left command files shelf sink told_is wanted has quiet status is
+exact_for one None told shelf sink status told_is is = λ wanted has quiet. absurd has
+exact_for one (Some command) None shelf sink status told_is is = λ wanted has quiet. absurd has
+exact_for one (Some command) (Some files) shelf sink status told_is is = λ wanted has quiet.
+    left one command files shelf sink told_is wanted has quiet status is
 
 pub exact :
-    (command : Option Command) (shelf : ShelfCall) (sink : SinkCall) (status : Status) → IsCaused status command shelf sink →
+    OneStatus → (command : Option Command) (shelf : ShelfCall) (sink : SinkCall) (status : Status) → IsCaused status command shelf sink →
     IsExact status command shelf.files (¬ Rose shelf.faults_before shelf.faults_now) (¬ Rose sink.faults_before sink.faults_now)
-exact command shelf sink status is = exact_for command shelf.files shelf sink status refl is
+exact one command shelf sink status is = exact_for one command shelf.files shelf sink status refl is
 
 none_rose : ¬ Rose 0 0
 none_rose rose = elim rose [ inl more ↦ omega arith | inr last ↦ omega arith ]

@@ -15,6 +15,7 @@ ghost use Rattle.board_run.specs.Puts.{ArePutsOf};
 use crate::output::put_all;
 use crate::texts::text_of;
 use board_base::{Gate, Shelf, Sink};
+use command_files::laws::law_one_status;
 use command_files::{Status, read_files};
 use command_words::{Command, command_of};
 use log_pieces::Text;
@@ -118,5 +119,7 @@ pub fn board<R: Threads + Wait + Sync, S: Shelf, K: Sink, G: Gate>(
         (AreFetchesOf (asked words.now) (S.files shelf.old)) }
     ensures puts { OfCalls (K.puts out.old) (K.puts out.new) (ArePutsOf result) }
 {
+    // The words and the files ask for at most one status.
+    law_one_status();
     run_words(rt, alloc, words, shelf, out, gate)
 }
