@@ -3,8 +3,8 @@
 #![tactic(auto)]
 
 ghost use Rattle.std.specs.Prelude.{◌≡◌, false, map, string_bytes, None, IfOk};
-ghost use Rattle.board_run.specs.declared.status.Status.{Status};
-ghost use Rattle.board_run.specs.Words.{command_of};
+ghost use Rattle.command_files.specs.declared.status.Status.{Status};
+ghost use Rattle.command_words.specs.Words.{command_of};
 ghost use Rattle.board_main.specs.Words.{is_own};
 ghost use Rattle.app_failures.specs.Words.{words_in};
 
