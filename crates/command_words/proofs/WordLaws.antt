@@ -1,5 +1,5 @@
 -- The words that ask for a command are those that a user writes.
-use Rattle.std.proofs.Common.{◌≡◌, ℕ, ◌%◌, ◌==◌, inl, inr, eqb, leb, cond, ◌&&◌, Bool, true, false, List, [], ◌∷◌, Option, Some, None, refl, sym, ap, ◌∙◌, subst, arith}
+use Rattle.std.proofs.Common.{◌≡◌, ℕ, ◌%◌, inl, inr, eqb, leb, cond, Bool, true, false, List, [], ◌∷◌, Option, Some, None, refl, sym, ap, ◌∙◌, subst, arith}
 use Rattle.std.specs.Prelude.{codes, decimal, bytes_eq}
 use Rattle.std.proofs.lemmas.Bool.{cases_Bool, leb-true, le-leb, eqb-true, eq-eqb}
 use Rattle.script_spec.specs.Grammar.{IsDecimal}
@@ -10,7 +10,7 @@ use Rattle.script_lines.proofs.NumberTexts.{decimal_read}
 use Rattle.script_lines.proofs.NumberBack.{decimal_back}
 use Rattle.make_script.specs.Laws.{most_rounds}
 use Rattle.command_words.specs.declared.transfer.Transfer.{Transfer}
-use Rattle.command_words.specs.Words.{Command, Replay, Run, Map, Check, Make, Dma, Save, Resume, Serial, Blame, IsTransfer, IsCommand, direction_word, AreWordsOf, with_name, with_names, is_round_count, make_of, is_transfer, dma_with, direction_of, dma_of, command_of, WordsDecide, OneCommand}
+use Rattle.command_words.specs.Words.{Command, Replay, Run, Map, Check, Make, Dma, Save, Resume, Serial, Blame, IsTransfer, IsCommand, direction_word, AreWordsOf, with_name, with_names, is_round_count, make_of, is_transfer, direction_of, dma_of, command_of, WordsDecide, OneCommand}
 
 abbrev Asks : List (List ℕ) → Command → Type 0
 Asks words command = IsCommand command × AreWordsOf words command
@@ -43,9 +43,10 @@ make_read (word ∷ []) command e =
     let count = then_said (decimal_of word) (λ count. cond (is_round_count count) (Some (Make count)) None) command e in
     let few = guarded (is_round_count count.0) (Some (Make count.0)) command count.2 in
     let ends = both (leb 1 count.0) (leb count.0 most_rounds) few.0 in
-    subst (Asks (codes "make" ∷ word ∷ [])) (some_is (Make count.0) command few.1)
-    ((leb-true 1 count.0 ends.0, leb-true count.0 most_rounds ends.1),
-      ap (λ (last : List ℕ). codes "make" ∷ last ∷ []) (decimal_read word count.0 count.1).0)
+    subst (Asks (codes "make" ∷ word ∷ [])) (some_is (Make count.0) command few.1) (
+      (leb-true 1 count.0 ends.0, leb-true count.0 most_rounds ends.1),
+      ap (λ (last : List ℕ). codes "make" ∷ last ∷ []) (decimal_read word count.0 count.1).0,
+    )
 make_read (word ∷ more ∷ rest) command e = absurd (cc e)
 
 transfer_is : (transfer : Transfer) → is_transfer transfer ≡ true → IsTransfer transfer
@@ -85,14 +86,19 @@ dma_read (script ∷ direction ∷ table ∷ lba ∷ count ∷ []) command e =
     let transfer : Transfer =
     record { to_memory = to_memory.0; table = address.0; lba = sector.0; count = sectors.0 } in
     let is = guarded (is_transfer transfer) (Some (Dma script transfer)) command sectors.2 in
-    subst (Asks (codes "dma" ∷ script ∷ direction ∷ table ∷ lba ∷ count ∷ [])) (some_is (Dma script transfer) command is.1)
-    (transfer_is transfer is.0, (table, address.1,
-      ap (λ (word : List ℕ). codes "dma" ∷ script ∷ word ∷ table ∷ lba ∷ count ∷ [])
-      (direction_read direction to_memory.0 to_memory.1)
-      ∙ ap (λ (word : List ℕ). codes "dma" ∷ script ∷ direction_word to_memory.0 ∷ table ∷ word ∷ count ∷ [])
-      (decimal_read lba sector.0 sector.1).0
-      ∙ ap (λ (word : List ℕ). codes "dma" ∷ script ∷ direction_word to_memory.0 ∷ table ∷ decimal sector.0 ∷ word ∷ [])
-      (decimal_read count sectors.0 sectors.1).0))
+    subst (Asks (codes "dma" ∷ script ∷ direction ∷ table ∷ lba ∷ count ∷ [])) (some_is (Dma script transfer) command is.1) (
+      transfer_is transfer is.0,
+      (
+        table,
+        address.1,
+        ap (λ (word : List ℕ). codes "dma" ∷ script ∷ word ∷ table ∷ lba ∷ count ∷ [])
+            (direction_read direction to_memory.0 to_memory.1)
+            ∙ ap (λ (word : List ℕ). codes "dma" ∷ script ∷ direction_word to_memory.0 ∷ table ∷ word ∷ count ∷ [])
+            (decimal_read lba sector.0 sector.1).0
+            ∙ ap (λ (word : List ℕ). codes "dma" ∷ script ∷ direction_word to_memory.0 ∷ table ∷ decimal sector.0 ∷ word ∷ [])
+            (decimal_read count sectors.0 sectors.1).0,
+      ),
+    )
 dma_read (_ ∷ _ ∷ _ ∷ _ ∷ _ ∷ _ ∷ _) command e = absurd (cc e)
 
 -- ---- the verbs

@@ -2,14 +2,15 @@
 
 ghost use Rattle.std.specs.Prelude.{◌≡◌, option_map, map, string_bytes, IfSome};
 ghost use Rattle.script_lines.specs.Numbers.{hex_of};
-ghost use Rattle.command_words.specs.Words.{asked, usage_text, is_round_count, make_of, is_transfer, dma_with, direction_of, dma_of, IsCommand, WordsDecide, OneCommand};
+ghost use Rattle.command_words.specs.Words.{Check, Resume, Serial, asked, usage_text, name_of, names_of, with_names, is_round_count, make_of, is_transfer, dma_with, direction_of, dma_of, IsCommand, WordsDecide, OneCommand};
 ghost use Rattle.command_words.specs.Commands.{said_by};
 
 use crate::transfer::Transfer;
 use script_lines::{decimal_of, hex_of};
 
 /// The commands, as a user is told of them where the words are none.
-pub const USAGE: &str = "usage: board replay FILE, run FILE, map FILE, check FILE LOG, make N, dma FILE in|out TABLE LBA COUNT, save FILE, resume IMAGE FILE, serial FILE INPUT, blame FILE";
+pub const USAGE: &str =
+    "usage: board replay FILE, run FILE, map FILE, check FILE LOG, make N, dma FILE in|out TABLE LBA COUNT, save FILE, resume IMAGE FILE, serial FILE INPUT, blame FILE";
 
 /// A command, with the names of the files that its words say.
 #[derive(Clone, Copy)]
@@ -153,6 +154,53 @@ fn dma_of<'a>(words: &'a [String]) -> Option<Command<'a>>
     )
 }
 
+/// The only word.
+fn name_of(words: &[String]) -> Option<&str>
+    ensures name { option_map (λ name. name.now) result ≡ name_of (map string_bytes words.now) }
+{
+    match words {
+        [name] => Some(name.as_str()),
+        _ => None,
+    }
+}
+
+/// The two words, where there are two.
+fn names_of(words: &[String]) -> Option<(&str, &str)>
+    ensures names { option_map (λ names. (names.0.now, names.1.now)) result ≡ names_of (map string_bytes words.now) }
+{
+    match words {
+        [name, other] => Some((name.as_str(), other.as_str())),
+        _ => None,
+    }
+}
+
+/// `check` with its words: the script and the log.
+fn check_of<'a>(words: &'a [String]) -> Option<Command<'a>>
+    ensures said { option_map said_by result ≡ with_names Check (map string_bytes words.now) }
+    ensures called { IfSome result (λ command. IsCommand (said_by command)) }
+{
+    let (script, log) = names_of(words)?;
+    Some(Command::Alone(Alone::Check { script, log }))
+}
+
+/// `resume` with its words: the image, and then the script.
+fn resume_of<'a>(words: &'a [String]) -> Option<Command<'a>>
+    ensures said { option_map said_by result ≡ with_names Resume (map string_bytes words.now) }
+    ensures called { IfSome result (λ command. IsCommand (said_by command)) }
+{
+    let (image, script) = names_of(words)?;
+    Some(Command::Alone(Alone::Resume { image, script }))
+}
+
+/// `serial` with its words: the script and the input.
+fn serial_of<'a>(words: &'a [String]) -> Option<Command<'a>>
+    ensures said { option_map said_by result ≡ with_names Serial (map string_bytes words.now) }
+    ensures called { IfSome result (λ command. IsCommand (said_by command)) }
+{
+    let (script, input) = names_of(words)?;
+    Some(Command::Alone(Alone::Serial { script, input }))
+}
+
 /// The command that the words ask for. None where they are no command: another verb, more words or fewer, or a number
 /// that is not spelled as a script spells it or is out of its range.
 #[tactic(auto, unfolding(crate::specs::Words::command_of))]
@@ -163,26 +211,17 @@ pub fn command_of(words: &[String]) -> Option<Command<'_>>
     let [verb, words @ ..] = words else {
         return None;
     };
-    match (verb.as_str(), words) {
-        ("replay", [script]) => Some(Command::Alone(Alone::Replay(script.as_str()))),
-        ("run", [script]) => Some(Command::Run(script.as_str())),
-        ("map", [script]) => Some(Command::Alone(Alone::Map(script.as_str()))),
-        ("check", [script, log]) => Some(Command::Alone(Alone::Check {
-            script: script.as_str(),
-            log: log.as_str(),
-        })),
-        ("make", words) => make_of(words),
-        ("dma", words) => dma_of(words),
-        ("save", [script]) => Some(Command::Alone(Alone::Save(script.as_str()))),
-        ("resume", [image, script]) => Some(Command::Alone(Alone::Resume {
-            image: image.as_str(),
-            script: script.as_str(),
-        })),
-        ("serial", [script, input]) => Some(Command::Alone(Alone::Serial {
-            script: script.as_str(),
-            input: input.as_str(),
-        })),
-        ("blame", [script]) => Some(Command::Alone(Alone::Blame(script.as_str()))),
+    match verb.as_str() {
+        "replay" => Some(Command::Alone(Alone::Replay(name_of(words)?))),
+        "run" => Some(Command::Run(name_of(words)?)),
+        "map" => Some(Command::Alone(Alone::Map(name_of(words)?))),
+        "check" => check_of(words),
+        "make" => make_of(words),
+        "dma" => dma_of(words),
+        "save" => Some(Command::Alone(Alone::Save(name_of(words)?))),
+        "resume" => resume_of(words),
+        "serial" => serial_of(words),
+        "blame" => Some(Command::Alone(Alone::Blame(name_of(words)?))),
         _ => None,
     }
 }
