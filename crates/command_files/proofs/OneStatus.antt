@@ -19,7 +19,7 @@ use Rattle.command_files.specs.declared.status.Status.{Status}
 use Rattle.command_files.specs.declared.status.Status.TheVariants.{Done, Usage, ReadFault, WriteFault, TooLong, BadScript, BadImage, Differs, NoMemory, OtherBoard}
 use Rattle.command_files.specs.Table.{files_of, limit_of}
 use Rattle.command_files.specs.Known.{Files, Known, nothing_known, name_of, Learns, Passes, AreReadAs, AllRead, ComesTo, board_of, OfScript, OfImage}
-use Rattle.command_files.specs.Asked.{ReadsFile, Fits, IsNoImage, LogIsLegal, LogDiffers, BoardsAgree, BoardsDiffer, CanBeDone, OfCheck, OfResume, EndsWith, AsksFor}
+use Rattle.command_files.specs.Asked.{IsNoImage, LogIsLegal, LogDiffers, BoardsAgree, BoardsDiffer, CanBeDone, OfCheck, OfResume, EndsWith, AsksFor}
 use Rattle.command_files.specs.Laws.{OneStatus}
 
 -- at most one status holds
@@ -277,7 +277,7 @@ passed :
     (files : Files) (before now : Known) (which : Which) (name : Option (List ℕ)) (Later : Known → Status → Type 0)
     (status : Status) → Passes files before which name now → Later now status → Stage files before which name Later status
 passed files before now which None Later status passes ends = subst (λ (known : Known). Later known status) passes ends
-passed files before now which (Some name) Later status passes ends = inr (inr (passes.0, now, passes.1, ends))
+passed files before now which (Some name) Later status passes ends = inr (inr (passes.0, (now, passes.1, ends)))
 
 reverse_on : (before later : List Which) (which : Which) → reverse before ++ which ∷ later ≡ reverse (which ∷ before) ++ later
 reverse_on before later which =
