@@ -26,12 +26,6 @@ use Rattle.command_files.specs.Laws.{OneStatus}
 abbrev IsOne : (Status → Type 0) → Type 0
 IsOne P = (status other : Status) → P status → P other → status ≡ other
 
--- where all files were read, and all are good, the command is done
-pub done_when_read :
-    (command : Command) (files : Files) (known : Known) → AllRead command files known → CanBeDone command known →
-    AsksFor command files Done
-done_when_read command files known read done = (known, read, done)
-
 -- ---- one file
 
 -- a file within its limit is refused with this status
