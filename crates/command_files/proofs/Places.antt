@@ -1,7 +1,7 @@
 -- A command at a place of its table: what its status is there, and which fetches it made.
-use Rattle.std.proofs.Common.{◌≡◌, ◌≢◌, ℕ, ◌+◌, ◌<◌, ◌≤◌, ◌⊎◌, inl, inr, List, [], ◌∷◌, ◌++◌, length, take, drop, reverse, get_or, Option, Some, None, refl, sym, ap, ◌∙◌, subst, append_assoc}
+use Rattle.std.proofs.Common.{◌≡◌, ◌≢◌, ℕ, suc, ◌+◌, ◌<◌, ◌≤◌, ◌⊎◌, inl, inr, List, [], ◌∷◌, ◌++◌, length, take, drop, reverse, get_or, Option, Some, None, refl, sym, ap, ◌∙◌, subst, append_assoc}
 use Rattle.std.specs.Prelude.{Result, Ok, Err, OnOk}
-use Rattle.std.proofs.lemmas.List.{reverse-append, reverse-reverse, append-nil}
+use Rattle.std.proofs.lemmas.List.{reverse-append, reverse-reverse, append-nil, take_all}
 use Rattle.std.proofs.lemmas.Grind.{take_at_read}
 use Rattle.std.proofs.Math.Seq.{split_at}
 use Rattle.board_base.specs.Outside.{Rose, OfFile, Fetch}
@@ -22,16 +22,16 @@ use Rattle.command_files.proofs.Refusals.{of_files, at_files, at_file, of_file, 
 
 -- ---- places of a list
 
-pub taken_more :
+taken_more :
     {A : Type 0} (files : List A) (index : ℕ) (d : A) → index < length files →
     reverse (take (index + 1) files) ≡ get_or files index d ∷ reverse (take index files)
 taken_more files index d within =
     ap reverse ((take_at_read files index d within).1) ∙ reverse-append (take index files) (get_or files index d ∷ [])
 
 -- a list is what stands before a place, that place, and what stands after it
-pub placed :
+placed :
     {A : Type 0} (files : List A) (index : ℕ) (d : A) → index < length files →
-    files ≡ reverse (reverse (take index files)) ++ get_or files index d ∷ drop (index + 1) files
+    files ≡ reverse (reverse (take index files)) ++ get_or files index d ∷ drop (suc index) files
 placed files index d within = rw (reverse-reverse (take index files)) (split_at files index d within)
 
 -- ---- the files before a place
@@ -203,7 +203,7 @@ module _ (command : Command) (told : Option Files) (which : Which) (before later
   stopped_at start now kept (Some name) named status is = not_taken start now kept name named status is
 
   -- the command stops at this place, after none of the fetches before had failed
-  pub stops :
+  stops :
       (start between now : ℕ) (kept : List ℕ) (status : Status) → between ≡ start →
       StopsAt which (name_of command known which) (record { files = told; faults_before = between; faults_now = now; failed_name = kept }) status →
       IsRefused command (record { files = told; faults_before = start; faults_now = now; failed_name = kept }) status
@@ -222,11 +222,11 @@ module _ (command : Command) (told : Option Files) (which : Which) (before later
       inr (record { name = name; reaches = reaches name named; reading = is.0; whole = λ some. whole some is.1 })
 
   -- the file at this place was read to its end
-  whole_next :
+  own_whole :
       {T : Type 0} (E : Type 0) (value : T) (made : List Fetch) →
       Both (WholeBefore command told before) (ReadsNamed {E = E} (Ok value) (name_of command known which) (limit_of which)) made →
       WholeBefore command told (which ∷ before) made
-  whole_next E value made is = λ more. (
+  own_whole E value made is = λ more. (
     is.second,
     is.first,
     is.parts,
@@ -234,7 +234,7 @@ module _ (command : Command) (told : Option Files) (which : Which) (before later
     is.one (more ++ is.second),
   )
 
-  pub fetches_next :
+  fetches_next :
       {T : Type 0} (E : Type 0) (value : T) (start between now : Option (List Fetch)) →
       OfCalls start between (WholeBefore command told before) →
       OfCalls between now (ReadsNamed {E = E} (Ok value) (name_of command known which) (limit_of which)) →
@@ -242,7 +242,7 @@ module _ (command : Command) (told : Option Files) (which : Which) (before later
   fetches_next E value start between now one two =
       calls_hold start now
       (Both (WholeBefore command told before) (ReadsNamed {E = E} (Ok value) (name_of command known which) (limit_of which)))
-      (WholeBefore command told (which ∷ before)) (whole_next E value)
+      (WholeBefore command told (which ∷ before)) (own_whole E value)
       (calls_both start between now (WholeBefore command told before)
       (ReadsNamed {E = E} (Ok value) (name_of command known which) (limit_of which)) one two)
 
@@ -270,7 +270,7 @@ module _ (command : Command) (told : Option Files) (which : Which) (before later
       ))
 
   -- the command read the file at this place, and none later
-  pub fetches_last :
+  fetches_last :
       {T E : Type 0} (result : Result T E) (start between now : Option (List Fetch)) →
       OfCalls start between (WholeBefore command told before) →
       OfCalls between now (ReadsNamed result (name_of command known which) (limit_of which)) →
@@ -287,3 +287,58 @@ pub fetches_all :
     OfCalls start now (WholeBefore command told (reverse (files_of command))) → OfCalls start now (FetchesOf command told)
 fetches_all command told start now is =
     calls_hold start now (WholeBefore command told (reverse (files_of command))) (FetchesOf command told) (λ made whole. whole []) is
+
+-- ---- a loop along the table
+
+module _ (command : Command) (told : Option Files) (files : List Which) (index : ℕ) (d : Which) (known : Known)
+    (table : files ≡ files_of command) (within : index < length files)
+    (are : AreTaken command told (reverse (take index files)) known) where
+  abbrev here : Which
+  here = get_or files index d
+
+  abbrev passed_by : List Which
+  passed_by = reverse (take index files)
+
+  at_here : files_of command ≡ reverse passed_by ++ here ∷ drop (suc index) files
+  at_here = sym table ∙ placed files index d within
+
+  -- the file at the index was read or passed over
+  pub taken_next :
+      (now : Known) → IsPassed told known here (name_of command known here) now →
+      AreTaken command told (reverse (take (index + 1) files)) now
+  taken_next now passed =
+      subst (λ (whiches : List Which). AreTaken command told whiches now) (sym (taken_more files index d within))
+      (known, are, passed)
+
+  pub whole_next :
+      (E : Type 0) (value : Unit {0}) (start between now : Option (List Fetch)) →
+      OfCalls start between (WholeBefore command told passed_by) →
+      OfCalls between now (ReadsNamed {E = E} (Ok value) (name_of command known here) (limit_of here)) →
+      OfCalls start now (WholeBefore command told (reverse (take (index + 1) files)))
+  whole_next E value start between now one two =
+      subst (λ (whiches : List Which). OfCalls start now (WholeBefore command told whiches))
+      (sym (taken_more files index d within))
+      (fetches_next command told here passed_by (drop (suc index) files) known at_here are E value start between now one two)
+
+  -- the command stops at it
+  pub stops_here :
+      (start between now : ℕ) (kept : List ℕ) (status : Status) → between ≡ start →
+      StopsAt here (name_of command known here)
+      (record { files = told; faults_before = between; faults_now = now; failed_name = kept }) status →
+      IsRefused command (record { files = told; faults_before = start; faults_now = now; failed_name = kept }) status
+  stops_here = stops command told here passed_by (drop (suc index) files) known at_here are
+
+  pub fetches_here :
+      {T E : Type 0} (result : Result T E) (start between now : Option (List Fetch)) →
+      OfCalls start between (WholeBefore command told passed_by) →
+      OfCalls between now (ReadsNamed result (name_of command known here) (limit_of here)) →
+      OfCalls start now (FetchesOf command told)
+  fetches_here result =
+      fetches_last command told here passed_by (drop (suc index) files) known at_here are result
+
+-- the loop is through the table
+pub past_table :
+    (command : Command) (files : List Which) (index : ℕ) → files ≡ files_of command → length files ≤ index →
+    (P : List Which → Type 0) → P (reverse (take index files)) → P (reverse (files_of command))
+past_table command files index table past P holds =
+    subst (λ (whiches : List Which). P (reverse whiches)) (take_all index files past ∙ table) holds

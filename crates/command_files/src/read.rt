@@ -86,7 +86,7 @@ impl Read {
 
     /// The name of a file of a command: it stands in the words, or in the script that was read. None where there is no such
     /// file.
-    pub(crate) fn name_of<'a>(&'a self, command: &Command<'a>, which: Which) -> Option<&'a str>
+    pub(crate) fn name_of<'a>(&'a self, command: &'a Command, which: Which) -> Option<&'a str>
         ensures name { option_map (λ name. name.now) result ≡ name_of (said_by command.now) self.now which }
     {
         match which {

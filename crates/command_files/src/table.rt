@@ -29,7 +29,7 @@ pub(crate) fn files_of(command: &Command) -> &'static [Which]
     }
 }
 
-fn script_name<'a>(command: &Command<'a>) -> Option<&'a str>
+fn script_name<'a>(command: &'a Command) -> Option<&'a str>
     ensures name { option_map (λ name. name.now) result ≡ script_name (said_by command.now) }
 {
     match command {
@@ -46,7 +46,7 @@ fn script_name<'a>(command: &Command<'a>) -> Option<&'a str>
     }
 }
 
-fn log_name<'a>(command: &Command<'a>) -> Option<&'a str>
+fn log_name<'a>(command: &'a Command) -> Option<&'a str>
     ensures name { option_map (λ name. name.now) result ≡ log_name (said_by command.now) }
 {
     match command {
@@ -55,7 +55,7 @@ fn log_name<'a>(command: &Command<'a>) -> Option<&'a str>
     }
 }
 
-fn image_name<'a>(command: &Command<'a>) -> Option<&'a str>
+fn image_name<'a>(command: &'a Command) -> Option<&'a str>
     ensures name { option_map (λ name. name.now) result ≡ image_name (said_by command.now) }
 {
     match command {
@@ -64,7 +64,7 @@ fn image_name<'a>(command: &Command<'a>) -> Option<&'a str>
     }
 }
 
-fn input_name<'a>(command: &Command<'a>) -> Option<&'a str>
+fn input_name<'a>(command: &'a Command) -> Option<&'a str>
     ensures name { option_map (λ name. name.now) result ≡ input_name (said_by command.now) }
 {
     match command {
@@ -74,7 +74,7 @@ fn input_name<'a>(command: &Command<'a>) -> Option<&'a str>
 }
 
 /// The name of a file that stands in the words themselves: those of ROM and disk stand in the script.
-pub(crate) fn name_in_words<'a>(command: &Command<'a>, which: Which) -> Option<&'a str>
+pub(crate) fn name_in_words<'a>(command: &'a Command, which: Which) -> Option<&'a str>
     ensures name { option_map (λ name. name.now) result ≡ name_in_words (said_by command.now) which }
 {
     match which {

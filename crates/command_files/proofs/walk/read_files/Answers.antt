@@ -1,19 +1,16 @@
-use Rattle.std.proofs.Common.{◌≡◌, ◌<◌, ◌+◌, List, length, get_or, take, drop, reverse, refl, sym, ◌∙◌, subst, rules}
-use Rattle.std.proofs.lemmas.List.{take_all}
+use Rattle.std.proofs.Common.{refl, rules}
 use Rattle.command_words.specs.Commands.{said_by}
-use Rattle.command_files.specs.declared.status.Which.{Which}
-use Rattle.command_files.specs.declared.status.Which.TheVariants.{Script}
 use Rattle.command_files.specs.declared.status.Status.{Status}
 use Rattle.command_files.specs.Calls.{OfCalls}
 use Rattle.command_files.proofs.CallLemmas.{none_made}
 use Rattle.command_files.proofs.Refusals.{holds_of_error}
-use Rattle.command_files.proofs.Places.{AreTaken, WholeBefore, taken_more, placed, are_read, stops, fetches_next, fetches_last, fetches_all}
+use Rattle.command_files.proofs.Places.{AreTaken, WholeBefore, past_table, are_read, taken_next, whole_next, stops_here, fetches_here, fetches_all}
 use Rattle.command_files.proofs.GoodLemmas.{has_read}
 use Rattle.command_files.proofs.walk.read_files.Goals as goal
 
 pub loop-which-init : goal.loop-which-init
 loop-which-init g c = record {
-  taken = c.nothing.ensures;
+  taken = c.nothing-read.ensures.nothing;
   no_fault = refl;
   same = refl;
   fetches = none_made _ _ (λ more. refl);
@@ -21,62 +18,52 @@ loop-which-init g c = record {
 
 pub loop-which-preserved : goal.loop-which-preserved
 loop-which-preserved g c =
-    let command = said_by c.args.command.now in
-    let told = g.S.Shelf.files c.args.shelf.now in
-    let index = c.loop-which.which-index in
-    let files = c.files_of.result.now in
-    let before = reverse (take index files) in
-    let which = get_or files index Script in
     let so_far = c.loop-which.invariant in
-    let place = sym c.files_of.ensures ∙ placed files index Script c.loop-which-test.true in
-    let more = sym (taken_more files index Script c.loop-which-test.true) in
     record {
       taken =
-          subst (λ (whiches : List Which). AreTaken command told whiches _) more
-          (_, so_far.taken, rw so_far.same at c.in_ok-read_next.ensures.passed);
+          taken_next (said_by c.args.command.now) _ _ _ _ _ c.files_of-files.ensures.files c.loop-which-test.true so_far.taken _
+          (rw so_far.same at c.in_ok-read_next.ensures.passed);
       no_fault = search rules;
       same = search rules;
       fetches =
-          subst (λ (whiches : List Which). OfCalls _ _ (WholeBefore command told whiches)) more
-          (fetches_next command told which before (drop (index + 1) files) _ place so_far.taken Status _ _ _ _ so_far.fetches
-          c.in_ok-read_next.ensures.fetches);
+          whole_next (said_by c.args.command.now) _ _ _ _ _ c.files_of-files.ensures.files c.loop-which-test.true so_far.taken Status tt _ _ _
+          so_far.fetches c.in_ok-read_next.ensures.fetches;
     }
 
 pub returns-in_err-read_next-clause-refused : goal.returns-in_err-read_next-clause-refused
 returns-in_err-read_next-clause-refused g c =
-    let command = said_by c.args.command.now in
-    let told = g.S.Shelf.files c.args.shelf.now in
-    let index = c.loop-which.which-index in
-    let files = c.files_of.result.now in
-    let before = reverse (take index files) in
-    let which = get_or files index Script in
     let so_far = c.loop-which.invariant in
-    let place = sym c.files_of.ensures ∙ placed files index Script c.loop-which-test.true in
     holds_of_error _ c.from_residual.result c.in_err-read_next.field-0.0 (search rules)
-    (stops command told which before (drop (index + 1) files) _ place so_far.taken _ _ _ _ _ so_far.no_fault
-    (rw so_far.same at c.in_err-read_next.ensures.refused))
+    (stops_here (said_by c.args.command.now) _ _ _ _ _ c.files_of-files.ensures.files c.loop-which-test.true so_far.taken _ _ _ _ _
+    so_far.no_fault (rw so_far.same at c.in_err-read_next.ensures.refused))
 
 pub returns-in_err-read_next-clause-fetches : goal.returns-in_err-read_next-clause-fetches
 returns-in_err-read_next-clause-fetches g c =
-    let command = said_by c.args.command.now in
-    let told = g.S.Shelf.files c.args.shelf.now in
-    let index = c.loop-which.which-index in
-    let files = c.files_of.result.now in
-    let before = reverse (take index files) in
-    let which = get_or files index Script in
     let so_far = c.loop-which.invariant in
-    let place = sym c.files_of.ensures ∙ placed files index Script c.loop-which-test.true in
-    fetches_last command told which before (drop (index + 1) files) _ place so_far.taken c.read_next.result _ _ _ so_far.fetches
-    c.read_next.ensures.fetches
+    fetches_here (said_by c.args.command.now) _ _ _ _ _ c.files_of-files.ensures.files c.loop-which-test.true so_far.taken
+    c.read_next.result _ _ _ so_far.fetches c.read_next.ensures.fetches
 
 pub returns-clause-read : goal.returns-clause-read
 returns-clause-read g c =
-    are_read (said_by c.args.command.now) _ _ _ (rw (take_all _ _ c.loop-which-test.false, c.files_of.ensures) at c.loop-which.invariant.taken)
+    let command = said_by c.args.command.now in
+    let told = g.S.Shelf.files c.args.shelf.now in
+    are_read command told _ _
+    (past_table command _ _ c.files_of-files.ensures.files c.loop-which-test.false
+    (λ whiches. AreTaken command told whiches c.loop-which.read) c.loop-which.invariant.taken)
 
 pub returns-clause-whole : goal.returns-clause-whole
 returns-clause-whole g c =
-    has_read _ (said_by c.args.command.now) _ (rw (take_all _ _ c.loop-which-test.false, c.files_of.ensures) at c.loop-which.invariant.taken)
+    let command = said_by c.args.command.now in
+    let told = g.S.Shelf.files c.args.shelf.now in
+    has_read told command _
+    (past_table command _ _ c.files_of-files.ensures.files c.loop-which-test.false
+    (λ whiches. AreTaken command told whiches c.loop-which.read) c.loop-which.invariant.taken)
 
 pub returns-clause-fetches : goal.returns-clause-fetches
 returns-clause-fetches g c =
-    fetches_all (said_by c.args.command.now) _ _ _ (rw (take_all _ _ c.loop-which-test.false, c.files_of.ensures) at c.loop-which.invariant.fetches)
+    let command = said_by c.args.command.now in
+    let told = g.S.Shelf.files c.args.shelf.now in
+    fetches_all command told _ _
+    (past_table command _ _ c.files_of-files.ensures.files c.loop-which-test.false
+    (λ whiches.
+    OfCalls (g.S.Shelf.fetches c.args.shelf.now) (g.S.Shelf.fetches c.loop-which.shelf) (WholeBefore command told whiches)) c.loop-which.invariant.fetches)
