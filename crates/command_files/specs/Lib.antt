@@ -8,3 +8,4 @@ pub mod Asked
 pub mod Outcomes
 pub mod Calls
 pub mod Laws
+pub mod Steps
