@@ -4,15 +4,17 @@ use Rattle.std.specs.Io.KnownBytes.{Appends, Keeps}
 use Rattle.board_base.specs.declared.fault.PutFault.{PutFault}
 use Rattle.board_base.specs.declared.fault.PutFault.TheVariants.{Failed, NoMemory as NoMemoryForPut}
 use Rattle.board_base.specs.Outside.{Rose}
-use Rattle.board_run.specs.declared.status.Which.{Which}
-use Rattle.board_run.specs.declared.status.Status.{Status}
-use Rattle.board_run.specs.declared.status.Status.TheVariants.{Done, Usage, ReadFault, WriteFault, TooLong, BadScript, BadImage, Differs, NoMemory}
-use Rattle.board_run.specs.Words.{Command}
+use Rattle.command_files.specs.declared.status.Which.{Which}
+use Rattle.command_files.specs.declared.status.Status.{Status}
+use Rattle.command_files.specs.declared.status.Status.TheVariants.{Done, Usage, ReadFault, WriteFault, TooLong, BadScript, BadImage, Differs, OtherBoard, NoMemory}
+use Rattle.command_words.specs.Words.{Command}
 use Rattle.board_run.specs.Texts.{IsCommandText}
 use Rattle.board_run.specs.Output.{AppendsFront}
-use Rattle.board_run.specs.Outcomes.{ShelfCall, SinkCall, OfFiles, OfCommand, PutsText, PutsTextFront, Stopped, CanEnd, WordsCanEnd, HasCause, IsCaused}
-use Rattle.board_run.specs.Statuses.{status_of_put_fault, IsRefused, IsRefusal}
-use Rattle.board_run.proofs.Refusals.{of_files, at_files}
+use Rattle.command_files.specs.Outcomes.{ShelfCall, OfFiles, CanEnd}
+use Rattle.board_run.specs.Outcomes.{SinkCall, OfCommand, PutsText, PutsTextFront, Stopped, WordsCanEnd, HasCause, IsCaused}
+use Rattle.command_files.specs.Statuses.{status_of_put_fault, IsRefusal}
+use Rattle.command_files.specs.Outcomes.{IsRefused}
+use Rattle.command_files.proofs.Refusals.{of_files, at_files}
 
 abbrev HidesNoFault : ShelfCall → Status → Type 0
 HidesNoFault shelf status = ((which : Which) → status ≢ ReadFault which) → shelf.faults_now ≡ shelf.faults_before
@@ -30,6 +32,7 @@ module _ (command : Command) (shelf : ShelfCall) (sink : SinkCall) where
   refusal_cause (BadScript line why) refused = refused.1
   refusal_cause (BadImage which) refused = refused.1
   refusal_cause (Differs line) refused = refused.1
+  refusal_cause OtherBoard refused = refused.1
   refusal_cause NoMemory refused = tt
 
   refusal_ends : (status : Status) → IsRefused command shelf status → CanEnd command status
@@ -41,6 +44,7 @@ module _ (command : Command) (shelf : ShelfCall) (sink : SinkCall) where
   refusal_ends (BadScript line why) refused = refused.0
   refusal_ends (BadImage which) refused = refused.0
   refusal_ends (Differs line) refused = refused.0
+  refusal_ends OtherBoard refused = refused.0
   refusal_ends NoMemory refused = tt
 
   refusal_stopped :
@@ -54,6 +58,7 @@ module _ (command : Command) (shelf : ShelfCall) (sink : SinkCall) where
   refusal_stopped (BadScript line why) refused keeps = keeps
   refusal_stopped (BadImage which) refused keeps = keeps
   refusal_stopped (Differs line) refused keeps = keeps
+  refusal_stopped OtherBoard refused keeps = keeps
   refusal_stopped NoMemory refused keeps = inl keeps
 
   -- a command was refused before it had its text, and nothing was put
@@ -138,4 +143,5 @@ refusal_of command shelf (TooLong which) refused = tt
 refusal_of command shelf (BadScript line why) refused = tt
 refusal_of command shelf (BadImage which) refused = tt
 refusal_of command shelf (Differs line) refused = tt
+refusal_of command shelf OtherBoard refused = tt
 refusal_of command shelf NoMemory refused = tt

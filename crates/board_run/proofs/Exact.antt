@@ -1,13 +1,16 @@
 -- The status that the words and the files ask for comes, while the outside is quiet.
-use Rattle.std.proofs.Common.{◌≡◌, inl, inr, Option, Some, None, refl, sym, subst, arith}
+use Rattle.std.proofs.Common.{◌≡◌, ℕ, List, inl, inr, Option, Some, None, refl, sym, subst, arith}
 use Rattle.board_base.specs.Outside.{Rose}
-use Rattle.board_run.specs.declared.status.Status.{Status}
-use Rattle.board_run.specs.declared.status.Status.TheVariants.{Done, Usage, ReadFault, WriteFault, TooLong, BadScript, BadImage, Differs, NoMemory}
-use Rattle.board_run.specs.Words.{Command}
-use Rattle.board_run.specs.Asked.{Files, AsksFor}
-use Rattle.board_run.specs.Outcomes.{ShelfCall, SinkCall, OfFiles, PutsText, PutsTextFront, IsCaused, Answers, IsQuietFor, IsExact}
-use Rattle.board_run.proofs.OneStatus.{one_status, done_of_text}
-use Rattle.board_run.proofs.Refusals.{at_files}
+use Rattle.command_files.specs.declared.status.Status.{Status}
+use Rattle.command_files.specs.declared.status.Status.TheVariants.{Done, Usage, ReadFault, WriteFault, TooLong, BadScript, BadImage, Differs, OtherBoard, NoMemory}
+use Rattle.command_words.specs.Words.{Command}
+use Rattle.command_files.specs.Known.{Files}
+use Rattle.command_files.specs.Asked.{AsksFor}
+use Rattle.command_files.specs.Outcomes.{ShelfCall, OfFiles}
+use Rattle.board_run.specs.Outcomes.{SinkCall, PutsText, PutsTextFront, IsCaused, Answers, IsQuietFor, IsExact}
+use Rattle.command_files.specs.Laws.{OneStatus}
+use Rattle.board_run.specs.Texts.{IsCommandText}
+use Rattle.command_files.proofs.Refusals.{at_files}
 
 -- the shelf is quiet wherever a status is to come
 quiet_shelf_for : (wanted : Status) (quiet_shelf quiet_sink : Type 0) → IsQuietFor wanted quiet_shelf quiet_sink → quiet_shelf
@@ -19,9 +22,14 @@ quiet_shelf_for (TooLong which) quiet_shelf quiet_sink quiet = quiet
 quiet_shelf_for (BadScript line why) quiet_shelf quiet_sink quiet = quiet
 quiet_shelf_for (BadImage which) quiet_shelf quiet_sink quiet = quiet
 quiet_shelf_for (Differs line) quiet_shelf quiet_sink quiet = quiet
+quiet_shelf_for OtherBoard quiet_shelf quiet_sink quiet = quiet
 quiet_shelf_for NoMemory quiet_shelf quiet_sink quiet = quiet
 
-module _ (command : Command) (files : Files) (shelf : ShelfCall) (sink : SinkCall) (told : shelf.files ≡ Some files) (wanted : Status)
+-- a command that has a text can be done
+done_of_text : (command : Command) (files : Files) (text : List ℕ) → IsCommandText command files text → AsksFor command files Done
+done_of_text command files text is = (is.known, is.read, is.done)
+
+module _ (one_status : OneStatus) (command : Command) (files : Files) (shelf : ShelfCall) (sink : SinkCall) (told : shelf.files ≡ Some files) (wanted : Status)
     (asks : AsksFor command files wanted)
     (quiet : IsQuietFor wanted (¬ Rose shelf.faults_before shelf.faults_now) (¬ Rose sink.faults_before sink.faults_now)) where
   abbrev Quiet : Type 0
@@ -50,21 +58,22 @@ module _ (command : Command) (files : Files) (shelf : ShelfCall) (sink : SinkCal
   left (BadScript line why) is = same (BadScript line why) (told_of (λ files'. AsksFor command files' (BadScript line why)) is.cause)
   left (BadImage which) is = same (BadImage which) (told_of (λ files'. AsksFor command files' (BadImage which)) is.cause)
   left (Differs line) is = same (Differs line) (told_of (λ files'. AsksFor command files' (Differs line)) is.cause)
+  left OtherBoard is = same OtherBoard (told_of (λ files'. AsksFor command files' OtherBoard) is.cause)
   left NoMemory is = inr refl
 
 exact_for :
-    (command : Option Command) (told : Option Files) (shelf : ShelfCall) (sink : SinkCall) (status : Status) → shelf.files ≡ told →
+    OneStatus → (command : Option Command) (told : Option Files) (shelf : ShelfCall) (sink : SinkCall) (status : Status) → shelf.files ≡ told →
     IsCaused status command shelf sink →
     IsExact status command told (¬ Rose shelf.faults_before shelf.faults_now) (¬ Rose sink.faults_before sink.faults_now)
-exact_for None told shelf sink status told_is is = λ wanted has quiet. absurd has
-exact_for (Some command) None shelf sink status told_is is = λ wanted has quiet. absurd has
-exact_for (Some command) (Some files) shelf sink status told_is is = λ wanted has quiet.
-    left command files shelf sink told_is wanted has quiet status is
+exact_for one None told shelf sink status told_is is = λ wanted has quiet. absurd has
+exact_for one (Some command) None shelf sink status told_is is = λ wanted has quiet. absurd has
+exact_for one (Some command) (Some files) shelf sink status told_is is = λ wanted has quiet.
+    left one command files shelf sink told_is wanted has quiet status is
 
 pub exact :
-    (command : Option Command) (shelf : ShelfCall) (sink : SinkCall) (status : Status) → IsCaused status command shelf sink →
+    OneStatus → (command : Option Command) (shelf : ShelfCall) (sink : SinkCall) (status : Status) → IsCaused status command shelf sink →
     IsExact status command shelf.files (¬ Rose shelf.faults_before shelf.faults_now) (¬ Rose sink.faults_before sink.faults_now)
-exact command shelf sink status is = exact_for command shelf.files shelf sink status refl is
+exact one command shelf sink status is = exact_for one command shelf.files shelf sink status refl is
 
 none_rose : ¬ Rose 0 0
 none_rose rose = elim rose [ inl more ↦ omega arith | inr last ↦ omega arith ]
@@ -78,6 +87,7 @@ always_quiet (TooLong which) quiet = none_rose
 always_quiet (BadScript line why) quiet = none_rose
 always_quiet (BadImage which) quiet = none_rose
 always_quiet (Differs line) quiet = none_rose
+always_quiet OtherBoard quiet = none_rose
 always_quiet NoMemory quiet = none_rose
 
 -- where the outside cannot fail, it is quiet

@@ -1,9 +1,6 @@
-pub mod FrontLemmas
 pub mod SentLemmas
 pub mod Statements
-pub mod Refusals
-pub mod CallLemmas
+pub mod PutLemmas
+pub mod Answers
 pub mod Causes
-pub mod OneStatus
 pub mod Exact
-pub mod WordLaws

@@ -3,9 +3,18 @@ use Rattle.std.specs.Prelude.{◌≡◌, ◌≢◌, ℕ, List, Result, IfOk, IfE
 use Rattle.command_words.specs.Words.{Command}
 use Rattle.command_files.specs.declared.status.Which.{Which}
 use Rattle.command_files.specs.declared.status.Status.{Status}
-use Rattle.command_files.specs.declared.status.Status.TheVariants.{ReadFault}
+use Rattle.command_files.specs.declared.status.Status.TheVariants.{ReadFault, Differs, OtherBoard, NoMemory}
+use Rattle.command_files.specs.Known.{Known}
+use Rattle.command_files.specs.Asked.{EndsWith}
 use Rattle.command_files.specs.Outcomes.{ShelfCall, OfFiles, IsRefused}
 use Rattle.board_run.specs.Texts.{IsCommandText}
+
+-- why a command whose files were read has no text: memory ran out, or what is known asks for another end
+abbrev pub StopsAt : Command → Known → Status → Type 0
+StopsAt command known NoMemory = Unit {0}
+StopsAt command known (Differs line) = EndsWith command known (Differs line)
+StopsAt command known OtherBoard = EndsWith command known OtherBoard
+StopsAt command known _ = ⊥
 
 -- what a command answers before anything is put: its text, or why it has none. No fault of the shelf is passed over
 pub record IsAnswered (command : Command) (shelf : ShelfCall) (result : Result (List ℕ) Status) : Type 0 where

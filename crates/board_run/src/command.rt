@@ -2,42 +2,66 @@
 
 ghost use Rattle.std.specs.Prelude.{◌≡◌, ◌↔◌, Some, None, IfErr};
 ghost use Rattle.board_base.specs.Outside.{Rose};
-ghost use Rattle.board_run.specs.declared.status.Status.{Status};
-ghost use Rattle.board_run.specs.Words.{asked};
-ghost use Rattle.board_run.specs.Commands.{said_by, IsCalled};
-ghost use Rattle.board_run.specs.Statuses.{status_of, IsRefusal};
-ghost use Rattle.board_run.specs.Outcomes.{IsCaused, IsExact, shelf_call, sink_call};
-ghost use Rattle.board_run.specs.Calls.{OfCalls, FetchesOf, AreFetchesOf, ArePutsOf};
+ghost use Rattle.command_words.specs.Words.{asked, IsCommand};
+ghost use Rattle.command_words.specs.Commands.{said_by};
+ghost use Rattle.command_files.specs.declared.status.Status.{Status};
+ghost use Rattle.command_files.specs.Statuses.{status_of, IsRefusal};
+ghost use Rattle.command_files.specs.Outcomes.{shelf_call};
+ghost use Rattle.command_files.specs.Calls.{OfCalls, FetchesOf, AreFetchesOf};
+ghost use Rattle.board_run.specs.Statuses.{IsAnswered};
+ghost use Rattle.board_run.specs.Outcomes.{IsCaused, IsExact, sink_call};
+ghost use Rattle.board_run.specs.Puts.{ArePutsOf};
 
 use crate::output::put_all;
-use crate::status::Status;
-use crate::texts::command_text;
-use crate::words::{Command, command_of};
+use crate::texts::text_of;
 use board_base::{Gate, Shelf, Sink};
+use command_files::laws::law_one_status;
+use command_files::{Status, read_files};
+use command_words::{Command, command_of};
+use log_pieces::Text;
 use std::alloc::Global;
 use std::sync::Wait;
 use std::thread::Threads;
+
+/// Reads the files of a command, and makes its text of them.
+fn answer<R: Threads + Wait + Sync, S: Shelf, G: Gate>(
+    rt: &R,
+    alloc: Global,
+    command: &Command,
+    shelf: &mut S,
+    gate: &G,
+) -> Result<Text, Status>
+    requires called { IsCommand (said_by command.now) }
+    ensures answer { IsAnswered (said_by command.now)
+        (shelf_call S.files S.faults S.failed_name shelf.old shelf.new) result }
+    ensures same_files { S.files shelf.new ≡ S.files shelf.old }
+    ensures fetches { OfCalls (S.fetches shelf.old) (S.fetches shelf.new)
+        (FetchesOf (said_by command.now) (S.files shelf.old)) }
+{
+    let read = read_files(alloc, shelf, command)?;
+    text_of(rt, alloc, command, read, gate)
+}
 
 /// Makes the text of a command from its files, and puts it.
 fn run_command<R: Threads + Wait + Sync, S: Shelf, K: Sink, G: Gate>(
     rt: &R,
     alloc: Global,
-    command: Command,
+    command: &Command,
     shelf: &mut S,
     out: &mut K,
     gate: &G,
 ) -> Result<(), Status>
-    requires called { IsCalled command }
-    ensures caused { IsCaused (status_of result) (Some (said_by command.entry))
+    requires called { IsCommand (said_by command.now) }
+    ensures caused { IsCaused (status_of result) (Some (said_by command.now))
         (shelf_call S.files S.faults S.failed_name shelf.old shelf.new)
         (sink_call K.faults K.taken out.old out.new) }
     ensures only { IfErr result IsRefusal }
     ensures same_files { S.files shelf.new ≡ S.files shelf.old }
     ensures fetches { OfCalls (S.fetches shelf.old) (S.fetches shelf.new)
-        (FetchesOf (said_by command.entry) (S.files shelf.old)) }
+        (FetchesOf (said_by command.now) (S.files shelf.old)) }
     ensures puts { OfCalls (K.puts out.old) (K.puts out.new) (ArePutsOf (status_of result)) }
 {
-    let text = command_text(rt, alloc, command, shelf, gate)?;
+    let text = answer(rt, alloc, command, shelf, gate)?;
     put_all(out, &text)?;
     Ok(())
 }
@@ -63,17 +87,19 @@ fn run_words<R: Threads + Wait + Sync, S: Shelf, K: Sink, G: Gate>(
     let Some(command) = command_of(words) else {
         return Status::Usage;
     };
-    match run_command(rt, alloc, command, shelf, out, gate) {
+    match run_command(rt, alloc, &command, shelf, out, gate) {
         Ok(()) => Status::Done,
         Err(status) => status,
     }
 }
 
-/// Runs one command over a shelf of files and a sink. `replay FILE` puts the log of the replay of a script, `run FILE`
-/// that of a run with a thread for each processor, `map FILE` the address map after a replay, `check FILE LOG` whether
-/// a log is one of the script, and `make N` the summary of a script of N rounds. Where several causes hold, the words
-/// come first, then the script, its ROM, its disk, the log, and what is put. Nothing is put before all else is done.
-/// Only `run` may wait.
+/// Runs one command over a shelf of files and a sink, and puts its text: `replay FILE` the log of the replay of a script,
+/// `run FILE` that of a run with a thread for each processor, `map FILE` the address map after a replay, `check FILE LOG`
+/// whether a log is one of the script, `make N` the summary of a script of N rounds, `dma FILE in|out TABLE LBA COUNT` how a
+/// transfer of the bus master ended, `save FILE` the image of a board, `resume IMAGE FILE` the log of a board that goes on,
+/// `serial FILE INPUT` what the serial port sent, and `blame FILE` which writes made the map. Where several causes hold, the
+/// words come first, then the files in the order in which they are read, and then what is put. Nothing is put before all
+/// else is done. Only `run` may wait.
 pub fn board<R: Threads + Wait + Sync, S: Shelf, K: Sink, G: Gate>(
     rt: &R,
     alloc: Global,
@@ -93,5 +119,7 @@ pub fn board<R: Threads + Wait + Sync, S: Shelf, K: Sink, G: Gate>(
         (AreFetchesOf (asked words.now) (S.files shelf.old)) }
     ensures puts { OfCalls (K.puts out.old) (K.puts out.new) (ArePutsOf result) }
 {
+    // The words and the files ask for at most one status.
+    law_one_status();
     run_words(rt, alloc, words, shelf, out, gate)
 }

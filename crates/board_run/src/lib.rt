@@ -4,6 +4,7 @@
 mod command;
 mod memory;
 mod output;
+mod prepare;
 mod run;
 mod texts;
 

@@ -2,13 +2,13 @@
 
 ghost use Rattle.std.specs.Prelude.{◌≡◌, ◌≢◌, ◌↔◌, [], Some, None};
 ghost use Rattle.board_base.specs.Files.{file_named};
-ghost use Rattle.board_run.specs.declared.status.Which.{Which};
-ghost use Rattle.board_run.specs.Words.{asked};
+ghost use Rattle.command_words.specs.Words.{asked};
+ghost use Rattle.command_files.specs.declared.status.Which.{Which};
 ghost use Rattle.board_run.specs.Outcomes.{IsCaused, IsExact};
 
 use crate::command::board;
-use crate::status::Status;
 use board_base::{Gate, SafeShelf, SafeSink};
+use command_files::Status;
 use std::alloc::Global;
 use std::sync::Wait;
 use std::thread::Threads;

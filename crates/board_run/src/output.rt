@@ -4,7 +4,8 @@ ghost use Rattle.std.specs.Prelude.{◌≡◌, ◌≤◌, drop, length, IfErr, O
 ghost use Rattle.std.specs.Io.KnownBytes.{Appends};
 ghost use Rattle.board_base.specs.Outside.{Rose};
 ghost use Rattle.board_run.specs.Output.{AppendsFront};
-ghost use Rattle.board_run.specs.Calls.{OfCalls, PutsBy};
+ghost use Rattle.command_files.specs.Calls.{OfCalls};
+ghost use Rattle.board_run.specs.Puts.{PutsBy};
 
 use board_base::{PutFault, Sink};
 use log_pieces::Text;

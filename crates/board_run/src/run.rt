@@ -57,7 +57,7 @@ fn log_of_ended<R: Threads + Sync>(
 }
 
 /// The log of a run of a script, which as many threads write as there are processors.
-pub fn log_of_run<R: Threads + Wait + Sync, G: Gate>(
+pub(crate) fn log_of_run<R: Threads + Wait + Sync, G: Gate>(
     rt: &R,
     alloc: Global,
     board: Board,

@@ -1,148 +1,179 @@
-//! The text of each command, from its files.
+//! The text of each command, from what it read.
 
-ghost use Rattle.std.specs.Prelude.{◌≡◌, ◌≤◌, ℕ, List, []};
-ghost use Rattle.script_text.specs.Script.{said_of};
-ghost use Rattle.board_run.specs.declared.status.Which.{Which};
-ghost use Rattle.board_run.specs.Words.{Replay, Run, Map, Check};
-ghost use Rattle.board_run.specs.Commands.{said_by, IsCalled, WaitsForNobody};
-ghost use Rattle.board_run.specs.Outcomes.{OfFiles, shelf_call};
-ghost use Rattle.board_run.specs.Asked.{limit_of};
-ghost use Rattle.board_run.specs.Calls.{OfCalls, IsReading, FetchesOf};
-ghost use Rattle.command_texts.specs.Fresh.{IsFreshFor};
-ghost use Rattle.board_run.specs.Statuses.{IsAnswered, IsReady};
+ghost use Rattle.std.specs.Prelude.{ℕ, List, IfOk, IfErr};
+ghost use Rattle.command_texts.specs.Replays.{IsReplayText, IsMapText, IsLegalText};
+ghost use Rattle.command_texts.specs.Transfers.{IsTransferText};
+ghost use Rattle.command_texts.specs.Images.{IsSaveText};
+ghost use Rattle.command_texts.specs.Serial.{IsSerialText};
+ghost use Rattle.command_texts.specs.Blame.{IsBlameText};
+ghost use Rattle.command_words.specs.Words.{IsTransfer, IsCommand, Check, Resume};
+ghost use Rattle.command_words.specs.Commands.{said_alone, said_by};
+ghost use Rattle.command_files.specs.Known.{HasBoard, HasImage, HasRead};
+ghost use Rattle.command_files.specs.Asked.{CanBeDone};
+ghost use Rattle.board_run.specs.Texts.{OnBoard, IsRunText, IsTextFor};
+ghost use Rattle.board_run.specs.Statuses.{StopsAt};
 
-use crate::fetch::fetch;
 use crate::prepare::{Prepared, prepare};
 use crate::run::log_of_run;
-use crate::status::{Status, Which};
-use crate::words::Command;
-use board_base::{Gate, Shelf};
-use command_texts::{log_of_replay, map_after_replay, summary_of_made, verdict_on_log};
+use board_base::{Gate, NoMemory};
+use command_files::{Read, Status};
+use command_texts::{
+    blame_after_replay, image_of_replay, is_same_board, log_of_replay, log_of_resumed,
+    map_after_replay, sent_in_replay, summary_of_made, transfer_after_replay, verdict_on_log,
+};
+use command_words::{Alone, Command, Transfer};
 use log_pieces::Text;
 use std::alloc::Global;
 use std::sync::Wait;
 use std::thread::Threads;
 
 /// The log of the replay of a script.
-fn replay<S: Shelf>(alloc: Global, shelf: &mut S, name: &str) -> Result<Text, Status>
-    ensures answer { IsAnswered (Replay name.now)
-        (shelf_call S.files S.faults S.failed_name shelf.old shelf.new) result }
-    ensures same_files { S.files shelf.new ≡ S.files shelf.old }
-    ensures fetches { OfCalls (S.fetches shelf.old) (S.fetches shelf.new)
-        (FetchesOf (Replay name.now) (S.files shelf.old)) }
+fn replay(alloc: Global, read: Read) -> Result<Text, NoMemory>
+    requires board { HasBoard read }
+    ensures text { IfOk result (OnBoard read IsReplayText) }
 {
-    let Prepared { script, mut board } = prepare(alloc, shelf, name)?;
-    let text = log_of_replay(alloc, &mut board, script)?;
-    Ok(text)
+    let Prepared {
+        script, mut board, ..
+    } = prepare(alloc, read)?;
+    log_of_replay(alloc, &mut board, script)
 }
 
 /// The address map after the replay of a script.
-fn map<S: Shelf>(alloc: Global, shelf: &mut S, name: &str) -> Result<Text, Status>
-    ensures answer { IsAnswered (Map name.now)
-        (shelf_call S.files S.faults S.failed_name shelf.old shelf.new) result }
-    ensures same_files { S.files shelf.new ≡ S.files shelf.old }
-    ensures fetches { OfCalls (S.fetches shelf.old) (S.fetches shelf.new)
-        (FetchesOf (Map name.now) (S.files shelf.old)) }
+fn map(alloc: Global, read: Read) -> Result<Text, NoMemory>
+    requires board { HasBoard read }
+    ensures text { IfOk result (OnBoard read IsMapText) }
 {
-    let mut prepared = prepare(alloc, shelf, name)?;
-    let text = map_after_replay(alloc, &mut prepared.board, &prepared.script)?;
+    let mut prepared = prepare(alloc, read)?;
+    map_after_replay(alloc, &mut prepared.board, &prepared.script)
+}
+
+/// How a transfer of the bus master after the replay of a script ends.
+fn transfer(alloc: Global, transfer: &Transfer, read: Read) -> Result<Text, NoMemory>
+    requires board { HasBoard read }
+    requires asked { IsTransfer transfer.now }
+    ensures text { IfOk result (OnBoard read (λ setup script. IsTransferText setup script transfer.now)) }
+{
+    let Prepared { script, board, .. } = prepare(alloc, read)?;
+    transfer_after_replay(alloc, board, &script, transfer)
+}
+
+/// The image of the replay of a script.
+fn save(alloc: Global, read: Read) -> Result<Text, NoMemory>
+    requires board { HasBoard read }
+    ensures text { IfOk result (OnBoard read IsSaveText) }
+{
+    let mut prepared = prepare(alloc, read)?;
+    image_of_replay(alloc, &mut prepared.board, &prepared.script)
+}
+
+/// The bytes that the serial port sends in the replay of a script, while the input comes in.
+fn serial(alloc: Global, read: Read) -> Result<Text, NoMemory>
+    requires board { HasBoard read }
+    ensures text { IfOk result (OnBoard read (λ setup script. IsSerialText setup script read.input)) }
+{
+    let Prepared {
+        script,
+        board,
+        input,
+        ..
+    } = prepare(alloc, read)?;
+    sent_in_replay(alloc, board, &script, &input)
+}
+
+/// Which map writes of the replay of a script made the address map.
+fn blame(alloc: Global, read: Read) -> Result<Text, NoMemory>
+    requires board { HasBoard read }
+    ensures text { IfOk result (OnBoard read IsBlameText) }
+{
+    let mut prepared = prepare(alloc, read)?;
+    blame_after_replay(alloc, &mut prepared.board, &prepared.script)
+}
+
+/// How many entries a log has, where it is that of a legal and complete history of a script.
+fn verdict(alloc: Global, read: Read) -> Result<Text, Status>
+    requires board { HasBoard read }
+    ensures text { IfOk result (OnBoard read (λ setup script. IsLegalText setup script read.log)) }
+    ensures stops { (script log : List ℕ) → IfErr result (StopsAt (Check script log) read) }
+{
+    let mut prepared = prepare(alloc, read)?;
+    let log = &prepared.log;
+    let text = verdict_on_log(alloc, &mut prepared.board, &prepared.script, log)?;
     Ok(text)
 }
 
-/// What `check` says of a log, after its script was read: how many entries it has, where it is the log of a legal and
-/// complete history of the script.
-fn verdict<S: Shelf>(
-    alloc: Global,
-    shelf: &mut S,
-    prepared: &mut Prepared,
-    log: &str,
-) -> Result<Text, Status>
-    requires fresh { IsFreshFor (said_of prepared.old.script) prepared.old.board }
-    ensures answer { (name : List ℕ)
-        → OfFiles (S.files shelf.old)
-        (λ files. IsReady files name (said_of prepared.old.script) prepared.old.board.setup)
-        → IsAnswered (Check name log.now)
-        (shelf_call S.files S.faults S.failed_name shelf.old shelf.new) result }
-    ensures same_files { S.files shelf.new ≡ S.files shelf.old }
-    ensures fetches { OfCalls (S.fetches shelf.old) (S.fetches shelf.new) (IsReading log.now (limit_of Which.Log)) }
+/// The log of the board of an image that goes on with a script, where the script asks for that board.
+fn resume(alloc: Global, read: Read) -> Result<Text, Status>
+    requires image { HasImage read }
+    ensures text { (image script : List ℕ) → IfOk result (IsTextFor (Resume image script) read) }
+    ensures done { (image script : List ℕ) → IfOk result (λ _. CanBeDone (Resume image script) read) }
+    ensures stops { (image script : List ℕ) → IfErr result (StopsAt (Resume image script) read) }
 {
-    let bytes = fetch(alloc, shelf, Which::Log, log)?;
-    let text = verdict_on_log(alloc, &mut prepared.board, &prepared.script, &bytes)?;
-    Ok(text)
-}
-
-/// What `check` says of a log: how many entries it has, where it is the log of a legal and complete history of a
-/// script.
-fn check<S: Shelf>(alloc: Global, shelf: &mut S, name: &str, log: &str) -> Result<Text, Status>
-    ensures answer { IsAnswered (Check name.now log.now)
-        (shelf_call S.files S.faults S.failed_name shelf.old shelf.new) result }
-    ensures same_files { S.files shelf.new ≡ S.files shelf.old }
-    ensures fetches { OfCalls (S.fetches shelf.old) (S.fetches shelf.new)
-        (FetchesOf (Check name.now log.now) (S.files shelf.old)) }
-{
-    let mut prepared = prepare(alloc, shelf, name)?;
-    verdict(alloc, shelf, &mut prepared, log)
+    let Read {
+        script: Some(script),
+        image: Some(image),
+        ..
+    } = read
+    else {
+        unreachable!()
+    };
+    if !is_same_board(&image.setup, &script) {
+        return Err(Status::OtherBoard);
+    }
+    Ok(log_of_resumed(alloc, image, &script)?)
 }
 
 /// The text of a command that waits for nobody.
-fn text_without_waiting<S: Shelf>(
-    alloc: Global,
-    command: Command,
-    shelf: &mut S,
-) -> Result<Text, Status>
-    requires called { IsCalled command }
-    requires alone { WaitsForNobody command }
-    ensures answer { IsAnswered (said_by command.entry)
-        (shelf_call S.files S.faults S.failed_name shelf.old shelf.new) result }
-    ensures same_files { S.files shelf.new ≡ S.files shelf.old }
-    ensures fetches { OfCalls (S.fetches shelf.old) (S.fetches shelf.new)
-        (FetchesOf (said_by command.entry) (S.files shelf.old)) }
+fn text_alone(alloc: Global, command: &Alone, read: Read) -> Result<Text, Status>
+    requires called { IsCommand (said_alone command.now) }
+    requires read { HasRead (said_alone command.now) read }
+    ensures text { IfOk result (IsTextFor (said_alone command.now) read) }
+    ensures done { IfOk result (λ _. CanBeDone (said_alone command.now) read) }
+    ensures stops { IfErr result (StopsAt (said_alone command.now) read) }
 {
-    match command {
-        Command::Replay(name) => replay(alloc, shelf, name),
-        Command::Run(_) => unreachable!(),
-        Command::Map(name) => map(alloc, shelf, name),
-        Command::Check { script, log } => check(alloc, shelf, script, log),
-        Command::Make(rounds) => Ok(summary_of_made(alloc, rounds)?),
-    }
+    let text = match command {
+        Alone::Check { .. } => return verdict(alloc, read),
+        Alone::Resume { .. } => return resume(alloc, read),
+        Alone::Replay(_) => replay(alloc, read),
+        Alone::Map(_) => map(alloc, read),
+        Alone::Make(rounds) => summary_of_made(alloc, *rounds),
+        Alone::Dma { transfer: asked, .. } => transfer(alloc, asked, read),
+        Alone::Save(_) => save(alloc, read),
+        Alone::Serial { .. } => serial(alloc, read),
+        Alone::Blame(_) => blame(alloc, read),
+    };
+    Ok(text?)
 }
 
 /// The log of a run of a script, with a thread for each processor.
-fn run<R: Threads + Wait + Sync, S: Shelf, G: Gate>(
+fn run<R: Threads + Wait + Sync, G: Gate>(
     rt: &R,
     alloc: Global,
-    shelf: &mut S,
-    name: &str,
+    read: Read,
     gate: &G,
-) -> Result<Text, Status>
-    ensures answer { IsAnswered (Run name.now)
-        (shelf_call S.files S.faults S.failed_name shelf.old shelf.new) result }
-    ensures same_files { S.files shelf.new ≡ S.files shelf.old }
-    ensures fetches { OfCalls (S.fetches shelf.old) (S.fetches shelf.new)
-        (FetchesOf (Run name.now) (S.files shelf.old)) }
+) -> Result<Text, NoMemory>
+    requires board { HasBoard read }
+    ensures text { IfOk result (OnBoard read IsRunText) }
 {
-    let Prepared { script, board } = prepare(alloc, shelf, name)?;
-    let text = log_of_run(rt, alloc, board, script, gate)?;
-    Ok(text)
+    let Prepared { script, board, .. } = prepare(alloc, read)?;
+    log_of_run(rt, alloc, board, script, gate)
 }
 
-/// The text of a command. Only `run` may wait.
-pub(crate) fn command_text<R: Threads + Wait + Sync, S: Shelf, G: Gate>(
+/// The text of a command, from what it read. Only `run` may wait.
+pub(crate) fn text_of<R: Threads + Wait + Sync, G: Gate>(
     rt: &R,
     alloc: Global,
-    command: Command,
-    shelf: &mut S,
+    command: &Command,
+    read: Read,
     gate: &G,
 ) -> Result<Text, Status>
-    requires called { IsCalled command }
-    ensures answer { IsAnswered (said_by command.entry)
-        (shelf_call S.files S.faults S.failed_name shelf.old shelf.new) result }
-    ensures same_files { S.files shelf.new ≡ S.files shelf.old }
-    ensures fetches { OfCalls (S.fetches shelf.old) (S.fetches shelf.new)
-        (FetchesOf (said_by command.entry) (S.files shelf.old)) }
+    requires called { IsCommand (said_by command.now) }
+    requires read { HasRead (said_by command.now) read }
+    ensures text { IfOk result (IsTextFor (said_by command.now) read) }
+    ensures done { IfOk result (λ _. CanBeDone (said_by command.now) read) }
+    ensures stops { IfErr result (StopsAt (said_by command.now) read) }
 {
     match command {
-        Command::Run(name) => run(rt, alloc, shelf, name, gate),
-        _ => text_without_waiting(alloc, command, shelf),
+        Command::Run(_) => Ok(run(rt, alloc, read, gate)?),
+        Command::Alone(alone) => text_alone(alloc, alone, read),
     }
 }

@@ -1,1 +1,6 @@
 pub mod FrontLemmas
+pub mod OneStatus
+pub mod CallLemmas
+pub mod Refusals
+pub mod Places
+pub mod GoodLemmas

@@ -7,3 +7,5 @@ pub mod Known
 pub mod Asked
 pub mod Outcomes
 pub mod Calls
+pub mod Laws
+pub mod Steps

@@ -1,6 +1,6 @@
 use Rattle.std.proofs.Common.{Option, subst}
-use Rattle.board_run.specs.Words.{Command}
-use Rattle.board_run.specs.Calls.{OfCalls, AreFetchesOf}
+use Rattle.command_words.specs.Words.{Command}
+use Rattle.command_files.specs.Calls.{OfCalls, AreFetchesOf}
 use Rattle.board_run.proofs.command.run_words.Goals as goal
 
 pub returns-in-Err-clause-fetches : goal.returns-in-Err-clause-fetches

@@ -1,6 +1,6 @@
 use Rattle.board_base.specs.Files.{file_named}
 use Rattle.std.specs.Prelude.{Some}
-use Rattle.board_run.specs.Words.{asked}
+use Rattle.command_words.specs.Words.{asked}
 use Rattle.board_run.proofs.Exact.{always_exact}
 use Rattle.board_run.proofs.memory.board_in_memory.Goals as goal
 

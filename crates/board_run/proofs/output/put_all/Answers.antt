@@ -1,8 +1,9 @@
 use Rattle.std.proofs.Common.{rules, refl, sym, ◌∙◌, subst}
 use Rattle.board_run.specs.Output.{Sent}
-use Rattle.board_run.specs.Calls.{AllTook}
+use Rattle.board_run.specs.Puts.{AllTook}
 use Rattle.board_run.proofs.SentLemmas.{nothing_sent, then_piece_sent, then_piece_refused}
-use Rattle.board_run.proofs.CallLemmas.{none_made, piece_put, piece_not_put, puts_failed}
+use Rattle.command_files.proofs.CallLemmas.{none_made}
+use Rattle.board_run.proofs.PutLemmas.{piece_put, piece_not_put, puts_failed}
 use Rattle.board_run.proofs.output.put_all.Goals as goal
 
 pub loop-piece-init : goal.loop-piece-init

@@ -1,7 +1,8 @@
 use Rattle.std.proofs.Common.{◌≡◌, drop}
 use Rattle.log_pieces.specs.Text.{joined}
 use Rattle.board_run.specs.Output.{Sent}
-use Rattle.board_run.specs.Calls.{OfCalls, AllTook}
+use Rattle.command_files.specs.Calls.{OfCalls}
+use Rattle.board_run.specs.Puts.{AllTook}
 use Rattle.board_run.proofs.output.put_all.Given as goal
 
 -- the pieces so far were sent

@@ -1,6 +1,6 @@
 use Rattle.std.proofs.Common.{rules}
 use Rattle.board_run.proofs.SentLemmas.{then_sent}
-use Rattle.board_run.proofs.CallLemmas.{took_more, then_refused, puts_failed}
+use Rattle.board_run.proofs.PutLemmas.{took_more, then_refused, puts_failed}
 use Rattle.board_run.proofs.output.put_piece.Goals as goal
 
 pub loop-rest-preserved : goal.loop-rest-preserved

@@ -1,0 +1,89 @@
+-- What a command answers, from the files that it read and the text that came of them.
+use Rattle.std.proofs.Common.{◌≡◌, ◌≢◌, ℕ, [], ◌∷◌, List, Option, Some, None, refl, sym, subst}
+use Rattle.std.specs.Prelude.{Result, Ok, Err}
+use Rattle.command_words.specs.Words.{Command, Replay, Run, Map, Check, Make, Dma, Save, Resume, Serial, Blame}
+use Rattle.command_files.specs.declared.status.Which.{Which}
+use Rattle.command_files.specs.declared.status.Which.TheVariants.{Script, Rom, Disk, Log}
+use Rattle.command_files.specs.declared.status.Status.{Status}
+use Rattle.command_files.specs.declared.status.Status.TheVariants.{Done, Usage, ReadFault, WriteFault, TooLong, BadScript, BadImage, Differs, OtherBoard, NoMemory}
+use Rattle.command_files.specs.Known.{Files, Known, AllRead}
+use Rattle.command_files.specs.Asked.{CanBeDone, OfCheck, OfResume, LogDiffers, BoardsDiffer, AsksFor}
+use Rattle.command_files.specs.Outcomes.{ShelfCall, OfFiles, CanEnd, CompareBoards, IsRefused}
+use Rattle.command_files.proofs.Refusals.{of_files, at_files}
+use Rattle.board_run.specs.Texts.{IsTextFor, IsCommandText}
+use Rattle.board_run.specs.Statuses.{StopsAt, IsAnswered}
+
+pub refused_answer :
+    (command : Command) (shelf : ShelfCall) (result : Result (List ℕ) Status) (status : Status) → result ≡ Err status →
+    IsRefused command shelf status → (((which : Which) → status ≢ ReadFault which) → shelf.faults_now ≡ shelf.faults_before) →
+    IsAnswered command shelf result
+refused_answer command shelf result status is refused quiet =
+    subst (IsAnswered command shelf) (sym is)
+    (record { text = tt; refused = refused; quiet = tt; no_fault_hidden = quiet })
+
+pub text_answer :
+    (command : Command) (shelf : ShelfCall) (text : List ℕ) →
+    OfFiles shelf.files (λ files. IsCommandText command files text) → shelf.faults_now ≡ shelf.faults_before →
+    IsAnswered command shelf (Ok text)
+text_answer command shelf text says quiet = record { text = says; refused = tt; quiet = quiet; no_fault_hidden = tt }
+
+-- ---- after the files were read
+
+-- a command that can differ reads a log
+log_is_read : (command : Command) (P : Type 0) → OfCheck command P → CanEnd command (Differs 0)
+log_is_read (Replay script) P is = absurd is
+log_is_read (Run script) P is = absurd is
+log_is_read (Map script) P is = absurd is
+log_is_read (Check script log) P is = (Script ∷ Rom ∷ Disk ∷ [], [], refl)
+log_is_read (Make rounds) P is = absurd is
+log_is_read (Dma script transfer) P is = absurd is
+log_is_read (Save script) P is = absurd is
+log_is_read (Resume image script) P is = absurd is
+log_is_read (Serial script input) P is = absurd is
+log_is_read (Blame script) P is = absurd is
+
+boards_compared : (command : Command) (P : Type 0) → OfResume command P → CompareBoards command
+boards_compared (Replay script) P is = absurd is
+boards_compared (Run script) P is = absurd is
+boards_compared (Map script) P is = absurd is
+boards_compared (Check script log) P is = absurd is
+boards_compared (Make rounds) P is = absurd is
+boards_compared (Dma script transfer) P is = absurd is
+boards_compared (Save script) P is = absurd is
+boards_compared (Resume image script) P is = tt
+boards_compared (Serial script input) P is = absurd is
+boards_compared (Blame script) P is = absurd is
+
+module _ (command : Command) (shelf : ShelfCall) (known : Known) (read : OfFiles shelf.files (λ files. AllRead command files known)) where
+  asked_at_end :
+      (status : Status) (P : Files → Type 0) → ((files : Files) → AllRead command files known → P files) →
+      OfFiles shelf.files P
+  asked_at_end status P each =
+      of_files shelf.files P (λ files is. each files (at_files shelf.files files (λ files'. AllRead command files' known) is read))
+
+  -- the text stopped
+  pub stopped : (status : Status) → StopsAt command known status → IsRefused command shelf status
+  stopped Done is = absurd is
+  stopped Usage is = absurd is
+  stopped (ReadFault which) is = absurd is
+  stopped WriteFault is = absurd is
+  stopped (TooLong which) is = absurd is
+  stopped (BadScript line why) is = absurd is
+  stopped (BadImage which) is = absurd is
+  stopped (Differs line) is = (
+    log_is_read command (LogDiffers known line) is,
+    asked_at_end (Differs line) (λ files. AsksFor command files (Differs line)) (λ files all. (known, all, is)),
+  )
+  stopped OtherBoard is = (
+    boards_compared command (BoardsDiffer known) is,
+    asked_at_end OtherBoard (λ files. AsksFor command files OtherBoard) (λ files all. (known, all, is)),
+  )
+  stopped NoMemory is = tt
+
+  -- there is a text
+  pub text_there :
+      (text : List ℕ) → IsTextFor command known text → CanBeDone command known →
+      OfFiles shelf.files (λ files. IsCommandText command files text)
+  text_there text says done =
+      asked_at_end Done (λ files. IsCommandText command files text)
+      (λ files all. record { known = known; read = all; done = done; says = says })
