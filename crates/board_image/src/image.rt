@@ -1,6 +1,6 @@
 //! An image as a value, and its bytes.
 
-ghost use Rattle.std.specs.Prelude.{◌≡◌, flat_map};
+ghost use Rattle.std.specs.Prelude.{◌≡◌, ◌++◌, flat_map};
 
 use board_core::Setup;
 use board_spec::Statement;
@@ -46,5 +46,18 @@ impl ImageBytes {
         ensures bytes { flat_map (λ piece. piece.now) result ≡ self.now }
     {
         [&self.front, &self.rom, &self.disk, &self.steps]
+    }
+
+    /// The pieces, in their order, to keep.
+    pub fn into_pieces(self) -> (Vec<u8>, Vec<u8>, Vec<u8>, Vec<u8>)
+        ensures bytes { result.0.items ++ (result.1.items ++ (result.2.items ++ result.3.items)) ≡ self }
+    {
+        let ImageBytes {
+            front,
+            rom,
+            disk,
+            steps,
+        } = self;
+        (front, rom, disk, steps)
     }
 }

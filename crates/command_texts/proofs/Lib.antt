@@ -2,3 +2,11 @@ pub mod Statements
 pub mod MapLemmas
 pub mod MadeScripts
 pub mod Opened
+pub mod Done
+pub mod PhaseSteps
+pub mod MapWrites
+pub mod BlameLemmas
+pub mod EntryLaw
+pub mod Cards
+pub mod TextLines
+pub mod Results

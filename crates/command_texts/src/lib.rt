@@ -1,10 +1,16 @@
 //! The texts of the commands: what each gives for the board and the script that it was handed.
 #![tactic(auto)]
 
+mod blame;
 mod board;
+mod images;
+pub mod laws;
 mod made;
 mod replay;
+mod writes;
 
+pub use blame::blame_after_replay;
 pub use board::open_board;
+pub use images::{image_of_replay, is_same_board, log_of_resumed};
 pub use made::summary_of_made;
 pub use replay::{check_log, log_of_replay, map_after_replay, replay_script, verdict_on_log};

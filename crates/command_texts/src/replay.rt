@@ -2,15 +2,18 @@
 
 ghost use Rattle.std.specs.Prelude.{◌≡◌, ◌∷◌, ◌++◌, ◌≤◌, ◌⊎◌, ℕ, [], Ok, Err, length, map, flat_map, string_bytes, codes, decimal, IfOk, IfErr, OnOk, OnErr};
 ghost use Rattle.board_spec.specs.Legal.{IsLegal};
+ghost use Rattle.board_spec.specs.Limits.{most_statements};
+ghost use Rattle.board_spec.specs.LogText.{log_text};
 ghost use Rattle.board_spec.specs.Orders.{IsReplayOf, IsBegunFor};
 ghost use Rattle.board_spec.specs.Text.{line_feed};
 ghost use Rattle.board_spec.specs.MapText.{map_text};
 ghost use Rattle.map_builder.specs.Map.{range_of};
-ghost use Rattle.script_spec.specs.ScriptRange.{statements_in};
+ghost use Rattle.script_spec.specs.ScriptRange.{IsInRangeScript, statements_in};
 ghost use Rattle.script_spec.specs.Checks.{IsLogOf, DiffersAt};
 ghost use Rattle.script_text.specs.Script.{said_of};
 ghost use Rattle.log_check.specs.declared.fault.CheckFault.{CheckFault};
 ghost use Rattle.log_check.specs.Checked.{IsCheckedLog, StandsAfter};
+ghost use Rattle.command_texts.specs.Done.{HasDone};
 ghost use Rattle.command_texts.specs.Fresh.{IsFreshFor};
 ghost use Rattle.command_texts.specs.Replays.{IsReplayText, IsMapText, IsLegalText};
 
@@ -24,12 +27,13 @@ use map_builder::Range;
 use script_text::Script;
 use std::alloc::Global;
 
-/// Does the statements of a script in the order of its file, on a fresh board with its cards. One thread does it, and
+/// Does the statements of a script in the order of its file, after what the board did before. One thread does it, and
 /// nobody is waited for. Where there is no memory the board is as before.
-pub fn replay_script(board: &mut Board, script: &Script) -> Result<(), NoMemory>
-    requires fresh { IsFreshFor (said_of script.now) board.old }
-    ensures replay { OnOk result (IsReplayOf board.old.setup (statements_in (said_of script.now)) board.new.entries) }
-    ensures setup { board.new.setup ≡ board.old.setup }
+pub(crate) fn do_statements(board: &mut Board, script: &Script) -> Result<(), NoMemory>
+    requires in_range { IsInRangeScript (said_of script.now) }
+    requires cards { board.old.setup.cards ≡ (said_of script.now).cards }
+    requires before { length board.old.entries ≤ most_statements }
+    ensures done { OnOk result (HasDone board.old (statements_in (said_of script.now)) board.new) }
     ensures err { OnErr result (board.new ≡ board.old) }
 {
     board.reserve(statement_count(&script.phases))?;
@@ -37,6 +41,17 @@ pub fn replay_script(board: &mut Board, script: &Script) -> Result<(), NoMemory>
         board.steps(phase);
     }
     Ok(())
+}
+
+/// Does the statements of a script in the order of its file, on a fresh board with its cards. Where there is no memory
+/// the board is as before.
+pub fn replay_script(board: &mut Board, script: &Script) -> Result<(), NoMemory>
+    requires fresh { IsFreshFor (said_of script.now) board.old }
+    ensures replay { OnOk result (IsReplayOf board.old.setup (statements_in (said_of script.now)) board.new.entries) }
+    ensures setup { board.new.setup ≡ board.old.setup }
+    ensures err { OnErr result (board.new ≡ board.old) }
+{
+    do_statements(board, script)
 }
 
 /// Checks whether bytes are the log of a legal and complete history of a script, on a fresh board with its setup. It
@@ -63,22 +78,25 @@ pub fn check_log(
     log_check::check_log(alloc, board, script.version, &script.phases, bytes)
 }
 
+/// The log, of a version, of what a board did.
+pub(crate) fn log_of_board(alloc: Global, version: u8, board: &Board) -> Result<Text, NoMemory>
+    ensures text { IfOk result (λ text. text ≡ log_text version board.now.entries) }
+{
+    let mut text = String::new(alloc);
+    push_log(&mut text, version, board.history().entries())?;
+    Text::whole(alloc, text)
+}
+
 /// The log of a script's replay on its board. The memory of the script is given back before the log takes its own.
-pub fn log_of_replay(
-    alloc: Global,
-    board: &mut Board,
-    script: Script,
-) -> Result<Text, NoMemory>
+pub fn log_of_replay(alloc: Global, board: &mut Board, script: Script) -> Result<Text, NoMemory>
     requires fresh { IsFreshFor (said_of script) board.old }
     ensures text { IfOk result (λ text. IsReplayText board.old.setup (said_of script) text) }
 {
     replay_script(board, &script)?;
     let version = script.version;
     drop(script);
-    let mut text = String::new(alloc);
-    push_log(&mut text, version, board.history().entries())?;
     law_lock();
-    Text::whole(alloc, text)
+    log_of_board(alloc, version, board)
 }
 
 /// Appends the lines of the ranges of a map.
@@ -93,11 +111,7 @@ fn push_map(text: &mut String, ranges: &[Range]) -> Result<(), NoMemory>
 }
 
 /// The address map after a script's replay on its board.
-pub fn map_after_replay(
-    alloc: Global,
-    board: &mut Board,
-    script: &Script,
-) -> Result<Text, NoMemory>
+pub fn map_after_replay(alloc: Global, board: &mut Board, script: &Script) -> Result<Text, NoMemory>
     requires fresh { IsFreshFor (said_of script.now) board.old }
     ensures text { IfOk result (λ text. IsMapText board.old.setup (said_of script.now) text) }
 {

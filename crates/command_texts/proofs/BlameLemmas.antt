@@ -1,0 +1,65 @@
+-- The numbers of a report are those of changes.
+use Rattle.std.proofs.Common.{◌≡◌, ℕ, ◌-◌, ◌≤◌, true, List, length, get_or, sym, subst, arith, refl}
+use Rattle.std.specs.Prelude.{All, ◌==◌, ◌++◌, flat_map, Result, Ok, Err, IfOk}
+use Rattle.std.proofs.lemmas.Bool.{eq-eqb}
+use Rattle.std.proofs.lemmas.List.{length-map}
+use Rattle.std.proofs.Math.ListN.{get_or-map}
+use Rattle.std.proofs.lemmas.List.Folds.{list_any_at}
+use Rattle.board_spec.specs.declared.map_change.MapChange.{MapChange}
+use Rattle.board_spec.specs.Setup.{Setup}
+use Rattle.board_spec.specs.declared.event.Entry.{Entry}
+use Rattle.board_spec.specs.Orders.{IsReplayOf}
+use Rattle.board_spec.specs.MapWrites.{map_writes_of, registers_after}
+use Rattle.board_spec.specs.FlatMap.{MapRange, IsRight}
+use Rattle.map_blame.specs.declared.blamed.Blamed.{Blamed}
+use Rattle.map_blame.specs.Since.{IsSince}
+use Rattle.map_blame.specs.Keep.{is_among, IsKeep}
+use Rattle.map_blame.specs.Report.{map_range_of, AreBlamed, IsBlame}
+use Rattle.script_spec.specs.ScriptText.{Script as Said}
+use Rattle.script_spec.specs.ScriptRange.{statements_in}
+use Rattle.command_texts.specs.Blame.{blamed_text, keep_text, IsBlameText}
+use Rattle.map_blame.proofs.KeptLemmas.{kept_number}
+
+since_most :
+    (setup : Setup) (changes : List MapChange) (range : MapRange) (since : ℕ) → IsRight setup (registers_after setup changes) range →
+    IsSince setup changes range since → since ≤ length changes
+since_most setup changes range since right is =
+    is.least (length changes)
+    (λ count low high. let all : length changes - count ≡ 0 = omega (arith, low, high) in rw all right)
+
+pub all_since :
+    (setup : Setup) (changes : List MapChange) (ranges : List Blamed) (count : ℕ) → length changes ≡ count →
+    AreBlamed setup changes ranges → All (λ blamed. blamed.since ≤ count) ranges
+all_since setup changes ranges count all are = λ k d below.
+    let right : IsRight setup (registers_after setup changes) (map_range_of (get_or ranges k d)) =
+    subst (IsRight setup (registers_after setup changes)) (get_or-map map_range_of ranges k d)
+    (are.map.right k (map_range_of d) (omega (arith, below, length-map ranges map_range_of))) in
+    let most = since_most setup changes (map_range_of (get_or ranges k d)) (get_or ranges k d).since right (are.since k d below) in
+    omega (arith, most, all)
+
+pub all_kept :
+    (setup : Setup) (changes : List MapChange) (keep : List ℕ) (count : ℕ) → length changes ≡ count →
+    IsKeep setup changes keep → All (λ version. version ≤ count) keep
+all_kept setup changes keep count all is = λ k d below.
+    let number : ℕ = get_or keep k d in
+    let among : is_among number keep ≡ true =
+    list_any_at (λ other. other == number) keep k d below (eq-eqb number number refl) in
+    let most = (kept_number setup changes number (is.only number among)).most in
+    omega (arith, most, all)
+
+pub blame_text :
+    {E : Type 0} (result : Result (List ℕ) E) (old new : Setup) (script : Said) (history : List Entry) (changes : List MapChange)
+    (ranges : List Blamed) (keep : List ℕ) → new ≡ old → changes ≡ map_writes_of new history →
+    IsReplayOf old (statements_in script) history → IsBlame new changes ranges keep →
+    IfOk result (λ text. text ≡ flat_map (blamed_text new history) ranges ++ flat_map (keep_text new history) keep) →
+    IfOk result (λ text. IsBlameText old script text)
+blame_text (Ok text) old new script history changes ranges keep same writes replay is lines =
+    subst (λ (setup : Setup). IsBlameText setup script text) same (record {
+      history = history;
+      ranges = ranges;
+      keep = keep;
+      replay = subst (λ (setup : Setup). IsReplayOf setup (statements_in script) history) (sym same) replay;
+      blame = subst (λ (changes : List MapChange). IsBlame new changes ranges keep) writes is;
+      lines = lines;
+    })
+blame_text (Err fault) old new script history changes ranges keep same writes replay is lines = tt

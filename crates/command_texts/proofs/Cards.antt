@@ -1,0 +1,56 @@
+-- What `==` says of the bases of cards.
+use Rattle.std.proofs.Common.{◌≡◌, inl, inr, ℕ, Bool, true, false, List, [], ◌∷◌, Decides, refl, sym, ap, ◌∙◌, subst}
+use Rattle.std.specs.Prelude.{map, not, nat_eq, Option, Some, None}
+use Rattle.std.specs.Option.{option_eq}
+use Rattle.std.specs.Cmp.Lexicographic.{pointwise}
+use Rattle.std.proofs.lemmas.Bool.{cases_Bool, false≢true, eqb-true, eq-eqb}
+use Rattle.std.proofs.lemmas.Bool.Decides.{Decides-like}
+use Rattle.std.proofs.lemmas.Slice.Eq.{slice_eq-Decides}
+use Rattle.board_spec.specs.Setup.{Base, MemoryBase, IoBase, FittedCard}
+use Rattle.pci_bars.specs.declared.spec.BaseSpec.{BaseSpec}
+use Rattle.pci_bars.specs.declared.spec.BaseSpec.TheVariants.{Memory, Io}
+use Rattle.pci_bars.specs.contracts.spec.BaseSpecPartialEq.TheImpl.{eq-value}
+use Rattle.pci_bars.specs.Bases.{base_of}
+
+base_true : (a b : BaseSpec) → eq-value.it a b ≡ true → a ≡ b
+base_true (Memory bits) (Memory other) same = ap Memory (eqb-true bits other same)
+base_true (Io bits) (Io other) same = ap Io (eqb-true bits other same)
+base_true _ _ same = absurd (false≢true same)
+
+base_same : (a : BaseSpec) → eq-value.it a a ≡ true
+base_same (Memory bits) = eq-eqb bits bits refl
+base_same (Io bits) = eq-eqb bits bits refl
+
+base_eq : (a b : BaseSpec) → Decides (eq-value.it a b) (a ≡ b)
+base_eq a b = (base_true a b, λ same. subst (λ (other : BaseSpec). eq-value.it a other ≡ true) same (base_same a))
+
+-- each base is of one `BaseSpec`
+spec_of : Base → BaseSpec
+spec_of (MemoryBase bits) = Memory bits
+spec_of (IoBase bits) = Io bits
+
+back : (bases : List BaseSpec) → map spec_of (map base_of bases) ≡ bases
+unfolding spec_of
+back [] = refl
+back (Memory bits ∷ later) = ap (λ (bases : List BaseSpec). Memory bits ∷ bases) (back later)
+back (Io bits ∷ later) = ap (λ (bases : List BaseSpec). Io bits ∷ bases) (back later)
+
+pub bases_eq : (r : Bool) (xs ys : List BaseSpec) → r ≡ pointwise eq-value.it xs ys → Decides r (map base_of xs ≡ map base_of ys)
+bases_eq r xs ys is =
+    Decides-like r (λ (same : xs ≡ ys). ap (map base_of) same)
+    (λ (same : map base_of xs ≡ map base_of ys). sym (back xs) ∙ ap (map spec_of) same ∙ back ys)
+    (slice_eq-Decides base_eq xs ys r is)
+
+pub card_same :
+    (one other : FittedCard) → one.dev ≡ other.dev → one.vga ≡ other.vga → one.rom ≡ other.rom → one.bases ≡ other.bases →
+    one ≡ other
+card_same one other dev vga rom bases = λ k. record { dev = dev k; vga = vga k; bases = bases k; rom = rom k }
+
+pub rom_same : (one other : Option ℕ) → false ≡ not (option_eq nat_eq one other) → one ≡ other
+rom_same None None same = refl
+rom_same None (Some bits) same = absurd (false≢true same)
+rom_same (Some bits) None same = absurd (false≢true same)
+rom_same (Some bits) (Some bits') same = elim (cases_Bool (nat_eq bits bits')) [
+  | inl is ↦ ap Some (eqb-true bits bits' is)
+  | inr differs ↦ absurd (false≢true (same ∙ ap not differs))
+]

@@ -1,0 +1,114 @@
+-- The entry of a version is the first after which the map had it.
+use Rattle.std.proofs.Common.{◌≡◌, ℕ, zero, suc, ◌+◌, ◌-◌, ◌≤◌, inl, inr, List, [], ◌∷◌, length, drop, refl, sym, ap, ◌∙◌, subst, arith}
+use Rattle.std.specs.Prelude.{Option, Some, None}
+use Rattle.std.specs.Option.{option_to_list}
+use Rattle.std.proofs.lemmas.Bool.{cases_lt}
+use Rattle.std.proofs.lemmas.List.{length-append}
+use Rattle.board_spec.specs.declared.event.Entry.{Entry}
+use Rattle.board_spec.specs.declared.map_change.MapChange.{MapChange}
+use Rattle.board_spec.specs.Setup.{Setup}
+use Rattle.board_spec.specs.MapWrites.{map_change_of, map_writes_of, version_of}
+use Rattle.command_texts.specs.Blame.{entry_of_version}
+use Rattle.command_texts.specs.Laws.{first_entries, IsFirstWith, EntryOfVersionIsFirst}
+use Rattle.command_texts.proofs.MapWrites.{entry_before, entry_now}
+
+-- ---- versions rise by at most one with each entry
+
+listed_few : (change : Option MapChange) → length (option_to_list change) ≤ 1
+listed_few None = omega arith
+listed_few (Some change) = omega arith
+
+version_next :
+    (setup : Setup) (entry : Entry) (before : List Entry) →
+    version_of setup (entry ∷ before)
+    ≡ length (option_to_list (map_change_of setup before entry.event)) + version_of setup before
+unfolding map_writes_of
+version_next setup entry before =
+    length-append (option_to_list (map_change_of setup before entry.event)) (map_writes_of setup before)
+
+rises_by_one :
+    (setup : Setup) (entry : Entry) (before : List Entry) →
+    (version_of setup before ≤ version_of setup (entry ∷ before))
+    × (version_of setup (entry ∷ before) ≤ version_of setup before + 1)
+rises_by_one setup entry before =
+    let next = version_next setup entry before in
+    let few = listed_few (map_change_of setup before entry.event) in
+    (omega (arith, next), omega (arith, next, few))
+
+pub version_few : (setup : Setup) (history : List Entry) → version_of setup history ≤ length history
+unfolding map_writes_of
+version_few setup [] = omega arith
+version_few setup (entry ∷ before) =
+    let rise = (rises_by_one setup entry before).1 in
+    let few = version_few setup before in
+    omega (arith, rise, few)
+
+earlier_is_lower : (setup : Setup) (history : List Entry) (k : ℕ) → version_of setup (drop k history) ≤ version_of setup history
+earlier_is_lower setup history zero = omega arith
+earlier_is_lower setup [] (suc k) = omega arith
+earlier_is_lower setup (entry ∷ before) (suc k) =
+    let lower = earlier_is_lower setup before k in
+    let rise = (rises_by_one setup entry before).0 in
+    omega (arith, lower, rise)
+
+-- ---- the first entries
+
+all_entries : (history : List Entry) (count : ℕ) → length history ≤ count → first_entries count history ≡ history
+all_entries history count all = let none : length history - count ≡ 0 = omega (arith, all) in rw none refl
+
+fewer_entries : (entry : Entry) (before : List Entry) (count : ℕ) → count ≤ length before →
+    first_entries count (entry ∷ before) ≡ first_entries count before
+fewer_entries entry before count few =
+    let next : length (entry ∷ before) - count ≡ suc (length before - count) = omega (arith, few) in rw next refl
+
+entry_within :
+    (setup : Setup) (history : List Entry) (version : ℕ) → entry_of_version setup history version ≤ length history
+unfolding entry_of_version
+entry_within setup [] version = omega arith
+entry_within setup (entry ∷ before) version = elim (cases_lt (version_of setup before) version) [
+  | inl above ↦
+      let now = entry_now setup entry before version above in
+      subst (λ (n : ℕ). n ≤ length (entry ∷ before)) (sym now) (omega arith)
+  | inr below ↦
+      let same = entry_before setup entry before version below in
+      let within = entry_within setup before version in
+      subst (λ (n : ℕ). n ≤ length (entry ∷ before)) (sym same) (omega (arith, within))
+]
+
+-- ---- the law
+
+pub entry_is_first : EntryOfVersionIsFirst
+unfolding map_writes_of entry_of_version
+entry_is_first setup [] version most = record {
+  had = omega (arith, most);
+  least = λ other has. omega arith;
+}
+entry_is_first setup (entry ∷ before) version most = elim (cases_lt (version_of setup before) version) [
+  | inl above ↦
+      let rise = (rises_by_one setup entry before).1 in
+      let whole : version_of setup (entry ∷ before) ≡ version = omega (arith, most, above, rise) in
+      subst (IsFirstWith setup (entry ∷ before) version) (sym (entry_now setup entry before version above)) (record {
+        had = ap (version_of setup) (all_entries (entry ∷ before) (length before + 1) (omega arith)) ∙ whole;
+        least =
+            λ other has. elim (cases_lt (length before) other) [
+              | inl all ↦ omega (arith, all)
+              | inr few ↦
+                  let same = ap (version_of setup) (fewer_entries entry before other few) in
+                  let lower = earlier_is_lower setup before (length before - other) in
+                  absurd (omega (arith, above, has, same, lower))
+            ];
+      })
+  | inr below ↦
+      let earlier = entry_is_first setup before version below in
+      let within = entry_within setup before version in
+      let here : ℕ = entry_of_version setup before version in
+      subst (IsFirstWith setup (entry ∷ before) version) (sym (entry_before setup entry before version below)) (record {
+        had = ap (version_of setup) (fewer_entries entry before here within) ∙ earlier.had;
+        least =
+            λ other has. elim (cases_lt (length before) other) [
+              | inl all ↦ omega (arith, all, within)
+              | inr few ↦
+                  earlier.least other (ap (version_of setup) (sym (fewer_entries entry before other few)) ∙ has)
+            ];
+      })
+]

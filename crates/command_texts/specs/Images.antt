@@ -1,0 +1,37 @@
+-- What `save` and `resume` put: the image of a board, and the log of a board that goes on from its image.
+use Rattle.std.specs.Prelude.{ℕ, ◌≡◌, ◌++◌, List, is_some}
+use Rattle.board_spec.specs.declared.event.Entry.{Entry}
+use Rattle.board_spec.specs.Setup.{Setup}
+use Rattle.board_spec.specs.Orders.{IsReplayOf, statements_of}
+use Rattle.board_spec.specs.LockLaw.{LockLaw}
+use Rattle.board_spec.specs.LogText.{log_text}
+use Rattle.script_spec.specs.ScriptText.{Script as Said}
+use Rattle.script_spec.specs.ScriptRange.{statements_in}
+use Rattle.board_image.specs.ImageBytes.{Saved, image_bytes}
+
+-- the image of a board after the replay of a script: its setup, and the statements of its history, which are the
+-- script's in the order of the file. The replies follow from these
+pub record IsSaveText (setup : Setup) (script : Said) (text : List ℕ) : Type 0 where
+  pub history : List Entry
+  pub replay : IsReplayOf setup (statements_in script) history
+  pub image : text ≡ image_bytes setup (statements_of history)
+
+-- a script is for a board like this one: it has as much memory, the same cards, and a disk where this one has one.
+-- What the ROM and the disk hold may differ
+pub record IsSameBoard (setup : Setup) (script : Said) : Type 0 where
+  pub memory : setup.mib ≡ script.mib
+  pub cards : setup.cards ≡ script.cards
+  pub disk : is_some setup.disk ≡ is_some script.disk
+
+-- a log of this version can say every step of an image, whatever the version of the script
+abbrev pub resumed_version : ℕ
+resumed_version = 2
+
+-- the log of a board that was saved and goes on: of the one legal history, on the board of the image, whose statements
+-- are the steps of the image and then the script's in the order of the file. In it nothing outside SMM reaches SMRAM
+-- once it is locked
+pub record IsResumeText (saved : Saved) (script : Said) (text : List ℕ) : Type 0 where
+  pub history : List Entry
+  pub replay : IsReplayOf saved.setup (saved.steps ++ statements_in script) history
+  pub locked : LockLaw saved.setup history
+  pub log : text ≡ log_text resumed_version history
