@@ -2,3 +2,8 @@ pub mod Statements
 pub mod MapLemmas
 pub mod MadeScripts
 pub mod Opened
+pub mod Happenings
+pub mod SerialReplays
+pub mod Sums
+pub mod TransferTexts
+pub mod SerialTexts

@@ -1,3 +1,6 @@
 pub mod Fitted
 pub mod Fresh
 pub mod Replays
+pub mod Transfers
+pub mod Serial
+pub mod SerialSteps
