@@ -103,7 +103,7 @@ line_leaves before after old new goes_on = elim (cases_Bool (differ old new)) [
       ∙ ap (λ (more : List Entry). reset_control (more ++ before)) (no_more still.more still.same)
 ]
 
-port_is : (com1 com1' : Com1) (control control' : ℕ) → com1 ≡ com1' → control ≡ control' →
+pub port_is : (com1 com1' : Com1) (control control' : ℕ) → com1 ≡ com1' → control ≡ control' →
     ◌≡◌ {A = Sending} (record { com1 = com1; control = control }) (record { com1 = com1'; control = control' })
 port_is com1 com1' control control' same equal = rw (same, equal) refl
 

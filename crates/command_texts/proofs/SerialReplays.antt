@@ -1,5 +1,5 @@
 -- A replay on a board with a serial port, one statement after another.
-use Rattle.std.proofs.Common.{◌≡◌, ℕ, ◌+◌, ◌*◌, ◌<◌, ◌≤◌, List, [], ◌∷◌, ◌++◌, length, map, take, get_or, refl, sym, ap, subst, ◌∙◌, append-nil, append_assoc, length-append, arith}
+use Rattle.std.proofs.Common.{◌≡◌, ℕ, ◌+◌, ◌*◌, ◌<◌, ◌≤◌, List, [], ◌∷◌, ◌++◌, length, map, take, drop, get_or, All, refl, sym, ap, subst, ◌∙◌, append-nil, append_assoc, length-append, arith}
 use Rattle.std.specs.declared.vec.Vec.{Vec}
 use Rattle.std.specs.Global.{Global}
 use Rattle.std.proofs.Math.Nat.{le-add_right}
@@ -7,14 +7,15 @@ use Rattle.std.proofs.lemmas.List.{take_more, length-take-le}
 use Rattle.board_spec.specs.declared.event.Statement.{Statement}
 use Rattle.board_spec.specs.OrderLaws.{in_file_order}
 use Rattle.board_spec.specs.Orders.{statements_of}
+use Rattle.board_spec.specs.Setup.{Setup}
 use Rattle.board_core.specs.Kept.{Standing}
 use Rattle.uart_16550.specs.Serial.{Serial}
 use Rattle.uart_16550.specs.Sent.{Happening, Comes, Happens, Sending, sending_after, sent_by, bytes_sent}
 use Rattle.uart_16550.specs.SerialOrder.{after_all}
 use Rattle.script_spec.specs.Phases.{lists_of}
-use Rattle.log_check.proofs.PhaseLists.{phases_more, statements_cut, few_so_far}
+use Rattle.log_check.proofs.PhaseLists.{all_of_phase, few_so_far, phases_cut, phases_more, statements_cut}
 use Rattle.command_texts.specs.Serial.{bytes_before, left_after, happenings_of, happenings_in, steps_for_all, steps_in, sent_in}
-use Rattle.command_texts.specs.SerialSteps.{IsStanding, Happened, Place, WentOn, port_of}
+use Rattle.command_texts.specs.SerialSteps.{IsForPort, IsStanding, Happened, Place, WentOn, port_of}
 use Rattle.command_texts.proofs.Happenings.{sent-append, none_sent, happened_twice}
 
 -- the first statement and those after it
@@ -55,7 +56,7 @@ went_nowhere place standing = record {
   spare = le-add_right place.serial.board.spare 0;
 }
 
-pub went_on_once : (statement : Statement) (old middle new : Serial Standing) (input sent after : List ℕ) →
+went_on_once : (statement : Statement) (old middle new : Serial Standing) (input sent after : List ℕ) →
     Happened statement.actor old (map Comes (bytes_before old.com1.uart input)) middle →
     Happened statement.actor middle (Happens statement.event ∷ []) new →
     after ≡ sent ++ sent_by (port_of middle) (Happens statement.event) →
@@ -89,6 +90,20 @@ went_on_once statement old middle new input sent after received done added one t
           ∙ ap (λ (port : Sending). statements_of new.board.entries ++ steps_in port left later) (sym both.port);
       spare = omega (arith, one, two, alone);
     }
+
+pub went_on_step : (statement : Statement) (old middle new : Serial Standing) (input left sent after : List ℕ) →
+    left ≡ left_after old.com1.uart input →
+    Happened statement.actor old (map Comes (bytes_before old.com1.uart input)) middle →
+    Happened statement.actor middle (Happens statement.event ∷ []) new →
+    after ≡ sent ++ sent_by (port_of middle) (Happens statement.event) →
+    old.board.spare ≤ middle.board.spare + 1 → middle.board.spare ≤ new.board.spare + 2 →
+    WentOn (record { serial = old; input = input; sent = sent }) (statement ∷ [])
+    (record { serial = new; input = left; sent = after })
+went_on_step statement old middle new input left sent after gone received done added one two =
+    subst
+    (λ (rest : List ℕ). WentOn (record { serial = old; input = input; sent = sent }) (statement ∷ [])
+    (record { serial = new; input = rest; sent = after }))
+    (sym gone) (went_on_once statement old middle new input sent after received done added one two)
 
 pub went_on_twice : (old middle new : Place) (first second : List Statement) →
     WentOn old first middle → WentOn middle second new → WentOn old (first ++ second) new
@@ -145,3 +160,27 @@ pub room_for_phase : (phases : List (Vec Statement Global)) (i : ℕ) (phase : V
     WentOn old (in_file_order (lists_of (take i phases))) middle → 3 * length phase.items ≤ middle.serial.board.spare
 room_for_phase phases i phase old middle within is room so_far =
     omega (arith, so_far.spare, few_so_far phases i phase within is)
+
+-- ---- the statements are for a port
+
+pub for_port_as : (setup other : Setup) (statement : Statement) → setup ≡ other → IsForPort other statement →
+    IsForPort setup statement
+for_port_as setup other statement same is = subst (λ (s : Setup). IsForPort s statement) (sym same) is
+
+pub all_for_port_as : (setup other : Setup) (statements others : List Statement) → setup ≡ other → statements ≡ others →
+    All (IsForPort other) others → All (IsForPort setup) statements
+all_for_port_as setup other statements others same equal all =
+    subst (λ (s : Setup). All (IsForPort s) statements) (sym same)
+    (subst (λ (list : List Statement). All (IsForPort other) list) (sym equal) all)
+
+pub phase_for_port : (setup : Setup) (phases : List (Vec Statement Global)) (i : ℕ) (phase : Vec Statement Global) →
+    i < length phases → phase ≡ get_or phases i phase → All (IsForPort setup) (in_file_order (lists_of phases)) →
+    All (IsForPort setup) phase.items
+phase_for_port setup phases i phase within is all =
+    all_of_phase (IsForPort setup) (lists_of (take i phases)) phase.items (lists_of (drop (i + 1) phases))
+    (subst (λ (ps : List (List Statement)). All (IsForPort setup) (in_file_order ps)) (phases_cut phases i phase within is) all)
+
+-- the same under another name of the statements
+pub went_on_as : (old new : Place) (statements others : List Statement) → statements ≡ others → WentOn old statements new →
+    WentOn old others new
+went_on_as old new statements others same went = subst (λ (list : List Statement). WentOn old list new) same went

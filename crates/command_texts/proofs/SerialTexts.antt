@@ -1,6 +1,6 @@
 -- What a board with a serial port sent in a whole replay.
-use Rattle.std.proofs.Common.{◌≡◌, ℕ, ◌+◌, ◌<◌, ◌≤◌, Bool, true, false, List, [], ◌∷◌, ◌++◌, length, map, take, drop, inl, inr, refl, sym, ap, subst, ◌∙◌, append-nil, arith}
-use Rattle.std.specs.Prelude.{Option, Some, None, if◌then◌else◌}
+use Rattle.std.proofs.Common.{◌≡◌, ℕ, ◌+◌, ◌<◌, ◌≤◌, Bool, true, false, List, [], ◌∷◌, ◌++◌, length, All, refl, sym, ap, subst, ◌∙◌, append-nil, arith}
+use Rattle.std.specs.Prelude.{slice_index, if◌then◌else◌}
 use Rattle.std.specs.Option.{option_to_list}
 use Rattle.std.proofs.lemmas.Bool.{cases_Bool}
 use Rattle.board_base.specs.declared.access.PortAccess.{PortAccess}
@@ -16,7 +16,7 @@ use Rattle.board_spec.specs.Laws.{LegalKeepsLock}
 use Rattle.board_spec.specs.Orders.{statements_of, IsReplayOf}
 use Rattle.board_core.specs.Kept.{Standing}
 use Rattle.script_spec.specs.ScriptText.{Script as Said}
-use Rattle.script_spec.specs.ScriptRange.{statements_in}
+use Rattle.script_spec.specs.ScriptRange.{IsInRangeScript, statements_in}
 use Rattle.uart_16550.specs.declared.com1.Com1.{Com1}
 use Rattle.uart_16550.specs.declared.com1.SerialReply.{SerialReply}
 use Rattle.uart_16550.specs.declared.com1.SerialReply.TheVariants.{Board}
@@ -26,46 +26,15 @@ use Rattle.uart_16550.specs.Serial.{Serial}
 use Rattle.uart_16550.specs.Sent.{Happens, Sending, sending_at_reset, sent_by, sent_by_access}
 use Rattle.uart_16550.proofs.SerialSteps.{answered_is_legal}
 use Rattle.command_texts.specs.Serial.{bytes_before, left_after, happenings_in, steps_in, sent_in, IsSerialText}
-use Rattle.command_texts.specs.SerialSteps.{byte_in, IsStanding, Place, WentOn, port_of}
+use Rattle.command_texts.specs.SerialSteps.{IsForPort, Place, WentOn, port_of}
 use Rattle.command_texts.proofs.Happenings.{port_is}
 
 -- ---- the byte that comes
 
-pub no_room : (uart : Uart) (input : List ℕ) → has_room uart ≡ false → bytes_before uart input ≡ []
-no_room uart input full = rw full refl
-
-pub none_left : (uart : Uart) (input : List ℕ) → has_room uart ≡ true → input ≡ [] → bytes_before uart input ≡ []
-none_left uart input room none = rw (room, none) refl
-
-pub one_comes : (uart : Uart) (byte : ℕ) (input left : List ℕ) → has_room uart ≡ true → input ≡ byte ∷ left →
-    bytes_before uart input ≡ byte ∷ []
-one_comes uart byte input left room is = rw (room, is) refl
-
-pub none_gone : (uart : Uart) (input : List ℕ) → bytes_before uart input ≡ [] → input ≡ left_after uart input
-none_gone uart input before = ap (λ (bytes : List ℕ). drop (length bytes) input) (sym before)
-
-pub one_gone : (uart : Uart) (byte : ℕ) (input left : List ℕ) → bytes_before uart input ≡ byte ∷ [] → input ≡ byte ∷ left →
-    left ≡ left_after uart input
-one_gone uart byte input left before is =
-    ap (drop 1) (sym is) ∙ ap (λ (bytes : List ℕ). drop (length bytes) input) (sym before)
-
--- ---- the byte that is sent
-
-by_access : (access : PortAccess) (uart : Uart) →
-    option_to_list (byte_in (uart_reply access uart)) ≡ sent_by_access (Some access) uart
-by_access access uart = elim (cases_Bool access.write) [ inl write ↦ rw write refl | inr read ↦ rw read refl ]
-
-pub sent_told : (event : Event) (uart : Uart) (reply : SerialReply) →
-    ((access : PortAccess) → uart_access event ≡ Some access → reply ≡ uart_reply access uart) →
-    (uart_access event ≡ None → (heard : Reply) × (reply ≡ Board heard)) →
-    option_to_list (byte_in reply) ≡ sent_by_access (uart_access event) uart
-sent_told event uart reply for_uart for_board = by_kind (uart_access event) refl
-  where
-    by_kind : (access : Option PortAccess) → uart_access event ≡ access →
-        option_to_list (byte_in reply) ≡ sent_by_access access uart
-    by_kind None is = ap (λ (r : SerialReply). option_to_list (byte_in r)) ((for_board is).1)
-    by_kind (Some access) is =
-        ap (λ (r : SerialReply). option_to_list (byte_in r)) (for_uart access is) ∙ by_access access uart
+pub one_comes : (uart : Uart) (input : List ℕ) → has_room uart ≡ true → 1 ≤ length input →
+    bytes_before uart input ≡ slice_index input 0 ∷ []
+one_comes uart [] room some = absurd (omega (arith, some))
+one_comes uart (byte ∷ input) room some = rw room refl
 
 -- ---- the whole
 
@@ -115,3 +84,10 @@ serial_told locks setup script fresh last input left sent text fitted none new w
           ∙ ap (sent_in (port_of fresh) input) all
           ∙ ap (λ (port : Sending). sent_in port input (statements_in script)) begin;
     }
+
+-- the statements of a script are for its port
+pub script_for_port : (setup : Setup) (script : Said) → IsInRangeScript script → setup.cards ≡ script.cards →
+    All (IsForPort setup) (statements_in script)
+script_for_port setup script range same i d within =
+    let said = range.each setup same i d within in
+    record { actor = omega (arith, said.actor, range.most_cpus); event = said.event }

@@ -14,7 +14,7 @@ use Rattle.dram_store.proofs.DramLemmas.{read_stored}
 use Rattle.pci_bars.specs.Contents.{IsContentsOf}
 use Rattle.board_chipset.specs.declared.store.Store.{Store}
 use Rattle.bus_master.specs.declared.done.Done.{Done}
-use Rattle.bus_master.specs.Registers.{Master}
+use Rattle.bus_master.specs.Registers.{Master, register_of}
 use Rattle.bus_master.specs.Transfer.{Moving, transferred, done_of, master_after, medium_of, with_medium}
 use Rattle.bus_master.specs.Stores.{cells_of, transfer_of, IsCell}
 use Rattle.command_texts.specs.declared.transfers.Transfer.{Transfer}
@@ -73,5 +73,9 @@ transfer_told setup history transfer old new master after done status dram disk 
     }
 
 pub ok_then : {T E : Type 0} {P Q : T → Type 0} (result : Result T E) → IfOk result P → ((x : T) → P x → Q x) → IfOk result Q
-ok_then (Ok x) is then = then x is
-ok_then (Err fault) is then = tt
+ok_then (Ok x) is more = more x is
+ok_then (Err fault) is more = tt
+
+pub status_read : (master : Master) → register_of master 2 ≡ master.status
+unfolding register_of
+status_read master = refl

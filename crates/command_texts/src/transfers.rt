@@ -29,6 +29,7 @@ pub struct Transfer {
 }
 
 /// A new bus master that a program has told to start: it wrote the table pointer and then the command.
+#[tactic(auto, unfolding(bus_master::specs::Registers::master_written))]
 fn start(transfer: &Transfer) -> BusMaster
     requires asked { IsTransfer transfer.now }
     ensures started { result ≡ started transfer.now }

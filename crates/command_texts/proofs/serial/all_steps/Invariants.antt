@@ -7,6 +7,6 @@ use Rattle.command_texts.proofs.serial.all_steps.Given as goal
 
 abbrev pub invariant-loop-phase : goal.invariant-loop-phase
 invariant-loop-phase l =
-    WentOn (record { serial = l.fn.serial; input = l.fn.input.now; sent = l.fn.sent.items })
+    WentOn (record { serial = l.fn.serial; input = l.fn.input; sent = l.fn.sent.items })
     (in_file_order (lists_of (take l.phase-index l.phases)))
-    (record { serial = l.serial; input = l.left.now; sent = l.sent.items })
+    (record { serial = l.serial; input = l.left; sent = l.sent.items })

@@ -5,6 +5,6 @@ use Rattle.command_texts.proofs.serial.steps.Given as goal
 
 abbrev pub invariant-loop-statement : goal.invariant-loop-statement
 invariant-loop-statement l =
-    WentOn (record { serial = l.fn.serial; input = l.fn.input.now; sent = l.fn.sent.items })
+    WentOn (record { serial = l.fn.serial; input = l.fn.input; sent = l.fn.sent.items })
     (take l.statement-index l.statements)
-    (record { serial = l.serial; input = l.left.now; sent = l.sent.items })
+    (record { serial = l.serial; input = l.left; sent = l.sent.items })
