@@ -31,7 +31,7 @@ fn byte_of(value: u64, index: u32) -> u8
 }
 
 /// Appends the two digits of a byte.
-pub(crate) fn push_hex_byte(text: &mut String, byte: u8) -> Result<(), NoMemory>
+pub fn push_hex_byte(text: &mut String, byte: u8) -> Result<(), NoMemory>
     ensures appended { OnOk result (Adds text.old text.new (hex_byte byte)) }
     ensures front { OnErr result (KeepsFront text.old text.new) }
 {

@@ -113,7 +113,7 @@ pub(crate) fn push_target(text: &mut String, target: &Target) -> Result<(), NoMe
 }
 
 /// Appends what denied an access, `-` where nothing did, and `none` where no register could help.
-pub(crate) fn push_denial(text: &mut String, denial: &Option<Denial>) -> Result<(), NoMemory>
+pub fn push_denial(text: &mut String, denial: &Option<Denial>) -> Result<(), NoMemory>
     ensures appended { OnOk result (Adds text.old text.new (denial_text denial.now)) }
     ensures front { OnErr result (KeepsFront text.old text.new) }
 {

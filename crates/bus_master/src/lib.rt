@@ -9,4 +9,4 @@ mod transfer;
 mod under_way;
 
 pub use done::{Done, End};
-pub use registers::BusMaster;
+pub use registers::{BusMaster, COMMAND, DIRECTION, START, STATUS, TABLE};

@@ -7,20 +7,20 @@ use board_spec::bits::{is_set, merged};
 use std::marker::Model;
 
 /// The offset of the command register.
-const COMMAND: u8 = 0;
+pub const COMMAND: u8 = 0;
 /// The offset of the status register.
-const STATUS: u8 = 2;
+pub const STATUS: u8 = 2;
 /// The offset of the low byte of the table pointer.
-const TABLE: u8 = 4;
+pub const TABLE: u8 = 4;
 /// The offset of its high byte.
 const TABLE_END: u8 = 7;
 
 /// The bits of the command that are kept: start, and the direction.
 const COMMAND_BITS: u8 = 0x09;
 /// The bit of the command that starts a transfer.
-const START: u32 = 0;
+pub const START: u32 = 0;
 /// The bit of the command that gives the direction, 1 from the disk to memory.
-pub(crate) const DIRECTION: u32 = 3;
+pub const DIRECTION: u32 = 3;
 
 /// The mask of the status bit that says that a transfer is under way.
 const ACTIVE: u8 = 0x01;

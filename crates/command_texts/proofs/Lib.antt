@@ -10,3 +10,8 @@ pub mod EntryLaw
 pub mod Cards
 pub mod TextLines
 pub mod Results
+pub mod Happenings
+pub mod SerialReplays
+pub mod Sums
+pub mod TransferTexts
+pub mod SerialTexts

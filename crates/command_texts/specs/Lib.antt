@@ -6,3 +6,6 @@ pub mod Images
 pub mod Blame
 pub mod Writes
 pub mod Laws
+pub mod Transfers
+pub mod Serial
+pub mod SerialSteps

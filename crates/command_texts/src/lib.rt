@@ -7,6 +7,8 @@ mod images;
 pub mod laws;
 mod made;
 mod replay;
+mod serial;
+mod transfers;
 mod writes;
 
 pub use blame::blame_after_replay;
@@ -14,3 +16,5 @@ pub use board::open_board;
 pub use images::{image_of_replay, is_same_board, log_of_resumed};
 pub use made::summary_of_made;
 pub use replay::{check_log, log_of_replay, map_after_replay, replay_script, verdict_on_log};
+pub use serial::sent_in_replay;
+pub use transfers::transfer_after_replay;

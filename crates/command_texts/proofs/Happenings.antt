@@ -1,0 +1,178 @@
+-- What happens to a board with a serial port, one thing after another.
+use Rattle.std.proofs.Common.{◌≡◌, ℕ, zero, suc, ◌+◌, ◌≤◌, Bool, true, false, List, [], ◌∷◌, ◌++◌, length, map, reverse, inl, inr, refl, sym, ap, subst, ◌∙◌, append-nil, append_assoc, length-append, arith}
+use Rattle.std.specs.Prelude.{if◌then◌else◌, None}
+use Rattle.std.proofs.lemmas.Bool.{cases_Bool}
+use Rattle.std.proofs.lemmas.List.{length-map, length-reverse, nil_from_length}
+use Rattle.board_spec.specs.declared.event.Event.{Event}
+use Rattle.board_spec.specs.declared.event.Event.TheVariants.{Line}
+use Rattle.board_spec.specs.declared.event.Entry.{Entry}
+use Rattle.board_spec.specs.declared.event.Statement.{Statement}
+use Rattle.board_spec.specs.Answer.{IsAnswer}
+use Rattle.board_spec.specs.Registers.{reset_control, resets_hard, control_written, control_after, is_hard_reset}
+use Rattle.board_spec.specs.Orders.{statement_of, statements_of}
+use Rattle.board_core.specs.Kept.{Standing}
+use Rattle.uart_16550.specs.declared.com1.Com1.{Com1}
+use Rattle.uart_16550.specs.Uart.{received}
+use Rattle.uart_16550.specs.Writes.{differ}
+use Rattle.uart_16550.specs.Com1.{com1_actor, com1_at_reset, com1_irq, level_of, line_steps, change_steps, com1_after, board_steps}
+use Rattle.uart_16550.specs.Serial.{Serial, GoesOn, IsLeftAt, IsLeftAfter}
+use Rattle.uart_16550.specs.Sent.{Happening, Comes, Happens, Sending, sending_after, sent_by, bytes_sent}
+use Rattle.uart_16550.specs.SerialOrder.{after_all}
+use Rattle.uart_16550.proofs.ControlProofs.{control_follows}
+use Rattle.uart_16550.proofs.SerialSteps.{statements_joined}
+use Rattle.command_texts.specs.Serial.{steps_for, steps_for_all}
+use Rattle.command_texts.specs.SerialSteps.{IsStanding, Happened, port_of}
+
+-- ---- lists of happenings, cut
+
+pub after_all-append : (port : Sending) (first second : List Happening) →
+    after_all port (first ++ second) ≡ after_all (after_all port first) second
+after_all-append port [] second = refl
+after_all-append port (happening ∷ first) second = after_all-append (sending_after port happening) first second
+
+pub sent-append : (port : Sending) (first second : List Happening) →
+    bytes_sent port (first ++ second) ≡ bytes_sent port first ++ bytes_sent (after_all port first) second
+sent-append port [] second = refl
+sent-append port (happening ∷ first) second =
+    ap (λ (bytes : List ℕ). sent_by port happening ++ bytes) (sent-append (sending_after port happening) first second)
+    ∙ sym (append_assoc (sent_by port happening) (bytes_sent (sending_after port happening) first)
+    (bytes_sent (after_all (sending_after port happening) first) second))
+
+pub steps-append : (actor : ℕ) (port : Sending) (first second : List Happening) →
+    steps_for_all actor port (first ++ second)
+    ≡ steps_for_all actor port first ++ steps_for_all actor (after_all port first) second
+steps-append actor port [] second = refl
+steps-append actor port (happening ∷ first) second =
+    ap (λ (steps : List Statement). steps_for actor port happening ++ steps)
+    (steps-append actor (sending_after port happening) first second)
+    ∙ sym (append_assoc (steps_for actor port happening) (steps_for_all actor (sending_after port happening) first)
+    (steps_for_all actor (after_all (sending_after port happening) first) second))
+
+-- bytes that come send none
+pub none_sent : (port : Sending) (bytes : List ℕ) → bytes_sent port (map Comes bytes) ≡ []
+none_sent port [] = refl
+none_sent port (byte ∷ bytes) = none_sent (sending_after port (Comes byte)) bytes
+
+-- ---- the steps of the board
+
+abbrev IsLeftHere : Standing → Bool → List Entry → Type 0
+IsLeftHere board level history =
+    IsLeftAt IsAnswer (λ (b : Standing). b.setup) (λ (b : Standing) (h : List Entry). b.entries ≡ h) board level history
+
+abbrev IsAfterHere : Standing → Bool → List Entry → List Statement → Type 0
+IsAfterHere board level before steps =
+    IsLeftAfter IsAnswer (λ (b : Standing). b.setup) (λ (b : Standing) (h : List Entry). b.entries ≡ h) board level before steps
+
+now_standing : (new : Serial Standing) (before : List Entry) (steps : List Statement) →
+    IsAfterHere new.board (level_of new.com1) before steps → IsStanding new
+now_standing new before steps after =
+    subst (IsLeftHere new.board (level_of new.com1)) (sym after.left_at.left) after.left_at
+
+now_goes_on : (new : Serial Standing) (before : List Entry) (steps : List Statement) →
+    IsAfterHere new.board (level_of new.com1) before steps → GoesOn before steps new.board.entries
+now_goes_on new before steps after = subst (GoesOn before steps) (sym after.left_at.left) after.goes_on
+
+steps_added : (before after : List Entry) (steps : List Statement) → GoesOn before steps after →
+    statements_of after ≡ statements_of before ++ steps
+steps_added before after steps goes_on =
+    ap statements_of goes_on.grows
+    ∙ (statements_joined goes_on.more before
+    ∙ ap (λ (list : List Statement). statements_of before ++ list) goes_on.same)
+
+-- ---- the reset control register
+
+no_more : (more : List Entry) → statements_of more ≡ [] → more ≡ []
+no_more more none =
+    let size : length (statements_of more) ≡ length more =
+    length-map (reverse more) statement_of ∙ length-reverse more in
+    nil_from_length more (sym size ∙ ap length none)
+
+-- a level of line 4 leaves it
+level_leaves : (before after : List Entry) (on : Bool) →
+    GoesOn before (record { actor = com1_actor; event = Line com1_irq on } ∷ []) after →
+    reset_control after ≡ reset_control before
+level_leaves before after on goes_on = control_follows before after com1_actor (Line com1_irq on) com1_at_reset goes_on
+
+line_leaves : (before after : List Entry) (old new : Bool) →
+    GoesOn before (line_steps old new) after → reset_control after ≡ reset_control before
+line_leaves before after old new goes_on = elim (cases_Bool (differ old new)) [
+  | inl moves ↦ level_leaves before after new (rw moves at goes_on)
+  | inr stays ↦
+      let still : GoesOn before [] after = rw stays at goes_on in
+      ap reset_control still.grows
+      ∙ ap (λ (more : List Entry). reset_control (more ++ before)) (no_more still.more still.same)
+]
+
+pub port_is : (com1 com1' : Com1) (control control' : ℕ) → com1 ≡ com1' → control ≡ control' →
+    ◌≡◌ {A = Sending} (record { com1 = com1; control = control }) (record { com1 = com1'; control = control' })
+port_is com1 com1' control control' same equal = rw (same, equal) refl
+
+-- ---- one thing
+
+pub nothing_happened : (actor : ℕ) (serial : Serial Standing) → IsStanding serial → Happened actor serial [] serial
+nothing_happened actor serial standing = record {
+  setup = refl;
+  standing = standing;
+  port = refl;
+  steps = sym (append-nil (statements_of serial.board.entries));
+}
+
+pub byte_came : (actor byte : ℕ) (old new : Serial Standing) →
+    new.board.setup ≡ old.board.setup →
+    new.com1 ≡ record old.com1 { uart = received old.com1.uart byte } →
+    IsAfterHere new.board (level_of new.com1) old.board.entries (change_steps old.com1 new.com1) →
+    Happened actor old (Comes byte ∷ []) new
+byte_came actor byte old new setup com1 after =
+    let goes_on = now_goes_on new old.board.entries (change_steps old.com1 new.com1) after in
+    record {
+      setup = setup;
+      standing = now_standing new old.board.entries (change_steps old.com1 new.com1) after;
+      port =
+          port_is new.com1 (record old.com1 { uart = received old.com1.uart byte }) _ _ com1
+          (line_leaves old.board.entries new.board.entries (level_of old.com1) (level_of new.com1) goes_on);
+      steps =
+          steps_added old.board.entries new.board.entries (change_steps old.com1 new.com1) goes_on
+          ∙ ap (λ (next : Com1). statements_of old.board.entries ++ change_steps old.com1 next) com1
+          ∙ ap (λ (steps : List Statement). statements_of old.board.entries ++ steps)
+          (sym (append-nil (change_steps old.com1 (record old.com1 { uart = received old.com1.uart byte }))));
+    }
+
+pub event_done : (actor : ℕ) (event : Event) (old new : Serial Standing) →
+    new.board.setup ≡ old.board.setup →
+    new.com1 ≡ com1_after (is_hard_reset old.board.entries event) event old.com1 →
+    IsAfterHere new.board (level_of new.com1) old.board.entries
+    (board_steps actor (is_hard_reset old.board.entries event) event old.com1) →
+    Happened actor old (Happens event ∷ []) new
+event_done actor event old new setup com1 after =
+    let steps = board_steps actor (is_hard_reset old.board.entries event) event old.com1 in
+    let goes_on = now_goes_on new old.board.entries steps after in
+    record {
+      setup = setup;
+      standing = now_standing new old.board.entries steps after;
+      port =
+          port_is new.com1 (com1_after (is_hard_reset old.board.entries event) event old.com1) _ _ com1
+          (control_follows old.board.entries new.board.entries actor event old.com1 goes_on);
+      steps =
+          steps_added old.board.entries new.board.entries steps goes_on
+          ∙ ap (λ (list : List Statement). statements_of old.board.entries ++ list) (sym (append-nil steps));
+    }
+
+-- ---- and then more
+
+pub happened_twice : (actor : ℕ) (old middle new : Serial Standing) (first second : List Happening) →
+    Happened actor old first middle → Happened actor middle second new → Happened actor old (first ++ second) new
+happened_twice actor old middle new first second one two = record {
+  setup = two.setup ∙ one.setup;
+  standing = two.standing;
+  port =
+      two.port
+      ∙ (ap (λ (port : Sending). after_all port second) one.port ∙ sym (after_all-append (port_of old) first second));
+  steps =
+      two.steps
+      ∙ ap (λ (list : List Statement). list ++ steps_for_all actor (port_of middle) second) one.steps
+      ∙ append_assoc (statements_of old.board.entries) (steps_for_all actor (port_of old) first)
+      (steps_for_all actor (port_of middle) second)
+      ∙ ap (λ (list : List Statement). statements_of old.board.entries ++ list)
+      (ap (λ (port : Sending). steps_for_all actor (port_of old) first ++ steps_for_all actor port second) one.port
+      ∙ sym (steps-append actor (port_of old) first second));
+}

@@ -1,0 +1,93 @@
+-- What a board with a serial port sent in a whole replay.
+use Rattle.std.proofs.Common.{◌≡◌, ℕ, ◌+◌, ◌<◌, ◌≤◌, Bool, true, false, List, [], ◌∷◌, ◌++◌, length, All, refl, sym, ap, subst, ◌∙◌, append-nil, arith}
+use Rattle.std.specs.Prelude.{slice_index, if◌then◌else◌}
+use Rattle.std.specs.Option.{option_to_list}
+use Rattle.std.proofs.lemmas.Bool.{cases_Bool}
+use Rattle.board_base.specs.declared.access.PortAccess.{PortAccess}
+use Rattle.board_spec.specs.declared.event.Event.{Event}
+use Rattle.board_spec.specs.declared.event.Reply.{Reply}
+use Rattle.board_spec.specs.declared.event.Entry.{Entry}
+use Rattle.board_spec.specs.declared.event.Statement.{Statement}
+use Rattle.board_spec.specs.Setup.{Setup}
+use Rattle.board_spec.specs.Answer.{IsAnswer}
+use Rattle.board_spec.specs.Registers.{reset_control}
+use Rattle.board_spec.specs.Legal.{IsLegal}
+use Rattle.board_spec.specs.Laws.{LegalKeepsLock}
+use Rattle.board_spec.specs.Orders.{statements_of, IsReplayOf}
+use Rattle.board_core.specs.Kept.{Standing}
+use Rattle.script_spec.specs.ScriptText.{Script as Said}
+use Rattle.script_spec.specs.ScriptRange.{IsInRangeScript, statements_in}
+use Rattle.uart_16550.specs.declared.com1.Com1.{Com1}
+use Rattle.uart_16550.specs.declared.com1.SerialReply.{SerialReply}
+use Rattle.uart_16550.specs.declared.com1.SerialReply.TheVariants.{Board}
+use Rattle.uart_16550.specs.Uart.{Uart, has_room}
+use Rattle.uart_16550.specs.Com1.{com1_at_reset, uart_access, uart_reply}
+use Rattle.uart_16550.specs.Serial.{Serial}
+use Rattle.uart_16550.specs.Sent.{Happens, Sending, sending_at_reset, sent_by, sent_by_access}
+use Rattle.uart_16550.proofs.SerialSteps.{answered_is_legal}
+use Rattle.command_texts.specs.Serial.{bytes_before, left_after, happenings_in, steps_in, sent_in, IsSerialText}
+use Rattle.command_texts.specs.SerialSteps.{IsForPort, Place, WentOn, port_of}
+use Rattle.command_texts.proofs.Happenings.{port_is}
+
+-- ---- the byte that comes
+
+pub one_comes : (uart : Uart) (input : List ℕ) → has_room uart ≡ true → 1 ≤ length input →
+    bytes_before uart input ≡ slice_index input 0 ∷ []
+one_comes uart [] room some = absurd (omega (arith, some))
+one_comes uart (byte ∷ input) room some = rw room refl
+
+-- ---- the whole
+
+reset_port : (serial : Serial Standing) → serial.com1 ≡ com1_at_reset → serial.board.entries ≡ [] →
+    port_of serial ≡ sending_at_reset
+unfolding reset_control
+reset_port serial com1 entries = port_is serial.com1 com1_at_reset _ 0 com1 (ap reset_control entries)
+
+none_later : (port : Sending) (input : List ℕ) → sent_in port input [] ≡ []
+unfolding happenings_in
+none_later port input = refl
+
+no_steps_later : (port : Sending) (input : List ℕ) → steps_in port input [] ≡ []
+unfolding steps_in
+no_steps_later port input = refl
+
+pub serial_told : LegalKeepsLock → (setup : Setup) (script : Said) (fresh last : Serial Standing)
+    (input left sent text : List ℕ) → fresh.board.setup ≡ setup → fresh.board.entries ≡ [] → fresh.com1 ≡ com1_at_reset →
+    WentOn (record { serial = fresh; input = input; sent = [] }) (statements_in script)
+    (record { serial = last; input = left; sent = sent }) →
+    text ≡ sent → IsSerialText setup script input text
+serial_told locks setup script fresh last input left sent text fitted none new went is =
+    let begin : port_of fresh ≡ sending_at_reset = reset_port fresh new none in
+    let same : last.board.setup ≡ setup = went.setup ∙ fitted in
+    let history = last.board.entries in
+    let is_legal : IsLegal setup history =
+    subst (λ (s : Setup). IsLegal s history) same (answered_is_legal last.board.setup history went.standing.answered) in
+    let all : statements_in script ++ [] ≡ statements_in script = append-nil (statements_in script) in
+    record {
+      history = history;
+      replay = record {
+        legal = is_legal;
+        same =
+            sym (append-nil (statements_of history))
+            ∙ ap (λ (more : List Statement). statements_of history ++ more) (sym (no_steps_later (port_of last) left))
+            ∙ sym (went.steps [])
+            ∙ ap (λ (entries : List Entry). statements_of entries ++ steps_in (port_of fresh) input (statements_in script ++ [])) none
+            ∙ ap (steps_in (port_of fresh) input) all
+            ∙ ap (λ (port : Sending). steps_in port input (statements_in script)) begin;
+      };
+      locked = locks setup history is_legal;
+      sent =
+          is
+          ∙ sym (append-nil sent)
+          ∙ ap (λ (more : List ℕ). sent ++ more) (sym (none_later (port_of last) left))
+          ∙ sym (went.sent [])
+          ∙ ap (sent_in (port_of fresh) input) all
+          ∙ ap (λ (port : Sending). sent_in port input (statements_in script)) begin;
+    }
+
+-- the statements of a script are for its port
+pub script_for_port : (setup : Setup) (script : Said) → IsInRangeScript script → setup.cards ≡ script.cards →
+    All (IsForPort setup) (statements_in script)
+script_for_port setup script range same i d within =
+    let said = range.each setup same i d within in
+    record { actor = omega (arith, said.actor, range.most_cpus); event = said.event }

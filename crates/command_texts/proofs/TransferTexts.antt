@@ -1,0 +1,81 @@
+-- What a transfer tells is that of the definition over what the history left.
+use Rattle.std.proofs.Common.{◌≡◌, ℕ, ◌+◌, ◌*◌, ◌<◌, Bool, true, List, ◌++◌, length, refl, sym, ap, ◌∙◌}
+use Rattle.std.specs.Prelude.{nat_lt, if◌then◌else◌, slice_index, Option, Result, Ok, Err, IfOk}
+use Rattle.std.proofs.lemmas.Bool.{lt-ltb}
+use Rattle.board_base.specs.declared.access.Width.TheVariants.{One}
+use Rattle.device_spec.specs.Ata.State.{Disk}
+use Rattle.board_spec.specs.declared.event.Entry.{Entry}
+use Rattle.board_spec.specs.Setup.{Setup, installed}
+use Rattle.board_spec.specs.Registers.{byte_of}
+use Rattle.board_spec.specs.Devices.{disk_of}
+use Rattle.board_spec.specs.Stored.{Cell, DramCell, dram_byte}
+use Rattle.dram_store.specs.Dram.{dram_at, IsDramOf}
+use Rattle.dram_store.proofs.DramLemmas.{read_stored}
+use Rattle.pci_bars.specs.Contents.{IsContentsOf}
+use Rattle.board_chipset.specs.declared.store.Store.{Store}
+use Rattle.bus_master.specs.declared.done.Done.{Done}
+use Rattle.bus_master.specs.Registers.{Master, register_of}
+use Rattle.bus_master.specs.Transfer.{Moving, transferred, done_of, master_after, medium_of, with_medium}
+use Rattle.bus_master.specs.Stores.{cells_of, transfer_of, IsCell}
+use Rattle.command_words.specs.declared.transfer.Transfer.{Transfer}
+use Rattle.command_texts.specs.Transfers.{AreCellsAfter, HasTransferText, started, transfer_after, sum_below, dram_sum, disk_sum, ended_line, sums_line, transfer_text}
+use Rattle.command_texts.proofs.Sums.{sum_below-same}
+
+pub cells_left : (setup : Setup) (history : List Entry) (store : Store) → IsDramOf setup history store.dram →
+    IsContentsOf setup history store.contents → AreCellsAfter setup history (cells_of store)
+cells_left setup history store dram contents = record {
+  dram = λ addr. read_stored setup history store.dram addr One dram;
+  cards = contents.bytes;
+}
+
+dram_here : (dram : List ℕ) (addr : ℕ) → addr < length dram → slice_index dram addr ≡ dram_at dram addr
+dram_here dram addr within = rw (lt-ltb addr (length dram) within) refl
+
+-- the bytes of the memory are those that the transfer left
+dram_told : (setup : Setup) (store : Store) (moving : Moving) → length store.dram ≡ installed setup →
+    ((cell : Cell) → IsCell cell → cells_of store cell ≡ moving.cells cell) →
+    sum_below (length store.dram) (slice_index store.dram) ≡ dram_sum setup moving.cells
+dram_told setup store moving size cells =
+    sum_below-same (length store.dram) (slice_index store.dram) (λ addr. moving.cells (DramCell addr))
+    (λ addr below. dram_here store.dram addr below ∙ cells (DramCell addr) tt)
+    ∙ ap (λ (n : ℕ). sum_below n (λ addr. moving.cells (DramCell addr))) size
+
+same_lines : {done other : Done} {status status' dram dram' disk disk' : ℕ} → done ≡ other → status ≡ status' →
+    dram ≡ dram' → disk ≡ disk' → ended_line done status ++ sums_line dram disk ≡ ended_line other status' ++ sums_line dram' disk'
+same_lines one two three four = rw (one, two, three, four) refl
+
+-- the text of the transfer by these registers over this disk
+abbrev text_by : Setup → List Entry → Transfer → Store → Master → Option Disk → List ℕ
+text_by setup history transfer store master disk =
+    transfer_text setup disk master
+    (transferred setup (byte_of setup history) master transfer.lba transfer.count (cells_of store) (medium_of disk))
+
+pub transfer_told : (setup : Setup) (history : List Entry) (transfer : Transfer) (old new : Store) (master after : Master)
+    (done : Done) (status dram disk : ℕ) (text : List ℕ) (moving : Moving) →
+    moving ≡ transfer_of setup (byte_of setup history) master transfer.lba transfer.count old →
+    master ≡ started transfer → old.disk ≡ disk_of setup history → AreCellsAfter setup history (cells_of old) →
+    length new.dram ≡ installed setup → done ≡ done_of moving → after ≡ master_after master moving →
+    new.disk ≡ with_medium old.disk moving.medium →
+    ((cell : Cell) → IsCell cell → cells_of new cell ≡ moving.cells cell) →
+    status ≡ after.status → dram ≡ sum_below (length new.dram) (slice_index new.dram) → disk ≡ disk_sum new.disk →
+    text ≡ ended_line done status ++ sums_line dram disk → HasTransferText setup history transfer text
+transfer_told setup history transfer old new master after done status dram disk text moving moved begun left stored size
+    done_told registers disk_left cells status_told dram_told' disk_told lines = record {
+      cells = cells_of old;
+      stored = stored;
+      lines =
+          lines
+          ∙ same_lines done_told (status_told ∙ ap (λ (m : Master). m.status) registers)
+          (dram_told' ∙ dram_told setup new moving size cells) (disk_told ∙ ap disk_sum disk_left)
+          ∙ ap (transfer_text setup old.disk master) moved
+          ∙ ap (λ (m : Master). text_by setup history transfer old m old.disk) begun
+          ∙ ap (λ (d : Option Disk). text_by setup history transfer old (started transfer) d) left;
+    }
+
+pub ok_then : {T E : Type 0} {P Q : T → Type 0} (result : Result T E) → IfOk result P → ((x : T) → P x → Q x) → IfOk result Q
+ok_then (Ok x) is more = more x is
+ok_then (Err fault) is more = tt
+
+pub status_read : (master : Master) → register_of master 2 ≡ master.status
+unfolding register_of
+status_read master = refl

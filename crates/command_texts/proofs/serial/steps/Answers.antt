@@ -1,0 +1,34 @@
+use Rattle.std.proofs.Common.{◌≡◌, ℕ, ◌+◌, ◌*◌, ◌≤◌, sym, subst, ◌∙◌, arith}
+use Rattle.command_texts.specs.SerialSteps.{IsForPort, Place, WentOn}
+use Rattle.command_texts.proofs.SerialReplays.{for_port_as, went_nowhere, went_on_step, went_on_more, room_for_next}
+use Rattle.command_texts.proofs.serial.steps.Goals as goal
+
+pub loop-statement-init : goal.loop-statement-init
+loop-statement-init c = went_nowhere _ c.requires.standing
+
+pub receive_next-left-requires-clause-standing : goal.receive_next-left-requires-clause-standing
+receive_next-left-requires-clause-standing c = c.loop-statement.invariant.standing
+
+pub receive_next-left-requires-clause-spare : goal.receive_next-left-requires-clause-spare
+receive_next-left-requires-clause-spare c =
+    omega (arith, room_for_next c.args.statements.now c.loop-statement.statement-index _ _ c.loop-statement-test.true c.requires.spare c.loop-statement.invariant)
+
+pub step-requires-clause-standing : goal.step-requires-clause-standing
+step-requires-clause-standing c = (c.receive_next-left.ensures.happened 0).standing
+
+pub step-requires-clause-for_port : goal.step-requires-clause-for_port
+step-requires-clause-for_port c =
+    for_port_as _ _ _ ((c.receive_next-left.ensures.happened 0).setup ∙ c.loop-statement.invariant.setup)
+    (c.requires.for_port c.loop-statement.statement-index _ c.loop-statement-test.true)
+
+pub step-requires-clause-spare : goal.step-requires-clause-spare
+step-requires-clause-spare c =
+    omega (arith, room_for_next c.args.statements.now c.loop-statement.statement-index _ _ c.loop-statement-test.true c.requires.spare c.loop-statement.invariant, c.receive_next-left.ensures.spare)
+
+pub loop-statement-preserved : goal.loop-statement-preserved
+loop-statement-preserved c =
+    went_on_more c.args.statements.now c.loop-statement.statement-index _ _ _ _ c.loop-statement-test.true c.loop-statement.invariant
+    (went_on_step _ c.loop-statement.serial c.receive_next-left.new.serial c.step.new.serial c.loop-statement.left.now
+    c.receive_next-left.result.now c.loop-statement.sent.items c.step.new.sent.items c.receive_next-left.ensures.left
+    (c.receive_next-left.ensures.happened _) c.in_ok-step.ensures.happened c.in_ok-step.ensures.sent
+    c.receive_next-left.ensures.spare c.in_ok-step.ensures.spare)

@@ -1,0 +1,20 @@
+use Rattle.std.proofs.Common.{◌≡◌, ◌+◌, ◌*◌, ◌≤◌, ◌<◌, ℕ, length, ap, sym, subst, ◌∙◌, refl, arith}
+use Rattle.std.specs.Prelude.{slice_index}
+use Rattle.command_texts.specs.Transfers.{sum_below}
+use Rattle.dram_store.specs.Bank.{bank_size}
+use Rattle.command_texts.proofs.Sums.{part_added}
+use Rattle.command_texts.proofs.transfers.dram_sum.Goals as goal
+
+pub loop-bank-init : goal.loop-bank-init
+unfolding sum_below
+loop-bank-init c = record { sum = refl; most = omega arith }
+
+pub loop-bank-preserved : goal.loop-bank-preserved
+loop-bank-preserved c =
+    let added =
+    part_added bank_size c.loop-bank.bank (slice_index c.args.dram.now) c.in-Some.bytes.now c.in-Some.ensures.within
+    c.in-Some.ensures.bytes in
+    record {
+      sum = omega (arith, c.loop-bank.invariant.sum, c.sum_of-sum.ensures.sum, added);
+      most = omega (arith, c.loop-bank.invariant.most, c.sum_of-sum.ensures.most);
+    }

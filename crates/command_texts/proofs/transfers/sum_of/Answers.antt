@@ -1,0 +1,15 @@
+use Rattle.std.proofs.Common.{◌≡◌, ◌+◌, ◌*◌, ◌≤◌, ap, sym, ◌∙◌, refl, arith}
+use Rattle.std.specs.Prelude.{slice_index}
+use Rattle.command_texts.specs.Transfers.{sum_below}
+use Rattle.command_texts.proofs.Sums.{sum_below-more}
+use Rattle.command_texts.proofs.transfers.sum_of.Goals as goal
+
+pub loop-byte-init : goal.loop-byte-init
+unfolding sum_below
+loop-byte-init c = record { sum = refl; most = omega arith }
+
+pub loop-byte-preserved : goal.loop-byte-preserved
+loop-byte-preserved c = record {
+  sum = omega (arith, c.loop-byte.invariant.sum, sum_below-more c.loop-byte.byte-index (slice_index c.args.bytes.now), c.from-sum.ensures);
+  most = omega (arith, c.loop-byte.invariant.most, c.from-sum.ensures);
+}

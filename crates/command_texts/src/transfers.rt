@@ -1,0 +1,192 @@
+//! The command `dma`: a transfer of the bus master after a replay.
+
+ghost use Rattle.std.specs.Prelude.{◌≡◌, ◌++◌, ◌*◌, ◌≤◌, Some, length, slice_index, IfOk, OnOk};
+ghost use Rattle.script_text.specs.Script.{said_of};
+ghost use Rattle.dram_store.specs.Bank.{bank_size};
+ghost use Rattle.board_script.specs.Adds.{Adds};
+ghost use Rattle.command_words.specs.Words.{IsTransfer};
+ghost use Rattle.command_texts.specs.Fresh.{IsFreshFor};
+ghost use Rattle.command_texts.specs.Transfers.{HasTransferText, IsTransferText, started, sum_below, disk_sum, end_text, ended_line, sums_line};
+
+use crate::replay::replay_script;
+use ata_pio::Ata;
+use board_base::{Denial, NoMemory};
+use board_core::Board;
+use board_script::{push_decimal, push_denial, push_hex_byte, push_hex_long, push_words};
+use bus_master::{BusMaster, COMMAND, DIRECTION, Done, End, START, STATUS, TABLE};
+use command_words::Transfer;
+use dram_store::Dram;
+use log_pieces::Text;
+use script_text::Script;
+use std::alloc::Global;
+
+/// A new bus master that a program has told to start: it wrote the table pointer and then the command.
+#[tactic(auto, unfolding(bus_master::specs::Registers::master_written))]
+fn start(transfer: &Transfer) -> BusMaster
+    requires asked { IsTransfer transfer.now }
+    ensures started { result ≡ started transfer.now }
+{
+    let mut master = BusMaster::new();
+    let [a, b, c, d] = transfer.table.to_le_bytes();
+    master.port_write(TABLE, a);
+    master.port_write(TABLE + 1, b);
+    master.port_write(TABLE + 2, c);
+    master.port_write(TABLE + 3, d);
+    let direction = u8::from(transfer.to_memory) << DIRECTION;
+    master.port_write(COMMAND, 1 << START | direction);
+    master
+}
+
+/// The sum of the bytes of a part, at most a MiB.
+fn sum_of(bytes: &[u8]) -> u64
+    requires few { length bytes.now ≤ bank_size }
+    ensures sum { result ≡ sum_below (length bytes.now) (slice_index bytes.now) }
+    ensures most { result ≤ 255 * bank_size }
+{
+    let mut sum = 0;
+    for byte in bytes {
+        sum += u64::from(*byte);
+    }
+    sum
+}
+
+/// The sum of all bytes of a DRAM of so many MiB. Those that are not kept are 0.
+fn dram_sum(dram: &Dram, mib: u32) -> u64
+    requires size { length dram.now ≡ mib * bank_size }
+    ensures sum { result ≡ sum_below (length dram.now) (slice_index dram.now) }
+{
+    let mut sum = 0;
+    for bank in 0..mib {
+        match dram.kept(bank as usize) {
+            Some(bytes) => sum += sum_of(bytes),
+            None => unreachable!(),
+        }
+    }
+    sum
+}
+
+/// The sum of the bytes of all sectors, 0 without a disk.
+fn disk_sum(disk: &Option<Ata>) -> u64
+    ensures sum { result ≡ disk_sum disk.now }
+{
+    match disk {
+        Some(disk) => sector_sum(disk),
+        None => 0,
+    }
+}
+
+/// The sum of the bytes of all sectors.
+fn sector_sum(disk: &Ata) -> u64
+    ensures sum { result ≡ disk_sum (Some disk.now) }
+{
+    let mut sum = 0;
+    for lba in 0..disk.sectors() {
+        sum += sum_of(disk.sector(lba));
+    }
+    sum
+}
+
+/// Appends how a transfer ended.
+fn push_end(text: &mut String, end: End) -> Result<(), NoMemory>
+    ensures appended { OnOk result (Adds text.old text.new (end_text end)) }
+{
+    match end {
+        End::Exact => push_words(text, "exact"),
+        End::Longer => push_words(text, "longer"),
+        End::Shorter => push_words(text, "shorter"),
+        End::Abort { addr, denial } => push_abort(text, addr, denial),
+        End::Sector { lba } => push_sector(text, lba),
+    }
+}
+
+/// Appends at which address nobody answered, and why.
+fn push_abort(text: &mut String, addr: u32, denial: Denial) -> Result<(), NoMemory>
+    ensures appended { OnOk result (Adds text.old text.new (end_text (End.Abort addr denial))) }
+{
+    push_words(text, "abort ")?;
+    push_hex_long(text, addr)?;
+    push_words(text, " ")?;
+    push_denial(text, &Some(denial))
+}
+
+/// Appends which sector could not be read.
+fn push_sector(text: &mut String, lba: u32) -> Result<(), NoMemory>
+    ensures appended { OnOk result (Adds text.old text.new (end_text (End.Sector lba))) }
+{
+    push_words(text, "sector ")?;
+    push_decimal(text, u64::from(lba))
+}
+
+/// Appends the line of how a transfer ended, of the status after it, and of how many bytes it moved.
+fn push_ended(text: &mut String, done: Done, status: u8) -> Result<(), NoMemory>
+    ensures appended { OnOk result (Adds text.old text.new (ended_line done status)) }
+{
+    push_end(text, done.end)?;
+    push_words(text, " status ")?;
+    push_hex_byte(text, status)?;
+    push_words(text, " moved ")?;
+    push_decimal(text, u64::from(done.moved))?;
+    push_words(text, "\n")
+}
+
+/// Appends the line of the sums.
+fn push_sums(text: &mut String, dram: u64, disk: u64) -> Result<(), NoMemory>
+    ensures appended { OnOk result (Adds text.old text.new (sums_line dram disk)) }
+{
+    push_words(text, "dram ")?;
+    push_decimal(text, dram)?;
+    push_words(text, " disk ")?;
+    push_decimal(text, disk)?;
+    push_words(text, "\n")
+}
+
+/// Both lines.
+fn transfer_text(
+    alloc: Global,
+    done: Done,
+    status: u8,
+    dram: u64,
+    disk: u64,
+) -> Result<Text, NoMemory>
+    ensures text { IfOk result (λ text. text ≡ ended_line done status ++ sums_line dram disk) }
+{
+    let mut text = String::new(alloc);
+    push_ended(&mut text, done, status)?;
+    push_sums(&mut text, dram, disk)?;
+    Text::whole(alloc, text)
+}
+
+/// Transfers what is asked on the store that is left of a board, and tells of it.
+fn transfer_on(alloc: Global, board: Board, transfer: &Transfer) -> Result<Text, NoMemory>
+    requires asked { IsTransfer transfer.now }
+    ensures text { IfOk result (HasTransferText board.setup board.entries transfer.now) }
+{
+    let mib = board.setup().mib;
+    let mut store = board.into_store();
+    let mut master = start(transfer);
+    let done = master.transfer(&mut store, transfer.lba, transfer.count);
+    let status = master.port_read(STATUS);
+    transfer_text(
+        alloc,
+        done,
+        status,
+        dram_sum(&store.dram, mib),
+        disk_sum(&store.disk),
+    )
+}
+
+/// How a transfer ends that is asked of the bus master after a script's replay on its board, and the sums of all bytes of
+/// the DRAM and of the disk after it.
+pub fn transfer_after_replay(
+    alloc: Global,
+    mut board: Board,
+    script: &Script,
+    transfer: &Transfer,
+) -> Result<Text, NoMemory>
+    requires fresh { IsFreshFor (said_of script.now) board }
+    requires asked { IsTransfer transfer.now }
+    ensures text { IfOk result (IsTransferText board.setup (said_of script.now) transfer.now) }
+{
+    replay_script(&mut board, script)?;
+    transfer_on(alloc, board, transfer)
+}
