@@ -7,7 +7,7 @@ use Rattle.command_files.specs.declared.status.Status.TheVariants.{Done, Usage, 
 use Rattle.command_files.specs.Status.{code_of}
 use Rattle.command_files.specs.Known.{Files}
 use Rattle.board_run.specs.Outcomes.{IsCaused, IsExact}
-use Rattle.board_main.specs.declared.answers.Own.{Own}
+use Rattle.board_main.specs.declared.answers.OwnAnswer.{OwnAnswer}
 use Rattle.board_main.specs.Words.{is_own, is_help}
 use Rattle.board_main.specs.Own.{is_help_answer, AppendsOwn}
 
@@ -29,7 +29,7 @@ pub record IsAnswered (status : Status) (command : Option Command) (files : Opti
   pub exact : IsExact status command files (¬ Rose 0 read_faults) (¬ Rose 0 write_faults)
 
 -- what the program answers of itself is written whole, unless the output fails
-abbrev pub IsOwnAnswer : Status → Own → (before now : Option (List ℕ)) → Type 0
+abbrev pub IsOwnAnswer : Status → OwnAnswer → (before now : Option (List ℕ)) → Type 0
 IsOwnAnswer Done own before now = AppendsOwn own before now
 IsOwnAnswer status own before now = status ≡ WriteFault
 
@@ -39,5 +39,5 @@ pub record Ends (words : List (List ℕ)) (command : Option Command) (files : Op
   pub usage : (status ≡ Usage) ↔ ((is_own words ≡ false) × (command ≡ None))
   pub own :
       is_own words ≡ true →
-      (own : Own) × (is_help_answer own ≡ is_help words) × IsOwnAnswer status own before now
+      (own : OwnAnswer) × (is_help_answer own ≡ is_help words) × IsOwnAnswer status own before now
   pub answered : is_own words ≡ false → IsAnswered status command files before now

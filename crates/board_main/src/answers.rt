@@ -1,7 +1,7 @@
 //! What the program answers of itself, without the board.
 
 ghost use Rattle.std.specs.Prelude.{◌≡◌, map, is_some, string_bytes, IfSome, OnOk};
-ghost use Rattle.board_main.specs.declared.answers.Own.{Own};
+ghost use Rattle.board_main.specs.declared.answers.OwnAnswer.{OwnAnswer};
 ghost use Rattle.board_main.specs.Words.{is_own, is_own_word, is_help, is_help_word};
 ghost use Rattle.board_main.specs.Own.{is_help_answer, AppendsOwn};
 
@@ -47,13 +47,13 @@ const VERSION: &str = "board 0.1\n";
 
 /// What the program answers of itself.
 #[derive(Clone, Copy, PartialEq, Eq, Debug)]
-pub enum Own {
+pub enum OwnAnswer {
     Help,
     Version,
 }
 
 /// The answer to `--help` and to `--version`, each as the only word. All other words are the board's.
-pub fn own_answer(words: &[String]) -> Option<Own>
+pub fn own_answer(words: &[String]) -> Option<OwnAnswer>
     ensures own { is_some result ≡ is_own (map string_bytes words.now) }
     ensures help { IfSome result (λ own. is_help_answer own ≡ is_help (map string_bytes words.now)) }
 {
@@ -63,20 +63,20 @@ pub fn own_answer(words: &[String]) -> Option<Own>
     }
 }
 
-fn own_of(word: &str) -> Option<Own>
+fn own_of(word: &str) -> Option<OwnAnswer>
     ensures own { is_some result ≡ is_own_word word.now }
     ensures help { IfSome result (λ own. is_help_answer own ≡ is_help_word word.now) }
 {
     match word {
-        "--help" => Some(Own::Help),
-        "--version" => Some(Own::Version),
+        "--help" => Some(OwnAnswer::Help),
+        "--version" => Some(OwnAnswer::Version),
         _ => None,
     }
 }
 
 /// Writes the help, in which the usage text stands.
 fn write_help<W: Write>(output: &mut W) -> io::Result<()>
-    ensures written { OnOk result (AppendsOwn Own.Help (W.contents output.old) (W.contents output.new)) }
+    ensures written { OnOk result (AppendsOwn OwnAnswer.Help (W.contents output.old) (W.contents output.new)) }
 {
     output.write_all(TITLE.as_bytes())?;
     output.write_all(USAGE.as_bytes())?;
@@ -84,12 +84,12 @@ fn write_help<W: Write>(output: &mut W) -> io::Result<()>
 }
 
 /// Writes such an answer.
-pub fn write_answer<W: Write>(output: &mut W, own: Own) -> io::Result<()>
+pub fn write_answer<W: Write>(output: &mut W, own: OwnAnswer) -> io::Result<()>
     ensures written { OnOk result (AppendsOwn own (W.contents output.old) (W.contents output.new)) }
 {
     match own {
-        Own::Help => write_help(output),
-        Own::Version => output.write_all(VERSION.as_bytes()),
+        OwnAnswer::Help => write_help(output),
+        OwnAnswer::Version => output.write_all(VERSION.as_bytes()),
     }
 }
 
@@ -101,8 +101,8 @@ mod tests {
     #[test]
     fn help_and_version_are_the_program_s_own(rt: HostRuntime) -> Result<(), Fail> {
         let cases = [
-            ("--help", Some(Own::Help)),
-            ("--version", Some(Own::Version)),
+            ("--help", Some(OwnAnswer::Help)),
+            ("--version", Some(OwnAnswer::Version)),
             ("-h", None),
             ("replay", None),
             ("", None),

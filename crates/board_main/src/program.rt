@@ -6,7 +6,7 @@ ghost use Rattle.command_files.specs.declared.status.Status.{Status};
 ghost use Rattle.command_words.specs.Words.{asked};
 ghost use Rattle.board_main.specs.Ends.{Ends, HasStatus, IsAnswered, IsOwnAnswer};
 
-use crate::answers::{Own, own_answer, write_answer};
+use crate::answers::{OwnAnswer, own_answer, write_answer};
 use crate::words::words_of;
 use board_base::QuietGate;
 use board_files::{FileShelf, Folder, OutSink, SystemFolder};
@@ -92,7 +92,7 @@ where
 }
 
 /// Writes what the program answers of itself.
-fn write_own<W: Write>(mut output: W, own: Own) -> (Status, W)
+fn write_own<W: Write>(mut output: W, own: OwnAnswer) -> (Status, W)
     ensures written { IsOwnAnswer result.0 own (W.contents output) (W.contents result.1) }
 {
     match write_answer(&mut output, own) {

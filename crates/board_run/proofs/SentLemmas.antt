@@ -23,7 +23,7 @@ front_sent before now later text rest sent kept = record {
   sent = record { front = sent.front; whole = sent.whole; taken = kept_front before now later sent.front sent.taken kept };
 }
 
-more_taken :
+pub more_taken :
     (before now later : Option (List ℕ)) (front piece : List ℕ) →
     Appends before now front → Appends now later piece → Appends before later (front ++ piece)
 more_taken None now later front piece sent more = tt
