@@ -4,10 +4,9 @@ use Rattle.board_spec.specs.Setup.{IsRomSize, IsDisk}
 use Rattle.script_spec.specs.ScriptText.{Script as Said}
 use Rattle.script_spec.specs.ScriptRange.{IsInRangeScript}
 use Rattle.command_words.specs.Words.{Command, Replay, Run, Map, Check, Make, Dma, Save, Resume, Serial, Blame}
-use Rattle.command_files.specs.declared.status.Which.{Which}
 use Rattle.command_files.specs.declared.status.Which.TheVariants.{Script, Rom, Disk, Log, Image, Input}
 use Rattle.command_files.specs.Table.{files_of, script_name}
-use Rattle.command_files.specs.Known.{Files, Known, nothing_known, name_of, rom_of, disk_of, OfScript, HasBoard, HasImage, HasRead}
+use Rattle.command_files.specs.Known.{Files, Known, rom_of, disk_of, OfScript, HasBoard, HasImage, HasRead}
 use Rattle.command_files.specs.Steps.{IsTaken, IsPassed}
 use Rattle.command_files.proofs.Places.{AreTaken}
 

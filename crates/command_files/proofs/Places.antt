@@ -1,6 +1,6 @@
 -- A command at a place of its table: what its status is there, and which fetches it made.
 use Rattle.std.proofs.Common.{◌≡◌, ◌≢◌, ℕ, suc, ◌+◌, ◌<◌, ◌≤◌, ◌⊎◌, inl, inr, List, [], ◌∷◌, ◌++◌, length, take, drop, reverse, get_or, Option, Some, None, refl, sym, ap, ◌∙◌, subst, append_assoc}
-use Rattle.std.specs.Prelude.{Result, Ok, Err, OnOk}
+use Rattle.std.specs.Prelude.{Result, Ok, OnOk}
 use Rattle.std.proofs.lemmas.List.{reverse-append, reverse-reverse, append-nil, take_all}
 use Rattle.std.proofs.lemmas.Grind.{take_at_read}
 use Rattle.std.proofs.Math.Seq.{split_at}
@@ -12,11 +12,11 @@ use Rattle.command_files.specs.declared.status.Which.TheVariants.{Script, Rom, D
 use Rattle.command_files.specs.declared.status.Status.{Status}
 use Rattle.command_files.specs.declared.status.Status.TheVariants.{Done, Usage, ReadFault, WriteFault, TooLong, BadScript, BadImage, Differs, OtherBoard, NoMemory}
 use Rattle.command_files.specs.Table.{files_of, name_in_words, limit_of}
-use Rattle.command_files.specs.Known.{Files, Known, nothing_known, name_of, rom_of, disk_of, Learns, Passes, AreReadAs, ComesTo}
-use Rattle.command_files.specs.Asked.{ReadsFile, Fits, IsNoImage, AsksFor}
+use Rattle.command_files.specs.Known.{Files, Known, nothing_known, name_of, Learns, Passes, AreReadAs, ComesTo}
+use Rattle.command_files.specs.Asked.{ReadsFile, Fits, IsNoImage}
 use Rattle.command_files.specs.Outcomes.{ShelfCall, OfFiles, CanRead, FailsAt, IsNotTaken, IsRefused}
-use Rattle.command_files.specs.Calls.{OfCalls, FoundEnd, IsReading, Reaches, Reads, ReadEach, FetchesOf}
-use Rattle.command_files.specs.Steps.{IsBad, IsTaken, IsPassed, StopsAt, ReadsNamed}
+use Rattle.command_files.specs.Calls.{OfCalls, FoundEnd, Reaches, Reads, ReadEach, FetchesOf}
+use Rattle.command_files.specs.Steps.{IsBad, IsPassed, StopsAt, ReadsNamed}
 use Rattle.command_files.proofs.CallLemmas.{Both, calls_both, calls_hold}
 use Rattle.command_files.proofs.Refusals.{of_files, at_files, at_file, of_file, any_file}
 

@@ -1,5 +1,5 @@
 -- What is known of the files that a command has read.
-use Rattle.std.specs.Prelude.{ℕ, ◌≡◌, ◌≤◌, ◌<◌, ◌++◌, List, [], ◌∷◌, length, reverse, Option, Some, None}
+use Rattle.std.specs.Prelude.{ℕ, ◌≡◌, ◌≤◌, ◌++◌, List, [], ◌∷◌, length, reverse, Option, Some, None}
 use Rattle.board_spec.specs.Setup.{Setup, IsRomSize, IsDiskSize, IsDisk}
 use Rattle.script_spec.specs.ScriptText.{Script as Said, IsScriptText}
 use Rattle.script_spec.specs.ScriptRange.{IsInRangeScript}

@@ -1,6 +1,5 @@
-use Rattle.std.proofs.Common.{◌≡◌, ◌≤◌, ◌/◌, ◌%◌, IsTrue, arith}
+use Rattle.std.proofs.Common.{◌≤◌, ◌/◌, arith}
 use Rattle.std.proofs.lemmas.Bool.Decides.{nat_tests}
-use Rattle.board_spec.specs.Setup.{IsDiskSize}
 use Rattle.command_files.proofs.good.is_disk_size.Goals as goal
 
 pub returns-then-size-eq0 : goal.returns-then-size-eq0
