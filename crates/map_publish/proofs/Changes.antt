@@ -1,5 +1,5 @@
 -- Maps after changes, and the changes of lists.
-use Rattle.std.proofs.Common.{◌≡◌, ◌+◌, ◌<◌, List, [], ◌∷◌, ◌++◌, length, refl, sym, ap, ◌∙◌, arith}
+use Rattle.std.proofs.Common.{◌≡◌, ◌+◌, ◌<◌, ◌≤◌, List, [], ◌∷◌, ◌++◌, length, refl, sym, ap, ◌∙◌, arith, length-append}
 use Rattle.std.specs.Prelude.{flat_map, reverse}
 use Rattle.std.proofs.lemmas.Bool.Decides.{nat_tests}
 use Rattle.std.proofs.lemmas.Grind.{flat_map-append}
@@ -58,6 +58,14 @@ changes_added log change = ap reverse (flat_map-append changes_in log (Changed c
 pub opened_same : (front whole : List Mark) → 0 < length front → IsPrefix front whole → opened_of whole ≡ opened_of front
 opened_same [] whole some prefix = absurd (omega (arith, some))
 opened_same (first ∷ later) whole some (rest, is) = ap opened_of (sym is)
+
+-- a list that goes on has no lower version
+pub version_grows : (front whole : List Mark) → 0 < length front → IsPrefix front whole → version_after front ≤ version_after whole
+version_grows front whole some prefix =
+    let opened = ap (λ (map : Mapped). map.version) (opened_same front whole some prefix) in
+    let changes = changes_extend front whole prefix in
+    let count = ap length changes.1 ∙ length-append changes.0 (changes_of front) in
+    omega (arith, opened, count)
 
 -- a change at the end leaves the map that the list was opened with
 pub opened_changed : (log : List Mark) (change : MapChange) → opened_of (log ++ Changed change ∷ []) ≡ opened_of log

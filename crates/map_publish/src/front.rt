@@ -50,6 +50,28 @@ impl Play<Mark, u64> for Add {
     ghost then = { Adds };
 }
 
+/// The step that reads the length of the list.
+struct Read;
+
+impl Play<Mark, u64> for Read {
+    ghost use Rattle.map_publish.specs.Fronts.{Reads};
+
+    ghost then = { Reads };
+}
+
+/// Asks for no entry.
+struct NoEntry;
+
+impl Plain<(), Mark, u64> for NoEntry {
+    ghost use Rattle.std.specs.Prelude.{None};
+    ghost use Rattle.map_publish.specs.Lists.{no_map};
+    ghost use Rattle.map_publish.specs.declared.mark.Mark.TheVariants.{Opened};
+
+    ghost ask = { λ about. Opened no_map };
+
+    ghost state = { λ about. None };
+}
+
 /// Asks for the entry of a map that is opened.
 struct Opens;
 
@@ -79,7 +101,7 @@ type Listed = Seen<Mark, u64, ListRule>;
 /// An entry that is asked for. It takes no bytes.
 type Asked = Offer<Mark, u64, ListRule, Nothing>;
 
-/// The word that keeps the length of the list. Whoever has it alone adds to the list.
+/// The word that keeps the length of the list. Only the publisher adds to the list; viewers read its length.
 pub(crate) type Head = Word<Mark, u64, ListRule>;
 
 /// A beginning of the list, of at least the opened map. It takes no bytes beside its length.
@@ -144,6 +166,16 @@ impl Front {
         let mut both = self.seen.again();
         both.learn(&other.seen);
         self.count <= other.count
+    }
+
+    /// Whether nothing stands in the list after this beginning. It makes no entry.
+    pub(crate) fn is_whole(&self, head: &Head) -> bool
+        requires head { head.now ≡ head_of self.now.seen.book }
+    {
+        let mut seen = self.seen.again();
+        let mut asked = self.seen.plain::<Nothing, (), NoEntry>(&());
+        let found = head.load::<Read, Nothing>(&mut seen, &mut asked);
+        found == u64::from(self.count)
     }
 
     /// This beginning with a change added to the list. None where more stands in the list.

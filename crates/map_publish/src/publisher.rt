@@ -1,5 +1,6 @@
 //! The one who publishes.
-ghost use Rattle.std.specs.Prelude.{◌≡◌, ◌≤◌, ◌<◌, ◌++◌, ◌∷◌, [], All, drop, length, IfSome, IfOk, OnOk, MatchResult};
+ghost use Rattle.std.specs.Prelude.{◌≡◌, ◌≤◌, ◌<◌, ◌++◌, ◌∷◌, [], All, drop, length, IfOk, OnOk, OnErr, MatchResult};
+ghost use Rattle.std.specs.Arc.{arc_value};
 ghost use Rattle.board_spec.specs.Limits.{entry_limit};
 ghost use Rattle.left_right.specs.Sides.{view};
 ghost use Rattle.map_publish.specs.Lists.{version_after, IsMapOfLog};
@@ -10,14 +11,13 @@ ghost use Rattle.map_publish.specs.Names.{name};
 use crate::front::{Front, Head};
 use crate::names::{Name, Names, Published, Stays, Tells};
 use crate::shown::{Next, Shown};
-use crate::viewer::{Latest, Note, Viewer};
+use crate::viewer::{Note, Viewer};
 use board_base::NoMemory;
 use board_spec::MapChange;
 use core::mem::replace_with;
 use left_right::writer::Writer;
 use map_builder::FlatMap;
 use std::alloc::{AllocError, Global};
-use std::sync::atomic::{AtomicU32, Ordering};
 use std::sync::{Arc, Wait};
 
 pub(crate) type Copies = Writer<Shown, Next, Name, Published>;
@@ -26,11 +26,10 @@ pub(crate) type Copies = Writer<Shown, Next, Name, Published>;
 /// it by `close`.
 pub struct Publisher {
     writer: Copies,
-    head: Head,
-    latest: Latest,
+    head: Arc<Head>,
     /// The list of what is published.
     pub front: Front,
-    ghost head_is: { head ≡ head_of front.seen.book },
+    ghost head_is: { arc_value head ≡ head_of front.seen.book },
     ghost quiet: { drop writer.behind writer.log.items ≡ [] },
     ghost shows: { writer.desk.shown.value.front ≡ front },
     ghost listed: { writer.desk.shown.value.list.log ≡ front.seen.log },
@@ -92,12 +91,12 @@ impl Publisher {
         requires room { version_after self.old.front.seen.log < entry_limit }
         ensures own { self.new.front.seen.book ≡ self.old.front.seen.book }
         ensures list { MatchResult result (λ _. self.new.front.seen.log ≡ self.old.front.seen.log ++ Changed change.now ∷ []) (λ _. self.new.front.seen.log ≡ self.old.front.seen.log) }
+        ensures refused { OnErr result (self.new.front ≡ self.old.front) }
     {
-        let front = self.front.add(&self.head, change).ok_or(NoMemory)?;
+        let front = self.front.add(&*self.head, change).ok_or(NoMemory)?;
         let next = (rt, *change, front.again());
         replace_with(&mut self.writer, next, published)?;
         self.front = front;
-        self.latest.store(self.front.count, Ordering::SeqCst);
         Ok(())
     }
 
@@ -133,7 +132,6 @@ impl Publisher {
         let Publisher {
             writer,
             head: _head,
-            latest: _latest,
             front: _front,
         } = self;
         let Shown {
@@ -144,23 +142,22 @@ impl Publisher {
         map
     }
 
-    /// A viewer of the published map. It has no place where none is given.
-    fn viewer(&mut self) -> Viewer
+    /// A viewer of the published map, with a place of its own.
+    fn viewer(&mut self) -> Result<Viewer, AllocError>
         ensures same { self.new.front ≡ self.old.front }
-        ensures viewer { result.front ≡ self.old.front }
+        ensures viewer { IfOk result (λ viewer. viewer.front ≡ self.old.front) }
     {
-        let mut reader = self.writer.factory().reader().ok();
+        let head = Arc::try_clone(&self.head)?;
+        let mut reader = self.writer.factory().reader()?;
         let note = self.writer.tell::<Tells>();
-        if let Some(reader) = &mut reader {
-            reader.learn::<Tells>(note);
-        }
-        let latest = Arc::try_clone(&self.latest).ok();
-        Viewer::new(reader, latest, self.map().copy(), self.front.again())
+        reader.learn::<Tells>(note);
+        let viewer = Viewer::new(reader, head, self.map().copy(), self.front.again());
+        Ok(viewer)
     }
 }
 
-/// The copies of a map, and as many viewers of them as `readers` says, 1 to 8. A viewer for which there is no place
-/// answers every look from its own copy. It may wait. Refused for want of memory.
+/// The copies of a map, and as many viewers of them as `readers` says, 1 to 8, each with a place of its own. It may wait.
+/// Refused for want of memory.
 pub fn open<R: Wait>(
     rt: &R,
     alloc: Global,
@@ -191,7 +188,7 @@ fn publisher_of<R: Wait>(
     ensures list { IfOk result (λ publisher. publisher.front.seen.log ≡ Opened map.now ∷ []) }
 {
     let (head, front) = Front::open(map).ok_or(NoMemory)?;
-    let Ok(latest) = Arc::new(alloc, AtomicU32::new(front.count)) else {
+    let Ok(head) = Arc::new(alloc, head) else {
         return Err(NoMemory);
     };
     let (first, second) = (Shown::new(map, &front), Shown::new(map, &front));
@@ -211,7 +208,6 @@ fn publisher_of<R: Wait>(
     Ok(Publisher {
         writer,
         head,
-        latest,
         front,
     })
 }
@@ -228,7 +224,8 @@ fn viewers(
 {
     let mut viewers = Vec::with_capacity(alloc, readers as usize)?;
     for _ in 0..readers {
-        viewers.push(publisher.viewer())?;
+        let viewer = publisher.viewer()?;
+        viewers.push(viewer)?;
     }
     Ok(viewers)
 }

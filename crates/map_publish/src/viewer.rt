@@ -1,13 +1,15 @@
 //! One who looks at the published map.
-ghost use Rattle.std.specs.Prelude.{◌≡◌, ◌<◌, length, IsTrue, IsFalse};
+ghost use Rattle.std.specs.Prelude.{◌≡◌, ◌<◌, ◌≤◌, length, true, is_some, IsTrue, IsFalse};
+ghost use Rattle.std.specs.Arc.{arc_value};
 ghost use Rattle.std.specs.Option.{ForSome};
 ghost use mathlib.Core.List.{IsPrefix};
 ghost use Rattle.left_right.specs.Sides.{view};
+ghost use Rattle.map_publish.specs.Fronts.{head_of};
 ghost use Rattle.map_publish.specs.Lists.{opened_of, changes_of, version_after, IsMapOfLog, IsLookIn};
 ghost use Rattle.map_publish.specs.Names.{name};
 ghost use Rattle.map_publish.specs.Props.{IsMapAfter-prop};
 
-use crate::front::Front;
+use crate::front::{Front, Head};
 use crate::names::{Name, Published, Stays};
 use crate::shown::Shown;
 use board_base::Kind;
@@ -15,7 +17,6 @@ use board_spec::Look;
 use left_right::reader::Reader;
 use map_builder::FlatMap;
 use std::sync::Arc;
-use std::sync::atomic::{AtomicU32, Ordering};
 
 /// What a publisher tells: the list that was published when it told the note. It takes no bytes beside its length.
 #[derive(Drop)]
@@ -25,36 +26,32 @@ pub struct Note {
 
 pub(crate) type Place = Reader<Shown, Name, Published>;
 
-/// The length of the list that was published last. It only tells whether a viewer need look there.
-pub(crate) type Latest = Arc<AtomicU32>;
-
-/// A viewer, with a copy of the newest map that it was opened with, looked at or learnt. It has a place at the published
-/// copies, or none where that was refused.
+/// A viewer, with a copy of the newest map that it was opened with, looked at or learnt, and a place at the published
+/// copies, which it keeps.
 #[derive(Drop)]
 pub struct Viewer {
+    /// None only while the viewer looks at what is published.
     reader: Option<Place>,
-    latest: Option<Latest>,
+    head: Arc<Head>,
     map: FlatMap,
     /// The list of that map.
     pub front: Front,
     ghost is_map: { IsMapOfLog front.seen.log map } by { IsMapAfter-prop (opened_of front.seen.log) (changes_of front.seen.log) map },
+    ghost placed: { is_some reader ≡ true },
+    ghost head_is: { arc_value head ≡ head_of front.seen.book },
     ghost tied: { ForSome reader (λ r. view r.place ≡ name front.seen.book) },
 }
 
 impl Viewer {
-    pub(crate) fn new(
-        reader: Option<Place>,
-        latest: Option<Latest>,
-        map: FlatMap,
-        front: Front,
-    ) -> Viewer
+    pub(crate) fn new(reader: Place, head: Arc<Head>, map: FlatMap, front: Front) -> Viewer
         requires map { IsMapOfLog front.seen.log map }
-        requires tied { ForSome reader (λ r. view r.place ≡ name front.seen.book) }
+        requires head { arc_value head ≡ head_of front.seen.book }
+        requires tied { view reader.place ≡ name front.seen.book }
         ensures viewer { result.front ≡ front }
     {
         Viewer {
-            reader,
-            latest,
+            reader: Some(reader),
+            head,
             map,
             front,
         }
@@ -100,12 +97,14 @@ impl Viewer {
     }
 
     /// Looks at the newest map: how many changes led to it, and the longest interval round an address in which this kind
-    /// of access has one area. It neither waits nor takes memory.
+    /// of access has one area. It is no older than a map that the viewer looked at or learnt. It neither waits nor takes
+    /// memory.
     pub fn look(&mut self, addr: u32, kind: Kind, smm: bool) -> Look
         ensures own { self.new.front.seen.book ≡ self.old.front.seen.book }
         ensures opened { opened_of self.new.front.seen.log ≡ opened_of self.old.front.seen.log }
         ensures later { IsPrefix self.old.front.seen.log self.new.front.seen.log }
         ensures look { IsLookIn self.new.front.seen.log addr kind smm result }
+        ensures newer { version_after self.old.front.seen.log ≤ result.version }
     {
         self.keep_up();
         self.find(addr, kind, smm)
@@ -118,41 +117,33 @@ impl Viewer {
         self.map.version()
     }
 
-    /// Whether nothing was published since the viewer's own copy, as far as is known without an entry. A hint: no clause
-    /// rests on it.
-    fn is_latest(&self) -> bool {
-        match &self.latest {
-            Some(latest) => latest.load(Ordering::SeqCst) == self.front.count,
-            None => false,
-        }
-    }
-
-    /// Takes in the published map where there may be a newer one.
+    /// Takes in the published map where the list has more than the viewer's own. No clause can say that it asks: what a
+    /// viewer knows of the list is a beginning of it also where it has not asked.
     fn keep_up(&mut self)
         ensures own { self.new.front.seen.book ≡ self.old.front.seen.book }
         ensures later { IsPrefix self.old.front.seen.log self.new.front.seen.log }
     {
-        if !self.is_latest() {
+        if !self.front.is_whole(&*self.head) {
             self.refresh();
         }
     }
 
-    /// Takes in the published map where its list is longer. Where the entry is refused, or the viewer has no place, the
-    /// viewer stays as it is.
+    /// Takes in the published map where its list is longer. The viewer stays as it is where the publisher has gone.
     #[inline(never)]
     fn refresh(&mut self)
         ensures own { self.new.front.seen.book ≡ self.old.front.seen.book }
         ensures later { IsPrefix self.old.front.seen.log self.new.front.seen.log }
     {
         let Some(reader) = self.reader.take() else {
-            return;
+            unreachable!()
         };
         match reader.enter_as::<Stays>() {
             Err(reader) => self.reader = Some(reader),
             Ok(reading) => {
                 let shown = reading.get();
                 if self.front.begins(&shown.front) && self.front.count < shown.front.count {
-                    self.take_in(shown.front.again(), &shown.map);
+                    self.map.copy_from(&shown.map);
+                    self.front = shown.front.again();
                 }
                 self.reader = Some(reading.leave());
             }
