@@ -9,4 +9,3 @@ pub mod BlameLemmas
 pub mod EntryLaw
 pub mod Cards
 pub mod TextLines
-pub mod Results
