@@ -9,7 +9,6 @@ pub mod BlameLemmas
 pub mod EntryLaw
 pub mod Cards
 pub mod TextLines
-pub mod Results
 pub mod Happenings
 pub mod SerialReplays
 pub mod Sums
