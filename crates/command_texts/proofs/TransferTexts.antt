@@ -1,6 +1,6 @@
 -- What a transfer tells is that of the definition over what the history left.
-use Rattle.std.proofs.Common.{◌≡◌, ℕ, ◌+◌, ◌*◌, ◌<◌, Bool, true, List, ◌++◌, length, refl, sym, ap, ◌∙◌}
-use Rattle.std.specs.Prelude.{nat_lt, if◌then◌else◌, slice_index, Option, Result, Ok, Err, IfOk}
+use Rattle.std.proofs.Common.{◌≡◌, ℕ, ◌+◌, ◌*◌, ◌<◌, Bool, true, List, [], ◌∷◌, ◌++◌, length, append_assoc, refl, sym, ap, ◌∙◌}
+use Rattle.std.specs.Prelude.{nat_lt, if◌then◌else◌, slice_index, Option, Result, Ok, Err, IfOk, OnOk}
 use Rattle.std.proofs.lemmas.Bool.{lt-ltb}
 use Rattle.board_base.specs.declared.access.Width.TheVariants.{One}
 use Rattle.device_spec.specs.Ata.State.{Disk}
@@ -8,6 +8,7 @@ use Rattle.board_spec.specs.declared.event.Entry.{Entry}
 use Rattle.board_spec.specs.Setup.{Setup, installed}
 use Rattle.board_spec.specs.Registers.{byte_of}
 use Rattle.board_spec.specs.Devices.{disk_of}
+use Rattle.board_spec.specs.Text.{space}
 use Rattle.board_spec.specs.Stored.{Cell, DramCell, dram_byte}
 use Rattle.dram_store.specs.Dram.{dram_at, IsDramOf}
 use Rattle.dram_store.proofs.DramLemmas.{read_stored}
@@ -79,3 +80,14 @@ ok_then (Err fault) is more = tt
 pub status_read : (master : Master) → register_of master 2 ≡ master.status
 unfolding register_of
 status_read master = refl
+
+-- four pieces, one after another
+pub abort_added : {T E : Type 0} (result : Result T E) (old one two three new first second last : List ℕ) →
+    one ≡ old ++ first → two ≡ one ++ second → three ≡ two ++ space ∷ [] → OnOk result (new ≡ three ++ last) →
+    OnOk result (new ≡ old ++ (first ++ second ++ space ∷ last))
+abort_added (Ok done) old one two three new first second last a b c d =
+    d ∙ ap (λ (t : List ℕ). t ++ last) (c ∙ ap (λ (t : List ℕ). t ++ space ∷ []) (b ∙ ap (λ (t : List ℕ). t ++ second) a))
+    ∙ append_assoc (old ++ first ++ second) (space ∷ []) last
+    ∙ ap (λ (t : List ℕ). t ++ space ∷ last) (append_assoc old first second)
+    ∙ append_assoc old (first ++ second) (space ∷ last)
+abort_added (Err fault) old one two three new first second last a b c d = tt

@@ -22,8 +22,12 @@ steps-requires-clause-for_port c =
 pub steps-requires-clause-spare : goal.steps-requires-clause-spare
 steps-requires-clause-spare c =
     let same : length c.deref.result.now ≡ length c.phase-item.result.items = ap length c.deref.ensures.value in
-    omega (arith, same, room_for_phase c.args.phases.now c.loop-phase.phase-index c.phase-item.result _ _ c.loop-phase-test.true
-    c.phase-item.is c.requires.spare c.loop-phase.invariant)
+    omega (
+      arith,
+      same,
+      room_for_phase c.args.phases.now c.loop-phase.phase-index c.phase-item.result _ _ c.loop-phase-test.true
+          c.phase-item.is c.requires.spare c.loop-phase.invariant,
+    )
 
 pub loop-phase-preserved : goal.loop-phase-preserved
 loop-phase-preserved c =

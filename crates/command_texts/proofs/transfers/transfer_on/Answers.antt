@@ -12,12 +12,12 @@ returns c =
     let of = c.into_store-store.ensures.store in
     record {
       text = ok_then c.transfer_text.result c.transfer_text.ensures.text (λ text lines.
-      transfer_told setup history c.args.transfer.now old new c.start-master.result c.transfer-done.new.self
-      c.transfer-done.result c.port_read-status.result c.dram_sum.result c.disk_sum.result text _ refl
-      c.start-master.ensures.started c.into_store-store.ensures.disk
-      (cells_left setup history old c.into_store-store.ensures.dram c.into_store-store.ensures.contents)
-      (c.transfer-done.ensures.shape.memory ∙ of.memory) (c.transfer-done.ensures.done setup _ of)
-      (c.transfer-done.ensures.registers setup _ of) (c.transfer-done.ensures.disk setup _ of)
-      (λ cell there. c.transfer-done.ensures.cells setup _ cell of there)
-      (c.port_read-status.ensures.value ∙ status_read c.transfer-done.new.self) c.dram_sum.ensures.sum c.disk_sum.ensures.sum lines);
+          transfer_told setup history c.args.transfer.now old new c.start-master.result c.transfer-done.new.self
+          c.transfer-done.result c.port_read-status.result c.dram_sum.result c.disk_sum.result text _ refl
+          c.start-master.ensures.started c.into_store-store.ensures.disk
+          (cells_left setup history old c.into_store-store.ensures.dram c.into_store-store.ensures.contents)
+          (c.transfer-done.ensures.shape.memory ∙ of.memory) (c.transfer-done.ensures.done setup _ of)
+          (c.transfer-done.ensures.registers setup _ of) (c.transfer-done.ensures.disk setup _ of)
+          (λ cell there. c.transfer-done.ensures.cells setup _ cell of there)
+          (c.port_read-status.ensures.value ∙ status_read c.transfer-done.new.self) c.dram_sum.ensures.sum c.disk_sum.ensures.sum lines);
     }
