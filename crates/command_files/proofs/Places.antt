@@ -16,9 +16,9 @@ use Rattle.command_files.specs.Known.{Files, Known, nothing_known, name_of, Lear
 use Rattle.command_files.specs.Asked.{ReadsFile, Fits, IsNoImage}
 use Rattle.command_files.specs.Outcomes.{ShelfCall, OfFiles, CanRead, FailsAt, IsNotTaken, IsRefused}
 use Rattle.command_files.specs.Calls.{OfCalls, FoundEnd, Reaches, Reads, ReadEach, FetchesOf}
-use Rattle.command_files.specs.Steps.{IsBad, IsPassed, StopsAt, ReadsNamed}
+use Rattle.command_files.specs.Steps.{IsPassed, StopsAt, ReadsNamed}
 use Rattle.command_files.proofs.CallLemmas.{Both, calls_both, calls_hold}
-use Rattle.command_files.proofs.Refusals.{of_files, at_files, at_file, of_file, any_file}
+use Rattle.command_files.proofs.Refusals.{of_files, at_files, at_file, any_file}
 
 -- ---- places of a list
 
@@ -64,38 +64,6 @@ pub are_read :
     OfFiles told (λ files. AreReadAs command files whiches known)
 are_read command None whiches known is = tt
 are_read command (Some files) whiches known is = taken_as command files whiches known is
-
--- ---- a bad file
-
-pub not_good :
-    (told : Option Files) (before now : ℕ) (kept : List ℕ) (which : Which) (name bytes : List ℕ) (status : Status) →
-    OfFile told name (λ file. bytes ≡ file) → length bytes ≤ limit_of which → IsBad which bytes status →
-    IsNotTaken which name (record { files = told; faults_before = before; faults_now = now; failed_name = kept }) status
-not_good told before now kept which name bytes (BadScript line why) whole fits (is, bad) = (
-  is,
-  of_file told name (λ file. bytes ≡ file) (Fits Script (λ file. IsScriptBad file line why) name)
-      (λ file same. record {
-        fits = subst (λ (file' : List ℕ). length file' ≤ limit_of Script) same (subst (λ (which' : Which). length bytes ≤ limit_of which') is fits);
-        holds = subst (λ (file' : List ℕ). IsScriptBad file' line why) same bad;
-      }) whole,
-)
-not_good told before now kept which name bytes (BadImage other) whole fits (is, kind, bad) = (
-  is,
-  kind,
-  of_file told name (λ file. bytes ≡ file) (Fits which (IsNoImage which) name)
-      (λ file same. record {
-        fits = subst (λ (file' : List ℕ). length file' ≤ limit_of which) same fits;
-        holds = subst (λ (file' : List ℕ). IsNoImage which file') same bad;
-      }) whole,
-)
-not_good told before now kept which name bytes NoMemory whole fits bad = tt
-not_good told before now kept which name bytes Done whole fits bad = absurd bad
-not_good told before now kept which name bytes Usage whole fits bad = absurd bad
-not_good told before now kept which name bytes (ReadFault other) whole fits bad = absurd bad
-not_good told before now kept which name bytes WriteFault whole fits bad = absurd bad
-not_good told before now kept which name bytes (TooLong other) whole fits bad = absurd bad
-not_good told before now kept which name bytes (Differs line) whole fits bad = absurd bad
-not_good told before now kept which name bytes OtherBoard whole fits bad = absurd bad
 
 -- ---- the file at a place
 

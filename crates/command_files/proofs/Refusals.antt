@@ -17,12 +17,6 @@ pub at_file :
     P (files name)
 at_file told files name P is holds = subst (λ (told' : Option Files). OfFile told' name P) is holds
 
-pub of_file :
-    (told : Option Files) (name : List ℕ) (P Q : List ℕ → Type 0) → ((file : List ℕ) → P file → Q file) → OfFile told name P →
-    OfFile told name Q
-of_file None name P Q each holds = tt
-of_file (Some files) name P Q each holds = each (files name) holds
-
 pub any_file : (told : Option Files) (name : List ℕ) (P : Type 0) → P → OfFile told name (λ file. P)
 any_file None name P holds = tt
 any_file (Some files) name P holds = holds
