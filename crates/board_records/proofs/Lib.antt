@@ -1,1 +1,4 @@
 pub mod AfterSteps
+pub mod Filled
+pub mod Said
+pub mod Cycles

@@ -3,4 +3,8 @@ pub mod Events
 pub mod Replies
 pub mod Statuses
 pub mod Steps
+pub mod Cards
 pub mod Doors
+pub mod Maps
+pub mod Places
+pub mod Bytes

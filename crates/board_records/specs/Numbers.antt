@@ -45,6 +45,17 @@ read_kind = 2
 abbrev pub write_kind : ℕ
 write_kind = 3
 
+-- ---- the bases of a card
+
+abbrev pub memory_base : ℕ
+memory_base = 1
+
+abbrev pub io_base : ℕ
+io_base = 2
+
+abbrev pub most_bases : ℕ
+most_bases = 6
+
 -- ---- what answered
 
 abbrev pub dram_target : ℕ

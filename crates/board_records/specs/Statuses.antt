@@ -21,6 +21,9 @@ no_memory = 2
 abbrev pub bad_size : ℕ
 bad_size = 3
 
+abbrev pub bad_cards : ℕ
+bad_cards = 4
+
 abbrev pub bad_rom : ℕ
 bad_rom = 5
 
@@ -30,6 +33,34 @@ bad_disk = 6
 -- a record names no event
 abbrev pub no_event : ℕ
 no_event = 7
+
+-- the event is no access of one bus cycle
+abbrev pub no_cycle : ℕ
+no_cycle = 17
+
+-- there is no disk, or it has no such sector
+abbrev pub no_sector : ℕ
+no_sector = 18
+
+-- the bytes do not all lie in the installed memory
+abbrev pub past_end : ℕ
+past_end = 19
+
+-- the clock has no byte at this address
+abbrev pub no_byte : ℕ
+no_byte = 20
+
+-- a sector has 512 bytes
+abbrev pub bad_length : ℕ
+bad_length = 21
+
+-- the record is that of no reply
+abbrev pub no_reply : ℕ
+no_reply = 22
+
+-- the text does not fit
+abbrev pub no_room : ℕ
+no_room = 23
 
 abbrev pub open_status : BoardOpen → ℕ
 open_status BadRom = bad_rom

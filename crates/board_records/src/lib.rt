@@ -2,13 +2,19 @@
 //! call ends as a status.
 #![tactic(auto)]
 
+mod bytes;
 mod calls;
+mod card;
 mod door;
 mod event;
+mod map;
 pub mod numbers;
+mod place;
 mod reply;
 pub mod status;
 
+pub use card::{BaseRecord, CardRecord, cards_of};
 pub use door::Door;
 pub use event::{EventRecord, event_of};
+pub use map::{AreaRecord, MapRecord, RangeRecord, WindowRecord};
 pub use reply::{AfterStep, PartRecord, ReplyRecord, record_of};

@@ -26,6 +26,11 @@ pub const READ_KIND: u8 = 2;
 /// A data write.
 pub const WRITE_KIND: u8 = 3;
 
+/// A base for memory.
+pub const MEMORY_BASE: u8 = 1;
+/// A base for I/O ports.
+pub const IO_BASE: u8 = 2;
+
 /// Main memory.
 pub const DRAM_TARGET: u8 = 1;
 /// Main memory behind an open PAM window.

@@ -185,7 +185,7 @@ fn parted(record: ReplyRecord, parts: Parts) -> ReplyRecord
     }
 }
 
-fn of_part(part: Part) -> PartRecord
+pub(crate) fn of_part(part: Part) -> PartRecord
     ensures part { result ≡ of_part part }
 {
     part_record(part.target, part.denial)
@@ -237,7 +237,7 @@ fn target_record(target: Target) -> PartRecord
     }
 }
 
-fn area_record(area: Area) -> PartRecord
+pub(crate) fn area_record(area: Area) -> PartRecord
     ensures said { result ≡ area_said area }
 {
     match area {

@@ -13,6 +13,8 @@ pub const CLOSED: u32 = 1;
 pub const NO_MEMORY: u32 = 2;
 /// The memory of the guest is not of 1 to 64 MiB.
 pub const BAD_SIZE: u32 = 3;
+/// The cards are not those of a board.
+pub const BAD_CARDS: u32 = 4;
 /// The ROM is not of 64, 128, 256 or 512 KiB.
 pub const BAD_ROM: u32 = 5;
 /// The disk is not of 1 to 65,536 whole sectors of 512 bytes.
@@ -37,6 +39,20 @@ pub const DATE: u32 = 14;
 pub const DEVICE: u32 = 15;
 /// The line cannot be set from outside.
 pub const LINE: u32 = 16;
+/// The event is no access that one bus cycle makes.
+pub const NO_CYCLE: u32 = 17;
+/// There is no disk, or it has no such sector.
+pub const NO_SECTOR: u32 = 18;
+/// The bytes do not all lie in the installed memory.
+pub const PAST_END: u32 = 19;
+/// The clock has no byte at this address.
+pub const NO_BYTE: u32 = 20;
+/// A sector has 512 bytes.
+pub const BAD_LENGTH: u32 = 21;
+/// The record is that of no reply.
+pub const NO_REPLY: u32 = 22;
+/// The text does not fit.
+pub const NO_ROOM: u32 = 23;
 
 /// The status of an event that is out of range.
 pub fn fault_status(fault: OutOfRange) -> u32

@@ -1,0 +1,30 @@
+use Rattle.std.proofs.Common.{◌∙◌, ap, sym, List, length, map}
+use Rattle.std.proofs.lemmas.List.{length-map}
+use Rattle.std.proofs.lemmas.Simd.{map-map}
+use Rattle.board_spec.specs.FlatMap.{MapRange}
+use Rattle.map_builder.specs.Map.{range_of}
+use Rattle.board_records.specs.declared.map.RangeRecord.{RangeRecord}
+use Rattle.board_records.specs.Maps.{range_said, window_said, filled}
+use Rattle.board_records.proofs.map.tell_map.Goals as goal
+
+pub returns : goal.returns
+returns c =
+    let same = c.ranges-all.ensures.ranges in
+    record {
+      version = λ history left. c.version.ensures.version ∙ c.map-map.ensures.version history left;
+      ranges = record {
+        ranges = c.map-map.result.now.ranges;
+        flat = c.map-map.ensures.map;
+        count_is = sym (length-map c.ranges-all.result.now range_of) ∙ ap length same;
+        told =
+            c.tell_ranges.ensures.told
+            ∙ ap (λ (records : List RangeRecord). filled records c.args.ranges.now)
+            (sym (map-map range_said range_of c.ranges-all.result.now) ∙ ap (map range_said) same);
+      };
+      windows = record {
+        windows = c.map-map.result.now.changed;
+        changed = c.map-map.ensures.changed;
+        count_is = ap length c.changed-changed.ensures.windows;
+        told = c.tell_windows.ensures.told ∙ ap (λ windows. filled (map window_said windows) c.args.windows.now) c.changed-changed.ensures.windows;
+      };
+    }

@@ -1,0 +1,12 @@
+use Rattle.std.proofs.Common.{◌≡◌, length, map}
+use Rattle.std.specs.Prelude.{take, drop}
+use Rattle.map_builder.specs.Map.{range_of}
+use Rattle.board_records.specs.Maps.{range_said}
+use Rattle.board_records.proofs.map.tell_ranges.Given as goal
+
+abbrev pub invariant-loop-index : goal.invariant-loop-index
+invariant-loop-index l = record {
+  size : length l.room ≡ length l.fn.room;
+  front : take l.index l.room ≡ take l.index (map (λ range. range_said (range_of range)) l.ranges);
+  rest : drop l.index l.room ≡ drop l.index l.fn.room;
+}

@@ -1,0 +1,37 @@
+-- The bytes of a chipset, out and in.
+use Rattle.std.specs.Prelude.{ℕ, ◌≡◌, ◌≢◌, ◌+◌, ◌<◌, ◌≤◌, ◌⊎◌, List, ◌++◌, length, slice_index, IfSome, IsSomeAnd}
+use Rattle.device_spec.specs.Ata.State.{sectors_of, sector_bytes}
+use Rattle.board_spec.specs.declared.event.Entry.{Entry}
+use Rattle.board_spec.specs.Devices.{clock_of, disk_of}
+use Rattle.board_spec.specs.Stored.{dram_byte}
+use Rattle.board_chipset.specs.Chipset.{Running, IsLeftBy}
+use Rattle.board_records.specs.Statuses.{no_sector, bad_length}
+
+-- the bytes of the DRAM from an address on, as reads give them: FFh past the installed memory
+pub record IsDramTold (chipset : Running) (addr : ℕ) (before after : List ℕ) : Type 0 where
+  pub size : length after ≡ length before
+  pub bytes : (history : List Entry) (k : ℕ) → IsLeftBy chipset history → k < length before →
+      slice_index after k ≡ dram_byte chipset.setup history (addr + k)
+
+-- the bytes of a sector that the disk has, bad or not
+abbrev pub IsSectorTold : Running → (sector : ℕ) → List ℕ → Type 0
+IsSectorTold chipset sector bytes =
+    (history : List Entry) → IsLeftBy chipset history →
+    IsSomeAnd (disk_of chipset.setup history)
+    (λ disk. (sector < sectors_of disk.medium) × (bytes ≡ sector_bytes disk.medium sector))
+
+-- why none are told: the disk has no such sector; or there is not the room of one
+abbrev pub IsSectorRefusal : Running → (sector room status : ℕ) → Type 0
+IsSectorRefusal chipset sector room status =
+    (history : List Entry) → IsLeftBy chipset history →
+    ((status ≡ no_sector) × IfSome (disk_of chipset.setup history) (λ disk. sectors_of disk.medium ≤ sector)) ⊎
+    ((status ≡ bad_length) ×
+        IfSome (disk_of chipset.setup history) (λ disk. room ≢ length (sector_bytes disk.medium sector)))
+
+-- how many bytes the clock has
+abbrev pub clock_bytes : ℕ
+clock_bytes = 128
+
+abbrev pub IsClockByte : Running → (address byte : ℕ) → Type 0
+IsClockByte chipset address byte =
+    (history : List Entry) → IsLeftBy chipset history → byte ≡ slice_index (clock_of history).bytes address

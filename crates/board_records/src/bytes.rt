@@ -1,0 +1,54 @@
+//! The bytes of a chipset, out.
+
+ghost use Rattle.std.specs.Prelude.{◌≡◌, ◌≢◌, ◌<◌, ◌≤◌, length};
+ghost use Rattle.board_records.specs.Bytes.{clock_bytes, IsDramTold, IsSectorTold, IsSectorRefusal, IsClockByte};
+ghost use Rattle.board_records.specs.Statuses.{ok, closed, no_byte};
+
+use crate::status::{BAD_LENGTH, NO_BYTE, NO_SECTOR, OK};
+use board_chipset::Chipset;
+
+/// Tells the bytes of the DRAM from an address on, as reads of one byte each would: FFh past the installed memory.
+pub(crate) fn tell_dram(chipset: &Chipset, addr: u32, into: &mut [u8])
+    ensures told { IsDramTold chipset.now addr into.old into.new }
+{
+    chipset.dram().read_bytes(addr, into);
+}
+
+/// Tells the 512 bytes of a sector, bad or not. Refused with `NO_SECTOR` where there is no disk, or it has no such sector,
+/// and with `BAD_LENGTH` where the room is not that of a sector.
+pub(crate) fn tell_sector(chipset: &Chipset, sector: u32, into: &mut [u8]) -> u32
+    ensures done { result ≡ ok → IsSectorTold chipset.now sector into.new }
+    ensures refused { result ≢ ok → IsSectorRefusal chipset.now sector (length into.old) result }
+    ensures untold { result ≢ ok → into.new ≡ into.old }
+    ensures open { result ≢ closed }
+{
+    let Some(disk) = chipset.disk() else {
+        return NO_SECTOR;
+    };
+    if disk.sectors() <= sector {
+        return NO_SECTOR;
+    }
+    let bytes = disk.sector(sector);
+    if into.len() != bytes.len() {
+        return BAD_LENGTH;
+    }
+    into.copy_from_slice(bytes);
+    OK
+}
+
+/// Tells the byte of the clock at an address. Refused with `NO_BYTE` from address 128 on.
+pub(crate) fn tell_clock_byte(chipset: &Chipset, address: u8, byte: &mut u8) -> u32
+    ensures done { result ≡ ok → IsClockByte chipset.now address byte.new }
+    ensures within { result ≡ ok → address < clock_bytes }
+    ensures refused { result ≢ ok → (result ≡ no_byte) × (clock_bytes ≤ address) }
+    ensures untold { result ≢ ok → byte.new ≡ byte.old }
+    ensures open { result ≢ closed }
+{
+    let bytes = chipset.clock_bytes();
+    let index = usize::from(address);
+    if bytes.len() <= index {
+        return NO_BYTE;
+    }
+    *byte = bytes[index];
+    OK
+}

@@ -1,0 +1,97 @@
+//! Cards as records of numbers.
+
+ghost use Rattle.std.specs.Prelude.{◌≡◌, ◌≤◌, length, map, IfOk, option_map};
+ghost use Rattle.pci_bars.specs.Bases.{base_of as fitted_base};
+ghost use Rattle.board_records.specs.Cards.{all_said, base_said, rom_said, card_said, cards_said};
+
+use crate::numbers::{IO_BASE, MEMORY_BASE};
+use arrayvec::ArrayVec;
+use pci_bars::{BASE_COUNT, BaseSpec, CardSpec};
+use std::alloc::{AllocError, Global};
+
+/// A base of a card: for memory or for I/O ports (`MEMORY_BASE`, `IO_BASE`), and log2 of its size in bytes or ports.
+#[repr(C)]
+#[derive(Clone, Copy, PartialEq, Eq, Debug, Default)]
+pub struct BaseRecord {
+    pub kind: u8,
+    pub bits: u8,
+}
+
+/// A PCI card: its device number, 1 for a VGA adapter, log2 of the size of its expansion ROM or 0 for none, how many
+/// bases it has, and these. Bases past that count are not read. `reserved` is 0.
+#[repr(C)]
+#[derive(Clone, Copy, PartialEq, Eq, Debug, Default)]
+pub struct CardRecord {
+    pub device: u8,
+    pub vga: u8,
+    pub rom: u8,
+    pub bases: u8,
+    pub base: [BaseRecord; 6],
+    pub reserved: u64,
+}
+
+/// The cards that some records say. None exactly where a number of one names nothing. They may still be none that a
+/// board can be fitted with.
+pub fn cards_of(alloc: Global, records: &[CardRecord]) -> Result<Option<Vec<CardSpec>>, AllocError>
+    ensures said { IfOk result (λ cards. option_map (λ cards. cards.items) cards ≡ cards_said records.now) }
+{
+    let mut cards = Vec::with_capacity(alloc, records.len())?;
+    for record in records {
+        match card_of(record) {
+            Some(card) => cards.push(card)?,
+            None => return Ok(None),
+        }
+    }
+    Ok(Some(cards))
+}
+
+#[tactic(auto, unfolding(crate::specs::Cards::card_said))]
+fn card_of(record: &CardRecord) -> Option<CardSpec>
+    ensures said { result ≡ card_said record.now }
+{
+    if record.reserved != 0 || record.vga > 1 || usize::from(record.bases) > BASE_COUNT {
+        return None;
+    }
+    match bases_of(&record.base[..usize::from(record.bases)]) {
+        Some(bases) => Some(CardSpec {
+            dev: record.device,
+            vga: record.vga == 1,
+            bases,
+            rom: rom_of(record.rom),
+        }),
+        None => None,
+    }
+}
+
+/// The bases that at most six records say.
+fn bases_of(records: &[BaseRecord]) -> Option<ArrayVec<BaseSpec, BASE_COUNT>>
+    requires few { length records.now ≤ 6 }
+    ensures said { option_map (λ bases. map fitted_base bases.items) result ≡ all_said base_said records.now }
+{
+    let mut bases = ArrayVec::new();
+    for record in records {
+        match base_of(*record) {
+            Some(base) => bases.push(base),
+            None => return None,
+        }
+    }
+    Some(bases)
+}
+
+#[tactic(auto, unfolding(crate::specs::Cards::base_said))]
+fn base_of(record: BaseRecord) -> Option<BaseSpec>
+    ensures said { option_map fitted_base result ≡ base_said «record» }
+{
+    match record.kind {
+        MEMORY_BASE => Some(BaseSpec::Memory(record.bits)),
+        IO_BASE => Some(BaseSpec::Io(record.bits)),
+        _ => None,
+    }
+}
+
+#[tactic(auto, unfolding(crate::specs::Cards::rom_said))]
+fn rom_of(bits: u8) -> Option<u8>
+    ensures said { result ≡ rom_said bits }
+{
+    if bits == 0 { None } else { Some(bits) }
+}

@@ -1,0 +1,132 @@
+//! The memory map as records of numbers.
+
+ghost use Rattle.std.specs.Prelude.{◌≡◌, map};
+ghost use Rattle.map_builder.specs.Map.{range_of};
+ghost use Rattle.board_records.specs.Maps.{short_area, range_said, window_said, filled, AreRangesTold, AreWindowsTold, IsVersion};
+
+use crate::reply::area_record;
+use board_base::Area;
+use board_chipset::Chipset;
+use map_builder::{Changed, Range};
+
+/// What one kind of access to a range reaches, in the numbers that it has as a part of a reply.
+#[repr(C)]
+#[derive(Clone, Copy, PartialEq, Eq, Debug, Default)]
+pub struct AreaRecord {
+    pub target: u8,
+    pub unit: u8,
+    pub base: u8,
+    pub reserved: u8,
+}
+
+/// A range of the memory map: first and last address, and what a fetch, a read and a write reach outside SMM, and then
+/// in SMM.
+#[repr(C)]
+#[derive(Clone, Copy, PartialEq, Eq, Debug, Default)]
+pub struct RangeRecord {
+    pub lo: u32,
+    pub hi: u32,
+    pub areas: [AreaRecord; 6],
+}
+
+/// A window of addresses that a change of the map changed: the first and the last.
+#[repr(C)]
+#[derive(Clone, Copy, PartialEq, Eq, Debug, Default)]
+pub struct WindowRecord {
+    pub lo: u32,
+    pub hi: u32,
+}
+
+/// The memory map: how many ranges it has, how many windows its last change changed, and its version.
+#[repr(C)]
+#[derive(Clone, Copy, PartialEq, Eq, Debug, Default)]
+pub struct MapRecord {
+    pub ranges: u64,
+    pub windows: u64,
+    pub version: u32,
+    pub reserved: u32,
+}
+
+/// Tells the memory map, its ranges and the windows that its last change changed: as many of them as there is room for,
+/// and how many there are.
+pub(crate) fn tell_map(
+    chipset: &Chipset,
+    told: &mut MapRecord,
+    ranges: &mut [RangeRecord],
+    windows: &mut [WindowRecord],
+)
+    ensures version { IsVersion chipset.now told.new.version }
+    ensures ranges { AreRangesTold chipset.now told.new.ranges ranges.old ranges.new }
+    ensures windows { AreWindowsTold chipset.now told.new.windows windows.old windows.new }
+{
+    let map = chipset.map();
+    let all = map.ranges();
+    let changed = map.changed();
+    *told = MapRecord {
+        ranges: all.len() as u64,
+        windows: changed.len() as u64,
+        version: map.version(),
+        reserved: 0,
+    };
+    tell_ranges(all, ranges);
+    tell_windows(changed, windows);
+}
+
+/// Tells the first of some ranges, as many as there is room for.
+fn tell_ranges(ranges: &[Range], room: &mut [RangeRecord])
+    ensures told { room.new ≡ filled (map (λ range. range_said (range_of range)) ranges.now) room.old }
+{
+    let count = ranges.len().min(room.len());
+    for index in 0..count {
+        room[index] = range_record(&ranges[index]);
+    }
+}
+
+/// Tells the first of some windows, as many as there is room for.
+fn tell_windows(windows: &[Changed], room: &mut [WindowRecord])
+    ensures told { room.new ≡ filled (map window_said windows.now) room.old }
+{
+    let count = windows.len().min(room.len());
+    for index in 0..count {
+        room[index] = window_record(windows[index]);
+    }
+}
+
+fn range_record(range: &Range) -> RangeRecord
+    ensures said { result ≡ range_said (range_of range.now) }
+{
+    let [fetch, read, write, smm_fetch, smm_read, smm_write] = range.row.areas;
+    RangeRecord {
+        lo: range.lo,
+        hi: range.hi,
+        areas: [
+            short_area(fetch),
+            short_area(read),
+            short_area(write),
+            short_area(smm_fetch),
+            short_area(smm_read),
+            short_area(smm_write),
+        ],
+    }
+}
+
+fn window_record(window: Changed) -> WindowRecord
+    ensures said { result ≡ window_said window }
+{
+    WindowRecord {
+        lo: window.lo,
+        hi: window.hi,
+    }
+}
+
+fn short_area(area: Area) -> AreaRecord
+    ensures said { result ≡ short_area area }
+{
+    let part = area_record(area);
+    AreaRecord {
+        target: part.target,
+        unit: part.unit,
+        base: part.base,
+        reserved: 0,
+    }
+}
