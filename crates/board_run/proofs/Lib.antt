@@ -1,12 +1,9 @@
 pub mod FrontLemmas
 pub mod SentLemmas
-pub mod MapLemmas
 pub mod Statements
 pub mod Refusals
-pub mod MadeScripts
 pub mod CallLemmas
 pub mod Causes
 pub mod OneStatus
 pub mod Exact
 pub mod WordLaws
-pub mod Opened

@@ -17,11 +17,13 @@ use Rattle.script_spec.specs.Checks.{DiffersAt}
 use Rattle.log_check.specs.declared.fault.CheckFault.{CheckFault}
 use Rattle.log_check.specs.declared.fault.CheckFault.TheVariants.{Differs as DiffersAtLine, NoMemory as NoMemoryForCheck}
 use Rattle.board_run.specs.Words.{Command, Check, script_name}
-use Rattle.board_run.specs.Texts.{IsLegalText, TextOfScript, IsCommandText}
-use Rattle.board_run.specs.Asked.{Files, limit_of, fitted, SaysScript, IsGood, HasScript, ComesTo, ReadsFile, IsLength, Fits, AsksFor}
+use Rattle.command_texts.specs.Replays.{IsLegalText}
+use Rattle.command_texts.specs.Fitted.{fitted, IsNotOpened}
+use Rattle.board_run.specs.Texts.{TextOfScript, IsCommandText}
+use Rattle.board_run.specs.Asked.{Files, limit_of, SaysScript, IsGood, HasScript, ComesTo, ReadsFile, IsLength, Fits, AsksFor}
 use Rattle.board_run.specs.Outcomes.{ShelfCall, OfFiles, FailsAt}
 use Rattle.board_run.specs.Calls.{Reaches}
-use Rattle.board_run.specs.Statuses.{status_of_script_fault, status_of_board_fault, status_of_check_fault, IsNotTaken, IsRefused, IsAnswered, FitsDisk, IsDiskNotTaken, IsNotOpened, IsReady}
+use Rattle.board_run.specs.Statuses.{status_of_script_fault, status_of_board_fault, status_of_check_fault, IsNotTaken, IsRefused, IsAnswered, FitsDisk, IsDiskNotTaken, IsReady}
 
 -- ---- where the shelf tells its files
 

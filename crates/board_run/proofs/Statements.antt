@@ -11,14 +11,6 @@ use Rattle.phase_run.specs.Jobs.{IsStatement}
 use Rattle.script_spec.specs.Phases.{lists_of}
 use Rattle.log_check.proofs.PhaseLists.{phases_cut, all_of_phase}
 use Rattle.board_spec.specs.Setup.{Setup}
-use Rattle.board_core.specs.Steps.{AreInRange}
-use Rattle.script_spec.specs.ScriptText.{Script as Said}
-use Rattle.script_spec.specs.ScriptRange.{IsInRangeScript, statements_in}
-
-pub in_range :
-    (setup : Setup) (script : Said) → IsInRangeScript script → setup.cards ≡ script.cards →
-    AreInRange setup (statements_in script)
-in_range setup script range same i d within = (range.each setup same i d within).event
 
 -- the statements of each phase are in range
 pub phases_in_range :

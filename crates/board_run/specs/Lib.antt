@@ -1,12 +1,5 @@
-pub mod Status
-pub mod FaultText
-pub mod Words
-pub mod Commands
-pub mod Asked
 pub mod Texts
-pub mod Files
 pub mod Output
+pub mod Puts
 pub mod Outcomes
-pub mod Calls
 pub mod Statuses
-pub mod Fresh

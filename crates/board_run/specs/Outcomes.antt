@@ -1,25 +1,18 @@
 -- What the status of a command says of the words, of the files that it read, of the outside, and of what was put.
-use Rattle.std.specs.Prelude.{◌≡◌, ◌≢◌, ℕ, ◌⊎◌, List, take, Option, Some, None, IsSome}
+use Rattle.std.specs.Prelude.{◌≡◌, ◌≢◌, ℕ, ◌⊎◌, List, Option, Some, None}
 use Rattle.std.specs.Io.KnownBytes.{Appends, Keeps}
 use Rattle.board_base.specs.Outside.{Rose}
-use Rattle.board_run.specs.declared.status.Which.{Which}
-use Rattle.board_run.specs.declared.status.Which.TheVariants.{Script, Rom, Disk, Log}
-use Rattle.board_run.specs.declared.status.Status.{Status}
-use Rattle.board_run.specs.declared.status.Status.TheVariants.{Done, Usage, ReadFault, WriteFault, TooLong, BadScript, BadImage, Differs, NoMemory}
-use Rattle.board_run.specs.Words.{Command, script_name, log_name}
-use Rattle.board_run.specs.Asked.{Files, ReadsFile, AsksFor}
+use Rattle.command_words.specs.Words.{Command}
+use Rattle.command_files.specs.declared.status.Which.{Which}
+use Rattle.command_files.specs.declared.status.Status.{Status}
+use Rattle.command_files.specs.declared.status.Status.TheVariants.{Done, Usage, ReadFault, WriteFault, NoMemory}
+use Rattle.command_files.specs.Known.{Files}
+use Rattle.command_files.specs.Asked.{AsksFor}
+use Rattle.command_files.specs.Outcomes.{ShelfCall, OfFiles, CanEnd, FailsAt}
 use Rattle.board_run.specs.Texts.{IsCommandText}
 use Rattle.board_run.specs.Output.{AppendsFront}
 
 -- ---- what the outside tells
-
--- what a shelf tells of a call: its files, its count of faults before the call and now, and the name of its last failed
--- fetch
-pub record ShelfCall : Type 0 where
-  pub files : Option Files
-  pub faults_before : ℕ
-  pub faults_now : ℕ
-  pub failed_name : List ℕ
 
 -- what a sink tells of a call: its count of faults and the bytes that it took, before the call and now
 pub record SinkCall : Type 0 where
@@ -28,17 +21,7 @@ pub record SinkCall : Type 0 where
   pub taken_before : Option (List ℕ)
   pub taken_now : Option (List ℕ)
 
--- a call of a shelf: what it told of itself before the call, and what it tells now
-abbrev pub shelf_call :
-    {S : Type 0} → (told : S → Option Files) → (count : S → ℕ) → (kept : S → List ℕ) → (before now : S) → ShelfCall
-shelf_call told count kept before now = record {
-  files = told before;
-  faults_before = count before;
-  faults_now = count now;
-  failed_name = kept now;
-}
-
--- and a call of a sink
+-- a call of a sink: what it told of itself before the call, and what it tells now
 abbrev pub sink_call :
     {K : Type 0} → (count : K → ℕ) → (took : K → Option (List ℕ)) → (before now : K) → SinkCall
 sink_call count took before now = record {
@@ -47,11 +30,6 @@ sink_call count took before now = record {
   taken_before = took before;
   taken_now = took now;
 }
-
--- where the shelf tells its files, this holds of them
-abbrev pub OfFiles : Option Files → (Files → Type 0) → Type 0
-OfFiles None P = Unit {0}
-OfFiles (Some files) P = P files
 
 -- the words are a command; and where the shelf tells its files, this holds of both
 abbrev pub OfCommand : Option Command → Option Files → (Command → Files → Type 0) → Type 0
@@ -64,48 +42,10 @@ HasCommand None told P = ⊥
 HasCommand (Some command) None P = ⊥
 HasCommand (Some command) (Some files) P = P command files
 
--- ---- which statuses a command has
-
--- a command reads a file of this kind, if it comes so far
-abbrev pub CanRead : Command → Which → Type 0
-CanRead command Log = IsSome (log_name command)
-CanRead command _ = IsSome (script_name command)
-
--- a file of this kind is an image, which has lengths of its own
-abbrev pub IsImage : Which → Type 0
-IsImage Rom = Unit {0}
-IsImage Disk = Unit {0}
-IsImage _ = ⊥
-
--- a command can end with this status, whatever its files are
-abbrev pub CanEnd : Command → Status → Type 0
-CanEnd command Usage = ⊥
-CanEnd command (ReadFault which) = CanRead command which
-CanEnd command (TooLong which) = CanRead command which
-CanEnd command (BadScript line why) = CanRead command Script
-CanEnd command (BadImage which) = CanRead command which × IsImage which
-CanEnd command (Differs line) = CanRead command Log
-CanEnd command _ = Unit {0}
-
 -- words can end with this status: `usage` where they are no command
 abbrev pub WordsCanEnd : Option Command → Status → Type 0
 WordsCanEnd None status = status ≡ Usage
 WordsCanEnd (Some command) status = CanEnd command status
-
--- ---- a fault of the shelf
-
--- the name of a file that stands in the words themselves
-abbrev pub name_in_words : Command → Which → Option (List ℕ)
-name_in_words command Script = script_name command
-name_in_words command Log = log_name command
-name_in_words command _ = None
-
--- a fault rose at a file to which a command comes, whose name the shelf keeps, cut to 255 bytes
-pub record FailsAt (which : Which) (shelf : ShelfCall) (command : Command) : Type 0 where
-  pub can_read : CanRead command which
-  pub rose : Rose shelf.faults_before shelf.faults_now
-  pub in_words : (name : List ℕ) → name_in_words command which ≡ Some name → shelf.failed_name ≡ take 255 name
-  pub comes : OfFiles shelf.files (λ files. ReadsFile command files which (λ name _. shelf.failed_name ≡ take 255 name))
 
 -- ---- what was put
 

@@ -1,33 +1,21 @@
 -- What each command puts.
-use Rattle.std.specs.Prelude.{ℕ, ◌≡◌, ◌≤◌, ◌++◌, ◌∷◌, [], List, length, reverse, codes, decimal, Some}
+use Rattle.std.specs.Prelude.{ℕ, ◌≡◌, List, reverse}
 use Rattle.board_spec.specs.declared.event.Entry.{Entry}
-use Rattle.board_spec.specs.Text.{line_feed}
 use Rattle.board_spec.specs.Setup.{Setup}
-use Rattle.board_spec.specs.Registers.{byte_of}
 use Rattle.board_spec.specs.Legal.{IsLegal}
-use Rattle.board_spec.specs.Orders.{IsReplayOf, IsCompleteFor}
+use Rattle.board_spec.specs.Orders.{IsCompleteFor}
 use Rattle.board_spec.specs.LockLaw.{LockLaw}
 use Rattle.board_spec.specs.LogText.{log_text}
-use Rattle.board_spec.specs.FlatMap.{MapRange, IsFlatMapOf}
-use Rattle.board_spec.specs.MapText.{map_text}
 use Rattle.run_order.specs.Places.{AreAllInPlace}
-use Rattle.script_spec.specs.ScriptText.{Script as Said, IsScriptText}
-use Rattle.script_spec.specs.ScriptRange.{statements_in}
-use Rattle.script_spec.specs.Checks.{IsLogOf}
-use Rattle.board_run.specs.declared.status.Which.TheVariants.{Log}
-use Rattle.board_run.specs.Words.{Command, Replay, Run, Map, Check, Make}
-use Rattle.make_script.specs.MakeText.{make_text}
-use Rattle.make_script.specs.Images.{rom_image, disk_image}
-use Rattle.make_script.specs.Summary.{summary_of}
-use Rattle.board_run.specs.Asked.{Files, limit_of, IsGood, fitted, setup_of}
-
--- the log of the replay of a script: of the one legal history whose statements are the script's in the order of the
--- file, in which nothing outside SMM reaches SMRAM once it is locked
-pub record IsReplayText (setup : Setup) (script : Said) (text : List ℕ) : Type 0 where
-  pub history : List Entry
-  pub replay : IsReplayOf setup (statements_in script) history
-  pub locked : LockLaw setup history
-  pub log : text ≡ log_text script.version history
+use Rattle.script_spec.specs.ScriptText.{Script as Said}
+use Rattle.command_texts.specs.Replays.{IsReplayText, IsMapText, IsLegalText, IsMakeText}
+use Rattle.command_texts.specs.Transfers.{IsTransferText}
+use Rattle.command_texts.specs.Images.{IsSaveText, IsResumeText}
+use Rattle.command_texts.specs.Serial.{IsSerialText}
+use Rattle.command_texts.specs.Blame.{IsBlameText}
+use Rattle.command_words.specs.Words.{Command, Replay, Run, Map, Check, Make, Dma, Save, Resume, Serial, Blame}
+use Rattle.command_files.specs.Known.{Files, Known, AllRead, board_of, OfScript, OfImage}
+use Rattle.command_files.specs.Asked.{CanBeDone}
 
 -- the log of a run of a script: of a legal history that has, phase by phase, each processor's statements once each in
 -- its own order and each look in its place, and in which nothing outside SMM reaches SMRAM once it is locked
@@ -39,51 +27,27 @@ pub record IsRunText (setup : Setup) (script : Said) (text : List ℕ) : Type 0 
   pub locked : LockLaw setup history
   pub log : text ≡ log_text script.version history
 
--- the address map after that replay: the least list of ranges that says of each address what every kind of access
--- reaches there, by the registers as the history leaves them
-pub record IsMapText (setup : Setup) (script : Said) (text : List ℕ) : Type 0 where
-  pub history : List Entry
-  pub ranges : List MapRange
-  pub replay : IsReplayOf setup (statements_in script) history
-  pub map : IsFlatMapOf setup (byte_of setup history) ranges
-  pub lines : text ≡ map_text ranges
+-- a text of the script that was read, on the board that it asks for
+abbrev pub OnBoard : Known → (Setup → Said → List ℕ → Type 0) → List ℕ → Type 0
+OnBoard known P text = OfScript known (λ script. P (board_of known script) script text)
 
--- `legal` and the number of entries of the history whose log this is, which is legal and complete for a script
-pub record IsLegalText (setup : Setup) (script : Said) (log text : List ℕ) : Type 0 where
-  pub fits : length log ≤ limit_of Log
-  pub legal : IsLogOf setup script.version script.phases log
-  pub said : text ≡ codes "legal " ++ decimal (length legal.history) ++ line_feed ∷ []
+-- what each command puts, where this is known
+abbrev pub IsTextFor : Command → Known → List ℕ → Type 0
+IsTextFor (Replay script) known text = OnBoard known IsReplayText text
+IsTextFor (Run script) known text = OnBoard known IsRunText text
+IsTextFor (Map script) known text = OnBoard known IsMapText text
+IsTextFor (Check script log) known text = OnBoard known (λ setup said. IsLegalText setup said known.log) text
+IsTextFor (Make rounds) known text = IsMakeText rounds text
+IsTextFor (Dma script transfer) known text = OnBoard known (λ setup said. IsTransferText setup said transfer) text
+IsTextFor (Save script) known text = OnBoard known IsSaveText text
+IsTextFor (Resume image script) known text =
+    OfScript known (λ said. OfImage known (λ saved. IsResumeText saved said text))
+IsTextFor (Serial script input) known text = OnBoard known (λ setup said. IsSerialText setup said known.input) text
+IsTextFor (Blame script) known text = OnBoard known IsBlameText text
 
--- the summary of a history, and of the address map after it
-pub record HasSummary (setup : Setup) (history : List Entry) (text : List ℕ) : Type 0 where
-  pub ranges : List MapRange
-  pub map : IsFlatMapOf setup (byte_of setup history) ranges
-  pub lines : text ≡ summary_of setup history (length ranges)
-
--- the memory and the cards that a script says, with the images that are made
-abbrev pub made_setup_of : Said → Setup
-made_setup_of script = fitted script rom_image (Some disk_image)
-
--- the summary of the replay of the script of so many rounds, on a board with the images that are made for it
-pub record IsMakeText (rounds : ℕ) (text : List ℕ) : Type 0 where
-  pub script : Said
-  pub history : List Entry
-  pub says : IsScriptText (make_text rounds) script
-  pub replay : IsReplayOf (made_setup_of script) (statements_in script) history
-  pub summary : HasSummary (made_setup_of script) history text
-
--- a command has this text, where its files are these
-pub record TextOfScript (files : Files) (name : List ℕ)
-    (P : Setup → Said → List ℕ → Type 0) (text : List ℕ) : Type 0 where
-  pub script : Said
-  pub good : IsGood files name script
-  pub says : P (setup_of files script) script text
-
--- what each command puts
-abbrev pub IsCommandText : Command → Files → List ℕ → Type 0
-IsCommandText (Replay name) files text = TextOfScript files name IsReplayText text
-IsCommandText (Run name) files text = TextOfScript files name IsRunText text
-IsCommandText (Map name) files text = TextOfScript files name IsMapText text
-IsCommandText (Check name log) files text =
-    TextOfScript files name (λ setup script. IsLegalText setup script (files log)) text
-IsCommandText (Make rounds) files text = IsMakeText rounds text
+-- what each command puts, where its files are these: all are good, and nothing is asked for but that it is done
+pub record IsCommandText (command : Command) (files : Files) (text : List ℕ) : Type 0 where
+  pub known : Known
+  pub read : AllRead command files known
+  pub done : CanBeDone command known
+  pub says : IsTextFor command known text

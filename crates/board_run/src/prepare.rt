@@ -1,23 +1,20 @@
 //! The script of a command, and the board that it asks for.
 
-ghost use Rattle.std.specs.Prelude.{◌≡◌, ◌≢◌, ◌≤◌, [], List, Some, length, option_map, is_some, IfOk, IfErr, OnOk};
-ghost use Rattle.board_spec.specs.Setup.{IsRomSize, IsDisk, IsCardList};
-ghost use Rattle.script_spec.specs.ScriptRange.{IsInRangeScript};
+ghost use Rattle.std.specs.Prelude.{◌≡◌, ◌≢◌, ◌≤◌, [], List, Some, option_map, is_some, IfOk, IfErr, OnOk};
 ghost use Rattle.script_text.specs.Script.{said_of};
 ghost use Rattle.board_run.specs.declared.status.Which.{Which};
 ghost use Rattle.board_run.specs.declared.status.Status.{Status};
 ghost use Rattle.board_run.specs.Words.{Command, script_name};
-ghost use Rattle.board_run.specs.Asked.{fitted};
 ghost use Rattle.board_run.specs.Outcomes.{OfFiles, shelf_call};
 ghost use Rattle.board_run.specs.Calls.{OfCalls, ReadsDiskBy, FetchesForBoard};
-ghost use Rattle.board_run.specs.Fresh.{IsFreshFor};
-ghost use Rattle.board_run.specs.Statuses.{IsRefused, FitsDisk, IsDiskNotTaken, IsNotOpened, IsReady};
+ghost use Rattle.command_texts.specs.Fresh.{IsFreshFor};
+ghost use Rattle.board_run.specs.Statuses.{IsRefused, FitsDisk, IsDiskNotTaken, IsReady};
 
 use crate::fetch::{fetch, fetch_rom};
 use crate::status::{Status, Which};
-use board_base::{NoMemory, Shelf};
-use board_core::{Board, BoardOpen, Setup};
-use pci_bars::CardSpec;
+use board_base::Shelf;
+use board_core::Board;
+use command_texts::open_board;
 use script_text::{Name, Script, read_script};
 use std::alloc::Global;
 
@@ -53,44 +50,6 @@ fn fetch_disk<S: Shelf>(
     Ok(Some(disk))
 }
 
-/// Cards like these, for a board to keep.
-fn copies(alloc: Global, cards: &[CardSpec]) -> Result<Vec<CardSpec>, NoMemory>
-    requires listed { IsCardList cards.now }
-    ensures equal { IfOk result (λ copies. copies.items ≡ cards.now) }
-{
-    let mut copies = Vec::new(alloc);
-    for card in cards {
-        copies.push(card.copy())?;
-    }
-    Ok(copies)
-}
-
-/// The board of a script with these images, of which the ROM has one of its sizes.
-pub(crate) fn open(
-    alloc: Global,
-    script: &Script,
-    rom: Vec<u8>,
-    disk: Option<Vec<u8>>,
-) -> Result<Board, BoardOpen>
-    requires in_range { IsInRangeScript (said_of script.now) }
-    requires size { IsRomSize (length rom.items) }
-    ensures fresh { IfOk result (λ board. board ≡ record {
-      setup = fitted (said_of script.now) rom.items (option_map (λ bytes. bytes.items) disk);
-      entries = [];
-      spare = 0;
-    }) }
-    ensures refused { IfErr result (IsNotOpened (option_map (λ bytes. bytes.items) disk)) }
-    ensures disk { OnOk result (IsDisk (option_map (λ bytes. bytes.items) disk)) }
-{
-    let setup = Setup {
-        mib: script.mib,
-        cards: copies(alloc, &script.cards)?,
-        rom,
-        disk,
-    };
-    Board::open(alloc, setup)
-}
-
 /// Reads the script of a command and its images, and opens the board that it asks for: first the script, then its ROM,
 /// then its disk. The first that is not there or refused is the answer.
 pub(crate) fn prepare<S: Shelf>(
@@ -114,6 +73,6 @@ pub(crate) fn prepare<S: Shelf>(
     let script = read_script(alloc, &bytes)?;
     let rom = fetch_rom(alloc, shelf, script.rom.as_str())?;
     let disk = fetch_disk(alloc, shelf, &script.disk)?;
-    let board = open(alloc, &script, rom, disk)?;
+    let board = open_board(alloc, &script, rom, disk)?;
     Ok(Prepared { script, board })
 }

@@ -1,7 +1,7 @@
 use Rattle.std.proofs.Common.{rules, refl}
 use Rattle.script_text.specs.Script.{said_of}
 use Rattle.board_run.specs.declared.status.Status.TheVariants.{NoMemory}
-use Rattle.board_run.specs.Texts.{IsReplayText}
+use Rattle.command_texts.specs.Replays.{IsReplayText}
 use Rattle.board_run.proofs.Refusals.{refused_answer, text_answer, ready_text}
 use Rattle.board_run.proofs.CallLemmas.{fetches_for_board}
 use Rattle.board_run.proofs.texts.replay.Goals as goal

@@ -1,5 +1,0 @@
-use Rattle.board_run.proofs.Opened.{opened_disk}
-use Rattle.board_run.proofs.prepare.open.Goals as goal
-
-pub returns-clause-disk : goal.returns-clause-disk
-returns-clause-disk c = opened_disk c.open.result _ _ c.requires.size c.open.ensures.bad_disk

@@ -1,7 +1,0 @@
-use Rattle.board_run.proofs.MapLemmas.{map_text-more}
-use Rattle.board_run.proofs.replay.push_map.Goals as goal
-
-pub loop-range-preserved : goal.loop-range-preserved
-loop-range-preserved c =
-    map_text-more c.args.ranges.now c.loop-range.range-index _ c.loop-range-test.true _ _ _ c.loop-range.invariant
-    c.in_ok-push_range.ensures.appended

@@ -1,8 +1,0 @@
-use Rattle.board_run.proofs.WordLaws.{words_decide, one_command}
-use Rattle.board_run.proofs.words.law_words.Goals as goal
-
-pub returns-clause-decided : goal.returns-clause-decided
-returns-clause-decided c = words_decide
-
-pub returns-clause-one : goal.returns-clause-one
-returns-clause-one c = one_command

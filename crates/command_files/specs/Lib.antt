@@ -1,0 +1,9 @@
+pub mod Status
+pub mod FaultText
+pub mod Files
+pub mod Statuses
+pub mod Table
+pub mod Known
+pub mod Asked
+pub mod Outcomes
+pub mod Calls

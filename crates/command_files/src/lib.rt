@@ -1,0 +1,14 @@
+//! The files of a command: which it reads, in which order, and what is known of them then; and how a command ends.
+#![tactic(auto)]
+
+mod fetch;
+mod files;
+mod message;
+mod read;
+mod status;
+mod table;
+
+pub use board_script::Line;
+pub use message::fault_text;
+pub use read::{Read, read_files};
+pub use status::{Status, Which, exit_code};

@@ -1,0 +1,4 @@
+pub mod Statements
+pub mod MapLemmas
+pub mod MadeScripts
+pub mod Opened

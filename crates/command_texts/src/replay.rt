@@ -1,0 +1,136 @@
+//! What the commands do on the board of a script, and the texts that come of it.
+
+ghost use Rattle.std.specs.Prelude.{◌≡◌, ◌∷◌, ◌++◌, ◌≤◌, ◌⊎◌, ℕ, [], Ok, Err, length, map, flat_map, string_bytes, codes, decimal, IfOk, IfErr, OnOk, OnErr};
+ghost use Rattle.board_spec.specs.Legal.{IsLegal};
+ghost use Rattle.board_spec.specs.Orders.{IsReplayOf, IsBegunFor};
+ghost use Rattle.board_spec.specs.Text.{line_feed};
+ghost use Rattle.board_spec.specs.MapText.{map_text};
+ghost use Rattle.map_builder.specs.Map.{range_of};
+ghost use Rattle.script_spec.specs.ScriptRange.{statements_in};
+ghost use Rattle.script_spec.specs.Checks.{IsLogOf, DiffersAt};
+ghost use Rattle.script_text.specs.Script.{said_of};
+ghost use Rattle.log_check.specs.declared.fault.CheckFault.{CheckFault};
+ghost use Rattle.log_check.specs.Checked.{IsCheckedLog, StandsAfter};
+ghost use Rattle.command_texts.specs.Fresh.{IsFreshFor};
+ghost use Rattle.command_texts.specs.Replays.{IsReplayText, IsMapText, IsLegalText};
+
+use board_base::NoMemory;
+use board_core::Board;
+use board_script::{push_decimal, push_log, push_range, push_words};
+use board_spec::laws::law_lock;
+use log_check::{CheckFault, statement_count};
+use log_pieces::Text;
+use map_builder::Range;
+use script_text::Script;
+use std::alloc::Global;
+
+/// Does the statements of a script in the order of its file, on a fresh board with its cards. One thread does it, and
+/// nobody is waited for. Where there is no memory the board is as before.
+pub fn replay_script(board: &mut Board, script: &Script) -> Result<(), NoMemory>
+    requires fresh { IsFreshFor (said_of script.now) board.old }
+    ensures replay { OnOk result (IsReplayOf board.old.setup (statements_in (said_of script.now)) board.new.entries) }
+    ensures setup { board.new.setup ≡ board.old.setup }
+    ensures err { OnErr result (board.new ≡ board.old) }
+{
+    board.reserve(statement_count(&script.phases))?;
+    for phase in &script.phases {
+        board.steps(phase);
+    }
+    Ok(())
+}
+
+/// Checks whether bytes are the log of a legal and complete history of a script, on a fresh board with its setup. It
+/// goes line by line, and names the first line that no such log has after the same lines. The board goes through the
+/// statements of the lines before the named one, and perhaps through that of the named line.
+pub fn check_log(
+    alloc: Global,
+    board: &mut Board,
+    script: &Script,
+    bytes: &[u8],
+) -> Result<u32, CheckFault>
+    requires fresh { IsFreshFor (said_of script.now) board.old }
+    ensures log { IfOk result (λ count. IsCheckedLog board.old.setup (said_of script.now).version
+        (said_of script.now).phases bytes.now board.new.entries count) }
+    ensures differs { (line : ℕ) → result ≡ Err (CheckFault.Differs line)
+        → DiffersAt board.old.setup (said_of script.now).version (said_of script.now).phases bytes.now line }
+    ensures exactly { (log : IsLogOf board.old.setup (said_of script.now).version (said_of script.now).phases bytes.now)
+        → (result ≡ Ok (length log.history)) ⊎ (result ≡ Err CheckFault.NoMemory) }
+    ensures setup { board.new.setup ≡ board.old.setup }
+    ensures legal { IsLegal board.new.setup board.new.entries }
+    ensures begun { IsBegunFor (said_of script.now).phases board.new.entries }
+    ensures stands { IfErr result (StandsAfter (said_of script.now).version bytes.now board.new.entries) }
+{
+    log_check::check_log(alloc, board, script.version, &script.phases, bytes)
+}
+
+/// The log of a script's replay on its board. The memory of the script is given back before the log takes its own.
+pub fn log_of_replay(
+    alloc: Global,
+    board: &mut Board,
+    script: Script,
+) -> Result<Text, NoMemory>
+    requires fresh { IsFreshFor (said_of script) board.old }
+    ensures text { IfOk result (λ text. IsReplayText board.old.setup (said_of script) text) }
+{
+    replay_script(board, &script)?;
+    let version = script.version;
+    drop(script);
+    let mut text = String::new(alloc);
+    push_log(&mut text, version, board.history().entries())?;
+    law_lock();
+    Text::whole(alloc, text)
+}
+
+/// Appends the lines of the ranges of a map.
+fn push_map(text: &mut String, ranges: &[Range]) -> Result<(), NoMemory>
+    ensures appended { OnOk result
+        (string_bytes text.new ≡ string_bytes text.old ++ map_text (map range_of ranges.now)) }
+{
+    for range in ranges {
+        push_range(text, range.lo, range.hi, &range.row.areas)?;
+    }
+    Ok(())
+}
+
+/// The address map after a script's replay on its board.
+pub fn map_after_replay(
+    alloc: Global,
+    board: &mut Board,
+    script: &Script,
+) -> Result<Text, NoMemory>
+    requires fresh { IsFreshFor (said_of script.now) board.old }
+    ensures text { IfOk result (λ text. IsMapText board.old.setup (said_of script.now) text) }
+{
+    replay_script(board, script)?;
+    let mut text = String::new(alloc);
+    push_map(&mut text, board.map().ranges())?;
+    Text::whole(alloc, text)
+}
+
+/// `legal` and a number of entries.
+fn legal_text(alloc: Global, count: u32) -> Result<Text, NoMemory>
+    ensures text { IfOk result (λ text. text ≡ codes "legal " ++ decimal count ++ line_feed ∷ []) }
+{
+    let mut text = String::new(alloc);
+    push_words(&mut text, "legal ")?;
+    push_decimal(&mut text, u64::from(count))?;
+    push_words(&mut text, "\n")?;
+    Text::whole(alloc, text)
+}
+
+/// `legal` and the number of entries of a log, where it is that of a legal and complete history of a script.
+pub fn verdict_on_log(
+    alloc: Global,
+    board: &mut Board,
+    script: &Script,
+    log: &[u8],
+) -> Result<Text, CheckFault>
+    requires fresh { IsFreshFor (said_of script.now) board.old }
+    ensures text { IfOk result (λ text. IsLegalText board.old.setup (said_of script.now) log.now text) }
+    ensures differs { (line : ℕ) → result ≡ Err (CheckFault.Differs line)
+        → DiffersAt board.old.setup (said_of script.now).version (said_of script.now).phases log.now line }
+{
+    let count = check_log(alloc, board, script, log)?;
+    let text = legal_text(alloc, count)?;
+    Ok(text)
+}
