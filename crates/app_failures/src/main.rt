@@ -3,8 +3,8 @@
 #![tactic(auto)]
 
 ghost use Rattle.std.specs.Prelude.{◌≡◌, false, map, string_bytes, None, IfOk};
-ghost use Rattle.board_run.specs.declared.status.Status.{Status};
-ghost use Rattle.board_run.specs.Words.{command_of};
+ghost use Rattle.command_files.specs.declared.status.Status.{Status};
+ghost use Rattle.command_words.specs.Words.{command_of};
 ghost use Rattle.board_main.specs.Words.{is_own};
 ghost use Rattle.app_failures.specs.Words.{words_in};
 
@@ -21,7 +21,7 @@ use std::sync::Wait;
 use std::thread::Threads;
 
 /// The words of each command, cut at spaces.
-const COMMANDS: [&str; 14] = [
+const COMMANDS: [&str; 20] = [
     "make 1",
     "",
     "replay",
@@ -36,6 +36,12 @@ const COMMANDS: [&str; 14] = [
     "map short-rom",
     "replay short-disk",
     "check good bad",
+    "dma good in 00001002 0 1",
+    "resume nothing good",
+    "serial good nothing",
+    "resume good nothing",
+    "resume image-of-2 good",
+    "serial good /dev/zero",
 ];
 
 /// Words of commands whose output is a full disk.

@@ -1,14 +1,15 @@
 -- How the program ends.
 use Rattle.std.specs.Prelude.{ℕ, ◌≡◌, ◌↔◌, Bool, true, false, List, Option, None}
-use Rattle.std.specs.Io.KnownBytes.{Appends}
 use Rattle.board_base.specs.Outside.{Rose}
-use Rattle.board_run.specs.declared.status.Status.{Status}
-use Rattle.board_run.specs.declared.status.Status.TheVariants.{Done, Usage, WriteFault}
-use Rattle.board_run.specs.Status.{code_of}
-use Rattle.board_run.specs.Words.{Command}
-use Rattle.board_run.specs.Asked.{Files}
+use Rattle.command_words.specs.Words.{Command}
+use Rattle.command_files.specs.declared.status.Status.{Status}
+use Rattle.command_files.specs.declared.status.Status.TheVariants.{Done, Usage, WriteFault}
+use Rattle.command_files.specs.Status.{code_of}
+use Rattle.command_files.specs.Known.{Files}
 use Rattle.board_run.specs.Outcomes.{IsCaused, IsExact}
-use Rattle.board_main.specs.Words.{is_own, is_help, version_text}
+use Rattle.board_main.specs.declared.answers.Own.{Own}
+use Rattle.board_main.specs.Words.{is_own, is_help}
+use Rattle.board_main.specs.Own.{is_help_answer, AppendsOwn}
 
 -- the exit code of a status
 pub record HasStatus (code : ℕ) : Type 0 where
@@ -28,15 +29,15 @@ pub record IsAnswered (status : Status) (command : Option Command) (files : Opti
   pub exact : IsExact status command files (¬ Rose 0 read_faults) (¬ Rose 0 write_faults)
 
 -- what the program answers of itself is written whole, unless the output fails
-abbrev pub IsOwnAnswer : Status → (text : List ℕ) → (before now : Option (List ℕ)) → Type 0
-IsOwnAnswer Done text before now = Appends before now text
-IsOwnAnswer status text before now = status ≡ WriteFault
+abbrev pub IsOwnAnswer : Status → Own → (before now : Option (List ℕ)) → Type 0
+IsOwnAnswer Done own before now = AppendsOwn own before now
+IsOwnAnswer status own before now = status ≡ WriteFault
 
--- the program's own words have an answer of its own, of which that to `--version` is this; all others are the board's
+-- the program's own words have an answer of its own, the help or the version; all others are the board's
 pub record Ends (words : List (List ℕ)) (command : Option Command) (files : Option Files) (before now : Option (List ℕ))
     (status : Status) : Type 0 where
   pub usage : (status ≡ Usage) ↔ ((is_own words ≡ false) × (command ≡ None))
   pub own :
       is_own words ≡ true →
-      (text : List ℕ) × (is_help words ≡ false → text ≡ version_text) × IsOwnAnswer status text before now
+      (own : Own) × (is_help_answer own ≡ is_help words) × IsOwnAnswer status own before now
   pub answered : is_own words ≡ false → IsAnswered status command files before now

@@ -1,12 +1,20 @@
 //! What the program answers of itself, without the board.
 
-ghost use Rattle.std.specs.Prelude.{◌≡◌, false, map, is_some, string_bytes, IfSome};
-ghost use Rattle.board_main.specs.Words.{is_own, is_own_word, is_help, is_help_word, version_text};
+ghost use Rattle.std.specs.Prelude.{◌≡◌, map, is_some, string_bytes, IfSome, OnOk};
+ghost use Rattle.board_main.specs.declared.answers.Own.{Own};
+ghost use Rattle.board_main.specs.Words.{is_own, is_own_word, is_help, is_help_word};
+ghost use Rattle.board_main.specs.Own.{is_help_answer, AppendsOwn};
 
-const HELP: &str = "\
+use board_run::USAGE;
+use std::io;
+use std::io::Write;
+
+const TITLE: &str = "\
 board: the PC chipset behind many virtual machines, with a log of every access
 
-usage: board replay FILE, run FILE, map FILE, check FILE LOG, make N
+";
+
+const COMMANDS: &str = "
 
   replay FILE     does the statements of the script FILE in the order of the file, with the BIOS
                   ROM and the disk that it names, and writes the access log to standard output
@@ -16,37 +24,73 @@ usage: board replay FILE, run FILE, map FILE, check FILE LOG, make N
   check FILE LOG  says whether LOG is the log of a run of the script, or names the first line
                   that is not
   make N          replays a script of its own with N rounds, 1 to 20,000, and writes a summary
+  dma FILE in|out TABLE LBA COUNT
+                  lets the bus master move COUNT sectors, 1 to 256, from sector LBA of the disk on,
+                  after the replay: into memory or out of it, by the descriptor table at TABLE,
+                  eight hexadecimal digits; writes how it ended, and the sums of memory and disk
+  save FILE       writes an image of the board after the replay
+  resume IMAGE FILE
+                  goes on from such an image with the script, and writes the log of the whole
+  serial FILE INPUT
+                  replays the script with a serial port at 3F8 that receives the bytes of INPUT,
+                  and writes the bytes that it sends
+  blame FILE      writes the address map after the replay, with the map write that made each
+                  range, and then which map writes are enough for it
   --help          writes this text
   --version       writes the version
 
 Exit status: 0 done, 1 usage, 2 read fault, 3 write fault, 4 too long, 5 bad script,
-6 bad image, 7 differs, 8 no memory. The reason is one line on standard error.
+6 bad image, 7 differs, 8 no memory, 9 other board. The reason is one line on standard error.
 ";
 
 const VERSION: &str = "board 0.1\n";
 
-/// The text for `--help` and for `--version`, each as the only word. All other words are the board's.
-pub fn own_answer(words: &[String]) -> Option<&str>
+/// What the program answers of itself.
+#[derive(Clone, Copy, PartialEq, Eq, Debug)]
+pub enum Own {
+    Help,
+    Version,
+}
+
+/// The answer to `--help` and to `--version`, each as the only word. All other words are the board's.
+pub fn own_answer(words: &[String]) -> Option<Own>
     ensures own { is_some result ≡ is_own (map string_bytes words.now) }
-    ensures version { IfSome result (λ text. is_help (map string_bytes words.now) ≡ false → text.now ≡ version_text) }
+    ensures help { IfSome result (λ own. is_help_answer own ≡ is_help (map string_bytes words.now)) }
 {
     match words {
-        [word] => text_of(word.as_str()),
+        [word] => own_of(word.as_str()),
         _ => None,
     }
 }
 
-fn text_of(word: &str) -> Option<&str>
+fn own_of(word: &str) -> Option<Own>
     ensures own { is_some result ≡ is_own_word word.now }
-    ensures version { IfSome result (λ text. is_help_word word.now ≡ false → text.now ≡ version_text) }
+    ensures help { IfSome result (λ own. is_help_answer own ≡ is_help_word word.now) }
 {
-    if word == "--help" {
-        return Some(HELP);
+    match word {
+        "--help" => Some(Own::Help),
+        "--version" => Some(Own::Version),
+        _ => None,
     }
-    if word == "--version" {
-        return Some(VERSION);
+}
+
+/// Writes the help, in which the usage text stands.
+fn write_help<W: Write>(output: &mut W) -> io::Result<()>
+    ensures written { OnOk result (AppendsOwn Own.Help (W.contents output.old) (W.contents output.new)) }
+{
+    output.write_all(TITLE.as_bytes())?;
+    output.write_all(USAGE.as_bytes())?;
+    output.write_all(COMMANDS.as_bytes())
+}
+
+/// Writes such an answer.
+pub fn write_answer<W: Write>(output: &mut W, own: Own) -> io::Result<()>
+    ensures written { OnOk result (AppendsOwn own (W.contents output.old) (W.contents output.new)) }
+{
+    match own {
+        Own::Help => write_help(output),
+        Own::Version => output.write_all(VERSION.as_bytes()),
     }
-    None
 }
 
 #[cfg(test)]
@@ -57,15 +101,15 @@ mod tests {
     #[test]
     fn help_and_version_are_the_program_s_own(rt: HostRuntime) -> Result<(), Fail> {
         let cases = [
-            ("--help", Some(HELP)),
-            ("--version", Some(VERSION)),
+            ("--help", Some(Own::Help)),
+            ("--version", Some(Own::Version)),
             ("-h", None),
             ("replay", None),
             ("", None),
         ];
-        for (word, text) in cases {
+        for (word, own) in cases {
             let alone = vec![in rt.alloc(); word.to_string(rt.alloc())?]?;
-            assert_eq!(rt; own_answer(&alone), text, "{word}");
+            assert_eq!(rt; own_answer(&alone), own, "{word}");
         }
         Ok(())
     }

@@ -2,11 +2,11 @@
 
 ghost use Rattle.std.specs.Prelude.{◌≡◌, ◌↔◌, None, map, string_bytes};
 ghost use Rattle.std.specs.Process.{exit_status};
-ghost use Rattle.board_run.specs.declared.status.Status.{Status};
-ghost use Rattle.board_run.specs.Words.{asked};
+ghost use Rattle.command_files.specs.declared.status.Status.{Status};
+ghost use Rattle.command_words.specs.Words.{asked};
 ghost use Rattle.board_main.specs.Ends.{Ends, HasStatus, IsAnswered, IsOwnAnswer};
 
-use crate::answers::own_answer;
+use crate::answers::{Own, own_answer, write_answer};
 use crate::words::words_of;
 use board_base::QuietGate;
 use board_files::{FileShelf, Folder, OutSink, SystemFolder};
@@ -71,7 +71,7 @@ where
         (W.contents output) (W.contents result.1) result.0 }
 {
     match own_answer(words) {
-        Some(text) => write_own(output, text),
+        Some(own) => write_own(output, own),
         None => answer_of_board(rt, folder, words, output),
     }
 }
@@ -92,10 +92,10 @@ where
 }
 
 /// Writes what the program answers of itself.
-fn write_own<W: Write>(mut output: W, text: &str) -> (Status, W)
-    ensures written { IsOwnAnswer result.0 text.now (W.contents output) (W.contents result.1) }
+fn write_own<W: Write>(mut output: W, own: Own) -> (Status, W)
+    ensures written { IsOwnAnswer result.0 own (W.contents output) (W.contents result.1) }
 {
-    match output.write_all(text.as_bytes()) {
+    match write_answer(&mut output, own) {
         Ok(()) => (Status::Done, output),
         Err(_) => (Status::WriteFault, output),
     }

@@ -1,7 +1,7 @@
 //! The words of the command line.
 
 ghost use Rattle.std.specs.Prelude.{◌≡◌, ◌⊎◌, IfErr};
-ghost use Rattle.board_run.specs.declared.status.Status.{Status};
+ghost use Rattle.command_files.specs.declared.status.Status.{Status};
 
 use board_run::Status;
 use std::env;

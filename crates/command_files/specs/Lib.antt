@@ -7,3 +7,4 @@ pub mod Known
 pub mod Asked
 pub mod Outcomes
 pub mod Calls
+pub mod Laws

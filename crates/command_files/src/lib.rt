@@ -3,6 +3,7 @@
 
 mod fetch;
 mod files;
+pub mod laws;
 mod message;
 mod read;
 mod status;

@@ -1,88 +1,198 @@
 -- The words that ask for a command are those that a user writes.
-use Rattle.std.proofs.Common.{◌≡◌, ℕ, inl, inr, leb, cond, List, [], ◌∷◌, Some, None, refl, sym, ap, ◌∙◌, subst, arith}
-use Rattle.std.specs.Prelude.{codes, bytes_eq}
-use Rattle.std.proofs.lemmas.Bool.{cases_Bool, leb-true, le-leb}
+use Rattle.std.proofs.Common.{◌≡◌, ℕ, ◌%◌, inl, inr, eqb, leb, cond, Bool, true, false, List, [], ◌∷◌, Option, Some, None, refl, sym, ap, ◌∙◌, subst, arith}
+use Rattle.std.specs.Prelude.{codes, decimal, bytes_eq}
+use Rattle.std.proofs.lemmas.Bool.{cases_Bool, leb-true, le-leb, eqb-true, eq-eqb}
 use Rattle.script_spec.specs.Grammar.{IsDecimal}
-use Rattle.script_lines.specs.Numbers.{decimal_of}
+use Rattle.script_lines.specs.Numbers.{decimal_of, hex_of}
 use Rattle.script_lines.proofs.Chains.{some_is, guarded, then_said, both}
 use Rattle.script_lines.proofs.Joins.{word_is}
 use Rattle.script_lines.proofs.NumberTexts.{decimal_read}
 use Rattle.script_lines.proofs.NumberBack.{decimal_back}
-use Rattle.command_words.specs.Words.{Command, Replay, Run, Map, Check, Make, is_round_count, make_of, command_with, command_with_two, command_of, words_of, IsCommand, WordsDecide, OneCommand}
+use Rattle.make_script.specs.Laws.{most_rounds}
+use Rattle.command_words.specs.declared.transfer.Transfer.{Transfer}
+use Rattle.command_words.specs.Words.{Command, Replay, Run, Map, Check, Make, Dma, Save, Resume, Serial, Blame, IsTransfer, IsCommand, direction_word, AreWordsOf, with_name, with_names, is_round_count, make_of, is_transfer, direction_of, dma_of, command_of, WordsDecide, OneCommand}
 
 abbrev Asks : List (List ℕ) → Command → Type 0
-Asks words command = IsCommand command × (words ≡ words_of command)
+Asks words command = IsCommand command × AreWordsOf words command
 
-asks_one :
-    (verb word text : List ℕ) (target command : Command) → verb ≡ text → target ≡ command → IsCommand target →
-    text ∷ word ∷ [] ≡ words_of target → Asks (verb ∷ word ∷ []) command
-asks_one verb word text target command is same there whole =
-    subst (Asks (verb ∷ word ∷ [])) same (there, ap (λ (first : List ℕ). first ∷ word ∷ []) is ∙ whole)
+-- ---- the words of a verb
 
-make_read :
-    (verb word : List ℕ) (command : Command) → verb ≡ codes "make" → make_of word ≡ Some command → Asks (verb ∷ word ∷ []) command
-unfolding make_of
-make_read verb word command is e =
-    let count = then_said (decimal_of word) (λ count. cond (is_round_count count) (Some (Make count)) None) command e in
-    let few = guarded (is_round_count count.0) (Some (Make count.0)) command count.2 in
-    let ends = both (leb 1 count.0) (leb count.0 20_000) few.0 in
-    asks_one verb word (codes "make") (Make count.0) command is (some_is (Make count.0) command few.1)
-    (leb-true 1 count.0 ends.0, leb-true count.0 20_000 ends.1)
-    (ap (λ (last : List ℕ). codes "make" ∷ last ∷ []) (decimal_read word count.0 count.1).0)
-
-one_read : (verb word : List ℕ) (command : Command) → command_with verb word ≡ Some command → Asks (verb ∷ word ∷ []) command
-unfolding command_with
-one_read verb word command e = elim (cases_Bool (bytes_eq verb (codes "replay"))) [
-  | inl one ↦
-      asks_one verb word (codes "replay") (Replay word) command (word_is verb (codes "replay") one)
-      (some_is (Replay word) command (rw one at e)) tt refl
-  | inr one ↦ elim (cases_Bool (bytes_eq verb (codes "run"))) [
-    | inl two ↦
-        asks_one verb word (codes "run") (Run word) command (word_is verb (codes "run") two)
-        (some_is (Run word) command (rw (one, two) at e)) tt refl
-    | inr two ↦ elim (cases_Bool (bytes_eq verb (codes "map"))) [
-      | inl three ↦
-          asks_one verb word (codes "map") (Map word) command (word_is verb (codes "map") three)
-          (some_is (Map word) command (rw (one, two, three) at e)) tt refl
-      | inr three ↦
-          let last = guarded (bytes_eq verb (codes "make")) (make_of word) command (rw (one, two, three) at e) in
-          make_read verb word command (word_is verb (codes "make") last.0) last.1
-    ]
-  ]
-]
+-- with the name of one file, and with those of two
+one_read :
+    (verb : List ℕ) (named : List ℕ → Command) → ((name : List ℕ) → Asks (verb ∷ name ∷ []) (named name)) →
+    (words : List (List ℕ)) (command : Command) → with_name named words ≡ Some command → Asks (verb ∷ words) command
+one_read verb named each [] command e = absurd (cc e)
+one_read verb named each (name ∷ []) command e =
+    subst (Asks (verb ∷ name ∷ [])) (some_is (named name) command e) (each name)
+one_read verb named each (name ∷ other ∷ rest) command e = absurd (cc e)
 
 two_read :
-    (verb word other : List ℕ) (command : Command) → command_with_two verb word other ≡ Some command →
-    Asks (verb ∷ word ∷ other ∷ []) command
-unfolding command_with_two
-two_read verb word other command e =
-    let check = guarded (bytes_eq verb (codes "check")) (Some (Check word other)) command e in
-    subst (Asks (verb ∷ word ∷ other ∷ [])) (some_is (Check word other) command check.1)
-    (tt, ap (λ (first : List ℕ). first ∷ word ∷ other ∷ []) (word_is verb (codes "check") check.0))
+    (verb : List ℕ) (named : List ℕ → List ℕ → Command) →
+    ((name other : List ℕ) → Asks (verb ∷ name ∷ other ∷ []) (named name other)) →
+    (words : List (List ℕ)) (command : Command) → with_names named words ≡ Some command → Asks (verb ∷ words) command
+two_read verb named each [] command e = absurd (cc e)
+two_read verb named each (name ∷ []) command e = absurd (cc e)
+two_read verb named each (name ∷ other ∷ []) command e =
+    subst (Asks (verb ∷ name ∷ other ∷ [])) (some_is (named name other) command e) (each name other)
+two_read verb named each (name ∷ other ∷ more ∷ rest) command e = absurd (cc e)
+
+make_read : (words : List (List ℕ)) (command : Command) → make_of words ≡ Some command → Asks (codes "make" ∷ words) command
+unfolding make_of
+make_read [] command e = absurd (cc e)
+make_read (word ∷ []) command e =
+    let count = then_said (decimal_of word) (λ count. cond (is_round_count count) (Some (Make count)) None) command e in
+    let few = guarded (is_round_count count.0) (Some (Make count.0)) command count.2 in
+    let ends = both (leb 1 count.0) (leb count.0 most_rounds) few.0 in
+    subst (Asks (codes "make" ∷ word ∷ [])) (some_is (Make count.0) command few.1) (
+      (leb-true 1 count.0 ends.0, leb-true count.0 most_rounds ends.1),
+      ap (λ (last : List ℕ). codes "make" ∷ last ∷ []) (decimal_read word count.0 count.1).0,
+    )
+make_read (word ∷ more ∷ rest) command e = absurd (cc e)
+
+transfer_is : (transfer : Transfer) → is_transfer transfer ≡ true → IsTransfer transfer
+transfer_is transfer e =
+    let three = both _ (leb transfer.count 256) e in
+    let two = both _ (leb 1 transfer.count) three.0 in
+    let one = both (eqb (transfer.table % 4) 0) (leb transfer.lba 65_535) two.0 in
+    record {
+      aligned = eqb-true (transfer.table % 4) 0 one.0;
+      sector = leb-true transfer.lba 65_535 one.1;
+      some = leb-true 1 transfer.count two.1;
+      most = leb-true transfer.count 256 three.1;
+    }
+
+direction_read : (word : List ℕ) (to_memory : Bool) → direction_of word ≡ Some to_memory → word ≡ direction_word to_memory
+unfolding direction_of
+direction_read word to_memory e = elim (cases_Bool (bytes_eq word (codes "in"))) [
+  | inl one ↦
+      word_is word (codes "in") one ∙ ap direction_word (some_is true to_memory (rw (one) at e))
+  | inr one ↦
+      let out = guarded (bytes_eq word (codes "out")) (Some false) to_memory (rw (one) at e) in
+      word_is word (codes "out") out.0 ∙ ap direction_word (some_is false to_memory out.1)
+]
+
+dma_read : (words : List (List ℕ)) (command : Command) → dma_of words ≡ Some command → Asks (codes "dma" ∷ words) command
+unfolding dma_of
+dma_read [] command e = absurd (cc e)
+dma_read (_ ∷ []) command e = absurd (cc e)
+dma_read (_ ∷ _ ∷ []) command e = absurd (cc e)
+dma_read (_ ∷ _ ∷ _ ∷ []) command e = absurd (cc e)
+dma_read (_ ∷ _ ∷ _ ∷ _ ∷ []) command e = absurd (cc e)
+dma_read (script ∷ direction ∷ table ∷ lba ∷ count ∷ []) command e =
+    let to_memory = then_said (direction_of direction) _ command e in
+    let address = then_said (hex_of 8 table) _ command to_memory.2 in
+    let sector = then_said (decimal_of lba) _ command address.2 in
+    let sectors = then_said (decimal_of count) _ command sector.2 in
+    let transfer : Transfer =
+    record { to_memory = to_memory.0; table = address.0; lba = sector.0; count = sectors.0 } in
+    let is = guarded (is_transfer transfer) (Some (Dma script transfer)) command sectors.2 in
+    subst (Asks (codes "dma" ∷ script ∷ direction ∷ table ∷ lba ∷ count ∷ [])) (some_is (Dma script transfer) command is.1) (
+      transfer_is transfer is.0,
+      (
+        table,
+        address.1,
+        ap (λ (word : List ℕ). codes "dma" ∷ script ∷ word ∷ table ∷ lba ∷ count ∷ [])
+            (direction_read direction to_memory.0 to_memory.1)
+            ∙ ap (λ (word : List ℕ). codes "dma" ∷ script ∷ direction_word to_memory.0 ∷ table ∷ word ∷ count ∷ [])
+            (decimal_read lba sector.0 sector.1).0
+            ∙ ap (λ (word : List ℕ). codes "dma" ∷ script ∷ direction_word to_memory.0 ∷ table ∷ decimal sector.0 ∷ word ∷ [])
+            (decimal_read count sectors.0 sectors.1).0,
+      ),
+    )
+dma_read (_ ∷ _ ∷ _ ∷ _ ∷ _ ∷ _ ∷ _) command e = absurd (cc e)
+
+-- ---- the verbs
+
+-- the command of one verb, or that of the verbs that come after it
+verb_read :
+    (verb text : List ℕ) (words : List (List ℕ)) (command : Command) {own others : Option Command} →
+    (own ≡ Some command → Asks (text ∷ words) command) → (others ≡ Some command → Asks (verb ∷ words) command) →
+    cond (bytes_eq verb text) own others ≡ Some command → Asks (verb ∷ words) command
+verb_read verb text words command own others e = elim (cases_Bool (bytes_eq verb text)) [
+  | inl is ↦
+      subst (λ (first : List ℕ). Asks (first ∷ words) command) (sym (word_is verb text is)) (own (rw (is) at e))
+  | inr is ↦ others (rw (is) at e)
+]
 
 all_read : (words : List (List ℕ)) (command : Command) → command_of words ≡ Some command → Asks words command
-all_read [] command e = absurd cc
-all_read (verb ∷ []) command e = absurd cc
-all_read (verb ∷ word ∷ []) command e = one_read verb word command e
-all_read (verb ∷ word ∷ other ∷ []) command e = two_read verb word other command e
-all_read (verb ∷ word ∷ other ∷ more ∷ rest) command e = absurd cc
+unfolding command_of
+all_read [] command e = absurd (cc e)
+all_read (verb ∷ words) command e =
+    verb_read verb (codes "replay") words command (one_read (codes "replay") Replay (λ _. (tt, refl)) words command)
+    (verb_read verb (codes "run") words command (one_read (codes "run") Run (λ _. (tt, refl)) words command)
+    (verb_read verb (codes "map") words command (one_read (codes "map") Map (λ _. (tt, refl)) words command)
+    (verb_read verb (codes "check") words command (two_read (codes "check") Check (λ _ _. (tt, refl)) words command)
+    (verb_read verb (codes "make") words command (make_read words command)
+    (verb_read verb (codes "dma") words command (dma_read words command)
+    (verb_read verb (codes "save") words command (one_read (codes "save") Save (λ _. (tt, refl)) words command)
+    (verb_read verb (codes "resume") words command (two_read (codes "resume") Resume (λ _ _. (tt, refl)) words command)
+    (verb_read verb (codes "serial") words command (two_read (codes "serial") Serial (λ _ _. (tt, refl)) words command)
+    (verb_read verb (codes "blame") words command (one_read (codes "blame") Blame (λ _. (tt, refl)) words command)
+    (λ none. absurd (cc none))))))))))) e
 
-asked_back : (command : Command) → IsCommand command → command_of (words_of command) ≡ Some command
-unfolding command_with command_with_two make_of
-asked_back (Replay script) there = refl
-asked_back (Run script) there = refl
-asked_back (Map script) there = refl
-asked_back (Check script log) there = refl
-asked_back (Make rounds) there =
+-- ---- back
+
+made_back : (rounds : ℕ) → IsCommand (Make rounds) → command_of (codes "make" ∷ decimal rounds ∷ []) ≡ Some (Make rounds)
+unfolding command_of make_of
+made_back rounds there =
     let small : IsDecimal rounds = omega (arith, there.1) in
-    rw (decimal_back rounds small, le-leb 1 rounds there.0, le-leb rounds 20_000 there.1) refl
+    rw (decimal_back rounds small, le-leb 1 rounds there.0, le-leb rounds most_rounds there.1) refl
+
+direction_back : (to_memory : Bool) → direction_of (direction_word to_memory) ≡ Some to_memory
+unfolding direction_of
+direction_back true = refl
+direction_back false = refl
+
+transfer_back : (transfer : Transfer) → IsTransfer transfer → is_transfer transfer ≡ true
+transfer_back transfer there =
+    rw (
+      eq-eqb (transfer.table % 4) 0 there.aligned,
+      le-leb transfer.lba 65_535 there.sector,
+      le-leb 1 transfer.count there.some,
+      le-leb transfer.count 256 there.most,
+    ) refl
+
+dma_back :
+    (script digits : List ℕ) (transfer : Transfer) → IsTransfer transfer → hex_of 8 digits ≡ Some transfer.table →
+    dma_of (script ∷ direction_word transfer.to_memory ∷ digits ∷ decimal transfer.lba ∷ decimal transfer.count ∷ [])
+    ≡ Some (Dma script transfer)
+unfolding dma_of
+dma_back script digits transfer there address =
+    let sector : IsDecimal transfer.lba = omega (arith, there.sector) in
+    let sectors : IsDecimal transfer.count = omega (arith, there.most) in
+    rw (
+      direction_back transfer.to_memory,
+      address,
+      decimal_back transfer.lba sector,
+      decimal_back transfer.count sectors,
+      transfer_back transfer there,
+    ) refl
+
+as_words :
+    (words written : List (List ℕ)) (command : Command) → words ≡ written → command_of written ≡ Some command →
+    command_of words ≡ Some command
+as_words words written command is asks =
+    subst (λ (words' : List (List ℕ)). command_of words' ≡ Some command) (sym is) asks
+
+asked_back :
+    (words : List (List ℕ)) (command : Command) → IsCommand command → AreWordsOf words command →
+    command_of words ≡ Some command
+unfolding command_of
+asked_back words (Replay script) there is = as_words words _ (Replay script) is refl
+asked_back words (Run script) there is = as_words words _ (Run script) is refl
+asked_back words (Map script) there is = as_words words _ (Map script) is refl
+asked_back words (Check script log) there is = as_words words _ (Check script log) is refl
+asked_back words (Make rounds) there is = as_words words _ (Make rounds) is (made_back rounds there)
+asked_back words (Dma script transfer) there is =
+    as_words words _ (Dma script transfer) is.2 (dma_back script is.0 transfer there is.1)
+asked_back words (Save script) there is = as_words words _ (Save script) is refl
+asked_back words (Resume image script) there is = as_words words _ (Resume image script) is refl
+asked_back words (Serial script input) there is = as_words words _ (Serial script input) is refl
+asked_back words (Blame script) there is = as_words words _ (Blame script) is refl
 
 pub words_decide : WordsDecide
-words_decide = λ words command. (
-  all_read words command,
-  λ asks. subst (λ (words' : List (List ℕ)). command_of words' ≡ Some command) (sym asks.1) (asked_back command asks.0),
-)
+words_decide = λ words command. (all_read words command, λ asks. asked_back words command asks.0 asks.1)
 
 pub one_command : OneCommand
-one_command = λ command other there there_too same.
-    some_is command other (sym (asked_back command there) ∙ ap command_of same ∙ asked_back other there_too)
+one_command = λ words command other there there_too asks asks_too.
+    some_is command other (sym (asked_back words command there asks) ∙ asked_back words other there_too asks_too)

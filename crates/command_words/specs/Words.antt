@@ -1,5 +1,5 @@
 -- The words of the command line, and the command that they are.
-use Rattle.std.specs.Prelude.{ℕ, ◌≡◌, ◌≤◌, ◌*◌, ◌%◌, ◌==◌, ◌↔◌, Bool, true, false, List, [], ◌∷◌, map, string_bytes, String, Option, Some, None, codes, decimal, bytes_eq, if◌then◌else◌, ◌&&◌, nat_le}
+use Rattle.std.specs.Prelude.{ℕ, ◌≡◌, ◌≤◌, ◌*◌, ◌%◌, ◌==◌, ◌↔◌, Bool, true, false, List, [], ◌∷◌, map, string_bytes, String, Option, Some, None, option_map, codes, decimal, bytes_eq, if◌then◌else◌, ◌&&◌, nat_le}
 use Rattle.std.specs.Global.{Global}
 use Rattle.script_lines.specs.Numbers.{decimal_of, hex_of, ◌>>=◌}
 use Rattle.make_script.specs.Laws.{most_rounds}
@@ -67,14 +67,21 @@ usage_text =
 
 -- ---- the command that words are
 
+-- the only word, and the two where there are two
+abbrev pub name_of : List (List ℕ) → Option (List ℕ)
+name_of (name ∷ []) = Some name
+name_of _ = None
+
+abbrev pub names_of : List (List ℕ) → Option (List ℕ × List ℕ)
+names_of (name ∷ other ∷ []) = Some (name, other)
+names_of _ = None
+
 -- a verb with the name of one file, and with those of two
 abbrev pub with_name : (List ℕ → Command) → List (List ℕ) → Option Command
-with_name command (name ∷ []) = Some (command name)
-with_name command _ = None
+with_name command words = option_map command (name_of words)
 
 abbrev pub with_names : (List ℕ → List ℕ → Command) → List (List ℕ) → Option Command
-with_names command (name ∷ other ∷ []) = Some (command name other)
-with_names command _ = None
+with_names command words = option_map (λ names. command names.0 names.1) (names_of words)
 
 abbrev pub is_round_count : ℕ → Bool
 is_round_count count = nat_le 1 count && nat_le count most_rounds

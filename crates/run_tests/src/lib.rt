@@ -2,6 +2,8 @@
 #![tactic(auto)]
 
 #[cfg(test)]
+mod further_commands;
+#[cfg(test)]
 mod holding_gate;
 #[cfg(test)]
 mod made_maps;

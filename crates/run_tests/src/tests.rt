@@ -17,7 +17,7 @@ fn texts_and_codes(rt: HostRuntime) -> Result<(), Fail> {
         (
             Status::Usage,
             1,
-            "usage: board replay FILE, run FILE, map FILE, check FILE LOG, make N",
+            "usage: board replay FILE, run FILE, map FILE, check FILE LOG, make N, dma FILE in|out TABLE LBA COUNT, save FILE, resume IMAGE FILE, serial FILE INPUT, blame FILE",
         ),
         (Status::ReadFault(Which::Script), 2, "read fault: script"),
         (Status::ReadFault(Which::Rom), 2, "read fault: rom"),
@@ -28,6 +28,10 @@ fn texts_and_codes(rt: HostRuntime) -> Result<(), Fail> {
         (Status::TooLong(Which::Rom), 4, "too long: rom"),
         (Status::TooLong(Which::Disk), 4, "too long: disk"),
         (Status::TooLong(Which::Log), 4, "too long: log"),
+        (Status::ReadFault(Which::Image), 2, "read fault: image"),
+        (Status::ReadFault(Which::Input), 2, "read fault: input"),
+        (Status::TooLong(Which::Image), 4, "too long: image"),
+        (Status::TooLong(Which::Input), 4, "too long: input"),
         (
             Status::BadScript { line: 6, why: 8 },
             5,
@@ -35,8 +39,10 @@ fn texts_and_codes(rt: HostRuntime) -> Result<(), Fail> {
         ),
         (Status::BadImage(Which::Rom), 6, "bad image: rom"),
         (Status::BadImage(Which::Disk), 6, "bad image: disk"),
+        (Status::BadImage(Which::Image), 6, "bad image: image"),
         (Status::Differs { line: 3 }, 7, "differs: line 3"),
         (Status::NoMemory, 8, "no memory"),
+        (Status::OtherBoard, 9, "other board"),
     ];
     for (status, code, text) in cases {
         assert_eq!(rt; exit_code(&status), code);
@@ -46,7 +52,7 @@ fn texts_and_codes(rt: HostRuntime) -> Result<(), Fail> {
 }
 
 /// Words, each a `String`.
-fn words_of(alloc: Global, texts: &[&str]) -> Result<Vec<String>, Fail> {
+pub fn words_of(alloc: Global, texts: &[&str]) -> Result<Vec<String>, Fail> {
     let mut words = Vec::new(alloc);
     for text in texts {
         words.push(String::from_str(alloc, text)?)?;
@@ -55,7 +61,7 @@ fn words_of(alloc: Global, texts: &[&str]) -> Result<Vec<String>, Fail> {
 }
 
 /// Words that are no command, over files that a command would read.
-const NO_COMMANDS: [&[&str]; 13] = [
+const NO_COMMANDS: [&[&str]; 38] = [
     &[],
     &["replay"],
     &["replay", "s", "s"],
@@ -69,6 +75,31 @@ const NO_COMMANDS: [&[&str]; 13] = [
     &["make", "0"],
     &["make", "20001"],
     &["make", "01"],
+    &["dma", "s"],
+    &["dma", "s", "in", "00001000", "0"],
+    &["dma", "s", "in", "00001000", "0", "1", "1"],
+    &["dma", "s", "to", "00001000", "0", "1"],
+    &["dma", "s", "In", "00001000", "0", "1"],
+    &["dma", "s", "in", "1000", "0", "1"],
+    &["dma", "s", "in", "000001000", "0", "1"],
+    &["dma", "s", "in", "0000100G", "0", "1"],
+    &["dma", "s", "in", "00001002", "0", "1"],
+    &["dma", "s", "in", "00001001", "0", "1"],
+    &["dma", "s", "in", "00001000", "65536", "1"],
+    &["dma", "s", "in", "00001000", "00", "1"],
+    &["dma", "s", "in", "00001000", "-1", "1"],
+    &["dma", "s", "in", "00001000", "0", "0"],
+    &["dma", "s", "in", "00001000", "0", "257"],
+    &["dma", "s", "in", "00001000", "0", "01"],
+    &["dma", "s", "in", "00001000", "0", "+1"],
+    &["save"],
+    &["save", "s", "s"],
+    &["resume", "s"],
+    &["resume", "s", "s", "s"],
+    &["serial", "s"],
+    &["serial", "s", "s", "s"],
+    &["blame"],
+    &["blame", "s", "s"],
 ];
 
 #[test]
@@ -89,7 +120,7 @@ fn words_that_are_no_command(rt: HostRuntime) -> Result<(), Fail> {
 }
 
 /// The bytes of a ROM: the byte at offset o is o mod 256.
-fn rom_of(alloc: Global, size: usize) -> Result<Vec<u8>, Fail> {
+pub fn rom_of(alloc: Global, size: usize) -> Result<Vec<u8>, Fail> {
     let mut bytes = Vec::with_capacity(alloc, size)?;
     for offset in 0..size {
         bytes.push((offset % 256) as u8)?;
@@ -128,10 +159,10 @@ fn answered<R: Threads + Wait + Sync>(
 }
 
 /// The size of the ROM of most scripts below.
-const ROM_SIZE: usize = 0x1_0000;
+pub const ROM_SIZE: usize = 0x1_0000;
 
 /// The setup of a script without cards.
-const SETUP: &str = "board 1\ncpus 1\nmemory 8\nrom r64\n";
+pub const SETUP: &str = "board 1\ncpus 1\nmemory 8\nrom r64\n";
 
 /// The log of a script without statements.
 const EMPTY_LOG: &str = "access log 1\n";

@@ -8,7 +8,7 @@ returns-in-Some g c =
     record {
       ends = record {
         usage = (λ is. absurd (own_is_no_usage _ _ _ _ c.write_own.ensures.written is), λ both. absurd (cc (own, both.0)));
-        own = λ _. (c.in-Some.text.now, c.in-Some.ensures.version, c.write_own.ensures.written);
+        own = λ _. (c.in-Some.own, c.in-Some.ensures.help, c.write_own.ensures.written);
         answered = λ other. absurd (cc (own, other));
       };
     }

@@ -1,0 +1,338 @@
+-- The words and the files ask for at most one status: what was read before a file is determined, and so is what is said of it.
+use Rattle.std.proofs.Common.{◌≡◌, ℕ, ◌<◌, ◌≤◌, ◌++◌, ◌⊎◌, inl, inr, List, [], ◌∷◌, length, reverse, Option, Some, None, refl, sym, ap, ◌∙◌, subst, append_assoc, append-nil}
+use Rattle.std.proofs.Math.Nat.{not-le_of_lt}
+use Rattle.std.proofs.lemmas.List.{reverse-append, reverse-reverse}
+use Rattle.board_spec.specs.declared.event.Statement.{Statement}
+use Rattle.board_spec.specs.Setup.{Setup}
+use Rattle.script_spec.specs.ScriptText.{Script as Said, IsScriptBad}
+use Rattle.script_spec.specs.Checks.{IsLogOf, DiffersAt}
+use Rattle.script_spec.proofs.ReadingLaws.{same_some, not_both, one_refusal}
+use Rattle.script_spec.proofs.ScriptLaws.{one_script}
+use Rattle.script_spec.proofs.CheckLaws.{one_difference}
+use Rattle.board_image.specs.ImageBytes.{Saved}
+use Rattle.board_image.specs.Laws.{OneSpelling}
+use Rattle.command_texts.specs.Images.{IsSameBoard}
+use Rattle.command_words.specs.Words.{Command, Replay, Run, Map, Check, Make, Dma, Save, Resume, Serial, Blame}
+use Rattle.command_files.specs.declared.status.Which.{Which}
+use Rattle.command_files.specs.declared.status.Which.TheVariants.{Script, Rom, Disk, Log, Image, Input}
+use Rattle.command_files.specs.declared.status.Status.{Status}
+use Rattle.command_files.specs.declared.status.Status.TheVariants.{Done, Usage, ReadFault, WriteFault, TooLong, BadScript, BadImage, Differs, NoMemory, OtherBoard}
+use Rattle.command_files.specs.Table.{files_of, limit_of}
+use Rattle.command_files.specs.Known.{Files, Known, nothing_known, name_of, Learns, Passes, AreReadAs, AllRead, ComesTo, board_of, OfScript, OfImage}
+use Rattle.command_files.specs.Asked.{IsNoImage, LogIsLegal, LogDiffers, BoardsAgree, BoardsDiffer, CanBeDone, OfCheck, OfResume, EndsWith, AsksFor}
+use Rattle.command_files.specs.Laws.{OneStatus}
+
+-- at most one status holds
+abbrev IsOne : (Status → Type 0) → Type 0
+IsOne P = (status other : Status) → P status → P other → status ≡ other
+
+-- ---- one file
+
+-- a file within its limit is refused with this status
+abbrev IsRefusedAs : Which → (bytes : List ℕ) → Status → Type 0
+IsRefusedAs Script bytes status = (line : ℕ) × (why : ℕ) × IsScriptBad bytes line why × (status ≡ BadScript line why)
+IsRefusedAs which bytes status = IsNoImage which bytes × (status ≡ BadImage which)
+
+no_image_refused : (which : Which) (bytes : List ℕ) → IsNoImage which bytes → IsRefusedAs which bytes (BadImage which)
+no_image_refused Script bytes none = absurd none
+no_image_refused Rom bytes none = (none, refl)
+no_image_refused Disk bytes none = (none, refl)
+no_image_refused Log bytes none = absurd none
+no_image_refused Image bytes none = (none, refl)
+no_image_refused Input bytes none = absurd none
+
+one_refused : (which : Which) (bytes : List ℕ) → IsOne (IsRefusedAs which bytes)
+one_refused Script bytes status other one two =
+    let same : (one.0 ≡ two.0) × (one.1 ≡ two.1) = one_refusal bytes one.0 one.1 two.0 two.1 one.2 two.2 in
+    one.3
+    ∙ ap (λ (line : ℕ). BadScript line one.1) same.0
+    ∙ ap (λ (why : ℕ). BadScript two.0 why) same.1
+    ∙ sym two.3
+one_refused Rom bytes status other one two = one.1 ∙ sym two.1
+one_refused Disk bytes status other one two = one.1 ∙ sym two.1
+one_refused Log bytes status other one two = one.1 ∙ sym two.1
+one_refused Image bytes status other one two = one.1 ∙ sym two.1
+one_refused Input bytes status other one two = one.1 ∙ sym two.1
+
+-- a file is not both good and refused
+apart :
+    (known : Known) (which : Which) (bytes : List ℕ) (status : Status) (now : Known) →
+    IsRefusedAs which bytes status → Learns known which bytes now → ⊥
+apart known Script bytes status now refused good = not_both bytes good.0 refused.0 refused.1 good.1 refused.2
+apart known Rom bytes status now refused good = refused.0 good.0
+apart known Disk bytes status now refused good = refused.0 good.0
+apart known Log bytes status now refused good = absurd refused.0
+apart known Image bytes status now refused good =
+    refused.0 (record { setup = good.0.setup; steps = good.0.steps; image = good.1; spelled = good.2 })
+apart known Input bytes status now refused good = absurd refused.0
+
+same_image : (image other : Saved) → image.setup ≡ other.setup → image.steps ≡ other.steps → image ≡ other
+same_image image other setup steps =
+    ap (λ (setup' : Setup). record { setup = setup'; steps = image.steps }) setup
+    ∙ ap (λ (steps' : List Statement). record { setup = other.setup; steps = steps' }) steps
+
+-- what a file says is determined
+one_learned :
+    OneSpelling → (known : Known) (which : Which) (bytes : List ℕ) (now other : Known) → Learns known which bytes now →
+    Learns known which bytes other → now ≡ other
+one_learned spelling known Script bytes now other one two =
+    one.2
+    ∙ ap (λ (script : Said). record known { script = Some script }) (one_script bytes one.0 two.0 one.1 two.1)
+    ∙ sym two.2
+one_learned spelling known Rom bytes now other one two = one.1 ∙ sym two.1
+one_learned spelling known Disk bytes now other one two = one.1 ∙ sym two.1
+one_learned spelling known Log bytes now other one two = one ∙ sym two
+one_learned spelling known Image bytes now other one two =
+    let same =
+    spelling one.0.setup two.0.setup one.0.steps two.0.steps one.1 two.1 (sym one.2 ∙ two.2) in
+    one.3
+    ∙ ap (λ (image : Saved). record known { image = Some image }) (same_image one.0 two.0 same.0 same.1)
+    ∙ sym two.3
+one_learned spelling known Input bytes now other one two = one ∙ sym two
+
+-- ---- once all files were read
+
+-- what is known asks for this status, by cases
+abbrev EndsAs : Command → Known → Status → Type 0
+EndsAs command known status =
+    (CanBeDone command known × (status ≡ Done))
+    ⊎ ((line : ℕ) × OfCheck command (LogDiffers known line) × (status ≡ Differs line))
+    ⊎ (OfResume command (BoardsDiffer known) × (status ≡ OtherBoard))
+
+ends_as : (command : Command) (known : Known) (status : Status) → EndsWith command known status → EndsAs command known status
+ends_as command known Done ends = inl (ends, refl)
+ends_as command known Usage ends = absurd ends
+ends_as command known (ReadFault which) ends = absurd ends
+ends_as command known WriteFault ends = absurd ends
+ends_as command known (TooLong which) ends = absurd ends
+ends_as command known (BadScript line why) ends = absurd ends
+ends_as command known (BadImage which) ends = absurd ends
+ends_as command known (Differs line) ends = inr (inl (line, ends, refl))
+ends_as command known NoMemory ends = absurd ends
+ends_as command known OtherBoard ends = inr (inr (ends, refl))
+
+-- only `check` compares logs, and only `resume` boards
+check_is : (command : Command) (P : Type 0) → OfCheck command P → (script : List ℕ) × (log : List ℕ) × (command ≡ Check script log) × P
+check_is (Replay script) P is = absurd is
+check_is (Run script) P is = absurd is
+check_is (Map script) P is = absurd is
+check_is (Check script log) P is = (script, log, refl, is)
+check_is (Make rounds) P is = absurd is
+check_is (Dma script transfer) P is = absurd is
+check_is (Save script) P is = absurd is
+check_is (Resume image script) P is = absurd is
+check_is (Serial script input) P is = absurd is
+check_is (Blame script) P is = absurd is
+
+resume_is : (command : Command) (P : Type 0) → OfResume command P → (image : List ℕ) × (script : List ℕ) × (command ≡ Resume image script) × P
+resume_is (Replay script) P is = absurd is
+resume_is (Run script) P is = absurd is
+resume_is (Map script) P is = absurd is
+resume_is (Check script log) P is = absurd is
+resume_is (Make rounds) P is = absurd is
+resume_is (Dma script transfer) P is = absurd is
+resume_is (Save script) P is = absurd is
+resume_is (Resume image script) P is = (image, script, refl, is)
+resume_is (Serial script input) P is = absurd is
+resume_is (Blame script) P is = absurd is
+
+-- of the one script that was read both hold, and of the one image
+both_of_script :
+    (known : Known) (P Q : Said → Type 0) → OfScript known P → OfScript known Q → (script : Said) × P script × Q script
+both_of_script known P Q one two =
+    (one.0, one.2, subst Q (same_some two.0 one.0 (sym two.1 ∙ one.1)) two.2)
+
+both_of_image :
+    (known : Known) (P Q : Saved → Type 0) → OfImage known P → OfImage known Q → (image : Saved) × P image × Q image
+both_of_image known P Q one two =
+    (one.0, one.2, subst Q (same_some two.0 one.0 (sym two.1 ∙ one.1)) two.2)
+
+log_apart : (known : Known) (line : ℕ) → LogDiffers known line → LogIsLegal known → ⊥
+log_apart known line differs legal =
+    let both =
+    both_of_script known
+    (λ script. DiffersAt (board_of known script) script.version script.phases known.log line)
+    (λ script. IsLogOf (board_of known script) script.version script.phases known.log) differs legal in
+    both.1.other both.2
+
+one_log_line : (known : Known) (line place : ℕ) → LogDiffers known line → LogDiffers known place → line ≡ place
+one_log_line known line place one two =
+    let both =
+    both_of_script known
+    (λ script. DiffersAt (board_of known script) script.version script.phases known.log line)
+    (λ script. DiffersAt (board_of known script) script.version script.phases known.log place) one two in
+    one_difference (board_of known both.0) both.0.version both.0.phases known.log line place both.1 both.2
+
+boards_apart : (known : Known) → BoardsDiffer known → BoardsAgree known → ⊥
+boards_apart known differ agree =
+    let both =
+    both_of_script known (λ script. OfImage known (λ image. ¬ IsSameBoard image.setup script))
+    (λ script. OfImage known (λ image. IsSameBoard image.setup script)) differ agree in
+    let images =
+    both_of_image known (λ image. ¬ IsSameBoard image.setup both.0) (λ image. IsSameBoard image.setup both.0) both.1 both.2
+    in
+    images.1 images.2
+
+done_or_differs :
+    (command : Command) (known : Known) (line : ℕ) → CanBeDone command known → OfCheck command (LogDiffers known line) → ⊥
+done_or_differs command known line done differs =
+    let check = check_is command (LogDiffers known line) differs in
+    log_apart known line check.3 (subst (λ (command' : Command). CanBeDone command' known) check.2 done)
+
+done_or_other :
+    (command : Command) (known : Known) → CanBeDone command known → OfResume command (BoardsDiffer known) → ⊥
+done_or_other command known done differ =
+    let resume = resume_is command (BoardsDiffer known) differ in
+    boards_apart known resume.3 (subst (λ (command' : Command). CanBeDone command' known) resume.2 done)
+
+differs_or_other :
+    (command : Command) (P Q : Type 0) → OfCheck command P → OfResume command Q → ⊥
+differs_or_other command P Q check resume = absurd (cc ((check_is command P check).2, (resume_is command Q resume).2))
+
+one_line_of_check :
+    (command : Command) (known : Known) (line place : ℕ) → OfCheck command (LogDiffers known line) →
+    OfCheck command (LogDiffers known place) → line ≡ place
+one_line_of_check command known line place one two =
+    one_log_line known line place (check_is command (LogDiffers known line) one).3
+    (check_is command (LogDiffers known place) two).3
+
+one_way : (command : Command) (known : Known) → IsOne (EndsAs command known)
+one_way command known status other (inl one) (inl two) = one.1 ∙ sym two.1
+one_way command known status other (inl one) (inr (inl two)) = absurd (done_or_differs command known two.0 one.0 two.1)
+one_way command known status other (inl one) (inr (inr two)) = absurd (done_or_other command known one.0 two.0)
+one_way command known status other (inr (inl one)) (inl two) = absurd (done_or_differs command known one.0 two.0 one.1)
+one_way command known status other (inr (inl one)) (inr (inl two)) =
+    one.2
+    ∙ ap (λ (line : ℕ). Differs line) (one_line_of_check command known one.0 two.0 one.1 two.1)
+    ∙ sym two.2
+one_way command known status other (inr (inl one)) (inr (inr two)) =
+    absurd (differs_or_other command (LogDiffers known one.0) (BoardsDiffer known) one.1 two.0)
+one_way command known status other (inr (inr one)) (inl two) = absurd (done_or_other command known two.0 one.0)
+one_way command known status other (inr (inr one)) (inr (inl two)) =
+    absurd (differs_or_other command (LogDiffers known two.0) (BoardsDiffer known) two.1 one.0)
+one_way command known status other (inr (inr one)) (inr (inr two)) = one.1 ∙ sym two.1
+
+one_with : (command : Command) (known : Known) → IsOne (EndsWith command known)
+one_with command known status other one two =
+    one_way command known status other (ends_as command known status one) (ends_as command known other two)
+
+-- ---- one file after another
+
+-- a command ends at a file that is too long or refused, or goes on past it
+abbrev Stage : Files → Known → Which → (name : Option (List ℕ)) → (Later : Known → Status → Type 0) → Status → Type 0
+Stage files known which None Later status = Later known status
+Stage files known which (Some name) Later status =
+    ((limit_of which < length (files name)) × (status ≡ TooLong which))
+    ⊎ ((length (files name) ≤ limit_of which) × IsRefusedAs which (files name) status)
+    ⊎ ((length (files name) ≤ limit_of which)
+    × ((now : Known) × Learns known which (files name) now × Later now status))
+
+-- the first of these files that is too long or refused gives the status
+abbrev EndsAt : Command → Files → Known → List Which → Status → Type 0
+EndsAt command files known [] status = EndsWith command known status
+EndsAt command files known (which ∷ later) status =
+    Stage files known which (name_of command known which) (λ now status'. EndsAt command files now later status') status
+
+one_stage :
+    OneSpelling → (files : Files) (known : Known) (which : Which) (name : Option (List ℕ))
+    (Later : Known → Status → Type 0) → ((now : Known) → IsOne (Later now)) → IsOne (Stage files known which name Later)
+one_stage spelling files known which None Later later status other one two = later known status other one two
+one_stage spelling files known which (Some name) Later later status other (inl one) (inl two) = one.1 ∙ sym two.1
+one_stage spelling files known which (Some name) Later later status other (inl one) (inr (inl two)) =
+    absurd (not-le_of_lt one.0 two.0)
+one_stage spelling files known which (Some name) Later later status other (inl one) (inr (inr two)) =
+    absurd (not-le_of_lt one.0 two.0)
+one_stage spelling files known which (Some name) Later later status other (inr (inl one)) (inl two) =
+    absurd (not-le_of_lt two.0 one.0)
+one_stage spelling files known which (Some name) Later later status other (inr (inl one)) (inr (inl two)) =
+    one_refused which (files name) status other one.1 two.1
+one_stage spelling files known which (Some name) Later later status other (inr (inl one)) (inr (inr two)) =
+    absurd (apart known which (files name) status two.1.0 one.1 two.1.1)
+one_stage spelling files known which (Some name) Later later status other (inr (inr one)) (inl two) =
+    absurd (not-le_of_lt two.0 one.0)
+one_stage spelling files known which (Some name) Later later status other (inr (inr one)) (inr (inl two)) =
+    absurd (apart known which (files name) other one.1.0 two.1 one.1.1)
+one_stage spelling files known which (Some name) Later later status other (inr (inr one)) (inr (inr two)) =
+    let same : one.1.0 ≡ two.1.0 =
+    one_learned spelling known which (files name) one.1.0 two.1.0 one.1.1 two.1.1 in
+    later two.1.0 status other (subst (λ (now : Known). Later now status) same one.1.2) two.1.2
+
+one_end :
+    OneSpelling → (command : Command) (files : Files) (known : Known) (later : List Which) →
+    IsOne (EndsAt command files known later)
+one_end spelling command files known [] = one_with command known
+one_end spelling command files known (which ∷ later) =
+    one_stage spelling files known which (name_of command known which)
+    (λ now status. EndsAt command files now later status) (λ now. one_end spelling command files now later)
+
+-- ---- from what was read before a file to all files
+
+passed :
+    (files : Files) (before now : Known) (which : Which) (name : Option (List ℕ)) (Later : Known → Status → Type 0)
+    (status : Status) → Passes files before which name now → Later now status → Stage files before which name Later status
+passed files before now which None Later status passes ends = subst (λ (known : Known). Later known status) passes ends
+passed files before now which (Some name) Later status passes ends = inr (inr (passes.0, (now, passes.1, ends)))
+
+reverse_on : (before later : List Which) (which : Which) → reverse before ++ which ∷ later ≡ reverse (which ∷ before) ++ later
+reverse_on before later which =
+    sym (ap (λ (whiches : List Which). whiches ++ later) (reverse-append (which ∷ []) before)
+    ∙ append_assoc (reverse before) (which ∷ []) later)
+
+-- where these files were read first, and the later ones end so, all end so
+from_start :
+    (command : Command) (files : Files) (before later : List Which) (known : Known) (status : Status) →
+    AreReadAs command files before known → EndsAt command files known later status →
+    EndsAt command files nothing_known (reverse before ++ later) status
+from_start command files [] later known status read ends =
+    subst (λ (known' : Known). EndsAt command files known' later status) read ends
+from_start command files (which ∷ before) later known status read ends =
+    subst (λ (whiches : List Which). EndsAt command files nothing_known whiches status) (reverse_on before later which)
+    (from_start command files before (which ∷ later) read.0 status read.1
+    (passed files read.0 known which (name_of command read.0 which)
+    (λ now status'. EndsAt command files now later status') status read.2 ends))
+
+-- a command that comes to a file, where it ends so
+at_file :
+    (command : Command) (files : Files) (which : Which) (known : Known) (name : List ℕ) (status : Status)
+    (comes : ComesTo command files which known name) →
+    Stage files known which (Some name) (λ now status'. EndsAt command files now comes.later status') status →
+    EndsAt command files nothing_known (files_of command) status
+at_file command files which known name status comes ends =
+    subst (λ (whiches : List Which). EndsAt command files nothing_known whiches status) (sym comes.place)
+    (from_start command files comes.before (which ∷ comes.later) known status comes.read
+    (subst
+    (λ (named : Option (List ℕ)). Stage files known which named (λ now status'. EndsAt command files now comes.later status')
+    status) (sym comes.named) ends))
+
+at_end :
+    (command : Command) (files : Files) (status : Status) →
+    (known : Known) × AllRead command files known × EndsWith command known status →
+    EndsAt command files nothing_known (files_of command) status
+at_end command files status ends =
+    subst (λ (whiches : List Which). EndsAt command files nothing_known whiches status)
+    (append-nil (reverse (reverse (files_of command))) ∙ reverse-reverse (files_of command))
+    (from_start command files (reverse (files_of command)) [] ends.0 status ends.1 ends.2)
+
+at_some :
+    (command : Command) (files : Files) (status : Status) → AsksFor command files status →
+    EndsAt command files nothing_known (files_of command) status
+at_some command files Done asks = at_end command files Done asks
+at_some command files Usage asks = at_end command files Usage asks
+at_some command files (ReadFault which) asks = at_end command files (ReadFault which) asks
+at_some command files WriteFault asks = at_end command files WriteFault asks
+at_some command files (TooLong which) asks =
+    at_file command files which asks.known asks.name (TooLong which) asks.comes (inl (asks.holds, refl))
+at_some command files (BadScript line why) asks =
+    at_file command files Script asks.known asks.name (BadScript line why) asks.comes
+    (inr (inl (asks.holds.fits, (line, why, asks.holds.holds, refl))))
+at_some command files (BadImage which) asks =
+    at_file command files which asks.known asks.name (BadImage which) asks.comes
+    (inr (inl (asks.holds.fits, no_image_refused which (files asks.name) asks.holds.holds)))
+at_some command files (Differs line) asks = at_end command files (Differs line) asks
+at_some command files NoMemory asks = at_end command files NoMemory asks
+at_some command files OtherBoard asks = at_end command files OtherBoard asks
+
+pub one_status : OneSpelling → OneStatus
+one_status spelling = λ command files status other one two.
+    one_end spelling command files nothing_known (files_of command) status other
+    (at_some command files status one) (at_some command files other two)
