@@ -24,9 +24,9 @@ fn script_of(alloc: Global, setup: &str, statements: &[&str]) -> Result<String, 
 
 /// A disk of four sectors: each byte of sector s is s + 1.
 fn disk_of_four(alloc: Global) -> Result<Vec<u8>, Fail> {
-    let mut bytes = Vec::with_capacity(alloc, 2048)?;
-    for place in 0..2048 {
-        bytes.push((place / 512 + 1) as u8)?;
+    let mut bytes = Vec::new(alloc);
+    for byte in [1, 2, 3, 4] {
+        bytes.extend_from_slice(&[byte; 512])?;
     }
     Ok(bytes)
 }
