@@ -9,9 +9,7 @@ use command_words::{Alone, Command};
 
 /// The board that a script asks for: the script, then the ROM and the disk that it names.
 const WITH_BOARD: [Which; 3] = [Which::Script, Which::Rom, Which::Disk];
-
 const WITH_LOG: [Which; 4] = [Which::Script, Which::Rom, Which::Disk, Which::Log];
-
 const WITH_INPUT: [Which; 4] = [Which::Script, Which::Rom, Which::Disk, Which::Input];
 /// An image has a ROM and a disk of its own.
 const RESUMED: [Which; 2] = [Which::Image, Which::Script];
