@@ -230,7 +230,7 @@ class Board:
     @staticmethod
     def add_words(about: argparse.ArgumentParser) -> None:
         images = "where the ROM and the disk lie, if not beside the script"
-        program = "stands for ./board of this repository"
+        program = "stands for ./board, which takes the packed program or proves and builds one first"
         about.add_argument("--images", type=pathlib.Path, metavar="FOLDER", help=images)
         about.add_argument("--program", type=pathlib.Path, default=ROOT / "board", help=program)
 

@@ -1,4 +1,4 @@
-//! Histories as values: what was asked of a board, and what it replied, in the order in which it came.
+//! Histories as values: the events of a board and its replies, in the order in which they came.
 #![tactic(auto)]
 
 mod history;

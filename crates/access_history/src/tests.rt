@@ -64,7 +64,7 @@ fn add<R: Wait>(rt: &R, turn: &Turn<History>, pass: &mut Pass<History>, actor: u
     turn.give(pass, held);
 }
 
-/// So many turns, in which the caller adds its entries from number 1 on.
+/// Some turns, in which the caller adds its entries from number 1 on.
 fn add_all<R: Wait>(
     rt: &R,
     turn: &Turn<History>,

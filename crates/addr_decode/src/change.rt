@@ -101,7 +101,7 @@ impl MapRegs {
         }
     }
 
-    /// Stores a byte so many offsets after a register, unless that is past offset FFh.
+    /// Stores a byte in the register `k` offsets after another, unless that is past offset FFh.
     fn store_after(&mut self, reg: Reg, k: u8, byte: u8)
         requires cards { AreFitted self.old.cards.items }
         ensures stands { (setup : Setup) (bytes : Bytes) → StandsFor setup bytes (map_bytes self.old)

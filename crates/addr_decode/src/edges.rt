@@ -73,7 +73,7 @@ pub fn next_edge(regs: &MapRegs, addr: u32) -> Option<u32>
     nearest.edge
 }
 
-/// The least of the fixed edges above an address. Those that its range shows not to lie above it are not looked at.
+/// The least of the fixed edges above an address. The search skips those that cannot lie above it.
 fn fixed_above(addr: u32) -> Option<u32>
     ensures first { result ≡ find (nat_lt addr) fixed_edges }
 {
@@ -240,7 +240,7 @@ impl Nearest {
     }
 }
 
-/// Does nothing: its clause says of numbers what their type does.
+/// Does nothing: its clause gives proofs what the type says, that each value is a byte.
 fn are_bytes(values: &[u8])
     ensures bytes { (k : ℕ) → slice_index values.now k < 2 ^ 8 }
 {}

@@ -16,7 +16,7 @@ use board_spec::port::{
 };
 use xbus_select::{decodes_ide_channel, enables_ide_ports, selects_clock, selects_keyboard};
 
-/// What the board's own devices say to a port access.
+/// How the board's own devices respond to a port access.
 #[derive(Clone, Copy, PartialEq, Eq, Debug)]
 pub enum Onboard {
     /// This device answers.
@@ -27,7 +27,7 @@ pub enum Onboard {
     Absent,
 }
 
-/// What the board's own devices say at a port, with this XBCS and this answer of the disk.
+/// How the board's own devices respond at a port, by XBCS and by the response of the disk.
 pub fn onboard_at(xbcs: u8, disk: Onboard, port: u16, width: Width) -> Onboard
     ensures onboard { result ≡ onboard_at xbcs disk port width }
 {
@@ -37,7 +37,7 @@ pub fn onboard_at(xbcs: u8, disk: Onboard, port: u16, width: Width) -> Onboard
     }
 }
 
-/// What the board's own devices say to an access of one byte.
+/// How the board's own devices respond to an access of one byte.
 #[tactic(auto, unfolding(crate::specs::Onboard::byte_port))]
 fn byte_port(xbcs: u8, disk: Onboard, port: u16) -> Onboard
     ensures onboard { result ≡ byte_port xbcs disk port }
@@ -56,7 +56,7 @@ fn byte_port(xbcs: u8, disk: Onboard, port: u16) -> Onboard
     }
 }
 
-/// What the board's own devices say to an access of two or four bytes, which the disk's data register alone takes.
+/// How the board's own devices respond to an access of two or four bytes, which only the disk's data register takes.
 fn wide_port(disk: Onboard, port: u16) -> Onboard
     ensures onboard { result ≡ wide_port disk port }
 {

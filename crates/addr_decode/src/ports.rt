@@ -73,14 +73,14 @@ fn is_config_data(port: u16) -> bool
     CONFIG_DATA <= port && port <= CONFIG_DATA_END
 }
 
-/// What an access is decoded to that this target answers: nothing denies it.
+/// The decode of an access that this target answers: nothing denies it.
 fn answered(target: Target) -> (Target, Option<Denial>)
     ensures answered { result ≡ (target, None) }
 {
     (target, None)
 }
 
-/// What an access is decoded to that nobody answers, with what denies it.
+/// The decode of an access that nobody answers, with what denies it.
 fn denied(denial: Denial) -> (Target, Option<Denial>)
     ensures denied { result ≡ (Target.Abort, Some denial) }
 {

@@ -41,7 +41,7 @@ const NO_WORD: u16 = 0xFFFF;
 /// The last word of a sector, and of IDENTIFY DEVICE.
 const LAST_WORD: u8 = 255;
 
-/// The registers, what is under way, the interrupt request, and the words that came of a sector.
+/// The registers, what is under way, the interrupt request, and the words of a sector that have come so far.
 #[derive(Drop)]
 pub struct Controller {
     pub task: TaskFile,

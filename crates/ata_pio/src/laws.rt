@@ -18,8 +18,8 @@ pub fn power_on_is_sound()
     ensures law { PowerOnIsSound }
 {}
 
-/// Every access leaves a disk whose sectors are whole, as many as before, and of which none that it
-/// has not is under way.
+/// Every access leaves a disk with as many whole sectors as before, and a sector that is under way is one
+/// of them.
 pub fn stays_sound()
     ensures law { StaysSound }
 {}

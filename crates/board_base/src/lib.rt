@@ -1,4 +1,4 @@
-//! The words that every part of the board speaks: accesses, what answers them, and the outside.
+//! The types that every part of the board uses: accesses, what answers them, and the outside world.
 #![tactic(auto)]
 
 mod access;

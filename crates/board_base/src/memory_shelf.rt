@@ -39,7 +39,7 @@ impl MemShelf {
         }
     }
 
-    // Counts a fault, and keeps the name at which it rose.
+    // Counts a fault, and keeps the name of the file whose fetch failed.
     fn fail(&mut self, name: &str) -> Failed
         ensures faults { self.new.faults ≡ next_fault self.old.faults }
         ensures never_falls { self.old.faults ≤ self.new.faults }

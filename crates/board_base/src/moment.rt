@@ -96,7 +96,7 @@ mod tests {
         }
     }
 
-    /// What no calendar or clock has.
+    /// Dates and times that do not exist, or that the clock does not have.
     const REFUSED: [(u16, u8, u8, u8, u8, u8); 14] = [
         (1979, 12, 31, 0, 0, 0),
         (2100, 1, 1, 0, 0, 0),

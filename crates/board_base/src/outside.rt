@@ -10,18 +10,18 @@ use crate::fault::{Failed, PutFault};
 /// Files that are read in pieces. A shelf counts its faults, and keeps the first 255 bytes of the
 /// name of its last failed fetch.
 pub trait Shelf {
-    // The bytes of each name, where the shelf tells them.
+    // The bytes of each name; None where the shelf does not say.
     ghost files: { Self → Option (List ℕ → List ℕ) };
 
     ghost faults: { Self → ℕ };
 
     ghost failed_name: { Self → List ℕ };
 
-    // The fetches made of the shelf, the latest first, where it tells them.
+    // The fetches made of the shelf, the latest first; None where it does not say.
     ghost fetches: { Self → Option (List Fetch) };
 
-    /// Reads bytes of a file, from its byte `at` on, into the front of `into`, and answers how
-    /// many. It answers 0 only at the end of the file or past it.
+    /// Reads bytes of a file, from its byte `at` on, into the front of `into`, and returns how
+    /// many. It returns 0 only at the end of the file or past it.
     fn fetch(&mut self, name: &str, at: u64, into: &mut [u8]) -> Result<usize, Failed>
         requires room { 0 < length into.old }
         ensures fits { IfOk result (λ k. k ≤ length into.new) }
@@ -41,16 +41,16 @@ pub trait Shelf {
 
 /// Takes bytes in pieces. A sink counts its faults.
 pub trait Sink {
-    // All bytes that the sink took, where it tells them.
+    // All bytes that the sink took; None where it does not say.
     ghost taken: { Self → Option (List ℕ) };
 
     ghost faults: { Self → ℕ };
 
-    // The puts made into the sink, the latest first, where it tells them.
+    // The puts made into the sink, the latest first; None where it does not say.
     ghost puts: { Self → Option (List Put) };
 
-    /// Takes bytes from the front of a piece, at least one, and answers how many. Where it does
-    /// not answer Ok it takes none.
+    /// Takes bytes from the front of a piece, at least one, and returns how many. Where it does
+    /// not return Ok it takes none.
     fn put(&mut self, piece: &[u8]) -> Result<usize, PutFault>
         requires some { 0 < length piece.now }
         ensures progress { IfOk result (λ k. 0 < k) }
@@ -66,16 +66,16 @@ pub trait Sink {
         ensures told { Made (puts self.old) (puts self.new) (record { took = result_ok result }) };
 }
 
-/// Is told when an actor begins and ends its `k`-th statement, from 1 on, and may hold it up there.
+/// Is called before and after each statement of an actor, and may make the actor wait there.
 pub trait Gate: Sync {
-    /// Actor `actor` is about to do its `k`-th statement.
+    /// Actor `actor` is about to do its `k`-th statement, counted from 1.
     fn before(&self, actor: u8, k: u32);
 
-    /// Actor `actor` has done its `k`-th statement.
+    /// Actor `actor` has done its `k`-th statement, counted from 1.
     fn after(&self, actor: u8, k: u32);
 }
 
-/// A gate that holds nobody up.
+/// A gate at which nobody waits.
 #[derive(Clone, Copy, Debug)]
 pub struct QuietGate;
 

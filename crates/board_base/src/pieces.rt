@@ -39,7 +39,7 @@ pub(crate) fn find_file<'a>(files: &'a [(String, Vec<u8>)], name: &str) -> Optio
 }
 
 // Copies what `file` has from its byte `at` on into the front of `into`, as much as fits, and
-// answers how many bytes that were.
+// returns how many bytes that were.
 pub(crate) fn copy_piece(file: &[u8], at: u64, into: &mut [u8]) -> usize
     ensures count { result ≡ piece_length file.now at into.old }
     ensures bytes { take result into.new ≡ take result (drop at file.now) }
@@ -61,7 +61,7 @@ fn after(bytes: &[u8], at: u64) -> &[u8]
     &bytes[at as usize..]
 }
 
-// Appends a whole piece, and answers its length.
+// Appends a whole piece, and returns its length.
 pub(crate) fn append_piece(bytes: &mut Vec<u8>, piece: &[u8]) -> Result<usize, PutFault>
     ensures only { IsOkUnless result PutFault.NoMemory }
     ensures whole { IfOk result (λ k. k ≡ length piece.now) }

@@ -36,7 +36,7 @@ impl Sink for SlowSink {
 
     ghost puts = { λ _. None };
 
-    // More than a sink has to promise: what the inner one answers to the first `self.piece` bytes.
+    // More than a sink has to promise: what the inner one returns for the first `self.piece` bytes.
     fn put(&mut self, piece: &[u8]) -> Result<usize, PutFault>
         ensures piece { self.new.piece ≡ self.old.piece }
         ensures short { IfOk result (λ k. k ≤ self.old.piece) }

@@ -6,7 +6,7 @@ use std::marker::Model;
 use std::sync::ledger::{Blank, Book, Ledger, Share};
 
 /// How many steps were taken: a number that contracts see and that takes no bytes. `tick` adds one to it, and no
-/// other call changes it. What a step is, the call that ticks says.
+/// other call changes it. The call that ticks says what a step is.
 #[derive(Drop)]
 pub struct Steps<L: Ledger> {
     book: Book<L>,

@@ -13,7 +13,7 @@ abcdefghijklmnopqrstuvwxyzabcdefghijklmnopqrstuvwxyzabcdefghijklmnopqrstuvwxyz\
 abcdefghijklmnopqrstuvwxyzabcdefghijklmnopqrstuvwxyzabcdefghijklmnopqrstuvwxyz\
 abcdefghijklmnopqrstuvwxyz";
 
-// 32 bytes, each another.
+// 32 bytes, no two alike.
 const DIGITS: &str = "0123456789abcdefghijklmnopqrstuv";
 
 #[test]

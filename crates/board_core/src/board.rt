@@ -91,7 +91,7 @@ impl Board {
         self.history.reserve(n)
     }
 
-    /// Does an event of a processor, and tells the reply. It takes no memory.
+    /// Does an event of a processor, and returns the reply. It takes no memory.
     pub fn step(&mut self, actor: u8, event: &Event) -> Reply
         requires in_range { IsInRange self.old.setup event.now }
         requires spare { 1 ≤ self.old.spare }
@@ -126,11 +126,11 @@ impl Board {
         for statement in statements {
             self.step(statement.actor, &statement.event);
         }
-        // The check knows what always holds of a board where a field is used.
+        // The prover knows what always holds of a board where a field is used.
         let _ = &self.chipset;
     }
 
-    /// What was asked and replied so far: each reply is the answer of the definitions, and each
+    /// The events and the replies so far: each reply is the answer of the definitions, and each
     /// processor's entries are numbered from 1.
     pub fn history(&self) -> &History
         ensures legal { IsLegal self.now.setup self.now.entries }

@@ -95,7 +95,7 @@ impl Devices {
         u16::from_le_bytes([self.triggers.read(false), self.triggers.read(true)])
     }
 
-    /// The routes have changed by a configuration write, which itself reached no device: the lines reach the pair.
+    /// After a configuration write that changed the routes, and itself reached no device: the lines reach the pair.
     pub fn reroute(&mut self, routes: &Pirq)
         ensures devices { (setup : Setup) (history : List Entry) (entry : Entry) → AreDevicesOf setup history self.old
             → Leaves history entry → AreRoutesOf setup (entry ∷ history) routes.now
@@ -105,8 +105,8 @@ impl Devices {
     }
 }
 
-/// An event that reaches no device and moves no route leaves every device, and the pair too, since the lines stand as
-/// it saw them.
+/// An event that reaches no device and changes no route changes no device, nor the pair, since the lines are as the
+/// pair last saw them.
 pub fn law_left_alone()
     ensures left { LeavesDevices }
 {

@@ -22,7 +22,7 @@ use cmos_clock::CLOCK_BYTES;
 use pirq_router::Pirq;
 
 impl Devices {
-    /// Whether the pair asks for an interrupt: its INT is 1, and an acknowledge would not be the master's spurious one.
+    /// Whether the pair requests an interrupt: its INT is 1, and an acknowledge would not be the master's spurious one.
     pub fn interrupt(&self) -> bool
         ensures interrupt { (setup : Setup) (history : List Entry) → AreDevicesOf setup history self.now
             → result ≡ is_interrupting setup history }

@@ -35,7 +35,7 @@ impl Devices {
         self.run(count, levels, elcr);
     }
 
-    /// Tells the clock a moment.
+    /// Gives the clock a moment to show.
     pub fn moment(&mut self, routes: &Pirq, moment: Moment)
         requires moment { IsMoment moment }
         ensures devices { (setup : Setup) (history : List Entry) (entry : Entry) → AreDevicesOf setup history self.old
@@ -94,7 +94,7 @@ impl Devices {
         reach(&mut self.pair, levels, elcr, rises);
     }
 
-    /// Tells the clock a moment.
+    /// Gives the clock a moment to show.
     fn tell(&mut self, moment: Moment)
         requires moment { IsMoment moment }
         ensures after { self.new ≡ record self.old { clock = after_moment self.old.clock (civil_time moment) } }

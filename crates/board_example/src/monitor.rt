@@ -38,7 +38,7 @@ pub fn serve(chipset: &mut Chipset, event: &Event, may_interrupt: bool) -> Serve
     }
 }
 
-/// Acknowledges an interrupt, where one is asked for and the processor may take it.
+/// Acknowledges an interrupt, where one is requested and the processor may take it.
 fn acknowledged(chipset: &mut Chipset, may_interrupt: bool) -> Option<Reply>
     ensures setup { chipset.new.setup ≡ chipset.old.setup }
     ensures left { (history : List Entry) → IsLeftBy chipset.old history
@@ -50,7 +50,7 @@ fn acknowledged(chipset: &mut Chipset, may_interrupt: bool) -> Option<Reply>
     Some(chipset.step(&Event::Ack))
 }
 
-/// Serves all exits of a run, and tells how many of them were out of range.
+/// Serves all exits of a run, and returns how many of them were out of range.
 pub fn serve_all(chipset: &mut Chipset, exits: &[Event]) -> usize
     ensures setup { chipset.new.setup ≡ chipset.old.setup }
 {

@@ -17,7 +17,7 @@ const NAME_LIMIT: usize = 4096;
 /// How many bytes are passed over at once.
 const PASSED_AT_ONCE: usize = 4096;
 
-/// Files by their names. Each refusal of the folder is a fault, also that of a file that is not there, and of a name
+/// Files by their names. Each error of the folder is a fault, also where a file is not there, and so is a name
 /// of more than 4,096 bytes. A file stays open between its pieces: so they are pieces of one file also where another
 /// takes its name, and a pipe can be read.
 #[derive(Drop)]
@@ -96,7 +96,7 @@ impl<F: Folder> FileShelf<F> {
     }
 }
 
-// Reads so many bytes and drops them, or as many as there are.
+// Reads `count` bytes and drops them, or as many as there are.
 fn pass_over<R: Read>(file: &mut R, count: u64) -> io::Result<()>
     ensures passed { OnOk result ((bytes : List ℕ) → R.remaining file.old ≡ Some bytes
         → R.remaining file.new ≡ Some (drop count bytes)) }

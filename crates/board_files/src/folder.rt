@@ -12,7 +12,7 @@ use std::rt::Files;
 pub trait Folder {
     type File: Read + Drop;
 
-    // The bytes of each name, where the folder tells them.
+    // The bytes of each name; None where the folder does not say.
     ghost files: { Self → Option (List ℕ → List ℕ) };
 
     /// Opens the file of this name. A file that is not there is an error, as each other refusal of the system.
@@ -20,7 +20,7 @@ pub trait Folder {
         ensures start { IfOk result (λ file. Gives (files self.now) name.now 0 (Self.File.remaining file)) };
 }
 
-/// The files of the system, of which it tells nothing: a name is a path.
+/// The files of the system, of whose bytes nothing is known: a name is a path.
 #[derive(Drop)]
 pub struct SystemFolder<'a, R: Files> {
     pub rt: &'a R,

@@ -7,7 +7,7 @@ use crate::tries::write_on;
 use board_base::{PutFault, Sink};
 use std::io::Write;
 
-/// A writer that is given pieces as large as they come, and tells what it took where the writer does. A write that
+/// A writer that is given pieces as large as they come. What it took is known where the writer says it. A write that
 /// fails, also since nobody reads any more, and one that takes nothing are faults.
 #[derive(Drop)]
 pub struct OutSink<W> {

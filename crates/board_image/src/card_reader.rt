@@ -22,7 +22,7 @@ const LAST_DEVICE: u8 = 9;
 /// The most bytes behind the memory bases of all cards.
 const MOST_CARD_MEMORY: u32 = 0x400_0000;
 
-/// The base that a byte says, and the bytes of memory that it decodes, which are at most the room.
+/// The base that a byte stands for. None where it stands for none, or for one that decodes more memory than `room`.
 fn base_in(room: u32, byte: u8) -> Option<BaseSpec>
     ensures said { option_map base_of result ≡ base_in room byte }
     ensures base { IfSome result (λ base. IsBase (base_of base)) }
@@ -45,7 +45,7 @@ fn memory_size(base: BaseSpec) -> u32
     }
 }
 
-/// A base. It takes its memory from the room.
+/// Reads a base, and takes the memory that it decodes from the room.
 fn base(fields: &mut Fields, room: &mut u32) -> Result<BaseSpec, Bad>
     ensures took { Took base_of result fields.new (number w8 (base_in room.old) fields.old) }
     ensures room { IfOk result (λ base. room.new ≡ room.old - memory_size (base_of base)) }
@@ -58,7 +58,7 @@ fn base(fields: &mut Fields, room: &mut u32) -> Result<BaseSpec, Bad>
     Ok(base)
 }
 
-/// So many bases. They take their memory from the room.
+/// Reads some bases, and takes the memory that they decode from the room.
 fn bases(
     fields: &mut Fields,
     count: u8,
@@ -77,7 +77,7 @@ fn bases(
     Ok(bases)
 }
 
-/// The expansion ROM that a byte says: log2 of its size.
+/// The expansion ROM that a byte stands for: log2 of its size.
 fn rom_of(byte: u8) -> Option<Option<u8>>
     ensures said { result ≡ rom_of byte }
 {
@@ -88,14 +88,14 @@ fn rom_of(byte: u8) -> Option<Option<u8>>
     }
 }
 
-/// The expansion ROM of a card, where it has one.
+/// Reads the expansion ROM of a card, where it has one.
 fn rom(fields: &mut Fields) -> Result<Option<u8>, Bad>
     ensures took { Took (λ rom. rom) result fields.new (number w8 rom_of fields.old) }
 {
     fields.byte_of(rom_of)
 }
 
-/// A card whose device number lies above that of the card before. It takes its memory from the room.
+/// Reads a card whose device number lies above that of the card before. It takes its memory from the room.
 #[tactic(auto, unfolding(crate::specs::ImageFields::card_fields))]
 fn card(fields: &mut Fields, above: u8, room: &mut u32) -> Result<CardSpec, Bad>
     requires above { above ≤ 9 }
@@ -116,7 +116,7 @@ fn card(fields: &mut Fields, above: u8, room: &mut u32) -> Result<CardSpec, Bad>
     })
 }
 
-/// So many cards.
+/// Reads some cards.
 pub(crate) fn cards(alloc: Global, fields: &mut Fields, count: u8) -> Result<Vec<CardSpec>, Fault>
     ensures filled { Filled (λ cards. cards.items) result fields.new
         (cards_fields count 1 most_card_memory fields.old) }

@@ -1,4 +1,4 @@
-//! Reads who asked what.
+//! Reads the steps of an image: which processor did which event.
 
 ghost use Rattle.std.specs.Prelude.{◌≡◌, ◌≤◌, ◌-◌, ◌^◌, ◌%◌, ◌==◌, true, find, is_some, IfOk};
 ghost use Rattle.std.specs.Int.{w8, w16, w32, w64};
@@ -27,7 +27,7 @@ const FIRST_YEAR: u16 = 1980;
 
 const LAST_YEAR: u16 = 2099;
 
-/// The kind of access that a byte says.
+/// The kind of access that a byte stands for.
 fn kind_of(byte: u8) -> Option<Kind>
     ensures said { result ≡ kind_of byte }
 {
@@ -39,7 +39,7 @@ fn kind_of(byte: u8) -> Option<Kind>
     }
 }
 
-/// The width that a byte says.
+/// The width that a byte stands for.
 fn width_of(byte: u8) -> Option<Width>
     ensures said { result ≡ width_of byte }
 {
@@ -69,7 +69,7 @@ fn tag(fields: &mut Fields) -> Result<Tag, Bad>
     fields.byte_of(Tag::of)
 }
 
-/// An address that is a multiple of a width.
+/// Reads an address that is a multiple of a width.
 fn aligned_addr(fields: &mut Fields, width: Width) -> Result<u32, Bad>
     ensures took { Took (λ n. n) result fields.new
         (number_where w32 (λ addr. addr % bytes_of width == 0) fields.old) }
@@ -79,7 +79,7 @@ fn aligned_addr(fields: &mut Fields, width: Width) -> Result<u32, Bad>
     Ok(addr)
 }
 
-/// A port that is a multiple of a width.
+/// Reads a port that is a multiple of a width.
 fn aligned_port(fields: &mut Fields, width: Width) -> Result<u16, Bad>
     ensures took { Took (λ n. n) result fields.new
         (number_where w16 (λ port. port % bytes_of width == 0) fields.old) }
@@ -89,7 +89,7 @@ fn aligned_port(fields: &mut Fields, width: Width) -> Result<u16, Bad>
     Ok(port)
 }
 
-/// A value of an access.
+/// Reads the value of an access.
 fn value(fields: &mut Fields, writes: bool, width: Width) -> Result<u32, Bad>
     ensures took { Took (λ n. n) result fields.new (within w32 0 (most_value writes (bytes_of width)) fields.old) }
 {
@@ -97,7 +97,7 @@ fn value(fields: &mut Fields, writes: bool, width: Width) -> Result<u32, Bad>
     fields.word(0, most)
 }
 
-/// An access to memory.
+/// Reads an access to memory.
 #[tactic(auto, unfolding(crate::specs::EventFields::memory_fields))]
 fn memory(fields: &mut Fields) -> Result<Access, Bad>
     ensures took { Took (λ access. access) result fields.new (memory_fields fields.old) }
@@ -116,7 +116,7 @@ fn memory(fields: &mut Fields) -> Result<Access, Bad>
     })
 }
 
-/// An access to a port.
+/// Reads an access to a port.
 #[tactic(auto, unfolding(crate::specs::EventFields::port_fields))]
 fn port(fields: &mut Fields) -> Result<PortAccess, Bad>
     ensures took { Took (λ access. access) result fields.new (port_fields fields.old) }
@@ -133,7 +133,7 @@ fn port(fields: &mut Fields) -> Result<PortAccess, Bad>
     })
 }
 
-/// The size of a wide access.
+/// Reads the size of a wide access.
 fn wide_size(fields: &mut Fields) -> Result<u8, Bad>
     ensures took { Took (λ n. n) result fields.new (number_where w8 is_wide_size fields.old) }
     ensures size { IfOk result (λ bytes. is_wide_size bytes ≡ true) }
@@ -143,7 +143,7 @@ fn wide_size(fields: &mut Fields) -> Result<u8, Bad>
     Ok(bytes)
 }
 
-/// The address of a wide access.
+/// Reads the address of a wide access.
 fn wide_addr(fields: &mut Fields, bytes: u8) -> Result<u32, Bad>
     requires size { is_wide_size bytes ≡ true }
     ensures took { Took (λ n. n) result fields.new (number_where w32 (is_wide_place bytes) fields.old) }
@@ -167,7 +167,7 @@ fn largest(bytes: u8) -> u64
     }
 }
 
-/// The value of a wide access.
+/// Reads the value of a wide access.
 fn wide_value(fields: &mut Fields, writes: bool, bytes: u8) -> Result<u64, Bad>
     requires size { is_wide_size bytes ≡ true }
     ensures took { Took (λ n. n) result fields.new (within w64 0 (most_value writes bytes) fields.old) }
@@ -176,7 +176,7 @@ fn wide_value(fields: &mut Fields, writes: bool, bytes: u8) -> Result<u64, Bad>
     fields.long(most)
 }
 
-/// A wide access.
+/// Reads a wide access.
 #[tactic(auto, unfolding(crate::specs::EventFields::wide_fields))]
 fn wide(fields: &mut Fields) -> Result<WideAccess, Bad>
     ensures took { Took (λ access. access) result fields.new (wide_fields fields.old) }
@@ -195,7 +195,7 @@ fn wide(fields: &mut Fields) -> Result<WideAccess, Bad>
     })
 }
 
-/// A look.
+/// Reads a look.
 #[tactic(auto, unfolding(crate::specs::EventFields::look_fields))]
 fn look(fields: &mut Fields) -> Result<Event, Bad>
     ensures took { Took (λ event. event) result fields.new (look_fields fields.old) }
@@ -206,7 +206,7 @@ fn look(fields: &mut Fields) -> Result<Event, Bad>
     Ok(Event::Look { kind, addr, smm })
 }
 
-/// A day that the month has.
+/// Reads a day that the month has.
 fn day(fields: &mut Fields, year: u16, month: u8) -> Result<u8, Bad>
     requires year_low { 1980 ≤ year }
     requires year_high { year ≤ 2099 }
@@ -219,7 +219,7 @@ fn day(fields: &mut Fields, year: u16, month: u8) -> Result<u8, Bad>
     Ok(day)
 }
 
-/// A moment.
+/// Reads a moment.
 #[tactic(auto, unfolding(crate::specs::EventFields::moment_fields))]
 fn moment(fields: &mut Fields) -> Result<Moment, Bad>
     ensures took { Took (λ moment. moment) result fields.new (moment_fields fields.old) }
@@ -240,7 +240,7 @@ fn has_card(cards: &[CardSpec], dev: u8) -> bool
     cards.iter().any(|card| card.dev == dev)
 }
 
-/// The device number of a card.
+/// Reads the device number of a card.
 fn device(fields: &mut Fields, cards: &[CardSpec]) -> Result<u8, Bad>
     ensures took { Took (λ n. n) result fields.new
         (number_where w8 (λ dev. is_some (find (λ card. card.dev == dev) cards.now)) fields.old) }
@@ -250,7 +250,7 @@ fn device(fields: &mut Fields, cards: &[CardSpec]) -> Result<u8, Bad>
     Ok(dev)
 }
 
-/// A level of the interrupt pin of a card.
+/// Reads a level of the interrupt pin of a card.
 #[tactic(auto, unfolding(crate::specs::EventFields::wire_fields))]
 fn wire(fields: &mut Fields, cards: &[CardSpec]) -> Result<Event, Bad>
     ensures took { (setup : Setup) → setup.cards ≡ cards.now
@@ -269,7 +269,7 @@ fn is_free_line(line: u8) -> bool
     matches!(line, 1 | 3..=7 | 9..=12 | 15)
 }
 
-/// A level of an interrupt request line.
+/// Reads a level of an interrupt request line.
 #[tactic(auto, unfolding(crate::specs::EventFields::line_fields))]
 fn line(fields: &mut Fields) -> Result<Event, Bad>
     ensures took { Took (λ event. event) result fields.new (line_fields fields.old) }
@@ -280,7 +280,7 @@ fn line(fields: &mut Fields) -> Result<Event, Bad>
     Ok(Event::Line { irq, on })
 }
 
-/// The fields after a tag, of a board with these cards.
+/// Reads the fields after a tag, of a board with these cards.
 #[tactic(auto, unfolding(crate::specs::EventFields::event_fields))]
 fn event(fields: &mut Fields, cards: &[CardSpec], tag: Tag) -> Result<Event, Bad>
     ensures took { (setup : Setup) → setup.cards ≡ cards.now
@@ -300,7 +300,7 @@ fn event(fields: &mut Fields, cards: &[CardSpec], tag: Tag) -> Result<Event, Bad
     }
 }
 
-/// A step of a board with these cards.
+/// Reads a step of a board with these cards.
 #[tactic(auto, unfolding(crate::specs::EventFields::step_fields))]
 pub(crate) fn step(fields: &mut Fields, cards: &[CardSpec]) -> Result<Statement, Bad>
     ensures took { (setup : Setup) → setup.cards ≡ cards.now

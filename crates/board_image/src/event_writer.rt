@@ -1,4 +1,4 @@
-//! Writes who asked what.
+//! Writes the steps of an image: which processor did which event.
 
 ghost use Rattle.std.specs.Prelude.{◌≡◌, ◌++◌, ◌∷◌, [], map, flat_map, IfOk, OnOk};
 ghost use Rattle.std.specs.Int.{w32, to_le_bytes};
@@ -126,7 +126,7 @@ fn push_level(out: &mut Vec<u8>, number: u8, on: bool) -> Result<(), NoMemory>
     Ok(())
 }
 
-/// Adds what an entry states: its processor and its event.
+/// Adds an entry as a step: its processor and its event.
 fn push_step(out: &mut Vec<u8>, entry: &Entry) -> Result<(), NoMemory>
     ensures added { OnOk result (out.new.items ≡ out.old.items ++ step_bytes (statement_of entry.now)) }
 {

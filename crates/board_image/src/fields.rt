@@ -26,7 +26,7 @@ impl<'a> Model for Fields<'a> {
     ghost view = { λ fields. fields.rest.now };
 }
 
-/// The level that a byte says.
+/// The level that a byte stands for.
 fn flag_of(byte: u8) -> Option<bool>
     ensures said { result ≡ flag_of byte }
 {
@@ -76,7 +76,7 @@ impl<'a> Fields<'a> {
         Ok(())
     }
 
-    /// A byte that says a value.
+    /// Reads a byte, and gives the value that it stands for.
     pub fn byte_of<T, F: FnOnce(u8) -> Option<T>>(&mut self, says: F) -> Result<T, Bad>
         requires call { F.IsAlwaysCallable says }
         ensures took { (model : ℕ → Option T) → ((n : ℕ) (r : Option T) → n < 256 → F.post says n r → r ≡ model n)
@@ -92,14 +92,14 @@ impl<'a> Fields<'a> {
         }
     }
 
-    /// A flag or a level: 0 or 1.
+    /// Reads a flag or a level: 0 or 1.
     pub fn flag(&mut self) -> Result<bool, Bad>
         ensures took { Took (λ flag. flag) result self.new (flag_field self.old) }
     {
         self.byte_of(flag_of)
     }
 
-    /// A byte from low to high.
+    /// Reads a byte from `low` to `high`.
     pub fn byte(&mut self, low: u8, high: u8) -> Result<u8, Bad>
         ensures took { Took (λ n. n) result self.new (within w8 low high self.old) }
     {
@@ -108,7 +108,7 @@ impl<'a> Fields<'a> {
         Ok(value)
     }
 
-    /// A number of 2 bytes from low to high.
+    /// Reads a number of 2 bytes from `low` to `high`.
     pub fn half(&mut self, low: u16, high: u16) -> Result<u16, Bad>
         ensures took { Took (λ n. n) result self.new (within w16 low high self.old) }
     {
@@ -117,7 +117,7 @@ impl<'a> Fields<'a> {
         Ok(value)
     }
 
-    /// A number of 4 bytes from low to high.
+    /// Reads a number of 4 bytes from `low` to `high`.
     pub fn word(&mut self, low: u32, high: u32) -> Result<u32, Bad>
         ensures took { Took (λ n. n) result self.new (within w32 low high self.old) }
     {
@@ -126,7 +126,7 @@ impl<'a> Fields<'a> {
         Ok(value)
     }
 
-    /// A number of 8 bytes that is at most this.
+    /// Reads a number of 8 bytes that is at most `most`.
     pub fn long(&mut self, most: u64) -> Result<u64, Bad>
         ensures took { Took (λ n. n) result self.new (within w64 0 most self.old) }
     {
@@ -135,7 +135,7 @@ impl<'a> Fields<'a> {
         Ok(value)
     }
 
-    /// So many bytes, whatever they are.
+    /// Reads `size` bytes, whatever they are.
     pub fn bytes(&mut self, size: usize) -> Result<&'a [u8], Bad>
         ensures took { Took (λ bytes. bytes.now) result self.new (plain size self.old) }
     {
@@ -146,7 +146,7 @@ impl<'a> Fields<'a> {
         Ok(bytes)
     }
 
-    /// The bytes that an image begins with.
+    /// Goes past the bytes that an image begins with.
     pub fn magic(&mut self) -> Result<(), Bad>
         ensures took { Took (λ _. tt) result self.new (exactly magic self.old) }
     {
@@ -157,7 +157,7 @@ impl<'a> Fields<'a> {
         Ok(())
     }
 
-    /// Nothing more.
+    /// Checks that nothing follows.
     pub fn end(&mut self) -> Result<(), Bad>
         ensures took { Took (λ _. tt) result self.new (ended self.old) }
     {

@@ -6,7 +6,7 @@ use board_core::Setup;
 use board_spec::Statement;
 use std::marker::Model;
 
-/// What an image says: what a board is fitted with, and who asked what of it, the oldest first.
+/// What an image says: what a board is fitted with, and which processor did which event, the oldest first.
 #[derive(Drop)]
 pub struct Image {
     pub setup: Setup,

@@ -1,4 +1,4 @@
-//! What the bytes of images and their fields say of one another, and of a board that was saved and loaded.
+//! Laws of the bytes of images and of their fields, and of a board that was saved and loaded.
 
 ghost use Rattle.board_image.specs.Laws.{OneSpelling, ImageOrBad, GoesOnAsSaved};
 

@@ -1,5 +1,5 @@
-//! Images of boards: the setup of a board, and who asked what of it, as bytes. The replies follow from these, so a
-//! board that is loaded from its image goes on as the board that was saved.
+//! Images of boards: the setup of a board, and the events of its processors, as bytes. The replies follow from these,
+//! so a board that is loaded from its image goes on as the board that was saved.
 #![tactic(auto)]
 
 mod card_reader;

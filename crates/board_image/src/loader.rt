@@ -1,4 +1,4 @@
-//! Makes a board of an image.
+//! Makes a board from an image.
 
 ghost use Rattle.std.specs.Prelude.{◌≡◌, List, [], IfOk};
 ghost use Rattle.board_spec.specs.declared.event.Entry.{Entry};
@@ -25,7 +25,7 @@ fn fresh(alloc: Global, setup: Setup) -> Result<Board, NoMemory>
     }
 }
 
-/// The board of an image, as each that `read_image` gives: it did the steps of the image. So a board that was saved and
+/// The board of an image that `read_image` gave: it has done the steps of the image. So a board that was saved and
 /// loaded has the history that it had, and goes on from there.
 pub fn load(alloc: Global, image: Image) -> Result<Board, NoMemory>
     requires image { IsImage image.setup image.steps }

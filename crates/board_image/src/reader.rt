@@ -83,7 +83,7 @@ fn head(fields: &mut Fields) -> Result<Head, Bad>
     })
 }
 
-/// So many bytes, copied.
+/// Reads `size` bytes, and copies them.
 fn copied(alloc: Global, fields: &mut Fields, size: u32) -> Result<Vec<u8>, Fault>
     ensures filled { Filled (λ bytes. bytes.items) result fields.new (plain size fields.old) }
 {
@@ -91,7 +91,7 @@ fn copied(alloc: Global, fields: &mut Fields, size: u32) -> Result<Vec<u8>, Faul
     Ok(Vec::from_slice(alloc, bytes)?)
 }
 
-/// The setup.
+/// Reads the setup.
 #[tactic(auto, unfolding(crate::specs::ImageFields::setup_fields))]
 fn setup(alloc: Global, fields: &mut Fields, head: &Head) -> Result<Setup, Fault>
     ensures filled { Filled (λ setup. setup) result fields.new (setup_fields head.now fields.old) }
@@ -107,7 +107,7 @@ fn setup(alloc: Global, fields: &mut Fields, head: &Head) -> Result<Setup, Fault
     })
 }
 
-/// So many steps of a board with these cards.
+/// Reads some steps of a board with these cards.
 fn steps(
     alloc: Global,
     fields: &mut Fields,

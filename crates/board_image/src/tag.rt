@@ -40,7 +40,7 @@ impl Tag {
         }
     }
 
-    /// That of an event.
+    /// The tag of an event.
     pub fn of_event(event: &Event) -> Tag
         ensures tag { result ≡ tag_of_event event.now }
     {

@@ -52,7 +52,7 @@ fn push_card(out: &mut Vec<u8>, card: &CardSpec) -> Result<(), NoMemory>
     push_bases(out, &card.bases)
 }
 
-/// The bytes of the memory, the number of cards, and whether there is a disk. The last is reserved.
+/// Four bytes: the memory in MiB, the number of cards, whether there is a disk, and 0, which is reserved.
 fn fittings(setup: &Setup) -> [u8; 4]
     requires fitted { IsSetup setup.now }
     ensures bytes { result ≡ setup.now.mib ∷ length setup.now.cards ∷ flag_byte (is_some setup.now.disk) ∷ 0 ∷ [] }

@@ -32,7 +32,7 @@ pub struct Cpu {
     pub ghost opens: { Opens (setup_in pass) (opened_in pass) (opened_of viewer.front.seen.log) } by { Opens-prop (setup_in pass) (opened_in pass) (opened_of viewer.front.seen.log) },
 }
 
-/// Lets a viewer meet a note of the publisher, and asks with a new one until it does.
+/// Has a viewer meet a note of the publisher: with new notes, until it does.
 fn meet<R: Wait>(rt: &R, publisher: &mut Publisher, viewer: &mut Viewer)
     requires own { publisher.old.front.seen.book ≡ viewer.old.front.seen.book }
     ensures same { (publisher.new ≡ publisher.old) × (viewer.new ≡ viewer.old) }
@@ -145,8 +145,8 @@ impl Cpu {
         }
     }
 
-    /// Looks at the newest map: how many map writes led to it, and the longest interval round an address in which this
-    /// kind of access has one area. It neither waits nor takes memory, and needs no turn.
+    /// Looks at the newest map that it finds: how many map writes led to it, and the longest interval round an address
+    /// in which this kind of access has one area. It neither waits nor takes memory, and needs no turn.
     pub fn look(&mut self, addr: u32, kind: Kind, smm: bool) -> Look
         ensures pass { (self.new.number ≡ self.old.number) × (self.new.pass ≡ self.old.pass) }
         ensures later { Extends (known_of self.old) (known_of self.new) }

@@ -72,7 +72,7 @@ fn unshared<R: Wait>(rt: &R, shared: Shared) -> Board
     Box::into_inner(board)
 }
 
-/// Where the caller stands that has number 0.
+/// The place of the caller that has number 0.
 fn place_of_first(cpus: &[Cpu]) -> usize
     requires first { Any (λ cpu. cpu.number ≡ 0) cpus.now }
     ensures place { result < length cpus.now }
@@ -136,7 +136,7 @@ impl Live {
         }
     }
 
-    /// The callers of a turn that was just opened: one for each viewer. There is room for so many.
+    /// The callers of a turn that was just opened: one for each viewer. There is room for them.
     fn callers(&self, pass: Pass<Shared>, viewers: Vec<Viewer>, cpus: Vec<Cpu>) -> Vec<Cpu>
         requires own { IsOf self.now.turn pass }
         requires idle { IsIdle pass }

@@ -97,7 +97,7 @@ fn push_parts(text: &mut String, parts: &Parts) -> Result<(), NoMemory>
     }
 }
 
-/// Appends a reply. A value has the digits of so many bytes.
+/// Appends a reply. A value has two digits for each of `bytes` bytes.
 #[tactic(auto, unfolding(board_spec::specs::LogText::reply_text))]
 pub(crate) fn push_reply(text: &mut String, bytes: u32, reply: &Reply) -> Result<(), NoMemory>
     ensures appended { OnOk result (Adds text.old text.new (reply_text bytes reply.now)) }

@@ -1,4 +1,4 @@
-//! What a line asks of the board, as a script spells it.
+//! An event, as a script spells it.
 
 ghost use Rattle.std.specs.Prelude.{◌≡◌, [], ◌∷◌, ◌++◌, ◌/◌, ◌%◌, ◌<◌, OnOk, OnErr, codes, decimal};
 ghost use Rattle.board_spec.specs.Text.{space, hex_long};
@@ -58,7 +58,7 @@ fn push_smm(text: &mut String, smm: bool) -> Result<(), NoMemory>
     }
 }
 
-/// Appends an access to memory of so many bytes, like `w b 000CC000 02`.
+/// Appends an access to memory of `bytes` bytes, like `w b 000CC000 02`.
 fn push_memory(
     text: &mut String,
     kind: Kind,
@@ -195,7 +195,7 @@ fn push_count(text: &mut String, words: &str, count: u32) -> Result<(), NoMemory
     push_decimal(text, u64::from(count))
 }
 
-/// Appends the moment that the clock is told.
+/// Appends the statement that gives the clock a moment.
 fn push_time(text: &mut String, moment: Moment) -> Result<(), NoMemory>
     ensures appended { OnOk result (Adds text.old text.new
         (codes "moment " ++ moment_text moment)) }

@@ -81,8 +81,8 @@ impl Reply {
     }
 }
 
-/// One entry of a history: the processor, the number of this entry among its processor's, from 1, what was
-/// asked and what was replied.
+/// One entry of a history: the processor, the number of this entry among its processor's, from 1, the event
+/// and the reply.
 #[derive(Clone, Copy, PartialEq, Eq, Debug)]
 pub struct Entry {
     pub actor: u8,

@@ -1,5 +1,5 @@
 //! What the board's answers mean: the events of a history and their replies as plain types, and in
-//! `specs/` the definitions that every contract above cites. `laws` proves what shows them right.
+//! `specs/` the definitions that every contract above cites. `laws` proves what one may expect of them.
 #![tactic(auto)]
 
 pub mod bits;

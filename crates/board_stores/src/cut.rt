@@ -67,7 +67,7 @@ pub fn cycles_of(regs: &MapRegs, rom: &[u8], access: &WideAccess) -> ArrayVec<Cy
     cycles
 }
 
-/// The part that begins so many bytes after the first.
+/// The part that begins `done` bytes after the first.
 pub(crate) fn part_at(access: &WideAccess, done: u8) -> Access
     requires inside { done < access.now.bytes }
     requires bytes { access.now.bytes ≤ 8 }

@@ -33,7 +33,7 @@ pub fn decoded(map: &MapRegs, rom: &[u8], access: &Access) -> Part
     }
 }
 
-/// What an access to an area reaches: the ROM of so many bytes and the cards by the address modulo their size.
+/// What an access to an area reaches. Its place in the ROM or in a card is the address modulo the size of that.
 pub fn target_in(map: &MapRegs, rom: &[u8], area: Area, addr: u32) -> Target
     requires cards { AreCards map.now.cards.items }
     requires rom { IsRomSize (length rom.now) }
@@ -50,7 +50,7 @@ pub fn target_in(map: &MapRegs, rom: &[u8], area: Area, addr: u32) -> Target
     }
 }
 
-/// What a read with this answer gives.
+/// The value that a read gives, by what it reaches.
 pub fn read(stores: &Stores, rom: &[u8], access: &Access, answer: &Part) -> u32
     requires ready { IsReady rom.now stores.now.contents access.now answer.now }
     ensures stands { result ≡ value_with stores.now rom.now answer.now.target access.now.addr access.now.width }
@@ -63,7 +63,7 @@ pub fn read(stores: &Stores, rom: &[u8], access: &Access, answer: &Part) -> u32
     }
 }
 
-/// Writes where an access that writes has this answer. A write to the ROM is lost.
+/// Does a write, by what it reaches. A write to the ROM is lost.
 pub fn write(stores: &mut Stores, access: &Access, answer: &Part)
     requires ready { (rom : List ℕ) × IsReady rom stores.old.contents access.now answer.now }
     requires writes { is_write access.now.kind ≡ true }

@@ -49,7 +49,7 @@ pub fn port_cycles(access: &PortAccess) -> ArrayVec<PortCycle, MOST_CYCLES>
     cycles
 }
 
-/// The access to memory that has as many bytes.
+/// An access to memory at the address of the port, with the same width and value: it is cut in the same way.
 fn as_wide(access: &PortAccess) -> WideAccess
     ensures wide { result ≡ wide_of access.now }
 {

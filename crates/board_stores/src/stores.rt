@@ -35,7 +35,7 @@ impl Stores {
         Ok(Stores { dram, contents })
     }
 
-    /// What a read gives that has this target, at this address or port. Nobody's reads give all ones.
+    /// The value that a read at an address or a port gives, by what it reaches. Where nobody answers it is all ones.
     pub fn read(&self, target: Target, place: u32, width: Width) -> u32
         requires stored { IsStored self.now.contents target width }
         requires aligned { place % bytes_of width ≡ 0 }
@@ -50,7 +50,7 @@ impl Stores {
         }
     }
 
-    /// Writes where this target stores the bytes of an access at this address or port. A write to nobody is lost.
+    /// Stores the bytes of a write at an address or a port, by what it reaches. Where nobody answers they are lost.
     pub fn write(&mut self, target: Target, place: u32, width: Width, value: u32)
         requires stored { IsStored self.old.contents target width }
         requires aligned { place % bytes_of width ≡ 0 }

@@ -1,4 +1,4 @@
-//! The bytes of a store by their targets.
+//! Reads and writes of memory, by what the bus master reaches.
 
 ghost use Rattle.std.specs.Prelude.{◌≡◌, ◌%◌, ◌<◌, ◌≤◌, length};
 ghost use Rattle.board_base.specs.Access.{bytes_of, largest_of};
@@ -21,7 +21,7 @@ use board_chipset::Store;
 use board_spec::wide::read_at;
 use board_stores::target_in;
 
-/// What a read of the bus master gives that reaches this area.
+/// The value of a read by the bus master that reaches this area.
 pub(crate) fn read(store: &Store, area: Area, addr: u32, width: Width) -> u32
     requires reached { IsReached store.now area addr Kind.Read }
     requires aligned { addr % bytes_of width ≡ 0 }
@@ -33,7 +33,7 @@ pub(crate) fn read(store: &Store, area: Area, addr: u32, width: Width) -> u32
     read_from(store, target, addr, width)
 }
 
-/// What a read gives that has this target.
+/// The value of a read that reaches this target.
 fn read_from(store: &Store, target: Target, addr: u32, width: Width) -> u32
     requires held { IsHeld store.now.rom.items store.now.contents target width }
     requires aligned { addr % bytes_of width ≡ 0 }

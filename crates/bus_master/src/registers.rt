@@ -19,14 +19,14 @@ const TABLE_END: u8 = 7;
 const COMMAND_BITS: u8 = 0x09;
 /// The bit of the command that starts a transfer.
 const START: u32 = 0;
-/// The bit of the command that tells the direction, 1 from the disk to memory.
+/// The bit of the command that gives the direction, 1 from the disk to memory.
 pub(crate) const DIRECTION: u32 = 3;
 
-/// The mask of the status bit that tells that a transfer is under way.
+/// The mask of the status bit that says that a transfer is under way.
 const ACTIVE: u8 = 0x01;
-/// The bit of the status that tells that a transfer went wrong.
+/// The bit of the status that says that a transfer went wrong.
 const ERROR: u32 = 1;
-/// The bit of the status that tells that the disk has interrupted.
+/// The bit of the status that says that the disk has interrupted.
 const INTERRUPT: u32 = 2;
 
 /// A channel of the bus master IDE function (82371SB, 2.7). Contracts see its command, its status and its table
@@ -60,7 +60,7 @@ impl BusMaster {
         }
     }
 
-    /// Whether start of the command is 1, so that a transfer can go.
+    /// Whether start of the command is 1, so that a transfer can begin.
     pub fn is_started(&self) -> bool
         ensures started { result ≡ is_started self.now }
     {

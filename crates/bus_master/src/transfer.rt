@@ -48,7 +48,7 @@ impl BusMaster {
         // Whatever SMRAM's register says, no byte of it changes.
         ensures smram { (addr : ℕ) → is_smram_range addr ≡ true
             → dram_at store.new.dram addr ≡ dram_at store.old.dram addr }
-        // And nothing of it is told: with other bytes there the transfer does the same.
+        // Nor does any byte of it matter: with other bytes there the transfer does the same.
         ensures hidden { (setup : Setup) (bytes : Bytes) (other : Store) → IsStoreOf setup bytes store.old
             → DiffersInSmramAlone store.old other
             → (result ≡ done_of (transfer_of setup bytes self.old lba count other))
@@ -64,7 +64,7 @@ impl BusMaster {
         }
     }
 
-    /// Which way the command tells words to move.
+    /// The direction that the command gives.
     fn direction(&self) -> Direction
         ensures direction { result ≡ direction_of self.now }
     {
@@ -75,7 +75,7 @@ impl BusMaster {
         }
     }
 
-    /// Clears start, tells in the status how the transfer ended, and moves the table pointer.
+    /// Clears start, shows in the status how the transfer ended, and moves the table pointer.
     fn end_transfer(&mut self, end: End, table: u32)
         requires aligned { table % 4 ≡ 0 }
         ensures ended { (moving : Moving) → end_of moving ≡ end → moving.place.table ≡ table
@@ -87,7 +87,7 @@ impl BusMaster {
     }
 }
 
-/// What bits 2 to 0 of the status tell of an end: interrupt, error, active.
+/// How bits 2 to 0 of the status show an end: interrupt, error, active.
 fn status_bits(end: End) -> u8
     ensures bits { result ≡ status_bits end }
 {

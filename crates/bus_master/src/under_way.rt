@@ -44,7 +44,7 @@ const END_OF_TABLE: u32 = 31;
 /// The bytes of a region whose count is 0.
 const LARGEST_REGION: u32 = 0x1_0000;
 
-/// How far a transfer came.
+/// How far a transfer has come.
 #[derive(Drop)]
 pub(crate) struct UnderWay {
     /// The address of the next descriptor.
@@ -161,7 +161,7 @@ impl UnderWay {
         }
     }
 
-    /// Moves so many words, at most 65,536, to or from the sectors from one on, and tells how it ended.
+    /// Moves `words` words, at most 65,536, to or from the sectors from `lba` on, and returns how it ended.
     pub(crate) fn transfer(
         &mut self,
         store: &mut Store,
@@ -184,7 +184,7 @@ impl UnderWay {
         }
     }
 
-    /// Moves so many words. Refused where the transfer ends before.
+    /// Moves `words` words. Refused where the transfer ends before.
     fn move_words(
         &mut self,
         store: &mut Store,
@@ -240,7 +240,7 @@ impl UnderWay {
         Ok(())
     }
 
-    /// Sees that the table goes on, that the sector of the next word is readable, and that a region is in use.
+    /// Checks that a region and a readable sector are left for the next word; reads the next descriptor if need be.
     fn make_ready(&mut self, store: &Store, lba: u32) -> Result<(), End>
         requires sound { IsSound store.now }
         requires lba { lba < 2 ^ 28 }

@@ -68,7 +68,7 @@ pub struct Tally {
     pub second: u32,
 }
 
-/// One turn. It tells whether a mark was made.
+/// One turn. It returns whether a mark was made.
 pub fn mark_once<R: Wait>(rt: &R, turn: &Turn<Sheet>, pass: &mut Pass<Sheet>, number: u8) -> bool
     requires own { IsOf turn.now pass.old }
     requires idle { IsIdle pass.old }
@@ -89,7 +89,7 @@ pub fn mark_once<R: Wait>(rt: &R, turn: &Turn<Sheet>, pass: &mut Pass<Sheet>, nu
     false
 }
 
-/// Some turns. It tells how many marks were made.
+/// Some turns. It returns how many marks were made.
 pub fn mark_often<R: Wait>(
     rt: &R,
     turn: &Turn<Sheet>,
@@ -114,7 +114,7 @@ pub fn mark_often<R: Wait>(
     (pass, made)
 }
 
-/// Two callers take turns at one sheet, each as often as it is told. Whatever the schedule, each caller's marks
+/// Two callers take turns at one sheet, each `times` times. Whatever the schedule, each caller's marks
 /// stand on the sheet just as often as it made them, and there are no others.
 pub fn mark_by_two<R: Threads + Wait + Sync>(rt: &R, alloc: Global, times: u32) -> Option<Tally>
     ensures first { IfSome result (λ tally. length (own_by (λ m. m) 0 tally.sheet.marks.items) ≡ tally.first) }

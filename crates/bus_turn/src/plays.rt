@@ -1,4 +1,4 @@
-//! What each step on the table tells. These types are for the proofs alone.
+//! What each step on the table makes known. These types are for the proofs alone.
 ghost use Rattle.std.specs.Prelude.{List, []};
 ghost use Rattle.bus_turn.specs.Plays.{drew, called, counted, gave, looked};
 ghost use Rattle.bus_turn.specs.Views.{after_split, split_off, with_joined, spent};

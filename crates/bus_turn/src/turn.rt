@@ -27,7 +27,7 @@ const FIRST_SPINS: u32 = 64;
 
 const LAST_SPINS: u32 = 2_048;
 
-// So often it spins to see whether the turn stays free: longer than a caller needs from one turn to its next.
+// How often it spins to see whether the turn stays free: longer than a caller needs from one turn to its next.
 const FREE_SPINS: u32 = 32;
 
 // A caller that finds the turn taken looks again this often before it draws a ticket all the same: for some 10
@@ -252,7 +252,7 @@ fn spin(spins: u32) {
     }
 }
 
-// Waits between two looks, and tells how often to spin before the next. A caller that has spun longest also gives the
+// Waits between two looks, and returns how often to spin before the next. A caller that has spun longest also gives the
 // processor away, since whoever holds the turn may have none.
 fn wait_a_little(spins: u32) -> u32 {
     spin(spins);

@@ -41,7 +41,7 @@ const ALARM_FLAG: u8 = 0x20;
 
 const UPDATE_FLAG: u8 = 0x10;
 
-/// An alarm byte from here on fits each time.
+/// An alarm byte of this value or above matches every time.
 const ANY_TIME: u8 = 0xC0;
 
 /// The MC146818 real time clock with its 128 bytes. Time passes only by the moments that `moment` gives it.
@@ -247,7 +247,7 @@ fn put_time(bytes: &mut [u8; CLOCK_BYTES], control: Control, m: Moment)
     bytes[YEAR] = control.number((m.year % 100) as u8);
 }
 
-/// Whether the time of day fits its three alarm bytes.
+/// Whether the time of day matches its three alarm bytes.
 fn rings(bytes: &[u8; CLOCK_BYTES]) -> bool
     ensures value { result ≡ alarm_rings bytes.now }
 {
@@ -256,7 +256,7 @@ fn rings(bytes: &[u8; CLOCK_BYTES]) -> bool
         && fits(bytes[HOUR_ALARM], bytes[HOUR])
 }
 
-/// Whether an alarm byte fits a byte of the time: it is equal, or C0h or above.
+/// Whether an alarm byte matches a byte of the time: it is equal, or C0h or above.
 fn fits(alarm: u8, time: u8) -> bool
     ensures value { result ≡ alarm_fits alarm time }
 {

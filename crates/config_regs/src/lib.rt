@@ -1,5 +1,5 @@
-//! The registers in configuration space of bus 0: one walk, by function and then by offset. What the memory map
-//! depends on is read from the registers of the map; beside it stand the routes of interrupts and the IDE function.
+//! The registers in configuration space of bus 0, found by function and then by offset. Those that the memory map
+//! depends on are read from the registers of the map; the routes of interrupts and the IDE function are kept here.
 #![tactic(auto)]
 
 mod reading;

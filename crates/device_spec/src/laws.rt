@@ -62,7 +62,7 @@ pub fn spurious_leaves_alone()
     ensures { SpuriousLeavesAlone }
 {}
 
-/// Whenever the slave asks, its request is latched at input 2 of the master, from the reset on.
+/// From the reset on, whenever the slave requests service its request is latched at input 2 of the master.
 pub fn slave_is_latched()
     ensures { StaysLatched }
 {}

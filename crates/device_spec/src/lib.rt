@@ -1,5 +1,5 @@
-//! What the devices of the board are: in `specs/` one machine for each, by its datasheet, which the
-//! crates of the devices prove their code to be. `laws` proves what shows the machines right.
+//! What the devices of the board do: `specs/` has a machine for each, after its datasheet, and the crates of the
+//! devices prove that their code does what the machine does. `laws` proves what one may expect of the machines.
 #![tactic(auto)]
 
 pub mod examples;

@@ -119,7 +119,7 @@ impl Dram {
         }
     }
 
-    /// Copies the bytes from an address on up to the end of its MiB, and tells how many they are.
+    /// Copies the bytes from an address on up to the end of its MiB, and returns how many they are.
     fn read_front(&self, at: usize, into: &mut [u8]) -> usize
         requires some { 0 < length into.old }
         ensures some { 0 < result }
@@ -148,7 +148,7 @@ impl Dram {
         }
     }
 
-    /// Replaces the bytes from an address on up to the end of its MiB, and tells how many they are.
+    /// Replaces the bytes from an address on up to the end of its MiB, and returns how many they are.
     fn write_front(&mut self, at: usize, bytes: &[u8]) -> usize
         requires some { 0 < length bytes.now }
         ensures some { 0 < result }

@@ -66,7 +66,7 @@ fn open_board(alloc: Global) -> Result<Board, NoMemory>
     }
 }
 
-/// Shares a board among two callers. Where memory is refused, once more.
+/// Shares a board among two callers. Where memory is refused, it tries once more.
 fn share<R: Wait>(rt: &R, alloc: Global, board: Board) -> Result<(Live, Vec<Cpu>), NoMemory>
     requires fresh { board.entries ≡ [] }
     ensures opened { IfOk result (λ opened. AreOpened board 2 opened.0 opened.1.items) }
@@ -80,7 +80,7 @@ fn share<R: Wait>(rt: &R, alloc: Global, board: Board) -> Result<(Live, Vec<Cpu>
     }
 }
 
-/// Does an event. Where memory is refused, once more.
+/// Does an event. Where memory is refused, it tries once more.
 fn ask<R: Wait>(cpu: &mut Cpu, live: &Live, rt: &R, event: &Event)
     requires own { IsCallerOf live.now cpu.old }
     requires event { (setup : Fitting) → IsInRange setup event.now }

@@ -25,7 +25,7 @@ use board_spec::Statement;
 use board_spec::laws::law_one_replay;
 use std::alloc::Global;
 
-/// Does the statement that the next line must be of, and goes past the line.
+/// Does the statement whose entry the next line must be, and goes past the line.
 fn check_line<'a>(
     board: &mut Board,
     text: &mut String,

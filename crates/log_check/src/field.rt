@@ -5,14 +5,14 @@ ghost use Rattle.std.specs.List.{position};
 ghost use Rattle.board_spec.specs.declared.event.Entry.{Entry};
 ghost use Rattle.board_spec.specs.LogText.{line_text};
 
-/// The place of the first such byte.
+/// The place of the first byte that is `mark`.
 fn place_of_mark(mark: u8, bytes: &[u8]) -> Option<usize>
     ensures place { result ≡ position (λ byte. byte == mark) bytes.now }
 {
     bytes.iter().position(|byte| *byte == mark)
 }
 
-/// What stands before the first such byte, and what stands after it.
+/// What stands before the first byte that is `mark`, and what stands after it.
 fn cut(mark: u8, bytes: &[u8]) -> Option<(&[u8], &[u8])>
     ensures parts { (before after : List ℕ) → All (λ byte. byte ≢ mark) before → bytes.now ≡ before ++ mark ∷ after
         → MatchOption result ⊥ (λ parts. (parts.0.now ≡ before) × (parts.1.now ≡ after)) }

@@ -19,7 +19,7 @@ fn fits(statement: &Statement)
     }
 }
 
-/// Those of a phase fit their types. It reads each statement, for the proof alone.
+/// The numbers of a phase fit their types. It reads each statement, for the proof alone.
 fn phase_fits(phase: &[Statement])
     ensures typed { All IsTyped phase.now }
 {
@@ -28,8 +28,8 @@ fn phase_fits(phase: &[Statement])
     }
 }
 
-/// Those of all phases fit their types. It reads each statement of the script once, and changes nothing: the loop is
-/// there for the proof alone.
+/// The numbers of all phases fit their types. It reads each statement of the script once and changes nothing: the
+/// loop is there for the proof alone.
 pub(crate) fn phases_fit(phases: &[Vec<Statement>])
     ensures typed { All IsTyped (in_file_order (lists_of phases.now)) }
 {

@@ -1,4 +1,4 @@
-//! What a line asks: a statement of a script, in range.
+//! The event of a line: that of a statement of a script, in range.
 
 ghost use Rattle.std.specs.Prelude.{◌≡◌, ◌+◌, ◌↔◌, ℕ, IsTrue, MatchOption, nat_le};
 ghost use Rattle.board_base.specs.Calendar.{IsMoment};
@@ -91,7 +91,7 @@ fn is_placed(event: Event) -> bool
     }
 }
 
-/// The event where it is in its place.
+/// The event, where it is aligned, within the addresses or in the calendar, as `is_placed` says.
 fn placed(event: Event) -> Option<Event>
     ensures event { MatchOption result ((other : Event) → ¬ IsEventOf (Asked.Event event) other)
         (IsEventOf (Asked.Event event)) }
@@ -99,7 +99,7 @@ fn placed(event: Event) -> Option<Event>
     if is_placed(event) { Some(event) } else { None }
 }
 
-/// The event that is asked, where its numbers are in range.
+/// The event of a statement, where its numbers are in range.
 fn event_of(asked: Asked) -> Option<Event>
     ensures event { MatchOption result ((event : Event) → ¬ IsEventOf asked event) (IsEventOf asked) }
 {

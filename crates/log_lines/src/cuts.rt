@@ -8,7 +8,7 @@ use script_lines::digit_of;
 /// The base of decimals.
 const TEN: u64 = 10;
 
-/// What stands before the first such byte, and after it. None where there is none.
+/// What stands before the first byte that is `mark`, and after it. None where there is none.
 pub fn cut(mark: u8, text: &[u8]) -> Option<(&[u8], &[u8])>
     ensures parts { option_map (λ p. (p.0.now, p.1.now)) result ≡ cut mark text.now }
     ensures shorter { IfSome result (λ p. length p.1.now < length text.now) }

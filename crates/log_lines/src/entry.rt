@@ -1,4 +1,4 @@
-//! A whole line: its number, the processor and the number of its entry, what was asked, and the reply.
+//! A whole line: its number, the processor and the number of its entry, the event, and the reply.
 
 ghost use Rattle.std.specs.Prelude.{◌≡◌, ℕ, IfSome, option_map};
 ghost use Rattle.board_spec.specs.declared.event.Entry.{Entry};

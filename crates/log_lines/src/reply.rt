@@ -44,7 +44,7 @@ fn read_value(bytes: u32, field: &[u8]) -> Option<Option<u64>>
     Some(Some(value))
 }
 
-/// The value of a reply, of so many bytes, which only an access that reads has.
+/// The value of a reply, of `bytes` bytes, which only an access that reads has.
 fn value_of(writes: bool, bytes: u32, field: &[u8]) -> Option<Option<u64>>
     requires few { bytes ≤ 8 }
     ensures value { result ≡ value_of writes bytes field.now }

@@ -105,7 +105,7 @@ fn longest_at(addr: u64, left: u64) -> Width
     Width::One
 }
 
-/// How many aligned parts the bytes that are left from an address on make, at most so many.
+/// How many aligned parts the bytes that are left from an address on make, at most `most`.
 #[tactic(auto, unfolding(crate::specs::Replies::part_count))]
 pub(crate) fn part_count(most: u32, addr: u64, left: u64) -> u32
     requires within { addr + left ≤ 2 ^ 33 }

@@ -1,4 +1,4 @@
-//! The history is cut into pieces of as many entries each, and the texts of the pieces stand in their order.
+//! A history is cut into pieces of the same length, and their texts stand one after another.
 
 ghost use Rattle.std.specs.Prelude.{◌≡◌, ◌++◌, ℕ, List, All, ◌+◌, ◌*◌, ◌^◌, ◌<◌, ◌≤◌, [], length, map, take, reverse, string_bytes, OnOk, IfOk};
 ghost use Rattle.board_spec.specs.declared.event.Entry.{Entry};
@@ -22,7 +22,7 @@ const FEW: usize = 8192;
 /// The room for a line. Most have fewer bytes.
 const LINE_ROOM: usize = 64;
 
-/// The lines of a piece of a history, which has so many entries before it.
+/// The lines of a piece of a history, before which the history has `before` entries.
 fn lines_of_piece<W: LineWriter>(
     alloc: Global,
     writer: &W,

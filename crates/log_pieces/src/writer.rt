@@ -1,4 +1,4 @@
-//! Who writes the lines of a part of a history.
+//! What writes the lines of a part of a history.
 
 ghost use Rattle.std.specs.Prelude.{◌+◌, ◌^◌, ◌≤◌, List, All, length, map, OnOk};
 ghost use Rattle.board_spec.specs.declared.event.Entry.{Entry};

@@ -1,4 +1,4 @@
-//! What is told of a memory map: since when each range stands, and on which changes it rests.
+//! The report on a memory map: since when each range stands, and on which changes it rests.
 
 use map_builder::Range;
 

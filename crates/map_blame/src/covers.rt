@@ -37,7 +37,7 @@ pub struct Covers {
 }
 
 impl Covers {
-    /// Those of no changes.
+    /// The covers where there were no changes: none.
     pub fn new() -> Covers
         ensures none { AreCoversOf [] result }
     {

@@ -17,8 +17,8 @@ use map_builder::FlatMap;
 use pci_bars::CardSpec;
 use std::alloc::Global;
 
-/// Tells of the memory map of a board with these cards after some changes from reset on, the oldest first: its ranges,
-/// each with the number of changes from which on it stands, and the numbers of the changes on which it rests. Those are
+/// The report on the memory map of a board with these cards after some changes from reset on, the oldest first: its
+/// ranges, each with the number of changes from which on it stands, and the changes on which it rests. Those are
 /// the last since the last reset that covers a byte on which the map depends, for each such byte, and the first that
 /// sets DLCK (82441FX, SMRAM register). All others may be dropped, and the map stays.
 pub fn blame(

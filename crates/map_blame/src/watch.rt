@@ -102,7 +102,7 @@ fn look_again(watched: &mut [Watched], map: &FlatMap, bounds: Changed, number: u
     }
 }
 
-/// What is told of ranges that are watched.
+/// The report on ranges that are watched.
 fn all_blamed(alloc: Global, watched: &[Watched]) -> Result<Vec<Blamed>, NoMemory>
     ensures blamed { IfOk result (λ blamed. blamed.items ≡ map (λ one. one.blamed) watched.now) }
 {

@@ -14,7 +14,7 @@ use board_spec::bits::is_set;
 use board_spec::command::{IO_SPACE_ENABLE, MEMORY_SPACE_ENABLE};
 use board_spec::range::SMRAM_RANGE;
 
-/// Which windows of a card are asked: those in memory, an expansion ROM that is not selected, or those among the
+/// Which windows of a card are looked at: those in memory, an expansion ROM that is not selected, or those among the
 /// I/O ports.
 #[derive(Clone, Copy, PartialEq, Eq, Debug)]
 enum Windows {

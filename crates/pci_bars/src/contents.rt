@@ -31,7 +31,7 @@ pub fn expansion_byte(dev: u8, off: u32) -> u8
 }
 
 /// The bytes of each base and of each VGA window, which begin with zeros. Those of an expansion ROM are not kept,
-/// since they are `expansion_byte`'s.
+/// since `expansion_byte` computes them.
 #[derive(Drop)]
 pub struct Contents {
     buffers: Vec<Vec<u8>>,

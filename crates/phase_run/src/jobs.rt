@@ -60,7 +60,7 @@ pub(crate) fn run_jobs<R: Threads + Wait + Sync, G: Gate>(
     );
 }
 
-/// How many statements of a phase are each processor's.
+/// How many statements each processor has in a phase.
 fn own_in(phase: &[Statement]) -> [usize; ACTORS] {
     let mut counts = [0_usize; ACTORS];
     for statement in phase {
@@ -70,7 +70,7 @@ fn own_in(phase: &[Statement]) -> [usize; ACTORS] {
     counts
 }
 
-/// The works of so many processors before the first phase.
+/// The work of each of `cpus` processors before the first phase.
 pub(crate) fn first_works(alloc: Global, cpus: u8) -> Result<Vec<Work>, NoMemory>
     ensures count { IfOk result (λ works. length works.items ≡ cpus) }
     ensures asked { IfOk result (λ works. All (λ work. work.asked ≡ 0) works.items) }
@@ -83,7 +83,7 @@ pub(crate) fn first_works(alloc: Global, cpus: u8) -> Result<Vec<Work>, NoMemory
     Ok(works)
 }
 
-/// The works of the next phase, with room for each processor's statements.
+/// The work of each processor in the next phase, with room for its statements.
 pub(crate) fn next_works(
     alloc: Global,
     phase: &[Statement],

@@ -103,7 +103,7 @@ fn statements_in(phases: &[Vec<Statement>]) -> u32
 }
 
 /// Runs the phases of a script on a fresh board, with 1 to 8 processors. In each phase every processor does its own
-/// statements on a thread of its own; the gate is told before and after each. What is answered has the history of the
+/// statements on a thread of its own; the gate is called before and after each. The result has the history of the
 /// run: it is legal, and has each phase's statements, with each look in its place. Refused for want of memory.
 pub fn run_phases<R: Threads + Wait + Sync, G: Gate>(
     rt: &R,

@@ -66,7 +66,7 @@ fn do_statement<C: Caller, R: Wait>(
 }
 
 impl Work {
-    /// Does a processor's own statements of a phase, in their order. The gate is told before and after each.
+    /// Does a processor's own statements of a phase, in their order. The gate is called before and after each.
     pub fn run<C: Caller, R: Wait, G: Gate>(
         &mut self,
         cpu: &mut C,

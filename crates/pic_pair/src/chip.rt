@@ -251,7 +251,7 @@ impl Pic {
         }
     }
 
-    /// The levels that ask for service.
+    /// The levels that request service.
     fn pending(&self) -> LevelSet
         ensures pending { result ≡ pending self.now }
     {
@@ -310,7 +310,7 @@ impl Pic {
         None
     }
 
-    /// The first level that blocks, which a non-specific end of interrupt is for.
+    /// The first level that blocks others, which is the one that a non-specific end of interrupt ends.
     fn first_blocking(&self) -> Option<u8>
         ensures first { result ≡ first_blocking self.now }
         ensures level { IfSome result (λ level. level < 8) }

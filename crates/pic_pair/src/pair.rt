@@ -98,14 +98,14 @@ impl PicPair {
         self.settle();
     }
 
-    /// Whether the master's INT is 1, so that an interrupt is asked for.
+    /// Whether the master's INT is 1, which requests an interrupt of the processor.
     pub fn pending(&self) -> bool
         ensures pending { result ≡ is_some (interrupt self.now.master) }
     {
         self.master.interrupt().is_some()
     }
 
-    /// Acknowledges the interrupt that is asked for; where none is, the answer is spurious.
+    /// Acknowledges the requested interrupt; where none is requested, the answer is spurious.
     #[tactic(auto, unfolding(device_spec::specs::Pair::answer_of, device_spec::specs::Pair::pair_after_acknowledge))]
     pub fn acknowledge(&mut self) -> Ack
         ensures answer { answer_shown result ≡ answer_of self.old }

@@ -150,7 +150,7 @@ impl Pit {
         self.gate2 = on;
     }
 
-    /// Runs the clock for `n` pulses, and answers how often OUT of counter 0 rose and its level after them.
+    /// Runs the clock for `n` pulses, and returns how often OUT of counter 0 rose and its level after them.
     pub fn pulses(&mut self, n: u32) -> Rises
         ensures state { self.new ≡ pulses n self.old }
         ensures rose { result.rose ≡ rises n self.old }
@@ -159,7 +159,7 @@ impl Pit {
         self.pulses_by::<Brand>(n, Blank::new(1))
     }
 
-    /// Runs the clock for `n` pulses, for the ledger that a blank opens.
+    /// Runs the clock for `n` pulses, with a new counter of steps, which `blank` makes.
     fn pulses_by<L: Ledger>(&mut self, n: u32, blank: Blank) -> Rises
         requires name { blank.name ≡ L.name }
         requires parts { blank.parts ≡ L.parts }
@@ -197,7 +197,7 @@ impl Pit {
         self.pulses_to_rise_by::<Brand>(Blank::new(1))
     }
 
-    /// The same, for the ledger that a blank opens.
+    /// The same, with a new counter of steps, which `blank` makes.
     fn pulses_to_rise_by<L: Ledger>(&self, blank: Blank) -> Option<u32>
         requires name { blank.name ≡ L.name }
         requires parts { blank.parts ≡ L.parts }

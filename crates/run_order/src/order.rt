@@ -86,8 +86,8 @@ impl RunOrder {
         }
     }
 
-    /// The order in which a bus has its entries, which are given, the oldest first. It has room for as many entries in
-    /// all as is asked. Refused for want of memory, or where there would be 2^32 entries.
+    /// The order in which a bus has its entries, which are given, the oldest first. It has room for `most` entries in
+    /// all. Refused for want of memory, or where there would be 2^32 entries.
     pub fn begin(alloc: Global, most: usize, entries: &[Entry]) -> Result<RunOrder, NoMemory>
         requires callers { All (λ entry. entry.actor < 8) entries.now }
         requires legal { (setup : Setup) × IsLegal setup (reverse entries.now) }

@@ -1,4 +1,4 @@
-//! What a statement asks, read from the fields of its line after the processor's number.
+//! The event of a statement, read from the fields of its line after the processor's number.
 
 ghost use Rattle.std.specs.Prelude.{◌≡◌, ◌*◌, ◌<◌, ◌^◌, IfSome};
 ghost use Rattle.board_base.specs.Access.{bytes_of};
@@ -71,7 +71,7 @@ fn smm_of(flags: Fields<'_>) -> Option<bool>
     }
 }
 
-/// The width of so many bytes, 1, 2 or 4.
+/// The width of `bytes` bytes, 1, 2 or 4.
 fn width_with(bytes: u8) -> Width
     ensures width { result ≡ width_with bytes }
 {
@@ -98,7 +98,7 @@ fn is_wide(version: u8, bytes: u8, addr: u32) -> bool
     }
 }
 
-/// An access to memory of so many bytes.
+/// An access to memory of `bytes` bytes.
 #[tactic(auto, unfolding(crate::specs::Events::memory_event))]
 fn memory_event(version: u8, kind: Kind, bytes: u8, addr: u32, value: u64, smm: bool) -> Event
     requires size { IsSize version bytes }
@@ -258,7 +258,7 @@ fn sector_of(words: Fields<'_>) -> Option<Event>
     Some(Event::BadSector(sector))
 }
 
-/// What a statement asks that is no moment and sets no line, by its verb and the fields after it.
+/// The event of a statement that gives no moment and sets no line, by its verb and the fields after it.
 #[tactic(auto, unfolding(crate::specs::Events::event_of))]
 pub(crate) fn event_of(version: u8, verb: &[u8], words: Fields<'_>) -> Option<Event>
     ensures event { result ≡ event_of version verb.now words.entry }

@@ -18,7 +18,7 @@ use board_spec::Event;
 /// The longest name, in bytes.
 const LONGEST_NAME: usize = 64;
 
-/// What a statement asks, with numbers that may be out of range.
+/// The event of a statement, with numbers that may be out of range.
 #[derive(Clone, Copy, PartialEq, Eq, Debug)]
 pub enum Asked {
     Event(Event),
@@ -118,7 +118,7 @@ fn asked_with(version: u8, verb: &[u8], words: Fields<'_>) -> Option<Asked>
     other_event(version, verb, words)
 }
 
-/// What a statement asks, by the fields of its line after the processor's number.
+/// The event of a statement, by the fields of its line after the processor's number.
 #[tactic(auto, unfolding(crate::specs::Items::asked_of))]
 fn asked_of(version: u8, words: Fields<'_>) -> Option<Asked>
     ensures asked { (actor : ℕ) → option_map (asked_said actor) result ≡ asked_of version actor words.entry }

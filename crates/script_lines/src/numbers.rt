@@ -51,7 +51,7 @@ pub fn digit_of(base: u64, byte: u8) -> Option<u64>
     if digit < base { Some(digit) } else { None }
 }
 
-/// The number that the digits of a field make, where so many digits fit.
+/// The number that the digits of a field make, where every number of that many digits fits 64 bits.
 fn number_of(base: u64, field: &[u8]) -> Option<u64>
     requires some { 0 < base }
     requires fits { base ^ length field.now ≤ 2 ^ 64 }
@@ -65,7 +65,7 @@ fn number_of(base: u64, field: &[u8]) -> Option<u64>
     Some(number)
 }
 
-/// The number of exactly so many hexadecimal digits, at most sixteen.
+/// The number of exactly `digits` hexadecimal digits, at most sixteen.
 pub fn hex_of(digits: usize, field: &[u8]) -> Option<u64>
     requires { digits ≤ 16 }
     ensures number { result ≡ hex_of digits field.now }

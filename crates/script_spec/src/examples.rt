@@ -65,7 +65,7 @@ pub fn odd_address()
     ensures refused { OddAddress }
 {}
 
-/// A second processor of one.
+/// Processor 1 where there is only processor 0.
 #[tactic(auto, using(crate::proofs::ExampleRuns::second_processor))]
 pub fn second_processor()
     ensures refused { SecondProcessor }

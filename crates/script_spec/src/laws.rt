@@ -25,7 +25,7 @@ pub fn law_one_line()
     ensures script { OneDifference }
 {}
 
-/// What a text says is in range: what a board can be fitted with, and be asked.
+/// What a text says is in range: a board can have its setup and do its statements.
 pub fn law_in_range()
     ensures each { ScriptsAreInRange }
 {}

@@ -1,6 +1,6 @@
-//! What the texts of scripts and logs mean. `specs/` has a script as a relation between its bytes and what it says,
-//! the first line by which a text is none, with the reason, and the logs that a reader of logs accepts. No definition
-//! speaks of a reader. `laws` proves what shows them right.
+//! What the texts of scripts and logs mean. `specs/` relates the bytes of a script to what it says, names the first
+//! bad line of a text that is no script, with the reason, and says which texts are logs. No definition is about a
+//! program that reads them. `laws` proves what one may expect of the definitions.
 #![tactic(auto)]
 
 pub mod examples;

@@ -150,7 +150,7 @@ pub(crate) fn card_of(fields: &CardFields) -> Option<CardSpec>
 
 // ---- events
 
-/// The lines of interrupts that a statement sets: those of no part of the board.
+/// The interrupt lines that a statement can set: those that no part of the board drives.
 fn is_free_line(irq: u32) -> bool
     ensures free { result ≡ is_free_line irq }
 {
@@ -239,7 +239,7 @@ fn line_of(irq: u32, level: u32) -> Option<Event>
     })
 }
 
-/// The event that a statement asks, where its numbers are in range.
+/// The event of a statement, where its numbers are in range.
 pub(crate) fn event_of(asked: Asked) -> Option<Event>
     ensures event { (actor : ℕ) → option_map (ask actor) result
         ≡ in_case (is_in_range (asked_said actor asked)) (asked_said actor asked) }
@@ -271,7 +271,7 @@ pub(crate) fn is_placed(event: &Event) -> bool
     }
 }
 
-/// How many pulses an event asks.
+/// How many pulses an event has.
 pub(crate) fn pulses_of(event: &Event) -> u32
     ensures pulses { result ≡ pulses_of_event event.now }
 {

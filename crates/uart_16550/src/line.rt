@@ -9,7 +9,7 @@ use crate::com1::{COM1_ACTOR, COM1_IRQ};
 use crate::stepped::SteppedBoard;
 use board_spec::Event;
 
-/// Tells the board the new level of line 4, where it is another than the board was told before.
+/// Gives the board the new level of line 4, where it differs from the one that the board was given last.
 pub fn move_line<B: SteppedBoard>(board: &mut B, old: bool, new: bool)
     requires room { B.has_room board.old 1 }
     ensures setup { B.setup board.new ≡ B.setup board.old }

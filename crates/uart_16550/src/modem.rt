@@ -52,7 +52,7 @@ pub struct ModemChanges {
 }
 
 impl ModemChanges {
-    /// Nothing.
+    /// No change.
     pub fn none() -> ModemChanges
         ensures none { result ≡ no_changes }
     {
@@ -64,14 +64,14 @@ impl ModemChanges {
         }
     }
 
-    /// Whether anything.
+    /// Whether there is any change.
     pub fn any(&self) -> bool
         ensures any { result ≡ is_any_change self.now }
     {
         self.dcts || self.ddsr || self.teri || self.ddcd
     }
 
-    /// The same, and what happens where the lines become these.
+    /// These changes, and those of the lines going from `old` to `new`.
     pub fn after(&self, old: ModemLines, new: ModemLines) -> ModemChanges
         ensures after { result ≡ changes_after self.now old new }
     {

@@ -24,7 +24,7 @@ impl Model for Queue {
 }
 
 impl Queue {
-    /// No byte.
+    /// The empty queue.
     pub fn new() -> Queue
         ensures empty { result ≡ [] }
     {

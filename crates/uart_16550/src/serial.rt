@@ -61,7 +61,7 @@ impl<B: SteppedBoard> SerialBoard<B> {
         self.com1.uart.room()
     }
 
-    /// Receives a byte from outside. The port tells the board a change of line 4.
+    /// Receives a byte from outside. The port gives the board a change of line 4.
     pub fn receive(&mut self, byte: u8)
         requires room { has_room self.old.com1.uart ≡ true }
         requires spare { B.has_room self.old.board 1 }
@@ -76,8 +76,8 @@ impl<B: SteppedBoard> SerialBoard<B> {
         move_line(&mut self.board, old, self.com1.level());
     }
 
-    /// Does an event of a processor, 0 to 7, and tells the reply. An access of one byte at 3F8h to 3FFh is for the
-    /// UART, before any card, and all else for the board, which hears of line 4 the or of the UART's line and the
+    /// Does an event of a processor, 0 to 7, and returns the reply. An access of one byte at 3F8h to 3FFh is for the
+    /// UART, before any card, and all else for the board, whose line 4 has the or of the UART's line and the
     /// script's level. A hard reset makes the UART new after the board's step. It takes no memory.
     pub fn step(&mut self, actor: u8, event: &Event) -> SerialReply
         requires in_range { IsInRange (B.setup self.old.board) event.now }

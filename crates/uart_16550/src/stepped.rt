@@ -1,4 +1,4 @@
-//! What a serial port asks of the board that it stands on.
+//! What a serial port needs of the board that it stands on.
 
 ghost use Rattle.std.specs.Prelude.{◌≡◌, ◌+◌, ◌-◌, ◌≤◌, ◌∷◌, ℕ, List};
 ghost use Rattle.board_spec.specs.declared.event.Entry.{Entry};
@@ -30,7 +30,7 @@ pub trait SteppedBoard {
     // It has room for so many more steps.
     ghost has_room: { Self → ℕ → Type 0 };
 
-    /// Does an event of a processor, and tells the reply.
+    /// Does an event of a processor, and returns the reply.
     fn step(&mut self, actor: u8, event: &Event) -> Reply
         requires in_range { IsInRange (setup self.old) event.now }
         requires room { has_room self.old 1 }
@@ -91,7 +91,7 @@ impl SteppedBoard for Chipset {
 
     ghost setup = { λ chipset. chipset.setup };
 
-    // Looks tell the version of the map modulo 2^32.
+    // A look gives the version of the map modulo 2^32.
     ghost is_answer = { IsAnswerModulo };
 
     ghost is_left_by = { IsLeftBy };

@@ -123,7 +123,7 @@ impl Uart {
         self.queue.push(byte);
     }
 
-    /// Whether there is what this interrupt is for.
+    /// Whether the cause of this interrupt is there.
     fn has_condition(&self, interrupt: Interrupt) -> bool
         ensures condition { result ≡ has_condition self.now interrupt }
     {
@@ -135,7 +135,7 @@ impl Uart {
         }
     }
 
-    /// Whether there is what this interrupt is for, and IER enables it.
+    /// Whether the cause of this interrupt is there, and IER enables it.
     fn is_raised(&self, interrupt: Interrupt) -> bool
         ensures raised { result ≡ is_raised self.now interrupt }
     {
@@ -230,7 +230,7 @@ impl Uart {
         modem_status(ModemLines::under(self.mcr), changes)
     }
 
-    /// Writes the register at an offset, 0 to 7, and answers the byte that is sent. None exactly where the offset is
+    /// Writes the register at an offset, 0 to 7, and returns the byte that is sent. None exactly where the offset is
     /// not 0, DLAB is 1, or loopback is on.
     pub fn port_write(&mut self, off: u8, byte: u8) -> Option<u8>
         requires off { off < 8 }

@@ -38,7 +38,7 @@ pub fn routed_wire()
     ensures history { RoutedWire }
 {}
 
-/// The clock is told a moment, in 24-hour and in 12-hour form.
+/// The clock is given a moment, in 24-hour and in 12-hour form.
 #[tactic(auto, using(crate::proofs::ExampleDeviceRuns::clock_runs))]
 pub fn clock_told()
     ensures history { ClockTold }

@@ -34,7 +34,7 @@ pub fn law_pair()
     same_levels_again();
 }
 
-/// Memory accesses and looks leave every device.
+/// Memory accesses and looks change no device.
 pub fn law_memory_leaves_devices()
     ensures same { MemoryLeavesDevices }
 {

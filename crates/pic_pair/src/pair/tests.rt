@@ -199,7 +199,7 @@ fn the_modes(rt: HostRuntime) {
             In(0x20, 0x00),
         ],
     );
-    // A poll acknowledges by a read of either port; where nothing is asked for it reads 0.
+    // A poll acknowledges by a read of either port; where nothing is requested it reads 0.
     run(
         &rt,
         &mut pair,

@@ -92,7 +92,7 @@ impl Counter {
         }
     }
 
-    /// A pulse in mode 5: as in mode 4, with the trigger for the load asked, whatever the gate.
+    /// A pulse in mode 5: as in mode 4, where the trigger loads in place of a written count, whatever the gate.
     #[tactic(auto, unfolding(device_spec::specs::Pit::pulse_by_mode))]
     fn pulse_hardware_strobe(&mut self, triggered: bool)
         ensures state { self.new ≡ pulse_by_mode HardwareStrobe true triggered self.old }

@@ -11,7 +11,7 @@ use crate::word::{CountNotation, CountingMode};
 use board_base::Steps;
 use std::sync::ledger::Ledger;
 
-/// As many pulses as can be asked for at once.
+/// The most pulses that can be asked for at once.
 pub(super) const EVERY_PULSE: u32 = u32::MAX;
 
 impl Counter {
@@ -254,7 +254,7 @@ impl Counter {
         self.skip(gate, run)
     }
 
-    /// Runs this many pulses with the gate at this level, in at most four steps, and answers how often OUT rose.
+    /// Runs this many pulses with the gate at this level, in at most four steps, and returns how often OUT rose.
     pub(crate) fn pulses<L: Ledger>(&mut self, gate: bool, pulses: u32, steps: &mut Steps<L>) -> u32
         ensures state { self.new ≡ pulses_of gate pulses self.old }
         ensures rose { result ≡ rises_of gate pulses self.old }
