@@ -1,2 +1,6 @@
 pub mod FrontLemmas
+pub mod CallLemmas
+pub mod Refusals
+pub mod Places
+pub mod GoodLemmas
 pub mod OneStatus

@@ -1,6 +1,6 @@
 -- What the words and the files ask for: the status with which a command ends where no fault rises outside and memory is
 -- there.
-use Rattle.std.specs.Prelude.{ℕ, ◌≡◌, ◌<◌, ◌≤◌, List, length}
+use Rattle.std.specs.Prelude.{ℕ, ◌<◌, ◌≤◌, List, length}
 use Rattle.board_spec.specs.Setup.{IsRomSize, IsDiskSize}
 use Rattle.script_spec.specs.ScriptText.{IsScriptBad}
 use Rattle.script_spec.specs.Checks.{IsLogOf, DiffersAt}

@@ -1,10 +1,11 @@
 -- What is known of the files that a command has read.
-use Rattle.std.specs.Prelude.{ℕ, ◌≡◌, ◌≤◌, ◌<◌, ◌++◌, List, [], ◌∷◌, length, reverse, Option, Some, None}
+use Rattle.std.specs.Prelude.{ℕ, ◌≡◌, ◌≤◌, ◌++◌, List, [], ◌∷◌, length, reverse, Option, Some, None}
 use Rattle.board_spec.specs.Setup.{Setup, IsRomSize, IsDiskSize, IsDisk}
 use Rattle.script_spec.specs.ScriptText.{Script as Said, IsScriptText}
+use Rattle.script_spec.specs.ScriptRange.{IsInRangeScript}
 use Rattle.board_image.specs.ImageBytes.{Saved, IsImage, image_bytes}
 use Rattle.command_texts.specs.Fitted.{fitted}
-use Rattle.command_words.specs.Words.{Command}
+use Rattle.command_words.specs.Words.{Command, Make, Resume}
 use Rattle.command_files.specs.declared.status.Which.{Which}
 use Rattle.command_files.specs.declared.status.Which.TheVariants.{Script, Rom, Disk, Log, Image, Input}
 use Rattle.command_files.specs.Table.{files_of, name_in_words, limit_of}
@@ -81,11 +82,7 @@ pub record ComesTo (command : Command) (files : Files) (which : Which) (known : 
   pub read : AreReadAs command files before known
   pub named : name_of command known which ≡ Some name
 
--- ---- the board
-
--- the board that a script asks for, with the images that were read
-abbrev pub board_of : Known → Said → Setup
-board_of known script = fitted script known.rom known.disk
+-- ---- what was read
 
 -- a script was read, of which this holds
 abbrev pub OfScript : Known → (Said → Type 0) → Type 0
@@ -94,3 +91,24 @@ OfScript known P = (script : Said) × (known.script ≡ Some script) × P script
 -- an image was read, of which this holds
 abbrev pub OfImage : Known → (Saved → Type 0) → Type 0
 OfImage known P = (image : Saved) × (known.image ≡ Some image) × P image
+
+-- what a command has read, also where nobody tells the files
+pub record HasBoard (known : Known) : Type 0 where
+  pub script : OfScript known IsInRangeScript
+  pub rom : IsRomSize (length known.rom)
+  pub disk : IsDisk known.disk
+
+pub record HasImage (known : Known) : Type 0 where
+  pub script : OfScript known IsInRangeScript
+  pub image : OfImage known (λ image. IsImage image.setup image.steps)
+
+abbrev pub HasRead : Command → Known → Type 0
+HasRead (Make rounds) known = Unit {0}
+HasRead (Resume image script) known = HasImage known
+HasRead _ known = HasBoard known
+
+-- ---- the board
+
+-- the board that a script asks for, with the images that were read
+abbrev pub board_of : Known → Said → Setup
+board_of known script = fitted script known.rom known.disk

@@ -7,4 +7,5 @@ pub mod Known
 pub mod Asked
 pub mod Outcomes
 pub mod Calls
+pub mod Steps
 pub mod Laws

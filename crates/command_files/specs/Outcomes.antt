@@ -1,14 +1,15 @@
 -- What a shelf tells of a command, and why a command ended before it had its text.
 use Rattle.std.specs.Prelude.{◌≡◌, ◌<◌, ◌++◌, ℕ, List, ◌∷◌, length, take, Option, Some, None}
 use Rattle.board_base.specs.Outside.{Rose, OfFile}
-use Rattle.command_words.specs.Words.{Command, Check, Resume}
+use Rattle.script_spec.specs.ScriptText.{IsScriptBad}
+use Rattle.command_words.specs.Words.{Command, Resume}
 use Rattle.command_files.specs.declared.status.Which.{Which}
-use Rattle.command_files.specs.declared.status.Which.TheVariants.{Script, Rom, Disk, Log, Image, Input}
+use Rattle.command_files.specs.declared.status.Which.TheVariants.{Script, Rom, Disk, Log, Image}
 use Rattle.command_files.specs.declared.status.Status.{Status}
 use Rattle.command_files.specs.declared.status.Status.TheVariants.{Done, Usage, ReadFault, WriteFault, TooLong, BadScript, BadImage, Differs, OtherBoard, NoMemory}
 use Rattle.command_files.specs.Table.{files_of, name_in_words, limit_of}
 use Rattle.command_files.specs.Known.{Files}
-use Rattle.command_files.specs.Asked.{ReadsFile, IsNoImage, AsksFor}
+use Rattle.command_files.specs.Asked.{ReadsFile, Fits, IsNoImage, AsksFor}
 
 -- ---- what a shelf tells
 
@@ -82,6 +83,10 @@ IsNotTaken which name shelf (ReadFault other) =
     (other ≡ which) × Rose shelf.faults_before shelf.faults_now × (shelf.failed_name ≡ take 255 name)
 IsNotTaken which name shelf (TooLong other) =
     (other ≡ which) × OfFile shelf.files name (λ file. limit_of which < length file)
+IsNotTaken which name shelf (BadScript line why) =
+    (which ≡ Script) × OfFile shelf.files name (Fits Script (λ bytes. IsScriptBad bytes line why) name)
+IsNotTaken which name shelf (BadImage other) =
+    (other ≡ which) × IsImageKind which × OfFile shelf.files name (Fits which (IsNoImage which) name)
 IsNotTaken which name shelf NoMemory = Unit {0}
 IsNotTaken which name shelf _ = ⊥
 

@@ -3,13 +3,16 @@
 
 mod fetch;
 mod files;
+mod good;
 pub mod laws;
 mod message;
 mod read;
 mod status;
 mod table;
+mod walk;
 
 pub use board_script::Line;
 pub use message::fault_text;
-pub use read::{Read, read_files};
+pub use read::Read;
 pub use status::{Status, Which, exit_code};
+pub use walk::read_files;

@@ -1,15 +1,17 @@
-//! The files that each command reads, in their order.
+//! The files that each command reads, in their order, and the names of those that stand in its words.
 
 ghost use Rattle.std.specs.Prelude.{◌≡◌, option_map};
 ghost use Rattle.command_words.specs.Commands.{said_by};
-ghost use Rattle.command_files.specs.Table.{files_of, name_in_words};
+ghost use Rattle.command_files.specs.Table.{files_of, script_name, log_name, image_name, input_name, name_in_words};
 
 use crate::status::Which;
 use command_words::{Alone, Command};
 
 /// The board that a script asks for: the script, then the ROM and the disk that it names.
 const WITH_BOARD: [Which; 3] = [Which::Script, Which::Rom, Which::Disk];
+
 const WITH_LOG: [Which; 4] = [Which::Script, Which::Rom, Which::Disk, Which::Log];
+
 const WITH_INPUT: [Which; 4] = [Which::Script, Which::Rom, Which::Disk, Which::Input];
 /// An image has a ROM and a disk of its own.
 const RESUMED: [Which; 2] = [Which::Image, Which::Script];
@@ -24,5 +26,62 @@ pub(crate) fn files_of(command: &Command) -> &'static [Which]
         Command::Alone(Alone::Resume { .. }) => &RESUMED,
         Command::Alone(Alone::Serial { .. }) => &WITH_INPUT,
         _ => &WITH_BOARD,
+    }
+}
+
+fn script_name<'a>(command: &'a Command) -> Option<&'a str>
+    ensures name { option_map (λ name. name.now) result ≡ script_name (said_by command.now) }
+{
+    match command {
+        Command::Run(script) => Some(script),
+        Command::Alone(Alone::Replay(script)) => Some(script),
+        Command::Alone(Alone::Map(script)) => Some(script),
+        Command::Alone(Alone::Check { script, .. }) => Some(script),
+        Command::Alone(Alone::Make(_)) => None,
+        Command::Alone(Alone::Dma { script, .. }) => Some(script),
+        Command::Alone(Alone::Save(script)) => Some(script),
+        Command::Alone(Alone::Resume { script, .. }) => Some(script),
+        Command::Alone(Alone::Serial { script, .. }) => Some(script),
+        Command::Alone(Alone::Blame(script)) => Some(script),
+    }
+}
+
+fn log_name<'a>(command: &'a Command) -> Option<&'a str>
+    ensures name { option_map (λ name. name.now) result ≡ log_name (said_by command.now) }
+{
+    match command {
+        Command::Alone(Alone::Check { log, .. }) => Some(log),
+        _ => None,
+    }
+}
+
+fn image_name<'a>(command: &'a Command) -> Option<&'a str>
+    ensures name { option_map (λ name. name.now) result ≡ image_name (said_by command.now) }
+{
+    match command {
+        Command::Alone(Alone::Resume { image, .. }) => Some(image),
+        _ => None,
+    }
+}
+
+fn input_name<'a>(command: &'a Command) -> Option<&'a str>
+    ensures name { option_map (λ name. name.now) result ≡ input_name (said_by command.now) }
+{
+    match command {
+        Command::Alone(Alone::Serial { input, .. }) => Some(input),
+        _ => None,
+    }
+}
+
+/// The name of a file that stands in the words themselves: those of ROM and disk stand in the script.
+pub(crate) fn name_in_words<'a>(command: &'a Command, which: Which) -> Option<&'a str>
+    ensures name { option_map (λ name. name.now) result ≡ name_in_words (said_by command.now) which }
+{
+    match which {
+        Which::Script => script_name(command),
+        Which::Log => log_name(command),
+        Which::Image => image_name(command),
+        Which::Input => input_name(command),
+        Which::Rom | Which::Disk => None,
     }
 }

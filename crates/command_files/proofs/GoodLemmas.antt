@@ -1,0 +1,88 @@
+-- What can be relied on once all files of a command were read.
+use Rattle.std.proofs.Common.{◌≡◌, ℕ, List, [], ◌∷◌, length, reverse, Option, Some, None, refl, sym, ap, ◌∙◌, subst}
+use Rattle.board_spec.specs.Setup.{IsRomSize, IsDisk}
+use Rattle.script_spec.specs.ScriptText.{Script as Said}
+use Rattle.script_spec.specs.ScriptRange.{IsInRangeScript}
+use Rattle.command_words.specs.Words.{Command, Replay, Run, Map, Check, Make, Dma, Save, Resume, Serial, Blame}
+use Rattle.command_files.specs.declared.status.Which.TheVariants.{Script, Rom, Disk, Log, Image, Input}
+use Rattle.command_files.specs.Table.{files_of, script_name}
+use Rattle.command_files.specs.Known.{Files, Known, rom_of, disk_of, OfScript, HasBoard, HasImage, HasRead}
+use Rattle.command_files.specs.Steps.{IsTaken, IsPassed}
+use Rattle.command_files.proofs.Places.{AreTaken}
+
+-- a script was read, and no disk yet
+record HasScript (known : Known) : Type 0 where
+  pub script : OfScript known IsInRangeScript
+  pub no_disk : known.disk ≡ None
+
+-- and its ROM
+record HasRom (known : Known) : Type 0 where
+  pub before : HasScript known
+  pub rom : IsRomSize (length known.rom)
+
+module _ (told : Option Files) where
+  script_read :
+      (before now : Known) (name : List ℕ) → before.disk ≡ None → IsTaken told before Script name now → HasScript now
+  script_read before now name none is = record { script = is.range; no_disk = ap (λ (k : Known). k.disk) is.learns.2 ∙ none }
+
+  rom_read :
+      (before now : Known) (script : Option Said) → before.script ≡ script → HasScript before →
+      IsPassed told before Rom (rom_of script) now → HasRom now
+  rom_read before now None none has is =
+      let same : None ≡ Some has.script.0 = sym none ∙ has.script.1 in absurd cc
+  rom_read before now (Some script) some has is =
+      subst HasRom (sym is.learns.1)
+      (record { before = record { script = has.script; no_disk = has.no_disk }; rom = is.learns.0 })
+
+  disk_read :
+      (before now : Known) (disk : Option (List ℕ)) → HasRom before → IsPassed told before Disk disk now → HasBoard now
+  disk_read before now None has is =
+      subst HasBoard (sym is)
+      (record { script = has.before.script; rom = has.rom; disk = subst IsDisk (sym has.before.no_disk) tt })
+  disk_read before now (Some name) has is =
+      subst HasBoard (sym is.learns.1)
+      (record { script = has.before.script; rom = has.rom; disk = is.learns.0 })
+
+  board_read :
+      (command : Command) (name : List ℕ) → script_name command ≡ Some name → (known : Known) →
+      AreTaken command told (Disk ∷ Rom ∷ Script ∷ []) known → HasBoard known
+  board_read command name named known (with_rom, (with_script, (nothing, none, script), rom), disk) =
+      let first =
+      script_read nothing with_script name (ap (λ (k : Known). k.disk) none)
+      (subst (λ (name' : Option (List ℕ)). IsPassed told nothing Script name' with_script) named script) in
+      let second = rom_read with_script with_rom with_script.script refl first rom in
+      disk_read with_rom known (disk_of with_rom.script) second disk
+
+  log_read : (before now : Known) (name : List ℕ) → HasBoard before → IsTaken told before Log name now → HasBoard now
+  log_read before now name has is =
+      subst HasBoard (sym is.learns) (record { script = has.script; rom = has.rom; disk = has.disk })
+
+  input_read : (before now : Known) (name : List ℕ) → HasBoard before → IsTaken told before Input name now → HasBoard now
+  input_read before now name has is =
+      subst HasBoard (sym is.learns) (record { script = has.script; rom = has.rom; disk = has.disk })
+
+  -- an image was read, and a script
+  image_read :
+      (before between now : Known) (name other : List ℕ) → IsTaken told before Image name between →
+      IsTaken told between Script other now → HasImage now
+  image_read before between now name other image script =
+      let found = image.learns in
+      record {
+        script = script.range;
+        image =
+            (found.0, ap (λ (k : Known). k.image) script.learns.2 ∙ ap (λ (k : Known). k.image) found.3, found.1);
+      }
+
+  pub has_read : (command : Command) (known : Known) → AreTaken command told (reverse (files_of command)) known → HasRead command known
+  has_read (Replay script) known is = board_read (Replay script) script refl known is
+  has_read (Run script) known is = board_read (Run script) script refl known is
+  has_read (Map script) known is = board_read (Map script) script refl known is
+  has_read (Check script log) known is =
+      log_read is.0 known log (board_read (Check script log) script refl is.0 is.1) is.2
+  has_read (Make rounds) known is = tt
+  has_read (Dma script transfer) known is = board_read (Dma script transfer) script refl known is
+  has_read (Save script) known is = board_read (Save script) script refl known is
+  has_read (Resume image script) known is = image_read is.1.0 is.0 known image script is.1.2 is.2
+  has_read (Serial script input) known is =
+      input_read is.0 known input (board_read (Serial script input) script refl is.0 is.1) is.2
+  has_read (Blame script) known is = board_read (Blame script) script refl known is

@@ -1,0 +1,312 @@
+-- A command at a place of its table: what its status is there, and which fetches it made.
+use Rattle.std.proofs.Common.{◌≡◌, ◌≢◌, ℕ, suc, ◌+◌, ◌<◌, ◌≤◌, ◌⊎◌, inl, inr, List, [], ◌∷◌, ◌++◌, length, take, drop, reverse, get_or, Option, Some, None, refl, sym, ap, ◌∙◌, subst, append_assoc}
+use Rattle.std.specs.Prelude.{Result, Ok, OnOk}
+use Rattle.std.proofs.lemmas.List.{reverse-append, reverse-reverse, append-nil, take_all}
+use Rattle.std.proofs.lemmas.Grind.{take_at_read}
+use Rattle.std.proofs.Math.Seq.{split_at}
+use Rattle.board_base.specs.Outside.{Rose, OfFile, Fetch}
+use Rattle.script_spec.specs.ScriptText.{IsScriptBad}
+use Rattle.command_words.specs.Words.{Command}
+use Rattle.command_files.specs.declared.status.Which.{Which}
+use Rattle.command_files.specs.declared.status.Which.TheVariants.{Script, Rom, Disk, Log, Image, Input}
+use Rattle.command_files.specs.declared.status.Status.{Status}
+use Rattle.command_files.specs.declared.status.Status.TheVariants.{Done, Usage, ReadFault, WriteFault, TooLong, BadScript, BadImage, Differs, OtherBoard, NoMemory}
+use Rattle.command_files.specs.Table.{files_of, name_in_words, limit_of}
+use Rattle.command_files.specs.Known.{Files, Known, nothing_known, name_of, Learns, Passes, AreReadAs, ComesTo}
+use Rattle.command_files.specs.Asked.{ReadsFile, Fits, IsNoImage}
+use Rattle.command_files.specs.Outcomes.{ShelfCall, OfFiles, CanRead, FailsAt, IsNotTaken, IsRefused}
+use Rattle.command_files.specs.Calls.{OfCalls, FoundEnd, Reaches, Reads, ReadEach, FetchesOf}
+use Rattle.command_files.specs.Steps.{IsPassed, StopsAt, ReadsNamed}
+use Rattle.command_files.proofs.CallLemmas.{Both, calls_both, calls_hold}
+use Rattle.command_files.proofs.Refusals.{of_files, at_files, at_file, any_file}
+
+-- ---- places of a list
+
+taken_more :
+    {A : Type 0} (files : List A) (index : ℕ) (d : A) → index < length files →
+    reverse (take (index + 1) files) ≡ get_or files index d ∷ reverse (take index files)
+taken_more files index d within =
+    ap reverse ((take_at_read files index d within).1) ∙ reverse-append (take index files) (get_or files index d ∷ [])
+
+-- a list is what stands before a place, that place, and what stands after it
+placed :
+    {A : Type 0} (files : List A) (index : ℕ) (d : A) → index < length files →
+    files ≡ reverse (reverse (take index files)) ++ get_or files index d ∷ drop (suc index) files
+placed files index d within = rw (reverse-reverse (take index files)) (split_at files index d within)
+
+-- ---- the files before a place
+
+-- these files, the latest first, were read or passed over, and this is known
+abbrev pub AreTaken : Command → Option Files → List Which → Known → Type 0
+AreTaken command told [] known = known ≡ nothing_known
+AreTaken command told (which ∷ before) known =
+    (earlier : Known) × AreTaken command told before earlier × IsPassed told earlier which (name_of command earlier which) known
+
+passed_as :
+    (files : Files) (before : Known) (which : Which) (name : Option (List ℕ)) (now : Known) →
+    IsPassed (Some files) before which name now → Passes files before which name now
+passed_as files before which None now is = is
+passed_as files before which (Some name) now is =
+    subst (λ (file : List ℕ). (length file ≤ limit_of which) × Learns before which file now) is.whole (is.fits, is.learns)
+
+taken_as :
+    (command : Command) (files : Files) (whiches : List Which) (known : Known) → AreTaken command (Some files) whiches known →
+    AreReadAs command files whiches known
+taken_as command files [] known is = is
+taken_as command files (which ∷ before) known (earlier, are, passed) = (
+  earlier,
+  taken_as command files before earlier are,
+  passed_as files earlier which (name_of command earlier which) known passed,
+)
+
+pub are_read :
+    (command : Command) (told : Option Files) (whiches : List Which) (known : Known) → AreTaken command told whiches known →
+    OfFiles told (λ files. AreReadAs command files whiches known)
+are_read command None whiches known is = tt
+are_read command (Some files) whiches known is = taken_as command files whiches known is
+
+-- ---- the file at a place
+
+-- a name in the words is the name
+in_words :
+    (command : Command) (known : Known) (which : Which) (name other : List ℕ) → name_of command known which ≡ Some name →
+    name_in_words command which ≡ Some other → other ≡ name
+in_words command known Script name other named is = cc
+in_words command known Rom name other named is = absurd cc
+in_words command known Disk name other named is = absurd cc
+in_words command known Log name other named is = cc
+in_words command known Image name other named is = cc
+in_words command known Input name other named is = cc
+
+-- the fetches of these files, the latest first, read each to its end, whatever is read later
+abbrev pub WholeBefore : Command → Option Files → List Which → List Fetch → Type 0
+WholeBefore command told whiches made = (more : List Fetch) → ReadEach command told whiches more made
+
+-- files that were not read
+not_read :
+    (command : Command) (told : Option Files) (others whiches : List Which) (more made : List Fetch) →
+    ReadEach command told whiches more made → ReadEach command told (others ++ whiches) more made
+not_read command told [] whiches more made is = is
+not_read command told (other ∷ others) whiches more made is = (
+  [],
+  made,
+  refl,
+  inl refl,
+  subst (λ (more' : List Fetch). ReadEach command told (others ++ whiches) more' made) (sym (append-nil more))
+      (not_read command told others whiches more made is),
+)
+
+module _ (command : Command) (told : Option Files) (which : Which) (before later : List Which) (known : Known)
+    (place : files_of command ≡ reverse before ++ which ∷ later) (are : AreTaken command told before known) where
+  reaches : (name : List ℕ) → name_of command known which ≡ Some name → Reaches command told which name
+  reaches name named = record {
+    can_read = (reverse before, later, place);
+    comes =
+        of_files told (λ files. (known' : Known) × ComesTo command files which known' name)
+        (λ files is. (
+          known,
+          record {
+            before = before;
+            later = later;
+            place = place;
+            read = at_files told files (λ files'. AreReadAs command files' before known) is (are_read command told before known are);
+            named = named;
+          },
+        ));
+    in_words = λ other is. in_words command known which name other named is;
+  }
+
+  module _ (start now : ℕ) (kept : List ℕ) (name : List ℕ) (named : name_of command known which ≡ Some name) where
+    abbrev Call : ShelfCall
+    Call = record { files = told; faults_before = start; faults_now = now; failed_name = kept }
+
+    reads :
+        (P : (name bytes : List ℕ) → Type 0) → OfFile told name (P name) →
+        OfFiles told (λ files. ReadsFile command files which P)
+    reads P holds =
+        of_files told (λ files. ReadsFile command files which P)
+        (λ files is.
+        let comes = at_files told files (λ files'. (known' : Known) × ComesTo command files' which known' name) is (reaches name named).comes in
+        record {
+          known = comes.0;
+          name = name;
+          comes = comes.1;
+          holds = at_file told files name (P name) is holds;
+        })
+
+    fails : Rose start now → kept ≡ take 255 name → FailsAt which Call command
+    fails rose names = record {
+      can_read = (reaches name named).can_read;
+      rose = rose;
+      in_words = λ other is. names ∙ ap (take 255) (sym (in_words command known which name other named is));
+      comes = reads (λ name' _. kept ≡ take 255 name') (any_file told name (kept ≡ take 255 name) names);
+    }
+
+    not_taken : (status : Status) → IsNotTaken which name Call status → IsRefused command Call status
+    not_taken Done is = is
+    not_taken Usage is = is
+    not_taken WriteFault is = is
+    not_taken (ReadFault other) (same, rose, names) =
+        subst (λ (which' : Which). FailsAt which' Call command) (sym same) (fails rose names)
+    not_taken (TooLong other) (same, holds) =
+        subst (λ (which' : Which). IsRefused command Call (TooLong which')) (sym same)
+        ((reaches name named).can_read, reads (λ name' bytes. limit_of which < length bytes) holds)
+    not_taken (BadScript line why) (same, holds) = (
+      subst (CanRead command) same (reaches name named).can_read,
+      subst (λ (which' : Which). OfFiles told (λ files. ReadsFile command files which' (Fits Script (λ bytes. IsScriptBad bytes line why)))) same
+          (reads (Fits Script (λ bytes. IsScriptBad bytes line why)) holds),
+    )
+    not_taken (BadImage other) (same, kind, holds) =
+        subst (λ (which' : Which). IsRefused command Call (BadImage which')) (sym same)
+        (((reaches name named).can_read, kind), reads (Fits which (IsNoImage which)) holds)
+    not_taken (Differs line) is = absurd is
+    not_taken OtherBoard is = absurd is
+    not_taken NoMemory is = tt
+
+  stopped_at :
+      (start now : ℕ) (kept : List ℕ) (name : Option (List ℕ)) → name_of command known which ≡ name → (status : Status) →
+      StopsAt which name (record { files = told; faults_before = start; faults_now = now; failed_name = kept }) status →
+      IsRefused command (record { files = told; faults_before = start; faults_now = now; failed_name = kept }) status
+  stopped_at start now kept None named status is = absurd is
+  stopped_at start now kept (Some name) named status is = not_taken start now kept name named status is
+
+  -- the command stops at this place, after none of the fetches before had failed
+  stops :
+      (start between now : ℕ) (kept : List ℕ) (status : Status) → between ≡ start →
+      StopsAt which (name_of command known which) (record { files = told; faults_before = between; faults_now = now; failed_name = kept }) status →
+      IsRefused command (record { files = told; faults_before = start; faults_now = now; failed_name = kept }) status
+  stops start between now kept status same is =
+      subst (λ (start' : ℕ). IsRefused command (record { files = told; faults_before = start'; faults_now = now; failed_name = kept }) status) same
+      (stopped_at between now kept (name_of command known which) refl status is)
+
+  -- ---- the fetches
+
+  own_read :
+      {T E : Type 0} (result : Result T E) (name : Option (List ℕ)) → name_of command known which ≡ name →
+      (more made : List Fetch) → ReadsNamed result name (limit_of which) made →
+      (more ≢ [] → OnOk result (FoundEnd made) → FoundEnd made) → (made ≡ []) ⊎ Reads command told which more made
+  own_read result None named more made is whole = inl is
+  own_read result (Some name) named more made is whole =
+      inr (record { name = name; reaches = reaches name named; reading = is.0; whole = λ some. whole some is.1 })
+
+  -- the file at this place was read to its end
+  own_whole :
+      {T : Type 0} (E : Type 0) (value : T) (made : List Fetch) →
+      Both (WholeBefore command told before) (ReadsNamed {E = E} (Ok value) (name_of command known which) (limit_of which)) made →
+      WholeBefore command told (which ∷ before) made
+  own_whole E value made is = λ more. (
+    is.second,
+    is.first,
+    is.parts,
+    own_read {E = E} (Ok value) (name_of command known which) refl more is.second is.two (λ some found. found),
+    is.one (more ++ is.second),
+  )
+
+  fetches_next :
+      {T : Type 0} (E : Type 0) (value : T) (start between now : Option (List Fetch)) →
+      OfCalls start between (WholeBefore command told before) →
+      OfCalls between now (ReadsNamed {E = E} (Ok value) (name_of command known which) (limit_of which)) →
+      OfCalls start now (WholeBefore command told (which ∷ before))
+  fetches_next E value start between now one two =
+      calls_hold start now
+      (Both (WholeBefore command told before) (ReadsNamed {E = E} (Ok value) (name_of command known which) (limit_of which)))
+      (WholeBefore command told (which ∷ before)) (own_whole E value)
+      (calls_both start between now (WholeBefore command told before)
+      (ReadsNamed {E = E} (Ok value) (name_of command known which) (limit_of which)) one two)
+
+  -- the table from its end
+  mirrored : reverse (files_of command) ≡ reverse later ++ which ∷ before
+  mirrored =
+      ap reverse place
+      ∙ reverse-append (reverse before) (which ∷ later)
+      ∙ ap (λ (front : List Which). front ++ reverse (reverse before)) (reverse-append (which ∷ []) later)
+      ∙ ap (λ (back : List Which). (reverse later ++ which ∷ []) ++ back) (reverse-reverse before)
+      ∙ append_assoc (reverse later) (which ∷ []) before
+
+  last_read :
+      {T E : Type 0} (result : Result T E) (made : List Fetch) →
+      Both (WholeBefore command told before) (ReadsNamed result (name_of command known which) (limit_of which)) made →
+      FetchesOf command told made
+  last_read result made is =
+      subst (λ (whiches : List Which). ReadEach command told whiches [] made) (sym mirrored)
+      (not_read command told (reverse later) (which ∷ before) [] made (
+        is.second,
+        is.first,
+        is.parts,
+        own_read result (name_of command known which) refl [] is.second is.two (λ some. absurd (some refl)),
+        is.one ([] ++ is.second),
+      ))
+
+  -- the command read the file at this place, and none later
+  fetches_last :
+      {T E : Type 0} (result : Result T E) (start between now : Option (List Fetch)) →
+      OfCalls start between (WholeBefore command told before) →
+      OfCalls between now (ReadsNamed result (name_of command known which) (limit_of which)) →
+      OfCalls start now (FetchesOf command told)
+  fetches_last result start between now one two =
+      calls_hold start now (Both (WholeBefore command told before) (ReadsNamed result (name_of command known which) (limit_of which)))
+      (FetchesOf command told) (last_read result)
+      (calls_both start between now (WholeBefore command told before)
+      (ReadsNamed result (name_of command known which) (limit_of which)) one two)
+
+-- the command read all files
+pub fetches_all :
+    (command : Command) (told : Option Files) (start now : Option (List Fetch)) →
+    OfCalls start now (WholeBefore command told (reverse (files_of command))) → OfCalls start now (FetchesOf command told)
+fetches_all command told start now is =
+    calls_hold start now (WholeBefore command told (reverse (files_of command))) (FetchesOf command told) (λ made whole. whole []) is
+
+-- ---- a loop along the table
+
+module _ (command : Command) (told : Option Files) (files : List Which) (index : ℕ) (d : Which) (known : Known)
+    (table : files ≡ files_of command) (within : index < length files)
+    (are : AreTaken command told (reverse (take index files)) known) where
+  abbrev here : Which
+  here = get_or files index d
+
+  abbrev passed_by : List Which
+  passed_by = reverse (take index files)
+
+  at_here : files_of command ≡ reverse passed_by ++ here ∷ drop (suc index) files
+  at_here = sym table ∙ placed files index d within
+
+  -- the file at the index was read or passed over
+  pub taken_next :
+      (now : Known) → IsPassed told known here (name_of command known here) now →
+      AreTaken command told (reverse (take (index + 1) files)) now
+  taken_next now passed =
+      subst (λ (whiches : List Which). AreTaken command told whiches now) (sym (taken_more files index d within))
+      (known, are, passed)
+
+  pub whole_next :
+      (E : Type 0) (value : Unit {0}) (start between now : Option (List Fetch)) →
+      OfCalls start between (WholeBefore command told passed_by) →
+      OfCalls between now (ReadsNamed {E = E} (Ok value) (name_of command known here) (limit_of here)) →
+      OfCalls start now (WholeBefore command told (reverse (take (index + 1) files)))
+  whole_next E value start between now one two =
+      subst (λ (whiches : List Which). OfCalls start now (WholeBefore command told whiches))
+      (sym (taken_more files index d within))
+      (fetches_next command told here passed_by (drop (suc index) files) known at_here are E value start between now one two)
+
+  -- the command stops at it
+  pub stops_here :
+      (start between now : ℕ) (kept : List ℕ) (status : Status) → between ≡ start →
+      StopsAt here (name_of command known here)
+      (record { files = told; faults_before = between; faults_now = now; failed_name = kept }) status →
+      IsRefused command (record { files = told; faults_before = start; faults_now = now; failed_name = kept }) status
+  stops_here = stops command told here passed_by (drop (suc index) files) known at_here are
+
+  pub fetches_here :
+      {T E : Type 0} (result : Result T E) (start between now : Option (List Fetch)) →
+      OfCalls start between (WholeBefore command told passed_by) →
+      OfCalls between now (ReadsNamed result (name_of command known here) (limit_of here)) →
+      OfCalls start now (FetchesOf command told)
+  fetches_here result =
+      fetches_last command told here passed_by (drop (suc index) files) known at_here are result
+
+-- the loop is through the table
+pub past_table :
+    (command : Command) (files : List Which) (index : ℕ) → files ≡ files_of command → length files ≤ index →
+    (P : List Which → Type 0) → P (reverse (take index files)) → P (reverse (files_of command))
+past_table command files index table past P holds =
+    subst (λ (whiches : List Which). P (reverse whiches)) (take_all index files past ∙ table) holds

@@ -1,0 +1,76 @@
+//! What the bytes of each kind of file are, and whether they are good.
+
+ghost use Rattle.std.specs.Prelude.{◌≡◌, ◌≤◌, ◌↔◌, IsTrue, length, IfOk, IfErr};
+ghost use Rattle.board_spec.specs.Setup.{IsRomSize, IsDiskSize};
+ghost use Rattle.script_spec.specs.ScriptText.{IsScriptText};
+ghost use Rattle.script_spec.specs.ScriptRange.{IsInRangeScript};
+ghost use Rattle.script_text.specs.Script.{said_of};
+ghost use Rattle.board_image.specs.ImageBytes.{IsImage, image_bytes};
+ghost use Rattle.command_files.specs.declared.status.Which.{Which};
+ghost use Rattle.command_files.specs.Table.{limit_of};
+ghost use Rattle.command_files.specs.Steps.{IsBad};
+
+use crate::status::{Status, Which};
+use board_core::is_rom_size;
+use board_image::{Image, read_image};
+use script_text::{Script, read_script};
+use std::alloc::Global;
+
+/// The bytes of a sector.
+const SECTOR: usize = 512;
+/// The most sectors of a disk.
+const MOST_SECTORS: usize = 0x1_0000;
+
+/// Whether a disk can have this many bytes: 1 to 65,536 whole sectors.
+fn is_disk_size(size: usize) -> bool
+    ensures size { IsTrue result ↔ IsDiskSize size }
+{
+    size % SECTOR == 0 && (1..=MOST_SECTORS).contains(&(size / SECTOR))
+}
+
+/// What a script says, of at most the limit of one.
+pub(crate) fn good_script(alloc: Global, bytes: &[u8]) -> Result<Script, Status>
+    requires fits { length bytes.now ≤ limit_of Which.Script }
+    ensures said { IfOk result (λ script. IsScriptText bytes.now (said_of script)) }
+    ensures range { IfOk result (λ script. IsInRangeScript (said_of script)) }
+    ensures bad { IfErr result (IsBad Which.Script bytes.now) }
+{
+    let script = read_script(alloc, bytes)?;
+    Ok(script)
+}
+
+/// A BIOS ROM, where it has 64, 128, 256 or 512 KiB.
+pub(crate) fn good_rom(bytes: Vec<u8>) -> Result<Vec<u8>, Status>
+    ensures same { IfOk result (λ rom. rom.items ≡ bytes.items) }
+    ensures size { IfOk result (λ rom. IsRomSize (length bytes.items)) }
+    ensures bad { IfErr result (IsBad Which.Rom bytes.items) }
+{
+    if is_rom_size(bytes.len()) {
+        Ok(bytes)
+    } else {
+        Err(Status::BadImage(Which::Rom))
+    }
+}
+
+/// A disk, where it has 1 to 65,536 whole sectors.
+pub(crate) fn good_disk(bytes: Vec<u8>) -> Result<Vec<u8>, Status>
+    ensures same { IfOk result (λ disk. disk.items ≡ bytes.items) }
+    ensures size { IfOk result (λ disk. IsDiskSize (length bytes.items)) }
+    ensures bad { IfErr result (IsBad Which.Disk bytes.items) }
+{
+    if is_disk_size(bytes.len()) {
+        Ok(bytes)
+    } else {
+        Err(Status::BadImage(Which::Disk))
+    }
+}
+
+/// What an image says.
+pub(crate) fn good_image(alloc: Global, bytes: &[u8]) -> Result<Image, Status>
+    ensures image { IfOk result (λ image. IsImage image.setup image.steps
+        × (bytes.now ≡ image_bytes image.setup image.steps)) }
+    ensures bad { IfErr result (IsBad Which.Image bytes.now) }
+{
+    let image = read_image(alloc, bytes)?;
+    Ok(image)
+}
