@@ -24,9 +24,9 @@ fn script_of(alloc: Global, setup: &str, statements: &[&str]) -> Result<String, 
 
 /// A disk of four sectors: each byte of sector s is s + 1.
 fn disk_of_four(alloc: Global) -> Result<Vec<u8>, Fail> {
-    let mut bytes = Vec::with_capacity(alloc, 2048)?;
-    for place in 0..2048 {
-        bytes.push((place / 512 + 1) as u8)?;
+    let mut bytes = Vec::new(alloc);
+    for byte in [1, 2, 3, 4] {
+        bytes.extend_from_slice(&[byte; 512])?;
     }
     Ok(bytes)
 }
@@ -83,11 +83,11 @@ fn expect_text<R: Threads + Wait + Sync + Abort>(
 const ONE_ENTRY: [&str; 2] = ["w d 00001000 00002000", "w d 00001004 80000200"];
 
 /// The setup and the statements, the words, and what is put.
-const TRANSFERS: [(&str, &[&str], [&str; 6], &str); 9] = [
+const TRANSFERS: [(&str, &[&str], &[&str], &str); 9] = [
     (
         WITH_DISK,
         &ONE_ENTRY,
-        ["dma", "s", "in", "00001000", "1", "1"],
+        &["dma", "s", "in", "00001000", "1", "1"],
         "exact status 04 moved 512\ndram 1186 disk 5120\n",
     ),
     // the entry is at the open SMRAM, which no bus master reads
@@ -100,56 +100,56 @@ const TRANSFERS: [(&str, &[&str], [&str; 6], &str); 9] = [
             "w d 00001000 000A0000",
             "w d 00001004 80000200",
         ],
-        ["dma", "s", "out", "00001000", "0", "1"],
+        &["dma", "s", "out", "00001000", "0", "1"],
         "abort 000A0000 00.0.72 status 02 moved 0\ndram 208 disk 5120\n",
     ),
     // zeros over the last sector
     (
         WITH_DISK,
         &ONE_ENTRY,
-        ["dma", "s", "out", "00001000", "3", "1"],
+        &["dma", "s", "out", "00001000", "3", "1"],
         "exact status 04 moved 512\ndram 162 disk 3072\n",
     ),
     // the disk has no such sector
     (
         WITH_DISK,
         &ONE_ENTRY,
-        ["dma", "s", "in", "00001000", "4", "1"],
+        &["dma", "s", "in", "00001000", "4", "1"],
         "sector 4 status 02 moved 0\ndram 162 disk 5120\n",
     ),
     // one entry for two sectors
     (
         WITH_DISK,
         &ONE_ENTRY,
-        ["dma", "s", "in", "00001000", "1", "2"],
+        &["dma", "s", "in", "00001000", "1", "2"],
         "shorter status 00 moved 512\ndram 1186 disk 5120\n",
     ),
     // another entry would follow
     (
         WITH_DISK,
         &["w d 00001000 00002000", "w d 00001004 00000200"],
-        ["dma", "s", "in", "00001000", "1", "1"],
+        &["dma", "s", "in", "00001000", "1", "1"],
         "longer status 05 moved 512\ndram 1058 disk 5120\n",
     ),
     // the second sector is bad
     (
         WITH_DISK,
         &["w d 00001000 00002000", "w d 00001004 80000400", "bad 1"],
-        ["dma", "s", "in", "00001000", "0", "2"],
+        &["dma", "s", "in", "00001000", "0", "2"],
         "sector 1 status 02 moved 512\ndram 676 disk 5120\n",
     ),
     // without a disk there is no sector
     (
         SETUP,
         &ONE_ENTRY,
-        ["dma", "s", "in", "00001000", "0", "1"],
+        &["dma", "s", "in", "00001000", "0", "1"],
         "sector 0 status 02 moved 0\ndram 162 disk 0\n",
     ),
     // the table is past the memory
     (
         WITH_DISK,
         &[],
-        ["dma", "s", "in", "00800000", "0", "1"],
+        &["dma", "s", "in", "00800000", "0", "1"],
         "abort 00800000 00.0.67 status 02 moved 0\ndram 0 disk 5120\n",
     ),
 ];
@@ -161,7 +161,7 @@ fn transfers_after_a_replay(rt: HostRuntime) -> Result<(), Fail> {
         expect_text(
             &rt,
             rt.alloc(),
-            &words,
+            words,
             script.as_str(),
             &[],
             text.as_bytes(),
