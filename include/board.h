@@ -3,8 +3,8 @@
  * A board is a handle of two words, which the caller keeps; every call takes a pointer to it. A call that is refused
  * leaves the board and the reply as they were. Nothing prints, traps or ends the process.
  *
- * The caller owes: each pointer is good for what it points to, and rom and disk are not NULL, also where they have no
- * bytes; one call at a time is inside a handle, which the caller's lock sees to; a handle is zeros or what a call left,
+ * The caller owes: each pointer is good for what it points to, and for as many as the count beside it says, and is not NULL,
+ * also where that count is 0; no two of a call overlap; one call at a time is inside a handle, which the caller's lock sees to; a handle is zeros or what a call left,
  * and is not copied to go on with both; malloc, realloc and free are those of one heap. */
 #ifndef BOARD_H
 #define BOARD_H
@@ -41,7 +41,11 @@ enum board_status {
     BOARD_PULSES = 13,    /* a count of pulses is not 1 to 1,000,000 */
     BOARD_DATE = 14,      /* the clock cannot have a date or time */
     BOARD_DEVICE = 15,    /* no card has the device number */
-    BOARD_LINE = 16       /* the line cannot be set from outside */
+    BOARD_LINE = 16,      /* the line cannot be set from outside */
+    BOARD_NO_CYCLE = 17,  /* the event is no access that one bus cycle makes */
+    BOARD_NO_SECTOR = 18, /* there is no disk, or it has no such sector */
+    BOARD_NO_BYTE = 20,   /* the clock has 128 bytes */
+    BOARD_BAD_LENGTH = 21 /* a sector has 512 bytes */
 };
 
 /* What is asked. */
@@ -136,12 +140,62 @@ typedef struct board_reply {
     uint64_t reserved;
 } board_reply;
 
+/* What one kind of access to a range reaches, as board_part has it. */
+typedef struct board_area {
+    uint8_t target; /* board_target */
+    uint8_t unit;
+    uint8_t base;
+    uint8_t reserved;
+} board_area;
+
+/* A range of the memory map, first and last address: what a fetch, a read and a write reach outside system management
+ * mode, and then in it. */
+typedef struct board_range {
+    uint32_t lo;
+    uint32_t hi;
+    board_area area[6];
+} board_range;
+
+/* Addresses that a change of the map changed, the first and the last. */
+typedef struct board_window {
+    uint32_t lo;
+    uint32_t hi;
+} board_window;
+
+/* The memory map: how many ranges it has, how many windows its last change changed, also where there was less room. */
+typedef struct board_map {
+    uint64_t ranges;
+    uint64_t windows;
+    uint32_t version;
+    uint32_t reserved;
+} board_map;
+
+/* Room that is enough for every map. */
+enum { BOARD_MOST_RANGES = 142, BOARD_MOST_WINDOWS = 64 };
+
 /* Opens a board over copies of the ROM's and the disk's bytes, without cards. A disk of no bytes is none. */
 uint32_t board_open(board *handle, uint32_t mib, const uint8_t *rom, size_t rom_bytes, const uint8_t *disk, size_t disk_bytes);
 /* Does an event, and tells the reply. */
 uint32_t board_step(board *handle, const board_event *event, board_reply *reply);
 /* Frees the board. The handle is closed from then on. */
 void board_close(board *handle);
+
+/* ---- what is asked between two steps: the board stays as it is */
+
+/* Tells the memory map: its version, its ranges in rising order, which cover all addresses, and the windows that its last
+ * change changed; an address beside them has the areas that it had before. Of each as many are told as there is room
+ * for, and map says how many there are. */
+uint32_t board_ranges(board *handle, board_map *map, board_range *ranges, size_t room, board_window *windows, size_t windows_room);
+/* Tells where a BOARD_MEMORY or BOARD_PORT event of one bus cycle would land, and what would deny it. */
+uint32_t board_decode(board *handle, const board_event *event, board_part *part);
+/* Tells after how many pulses of the 8254's clock line 0 next rises: 0 where it does not, unless something is written. */
+uint32_t board_pulses_to_rise(board *handle, uint32_t *pulses);
+/* Tells bytes of the memory that the board keeps, as the guest's reads would: FFh past the installed memory. */
+uint32_t board_dram_read(board *handle, uint32_t addr, uint8_t *into, size_t bytes);
+/* Tells the 512 bytes of a sector, also of one that is bad. */
+uint32_t board_disk_read(board *handle, uint32_t sector, uint8_t *into, size_t bytes);
+/* Tells a byte of the clock, address 0 to 127. */
+uint32_t board_cmos_read(board *handle, uint8_t address, uint8_t *byte);
 
 /* ---- over board_step */
 
@@ -164,6 +218,11 @@ static inline uint32_t board_write(board *handle, uint32_t addr, uint8_t bytes, 
 
 static inline uint32_t board_look(board *handle, uint8_t kind, uint32_t addr, bool smm, board_reply *reply) {
     return board_ask(handle, BOARD_LOOK, kind, addr, 0, smm, 0, reply);
+}
+
+/* What a range is to a kind of access, board_kind. */
+static inline board_area board_area_of(const board_range *range, uint8_t kind, bool smm) {
+    return range->area[(kind + 2) % 3 + (smm ? 3 : 0)];
 }
 
 /* The widest cycle of 4, 2 or 1 bytes that begins at a port and is aligned, of these many bytes. */

@@ -21,6 +21,10 @@ _Static_assert(sizeof(board_part) == 12 && offsetof(board_part, target) == 4 && 
 _Static_assert(sizeof(board_reply) == 88 && offsetof(board_reply, version) == 8 && offsetof(board_reply, form) == 24
     && offsetof(board_reply, reset) == 28 && offsetof(board_reply, part) == 32 && offsetof(board_reply, reserved) == 80,
     "board_reply");
+_Static_assert(sizeof(board_area) == 4 && offsetof(board_area, reserved) == 3, "board_area");
+_Static_assert(sizeof(board_range) == 32 && offsetof(board_range, hi) == 4 && offsetof(board_range, area) == 8, "board_range");
+_Static_assert(sizeof(board_window) == 8 && offsetof(board_window, hi) == 4, "board_window");
+_Static_assert(sizeof(board_map) == 24 && offsetof(board_map, windows) == 8 && offsetof(board_map, version) == 16, "board_map");
 
 static const struct { const char *name; board_event event; uint32_t status; } rows[] = {
     {"zeros", {0}, BOARD_NO_EVENT},
@@ -47,10 +51,102 @@ static const struct { const char *name; board_event event; uint32_t status; } ro
     {"the timer's line", {.what = BOARD_IRQ, .addr = 0}, BOARD_LINE},
 };
 
+/* bytes that a refused call, or one with less room, leaves alone */
+static int is_untouched(const void *bytes, size_t from, size_t to) {
+    for (size_t k = from; k < to; k++) if (((const uint8_t *)bytes)[k] != 0xA5) return 0;
+    return 1;
+}
+
+static void must(const char *what, int holds) {
+    if (holds) return;
+    printf("%s\n", what);
+    failed = 1;
+}
+
+/* The map after power-on, as docs/FORMATS.md has it. */
+static void ranges(board *b, board *closed) {
+    static const struct { uint32_t lo, hi; uint8_t target; } rows[] = {
+        {0x00000000, 0x0009FFFF, BOARD_DRAM}, {0x000A0000, 0x000EFFFF, BOARD_ABORT}, {0x000F0000, 0x000FFFFF, BOARD_ROM},
+        {0x00100000, 0x007FFFFF, BOARD_DRAM}, {0x00800000, 0xFFFEFFFF, BOARD_ABORT}, {0xFFFF0000, 0xFFFFFFFF, BOARD_ROM},
+    };
+    board_map map;
+    board_range range[BOARD_MOST_RANGES];
+    board_window window[BOARD_MOST_WINDOWS];
+    board_reply r;
+    memset(&map, 0xA5, sizeof map);
+    memset(range, 0xA5, sizeof range);
+    memset(window, 0xA5, sizeof window);
+    expect("ranges of a closed handle", board_ranges(closed, &map, range, 6, window, 1), BOARD_CLOSED);
+    must("a closed handle told a map", is_untouched(&map, 0, sizeof map) && is_untouched(range, 0, sizeof range) && is_untouched(window, 0, sizeof window));
+    expect("ranges without room", board_ranges(b, &map, range, 0, window, 0), BOARD_OK);
+    must("counts without room", map.ranges == 6 && map.windows == 0 && map.version == 0 && map.reserved == 0);
+    must("ranges were told without room", is_untouched(range, 0, sizeof range));
+    expect("ranges, room for two", board_ranges(b, &map, range, 2, window, BOARD_MOST_WINDOWS), BOARD_OK);
+    must("two ranges", map.ranges == 6 && range[1].hi == rows[1].hi && is_untouched(range, 2 * sizeof *range, sizeof range));
+    expect("ranges", board_ranges(b, &map, range, BOARD_MOST_RANGES, window, BOARD_MOST_WINDOWS), BOARD_OK);
+    for (size_t k = 0; k < 6; k++) {
+        must("a range", range[k].lo == rows[k].lo && range[k].hi == rows[k].hi);
+        for (int kind = 0; kind < 6; kind++)
+            must("an area", range[k].area[kind].target == rows[k].target && !range[k].area[kind].unit && !range[k].area[kind].base && !range[k].area[kind].reserved);
+    }
+    must("a range past the last", is_untouched(range, 6 * sizeof *range, sizeof range) && is_untouched(window, 0, sizeof window));
+    expect("PAM2", board_out(b, 0xCF8, 4, 0x80000058, &r), BOARD_OK);
+    expect("PAM2", board_out(b, 0xCFF, 1, 0x20, &r), BOARD_OK);
+    expect("ranges after a write", board_ranges(b, &map, range, BOARD_MOST_RANGES, window, BOARD_MOST_WINDOWS), BOARD_OK);
+    must("the window CC000h to CFFFFh for writes", map.ranges == 8 && range[2].lo == 0xCC000 && range[2].hi == 0xCFFFF
+        && board_area_of(&range[2], BOARD_WRITE, false).target == BOARD_SHADOW && board_area_of(&range[2], BOARD_WRITE, true).target == BOARD_SHADOW
+        && board_area_of(&range[2], BOARD_READ, false).target == BOARD_ABORT && board_area_of(&range[2], BOARD_FETCH, false).target == BOARD_ABORT);
+    must("the windows of PAM2", map.version == 1 && map.windows >= 1 && window[0].lo <= 0xCC000 && window[map.windows - 1].hi >= 0xCFFFF
+        && window[0].lo >= 0xC8000 && window[map.windows - 1].hi <= 0xCFFFF);
+}
+
+static void asked(board *b, board *closed) {
+    static const struct { const char *name; board_event event; uint32_t status; uint8_t target, denial; } places[] = {
+        {"DRAM", {.what = BOARD_MEMORY, .kind = BOARD_READ, .bytes = 4, .addr = 0x1000}, BOARD_OK, BOARD_DRAM, BOARD_NOT_DENIED},
+        {"a write to the ROM", {.what = BOARD_MEMORY, .kind = BOARD_WRITE, .bytes = 1, .addr = 0xFFFFFFF0, .value = 1}, BOARD_OK, BOARD_ROM, BOARD_BY_REGISTER},
+        {"the 8254", {.what = BOARD_PORT, .kind = BOARD_READ, .bytes = 1, .addr = 0x40}, BOARD_OK, BOARD_IS_DEVICE, BOARD_NOT_DENIED},
+        {"nobody", {.what = BOARD_PORT, .kind = BOARD_READ, .bytes = 1, .addr = 0x3F8}, BOARD_OK, BOARD_ABORT, BOARD_BY_NO_REGISTER},
+        {"no event", {0}, BOARD_NO_EVENT, 0, 0},
+        {"an acknowledge", {.what = BOARD_ACK}, BOARD_NO_CYCLE, 0, 0},
+        {"8 bytes", {.what = BOARD_MEMORY, .kind = BOARD_READ, .bytes = 8, .addr = 0x1000}, BOARD_NO_CYCLE, 0, 0},
+        {"a port not aligned", {.what = BOARD_PORT, .kind = BOARD_READ, .bytes = 4, .addr = 0xCF9}, BOARD_NO_CYCLE, 0, 0},
+    };
+    board_part part;
+    uint32_t pulses = 0xA5A5A5A5;
+    uint8_t bytes[513], byte = 0xA5;
+    expect("decode of a closed handle", board_decode(closed, &places[0].event, &part), BOARD_CLOSED);
+    for (size_t k = 0; k < sizeof places / sizeof *places; k++) {
+        memset(&part, 0xA5, sizeof part);
+        expect(places[k].name, board_decode(b, &places[k].event, &part), places[k].status);
+        if (places[k].status) must("a refused decode told a part", is_untouched(&part, 0, sizeof part));
+        else must(places[k].name, part.target == places[k].target && part.denial == places[k].denial);
+    }
+    expect("pulses of a closed handle", board_pulses_to_rise(closed, &pulses), BOARD_CLOSED);
+    must("a closed handle told pulses", pulses == 0xA5A5A5A5);
+    expect("pulses", board_pulses_to_rise(b, &pulses), BOARD_OK);
+    memset(bytes, 0xA5, sizeof bytes);
+    expect("DRAM of a closed handle", board_dram_read(closed, 0, bytes, 512), BOARD_CLOSED);
+    expect("sector of a closed handle", board_disk_read(closed, 0, bytes, 512), BOARD_CLOSED);
+    expect("byte of a closed handle", board_cmos_read(closed, 0, &byte), BOARD_CLOSED);
+    expect("no such sector", board_disk_read(b, 1, bytes, 512), BOARD_NO_SECTOR);
+    expect("half a sector", board_disk_read(b, 0, bytes, 256), BOARD_BAD_LENGTH);
+    expect("byte 128", board_cmos_read(b, 128, &byte), BOARD_NO_BYTE);
+    must("a refused call told bytes", is_untouched(bytes, 0, sizeof bytes) && byte == 0xA5);
+    expect("sector 0", board_disk_read(b, 0, bytes, 512), BOARD_OK);
+    must("sector 0", bytes[0] == 0 && bytes[511] == 0 && bytes[512] == 0xA5);
+    expect("past the memory", board_dram_read(b, 0x7FFFFE, bytes, 4), BOARD_OK);
+    must("past the memory", bytes[0] == 0 && bytes[1] == 0 && bytes[2] == 0xFF && bytes[3] == 0xFF && bytes[4] == 0);
+    expect("past the last address", board_dram_read(b, 0xFFFFFFFF, bytes, 2), BOARD_OK);
+    must("past the last address", bytes[0] == 0xFF && bytes[1] == 0xFF);
+    expect("register B", board_cmos_read(b, 11, &byte), BOARD_OK);
+    must("register B", byte == 2);
+}
+
 int main(void) {
     size_t bytes = 65536;
     uint8_t *rom = calloc(bytes, 1);
     board b = {0};
+    board closed = {0};
     board_reply before, reply;
     board_close(&b);
     expect("step of a closed handle", board_step(&b, &(board_event){.what = BOARD_ACK}, &reply), BOARD_CLOSED);
@@ -73,6 +169,8 @@ int main(void) {
     expect("a leap day", board_time(&b, 2028, 2, 29, 12, 0, 0, &reply), BOARD_OK);
     expect("a wide read", board_read(&b, 0x1001, 4, false, &reply), BOARD_OK);
     if (reply.parts != 3 || reply.form != BOARD_PARTS_REPLY) { printf("parts: %u\n", reply.parts); failed = 1; }
+    ranges(&b, &closed);
+    asked(&b, &closed);
     board_close(&b);
     board_close(&b);
     return failed;

@@ -1,8 +1,12 @@
 //! The board as a library for C: `include/board.h` declares these functions.
 #![tactic(auto)]
 
+mod asks;
+mod bytes;
 mod exports;
 mod handle;
 
+pub use asks::{board_decode, board_pulses_to_rise, board_ranges};
+pub use bytes::{board_cmos_read, board_disk_read, board_dram_read};
 pub use exports::{board_close, board_open, board_step};
 pub use handle::Handle;

@@ -26,7 +26,7 @@ IsSectorRefusal chipset sector room status =
     (history : List Entry) → IsLeftBy chipset history →
     ((status ≡ no_sector) × IfSome (disk_of chipset.setup history) (λ disk. sectors_of disk.medium ≤ sector)) ⊎
     ((status ≡ bad_length) ×
-        IfSome (disk_of chipset.setup history) (λ disk. room ≢ length (sector_bytes disk.medium sector)))
+    IfSome (disk_of chipset.setup history) (λ disk. room ≢ length (sector_bytes disk.medium sector)))
 
 -- how many bytes the clock has
 abbrev pub clock_bytes : ℕ

@@ -1,0 +1,89 @@
+//! What C asks of a board between two steps: the board stays as it is.
+
+ghost use Rattle.std.specs.Prelude.{◌≡◌, ◌≢◌, true, false, IsSomeAnd};
+ghost use Rattle.board_records.specs.Events.{event_said};
+ghost use Rattle.board_records.specs.Maps.{AreRangesTold, AreWindowsTold, IsVersion};
+ghost use Rattle.board_records.specs.Places.{IsPlaced, IsNotPlaced, IsRiseTold};
+ghost use Rattle.board_records.specs.Statuses.{ok, closed};
+
+use crate::handle::Handle;
+use board_records::status::{CLOSED, OK};
+use board_records::{EventRecord, MapRecord, PartRecord, RangeRecord, WindowRecord};
+use std::alloc::Global;
+
+/// Tells the memory map, its ranges and the windows that its last change changed: as many of them as there is room for,
+/// and how many there are. `CLOSED` exactly where the handle is closed.
+#[unsafe(no_mangle)]
+pub extern "C" fn board_ranges(
+    alloc: Global,
+    handle: &mut Handle,
+    map: &mut MapRecord,
+    ranges: &mut [RangeRecord],
+    windows: &mut [WindowRecord],
+) -> u32
+    ensures kept { handle.new.full ≡ handle.old.full }
+    ensures unchanged { handle.old.full ≡ true → handle.new.held ≡ handle.old.held }
+    ensures closed { handle.old.full ≡ false → result ≡ closed }
+    ensures open { handle.old.full ≡ true → result ≡ ok }
+    ensures version { result ≡ ok → IsSomeAnd handle.old.held (λ chipset. IsVersion chipset map.new.version) }
+    ensures ranges { result ≡ ok → IsSomeAnd handle.old.held
+        (λ chipset. AreRangesTold chipset map.new.ranges ranges.old ranges.new) }
+    ensures windows { result ≡ ok → IsSomeAnd handle.old.held
+        (λ chipset. AreWindowsTold chipset map.new.windows windows.old windows.new) }
+    ensures no_map { result ≢ ok → map.new ≡ map.old }
+    ensures no_ranges { result ≢ ok → ranges.new ≡ ranges.old }
+    ensures no_windows { result ≢ ok → windows.new ≡ windows.old }
+{
+    let Some(board) = handle.take(alloc) else {
+        return CLOSED;
+    };
+    board.tell_map(map, ranges, windows);
+    handle.put(board);
+    OK
+}
+
+/// Tells where the access that a record says would land, and what would deny it; nothing happens. `CLOSED` exactly where
+/// the handle is closed; refused with why where the record says no event, or one that no bus cycle can make.
+#[unsafe(no_mangle)]
+pub extern "C" fn board_decode(
+    alloc: Global,
+    handle: &mut Handle,
+    event: &EventRecord,
+    part: &mut PartRecord,
+) -> u32
+    ensures kept { handle.new.full ≡ handle.old.full }
+    ensures unchanged { handle.old.full ≡ true → handle.new.held ≡ handle.old.held }
+    ensures closed { handle.old.full ≡ false → result ≡ closed }
+    ensures open { handle.old.full ≡ true → result ≢ closed }
+    ensures done { result ≡ ok → IsSomeAnd handle.old.held
+        (λ chipset. IsSomeAnd (event_said event.now) (IsPlaced chipset part.new)) }
+    ensures refused { handle.old.full ≡ true → result ≢ ok
+        → IsSomeAnd handle.old.held (λ chipset. IsNotPlaced chipset (event_said event.now) result) }
+    ensures untold { result ≢ ok → part.new ≡ part.old }
+{
+    let Some(board) = handle.take(alloc) else {
+        return CLOSED;
+    };
+    let status = board.tell_place(event, part);
+    handle.put(board);
+    status
+}
+
+/// Tells after how many pulses of the timer's clock line 0 next rises: 0 where it does not, unless something is written.
+/// `CLOSED` exactly where the handle is closed.
+#[unsafe(no_mangle)]
+pub extern "C" fn board_pulses_to_rise(alloc: Global, handle: &mut Handle, pulses: &mut u32) -> u32
+    ensures kept { handle.new.full ≡ handle.old.full }
+    ensures unchanged { handle.old.full ≡ true → handle.new.held ≡ handle.old.held }
+    ensures closed { handle.old.full ≡ false → result ≡ closed }
+    ensures open { handle.old.full ≡ true → result ≡ ok }
+    ensures rise { result ≡ ok → IsSomeAnd handle.old.held (λ chipset. IsRiseTold chipset pulses.new) }
+    ensures untold { result ≢ ok → pulses.new ≡ pulses.old }
+{
+    let Some(board) = handle.take(alloc) else {
+        return CLOSED;
+    };
+    board.tell_rise(pulses);
+    handle.put(board);
+    OK
+}

@@ -1,0 +1,85 @@
+//! The bytes of a board, out.
+
+ghost use Rattle.std.specs.Prelude.{◌≡◌, ◌≢◌, ◌<◌, ◌≤◌, length, true, false, IsSomeAnd};
+ghost use Rattle.board_records.specs.Bytes.{clock_bytes, IsDramTold, IsSectorTold, IsSectorRefusal, IsClockByte};
+ghost use Rattle.board_records.specs.Statuses.{ok, closed, no_byte};
+
+use crate::handle::Handle;
+use board_records::status::{CLOSED, OK};
+use std::alloc::Global;
+
+/// Tells the bytes of the DRAM from an address on, as reads of one byte each would: FFh past the installed memory.
+/// `CLOSED` exactly where the handle is closed.
+#[unsafe(no_mangle)]
+pub extern "C" fn board_dram_read(
+    alloc: Global,
+    handle: &mut Handle,
+    addr: u32,
+    into: &mut [u8],
+) -> u32
+    ensures kept { handle.new.full ≡ handle.old.full }
+    ensures unchanged { handle.old.full ≡ true → handle.new.held ≡ handle.old.held }
+    ensures closed { handle.old.full ≡ false → result ≡ closed }
+    ensures open { handle.old.full ≡ true → result ≡ ok }
+    ensures told { result ≡ ok → IsSomeAnd handle.old.held (λ chipset. IsDramTold chipset addr into.old into.new) }
+    ensures untold { result ≢ ok → into.new ≡ into.old }
+{
+    let Some(board) = handle.take(alloc) else {
+        return CLOSED;
+    };
+    board.tell_dram(addr, into);
+    handle.put(board);
+    OK
+}
+
+/// Tells the 512 bytes of a sector, bad or not. `CLOSED` exactly where the handle is closed, `NO_SECTOR` where there is no
+/// disk or it has no such sector, `BAD_LENGTH` where the room is not that of a sector.
+#[unsafe(no_mangle)]
+pub extern "C" fn board_disk_read(
+    alloc: Global,
+    handle: &mut Handle,
+    sector: u32,
+    into: &mut [u8],
+) -> u32
+    ensures kept { handle.new.full ≡ handle.old.full }
+    ensures unchanged { handle.old.full ≡ true → handle.new.held ≡ handle.old.held }
+    ensures closed { handle.old.full ≡ false → result ≡ closed }
+    ensures open { handle.old.full ≡ true → result ≢ closed }
+    ensures done { result ≡ ok → IsSomeAnd handle.old.held (λ chipset. IsSectorTold chipset sector into.new) }
+    ensures refused { handle.old.full ≡ true → result ≢ ok
+        → IsSomeAnd handle.old.held (λ chipset. IsSectorRefusal chipset sector (length into.old) result) }
+    ensures untold { result ≢ ok → into.new ≡ into.old }
+{
+    let Some(board) = handle.take(alloc) else {
+        return CLOSED;
+    };
+    let status = board.tell_sector(sector, into);
+    handle.put(board);
+    status
+}
+
+/// Tells the byte of the clock at an address. `CLOSED` exactly where the handle is closed, and `NO_BYTE` exactly where it
+/// is open and the address is 128 or more.
+#[unsafe(no_mangle)]
+pub extern "C" fn board_cmos_read(
+    alloc: Global,
+    handle: &mut Handle,
+    address: u8,
+    byte: &mut u8,
+) -> u32
+    ensures kept { handle.new.full ≡ handle.old.full }
+    ensures unchanged { handle.old.full ≡ true → handle.new.held ≡ handle.old.held }
+    ensures closed { handle.old.full ≡ false → result ≡ closed }
+    ensures open { handle.old.full ≡ true → result ≢ closed }
+    ensures done { result ≡ ok → IsSomeAnd handle.old.held (λ chipset. IsClockByte chipset address byte.new) }
+    ensures within { result ≡ ok → address < clock_bytes }
+    ensures refused { handle.old.full ≡ true → result ≢ ok → (result ≡ no_byte) × (clock_bytes ≤ address) }
+    ensures untold { result ≢ ok → byte.new ≡ byte.old }
+{
+    let Some(board) = handle.take(alloc) else {
+        return CLOSED;
+    };
+    let status = board.tell_clock_byte(address, byte);
+    handle.put(board);
+    status
+}
