@@ -1,12 +1,18 @@
 -- What a command answers, from the files that it read and the text that came of them.
 use Rattle.std.proofs.Common.{◌≡◌, ◌≢◌, ℕ, [], ◌∷◌, List, Option, Some, None, refl, sym, subst}
-use Rattle.std.specs.Prelude.{Result, Ok, Err}
+use Rattle.std.specs.Prelude.{Result, Ok, Err, IfOk, IfErr}
+use Rattle.board_spec.specs.Setup.{Setup}
+use Rattle.script_spec.specs.ScriptText.{Script as Said}
+use Rattle.script_spec.specs.Checks.{DiffersAt}
+use Rattle.log_check.specs.declared.fault.CheckFault.{CheckFault}
+use Rattle.log_check.specs.declared.fault.CheckFault.TheVariants.{Differs as DiffersAtLine, NoMemory as NoMemoryForCheck}
 use Rattle.command_words.specs.Words.{Command, Replay, Run, Map, Check, Make, Dma, Save, Resume, Serial, Blame}
 use Rattle.command_files.specs.declared.status.Which.{Which}
 use Rattle.command_files.specs.declared.status.Which.TheVariants.{Script, Rom, Disk, Log}
 use Rattle.command_files.specs.declared.status.Status.{Status}
 use Rattle.command_files.specs.declared.status.Status.TheVariants.{Done, Usage, ReadFault, WriteFault, TooLong, BadScript, BadImage, Differs, OtherBoard, NoMemory}
-use Rattle.command_files.specs.Known.{Files, Known, AllRead}
+use Rattle.command_files.specs.Statuses.{status_of_check_fault}
+use Rattle.command_files.specs.Known.{Files, Known, AllRead, board_of}
 use Rattle.command_files.specs.Asked.{CanBeDone, OfCheck, OfResume, LogDiffers, BoardsDiffer, AsksFor}
 use Rattle.command_files.specs.Outcomes.{ShelfCall, OfFiles, CanEnd, CompareBoards, IsRefused}
 use Rattle.command_files.proofs.Refusals.{of_files, at_files}
@@ -87,3 +93,28 @@ module _ (command : Command) (shelf : ShelfCall) (known : Known) (read : OfFiles
   text_there text says done =
       asked_at_end Done (λ files. IsCommandText command files text)
       (λ files all. record { known = known; read = all; done = done; says = says })
+
+-- what a command answers whose files were read
+pub read_answer :
+    (command : Command) (shelf : ShelfCall) (known : Known) (result : Result (List ℕ) Status) →
+    OfFiles shelf.files (λ files. AllRead command files known) → shelf.faults_now ≡ shelf.faults_before →
+    IfOk result (IsTextFor command known) → IfOk result (λ _. CanBeDone command known) → IfErr result (StopsAt command known) →
+    IsAnswered command shelf result
+read_answer command shelf known (Ok text) read quiet says done stops =
+    text_answer command shelf text (text_there command shelf known read text says done) quiet
+read_answer command shelf known (Err status) read quiet says done stops =
+    refused_answer command shelf (Err status) status refl (stopped command shelf known read status stops) (λ _. quiet)
+
+-- a log was not that of the script, or memory ran out
+pub check_stopped :
+    (known : Known) (said : Said) (setup : Setup) (bytes script log : List ℕ) → known.script ≡ Some said →
+    setup ≡ board_of known said → bytes ≡ known.log → (fault : CheckFault) →
+    ((line : ℕ) → fault ≡ DiffersAtLine line → DiffersAt setup said.version said.phases bytes line) →
+    StopsAt (Check script log) known (status_of_check_fault fault)
+check_stopped known said setup bytes script log is fits same (DiffersAtLine line) differs = (
+  said,
+  is,
+  subst (λ (setup' : Setup). DiffersAt setup' said.version said.phases known.log line) fits
+      (subst (λ (bytes' : List ℕ). DiffersAt setup said.version said.phases bytes' line) same (differs line refl)),
+)
+check_stopped known said setup bytes script log is fits same NoMemoryForCheck differs = tt

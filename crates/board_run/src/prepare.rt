@@ -33,16 +33,14 @@ pub(crate) fn prepare(alloc: Global, read: Read) -> Result<Prepared, NoMemory>
     ensures input { IfOk result (λ prepared. prepared.input.items ≡ read.input) }
 {
     let Read {
-        script: Some(script),
+        script,
         rom,
         disk,
         log,
         input,
-        ..
-    } = read
-    else {
-        unreachable!()
-    };
+        image: _,
+    } = read;
+    let Some(script) = script else { unreachable!() };
     match open_board(alloc, &script, rom, disk) {
         Ok(board) => Ok(Prepared {
             script,

@@ -33,7 +33,9 @@ fn replay(alloc: Global, read: Read) -> Result<Text, NoMemory>
     ensures text { IfOk result (OnBoard read IsReplayText) }
 {
     let Prepared {
-        script, mut board, ..
+        script,
+        mut board,
+        ..
     } = prepare(alloc, read)?;
     log_of_replay(alloc, &mut board, script)
 }
@@ -108,14 +110,9 @@ fn resume(alloc: Global, read: Read) -> Result<Text, Status>
     ensures done { (image script : List ℕ) → IfOk result (λ _. CanBeDone (Resume image script) read) }
     ensures stops { (image script : List ℕ) → IfErr result (StopsAt (Resume image script) read) }
 {
-    let Read {
-        script: Some(script),
-        image: Some(image),
-        ..
-    } = read
-    else {
-        unreachable!()
-    };
+    let Read { script, image, .. } = read;
+    let Some(script) = script else { unreachable!() };
+    let Some(image) = image else { unreachable!() };
     if !is_same_board(&image.setup, &script) {
         return Err(Status::OtherBoard);
     }
@@ -136,7 +133,10 @@ fn text_alone(alloc: Global, command: &Alone, read: Read) -> Result<Text, Status
         Alone::Replay(_) => replay(alloc, read),
         Alone::Map(_) => map(alloc, read),
         Alone::Make(rounds) => summary_of_made(alloc, *rounds),
-        Alone::Dma { transfer: asked, .. } => transfer(alloc, asked, read),
+        Alone::Dma {
+            transfer: asked,
+            ..
+        } => transfer(alloc, asked, read),
         Alone::Save(_) => save(alloc, read),
         Alone::Serial { .. } => serial(alloc, read),
         Alone::Blame(_) => blame(alloc, read),
