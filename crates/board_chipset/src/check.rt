@@ -1,22 +1,18 @@
 //! A setup of which nothing was proved, tested field after field.
 
 ghost use Rattle.std.specs.Prelude.{◌≡◌, ◌≤◌, ◌↔◌, ◌⊎◌, [], length, IsTrue, MatchResult, IfOk, IfErr, Err, option_map};
-ghost use Rattle.board_spec.specs.Setup.{IsDisk, IsDiskSize, IsSetup};
+ghost use Rattle.board_spec.specs.Setup.{IsDisk, IsSetup};
 ghost use Rattle.board_chipset.specs.Chipset.{IsLeftBy};
 ghost use Rattle.board_chipset.specs.Setups.{IsMemory, IsSetupFault};
 
 use crate::card_check::{are_cards, fit_windows};
 use crate::chipset::Chipset;
-use crate::setup::{Setup, is_rom_size};
+use crate::setup::{Setup, is_disk_size, is_rom_size};
 use std::alloc::Global;
 use thiserror::Error;
 
 /// The most memory, in MiB.
 const MOST_MIB: u32 = 64;
-/// How many bytes a sector of a disk has.
-const SECTOR: usize = 512;
-/// The most sectors of a disk.
-const MOST_SECTORS: usize = 0x1_0000;
 
 /// Why a setup opens no chipset: the first of its fields that no board can have, or want of memory.
 #[derive(Clone, Copy, PartialEq, Eq, Debug, Error)]
@@ -98,11 +94,4 @@ fn is_disk(disk: Option<&[u8]>) -> bool
         Some(bytes) => is_disk_size(bytes.len()),
         None => true,
     }
-}
-
-/// Whether so many bytes are 1 to 65,536 whole sectors.
-fn is_disk_size(size: usize) -> bool
-    ensures size { IsTrue result ↔ IsDiskSize size }
-{
-    size != 0 && size % SECTOR == 0 && size / SECTOR <= MOST_SECTORS
 }

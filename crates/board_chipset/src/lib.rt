@@ -30,5 +30,5 @@ pub use in_range::OutOfRange;
 pub use load::NoClockByte;
 pub use port_access::PortReply;
 pub use reset_control::ResetKind;
-pub use setup::{BoardOpen, Setup, is_rom_size};
+pub use setup::{BoardOpen, Setup, is_disk_size, is_rom_size};
 pub use store::Store;

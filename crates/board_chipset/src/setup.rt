@@ -2,7 +2,7 @@
 
 ghost use Rattle.std.specs.List.{list_any};
 ghost use Rattle.std.specs.Prelude.{◌≡◌, ◌↔◌, ◌==◌, is_some, IsTrue, option_map};
-ghost use Rattle.board_spec.specs.Setup.{IsRomSize, card_at};
+ghost use Rattle.board_spec.specs.Setup.{IsDiskSize, IsRomSize, card_at};
 
 use ata_pio::AtaOpen;
 use board_base::NoMemory;
@@ -12,6 +12,10 @@ use thiserror::Error;
 
 /// The sizes in bytes that a BIOS ROM can have.
 const ROM_SIZES: [usize; 4] = [0x1_0000, 0x2_0000, 0x4_0000, 0x8_0000];
+/// How many bytes a sector of a disk has.
+const SECTOR: usize = 512;
+/// The most sectors of a disk.
+const MOST_SECTORS: usize = 0x1_0000;
 
 /// The installed memory in MiB, 1 to 64, the cards in rising order of device, the bytes of the BIOS ROM, and those of
 /// the disk where one is fitted.
@@ -75,6 +79,13 @@ pub fn is_rom_size(size: usize) -> bool
     ensures size { IsTrue result ↔ IsRomSize size }
 {
     ROM_SIZES.contains(&size)
+}
+
+/// Whether a disk can have this many bytes: 1 to 65,536 whole sectors of 512.
+pub fn is_disk_size(size: usize) -> bool
+    ensures size { IsTrue result ↔ IsDiskSize size }
+{
+    size != 0 && size % SECTOR == 0 && size / SECTOR <= MOST_SECTORS
 }
 
 /// Why a board was not opened.

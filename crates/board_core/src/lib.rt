@@ -5,4 +5,4 @@
 mod board;
 
 pub use board::Board;
-pub use board_chipset::{BoardOpen, Setup, Store, is_rom_size};
+pub use board_chipset::{BoardOpen, Setup, Store, is_disk_size, is_rom_size};

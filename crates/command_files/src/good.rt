@@ -1,6 +1,6 @@
 //! What the bytes of each kind of file are, and whether they are good.
 
-ghost use Rattle.std.specs.Prelude.{◌≡◌, ◌≤◌, ◌↔◌, IsTrue, length, IfOk, IfErr};
+ghost use Rattle.std.specs.Prelude.{◌≡◌, ◌≤◌, length, IfOk, IfErr};
 ghost use Rattle.board_spec.specs.Setup.{IsRomSize, IsDiskSize};
 ghost use Rattle.script_spec.specs.ScriptText.{IsScriptText};
 ghost use Rattle.script_spec.specs.ScriptRange.{IsInRangeScript};
@@ -11,22 +11,10 @@ ghost use Rattle.command_files.specs.Table.{limit_of};
 ghost use Rattle.command_files.specs.Steps.{IsBad};
 
 use crate::status::{Status, Which};
-use board_core::is_rom_size;
+use board_core::{is_disk_size, is_rom_size};
 use board_image::{Image, read_image};
 use script_text::{Script, read_script};
 use std::alloc::Global;
-
-/// The bytes of a sector.
-const SECTOR: usize = 512;
-/// The most sectors of a disk.
-const MOST_SECTORS: usize = 0x1_0000;
-
-/// Whether a disk can have this many bytes: 1 to 65,536 whole sectors.
-fn is_disk_size(size: usize) -> bool
-    ensures size { IsTrue result ↔ IsDiskSize size }
-{
-    size % SECTOR == 0 && (1..=MOST_SECTORS).contains(&(size / SECTOR))
-}
 
 /// What a script says, of at most the limit of one.
 pub(crate) fn good_script(alloc: Global, bytes: &[u8]) -> Result<Script, Status>

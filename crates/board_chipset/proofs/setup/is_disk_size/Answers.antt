@@ -3,8 +3,8 @@ use Rattle.std.specs.Prelude.{◌↔◌, ◌==◌, IsTrue, nat_le}
 use Rattle.std.proofs.lemmas.Bool.{eqb-true}
 use Rattle.std.proofs.lemmas.Bool.Decides.{nat_tests}
 use Rattle.board_spec.specs.Setup.{IsDiskSize}
-use Rattle.board_chipset.proofs.check.is_disk_size.Goals.{then-size-ne0, else-size-ne0}
-use Rattle.board_chipset.proofs.check.is_disk_size.Goals as goal
+use Rattle.board_chipset.proofs.setup.is_disk_size.Goals.{then-size-ne0, else-size-ne0}
+use Rattle.board_chipset.proofs.setup.is_disk_size.Goals as goal
 
 decided : (size : ℕ) → size ≢ 0 → size % 512 ≡ 0 → IsTrue (nat_le (size / 512) 65536) ↔ IsDiskSize size
 decided size some whole = (
