@@ -1,13 +1,13 @@
 -- The first field of a setup that no board can have, in the order in which they stand here.
 use Rattle.std.specs.Prelude.{ℕ, ◌≤◌, ◌<◌, List, [], ◌∷◌, length}
-use Rattle.board_spec.specs.Limits.{most_card_memory}
+use Rattle.board_spec.specs.Limits.{most_mib, most_card_memory}
 use Rattle.board_spec.specs.Setup.{FittedCard, Setup, IsCard, IsCardList, IsRomSize, IsDisk, memory_of_cards}
 use Rattle.board_chipset.specs.declared.check.SetupFault.{SetupFault}
 use Rattle.board_chipset.specs.declared.check.SetupFault.TheVariants.{Memory, Cards, Windows, Rom, Disk, NoMemory}
 
--- 1 to 64 MiB are installed
+-- 1 to 512 MiB are installed
 abbrev pub IsMemory : ℕ → Type 0
-IsMemory mib = (1 ≤ mib) × (mib ≤ 64)
+IsMemory mib = (1 ≤ mib) × (mib ≤ most_mib)
 
 -- cards in range, each with a device number above that of the card before
 unfoldable pub RiseFrom : (above : ℕ) → List FittedCard → Type 0

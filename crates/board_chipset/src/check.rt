@@ -12,13 +12,13 @@ use std::alloc::Global;
 use thiserror::Error;
 
 /// The most memory, in MiB.
-const MOST_MIB: u32 = 64;
+const MOST_MIB: u32 = 512;
 
 /// Why a setup opens no chipset: the first of its fields that no board can have, or want of memory.
 #[derive(Clone, Copy, PartialEq, Eq, Debug, Error)]
 pub enum SetupFault {
-    /// The memory is not of 1 to 64 MiB.
-    #[error("a memory that is not of 1 to 64 MiB")]
+    /// The memory is not of 1 to 512 MiB.
+    #[error("a memory that is not of 1 to 512 MiB")]
     Memory,
     /// The cards are more than eight, not in rising order of device, or one of them is out of range.
     #[error("cards that are more than eight, not in rising order of device, or out of range")]

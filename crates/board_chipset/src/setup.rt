@@ -17,7 +17,7 @@ const SECTOR: usize = 512;
 /// The most sectors of a disk.
 const MOST_SECTORS: usize = 0x1_0000;
 
-/// The installed memory in MiB, 1 to 64, the cards in rising order of device, the bytes of the BIOS ROM, and those of
+/// The installed memory in MiB, 1 to 512, the cards in rising order of device, the bytes of the BIOS ROM, and those of
 /// the disk where one is fitted.
 #[derive(Drop)]
 pub struct Setup {

@@ -1,7 +1,7 @@
 //! What the steps of a chipset change: the registers, the bytes behind the addresses, and the devices.
 
 ghost use Rattle.std.specs.Prelude.{◌≡◌, ◌≤◌, ◌↔◌, [], length, Err, IfOk};
-ghost use Rattle.board_spec.specs.Limits.{most_card_memory};
+ghost use Rattle.board_spec.specs.Limits.{most_mib, most_card_memory};
 ghost use Rattle.board_spec.specs.Setup.{IsCardList, IsDisk, IsRomSize, memory_of_cards};
 ghost use Rattle.board_chipset.specs.Kept.{IsStateOf};
 
@@ -23,7 +23,7 @@ impl State {
     /// The state of a setup's board after power-on.
     pub fn open(alloc: Global, setup: &Setup) -> Result<State, BoardOpen>
         requires low { 1 ≤ setup.now.mib }
-        requires high { setup.now.mib ≤ 64 }
+        requires high { setup.now.mib ≤ most_mib }
         requires cards { IsCardList setup.now.cards }
         requires windows { memory_of_cards setup.now.cards ≤ most_card_memory }
         ensures fresh { IfOk result (λ state. IsStateOf setup.now [] state) }

@@ -2,7 +2,7 @@
 
 ghost use Rattle.std.specs.Prelude.{◌≡◌, ◌-◌, ◌+◌, ◌++◌, ◌<◌, ◌≤◌, ◌↔◌, ℕ, List, [], ◌∷◌, length, max, slice_index, Err, IsTrue, IfOk, OnOk, OnErr};
 ghost use Rattle.board_spec.specs.declared.event.Entry.{Entry};
-ghost use Rattle.board_spec.specs.Limits.{most_card_memory, entry_limit};
+ghost use Rattle.board_spec.specs.Limits.{most_mib, most_card_memory, entry_limit};
 ghost use Rattle.board_spec.specs.Setup.{IsCardList, IsDisk, IsRomSize, memory_of_cards};
 ghost use Rattle.board_spec.specs.InRange.{IsInRange};
 ghost use Rattle.board_spec.specs.Answer.{IsAnswer};
@@ -61,12 +61,12 @@ fn no_entries() -> [u32; ACTORS]
 }
 
 impl Board {
-    /// The board of a setup, as after power-on. The memory is 1 to 64 MiB; the cards are at most eight in rising order
+    /// The board of a setup, as after power-on. The memory is 1 to 512 MiB; the cards are at most eight in rising order
     /// of device, with at most 64 MiB of memory together. BadRom exactly where the ROM is not of 64, 128, 256 or
     /// 512 KiB, and BadDisk exactly where it is and the disk is not of 1 to 65,536 whole sectors.
     pub fn open(alloc: Global, setup: Setup) -> Result<Board, BoardOpen>
         requires low { 1 ≤ setup.mib }
-        requires high { setup.mib ≤ 64 }
+        requires high { setup.mib ≤ most_mib }
         requires cards { IsCardList setup.cards }
         requires windows { memory_of_cards setup.cards ≤ most_card_memory }
         ensures fresh { IfOk result (λ board. board ≡ record { setup = setup; entries = []; spare = 0 }) }

@@ -1,4 +1,4 @@
--- How much a script may ask of a board, and how much a board keeps.
+-- How much a board may have, how much a script may ask of it, and how much a board keeps.
 use Rattle.std.specs.Prelude.{ℕ}
 
 -- the most statements, phases and pulses of a script
@@ -10,6 +10,10 @@ most_phases = 1_000
 
 abbrev pub most_pulses : ℕ
 most_pulses = 100_000_000
+
+-- the most memory of a board, in MiB; a script may ask for less
+abbrev pub most_mib : ℕ
+most_mib = 512
 
 -- the most bytes behind the memory bases of all cards
 abbrev pub most_card_memory : ℕ

@@ -1,6 +1,6 @@
 -- What a board is fitted with. Every definition here is for one fixed setup.
 use Rattle.std.specs.Prelude.{ℕ, ◌≡◌, ◌<◌, ◌≤◌, ◌==◌, ◌*◌, ◌^◌, ◌⊎◌, Bool, List, [], ◌∷◌, length, All, sum_by, flat_map, Option, Some, None, find}
-use Rattle.board_spec.specs.Limits.{most_card_memory}
+use Rattle.board_spec.specs.Limits.{most_mib, most_card_memory}
 
 -- a base address register of a card, for memory or for I/O ports, of 2 ^ bits bytes
 -- (PCI Local Bus 2.1, section 6.2.5.1)
@@ -94,7 +94,7 @@ IsDisk (Some sectors) = IsDiskSize (length sectors)
 
 pub record IsSetup (setup : Setup) : Type 0 where
   pub some_memory : 1 ≤ setup.mib
-  pub most_memory : setup.mib ≤ 64
+  pub most_memory : setup.mib ≤ most_mib
   pub cards : IsCardList setup.cards
   pub windows : memory_of_cards setup.cards ≤ most_card_memory
   pub rom : IsRomSize (length setup.rom)

@@ -2,6 +2,7 @@
 ghost use Rattle.std.specs.Prelude.{◌≡◌, ◌≤◌, ◌%◌, List, [], IfOk};
 ghost use Rattle.board_base.specs.Access.{bytes_of, largest_of};
 ghost use Rattle.board_spec.specs.declared.event.Entry.{Entry};
+ghost use Rattle.board_spec.specs.Limits.{most_mib};
 ghost use Rattle.board_spec.specs.Setup.{Setup, IsCardList};
 ghost use Rattle.board_spec.specs.Stored.{byte_put};
 ghost use Rattle.board_spec.specs.Answer.{value_at};
@@ -22,10 +23,10 @@ pub struct Stores {
 }
 
 impl Stores {
-    /// `mib` MiB of DRAM, 1 to 64, and the contents of these cards, all zeros. No later call takes memory.
+    /// `mib` MiB of DRAM, 1 to 512, and the contents of these cards, all zeros. No later call takes memory.
     pub fn open(alloc: Global, mib: u32, specs: &[CardSpec]) -> Result<Stores, NoMemory>
         requires low { 1 ≤ mib }
-        requires high { mib ≤ 64 }
+        requires high { mib ≤ most_mib }
         requires cards { IsCardList specs.now }
         ensures fresh { IfOk result (λ stores. (setup : Setup) → setup.mib ≡ mib → setup.cards ≡ specs.now
             → HasStores setup [] stores) }

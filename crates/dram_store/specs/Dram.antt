@@ -1,13 +1,14 @@
 -- The DRAM is the list of its bytes, from address 0 on.
 use Rattle.std.specs.Prelude.{ℕ, ◌≡◌, ◌+◌, ◌-◌, ◌≤◌, ◌<◌, ◌&&◌, nat_le, nat_lt, if◌then◌else◌, List, All, length, slice_index}
 use Rattle.board_spec.specs.declared.event.Entry.{Entry}
+use Rattle.board_spec.specs.Limits.{most_mib}
 use Rattle.board_spec.specs.Setup.{Setup, installed}
 use Rattle.board_spec.specs.Stored.{DramCell, stored_of}
 use Rattle.dram_store.specs.Bank.{IsBank}
 
--- the banks of a DRAM, one for each MiB, and 64 at most
+-- the banks of a DRAM, one for each MiB, and not more than a board may have
 pub record AreBanks (banks : List (List ℕ)) : Type 0 where
-  pub most : length banks ≤ 64
+  pub most : length banks ≤ most_mib
   pub each : All IsBank banks
 
 -- the byte at an address, FFh at and past the end

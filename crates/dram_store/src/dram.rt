@@ -3,6 +3,7 @@ ghost use Rattle.std.specs.Prelude.{◌≡◌, ◌≤◌, ◌<◌, ◌+◌, ◌*
 ghost use Rattle.board_base.specs.Access.{bytes_of, largest_of};
 ghost use Rattle.board_base.specs.declared.target.Target.TheVariants.{Dram as DramTarget};
 ghost use Rattle.board_spec.specs.declared.event.Entry.{Entry};
+ghost use Rattle.board_spec.specs.Limits.{most_mib};
 ghost use Rattle.board_spec.specs.Setup.{Setup, installed};
 ghost use Rattle.board_spec.specs.Bits.{byte, wide};
 ghost use Rattle.board_spec.specs.Stored.{DramCell, byte_put, entry_put, dram_byte};
@@ -18,7 +19,7 @@ use std::marker::Model;
 #[derive(Clone, Copy, PartialEq, Eq, Debug)]
 pub struct PastTheEnd;
 
-/// The installed DRAM, in whole MiB, up to 64. Contracts see the list of its bytes.
+/// The installed DRAM, in whole MiB, up to 512. Contracts see the list of its bytes.
 #[derive(Drop)]
 pub struct Dram {
     /// A bank for each MiB.
@@ -38,10 +39,10 @@ impl Model for Dram {
 }
 
 impl Dram {
-    /// A DRAM of `mib` MiB, 1 to 64, all zeros. No later call takes memory.
+    /// A DRAM of `mib` MiB, 1 to 512, all zeros. No later call takes memory.
     pub fn open(alloc: Global, mib: u32) -> Result<Dram, NoMemory>
         requires some { 1 ≤ mib }
-        requires most { mib ≤ 64 }
+        requires most { mib ≤ most_mib }
         ensures zeros { IfOk result (λ dram. (setup : Setup) → setup.mib ≡ mib
             → dram ≡ replicate (installed setup) 0) }
         ensures fresh { IfOk result (λ dram. (setup : Setup) → setup.mib ≡ mib → IsDramOf setup [] dram) }
@@ -242,7 +243,7 @@ mod tests {
         steps: &[(Access, Access)],
     ) -> Result<(), NoMemory>
         requires some { 1 ≤ mib }
-        requires most { mib ≤ 64 }
+        requires most { mib ≤ most_mib }
     {
         let mut dram = Dram::open(rt.alloc(), mib)?;
         for (written, wanted) in steps {
