@@ -337,7 +337,7 @@ saved_format =
     let setup = saved.setup in
     let cards = is.fitted.cards in (
       record {
-        mib = (is.fitted.some_memory, is.fitted.most_memory);
+        mib = (is.fitted.some_memory, is.few_mib);
         cards = (omega arith, cards.count);
         rom = is.fitted.rom;
         disk = disk_of_head setup.disk is.fitted.disk;
@@ -358,12 +358,13 @@ saved_format =
     record {
       fitted = record {
         some_memory = good.0.mib.0;
-        most_memory = good.0.mib.1;
+        most_memory = omega (arith, good.0.mib.1);
         cards = record { count = good.0.cards.1; each = good.1.0.cards.1; rises = good.1.0.cards.2 };
         windows = good.1.0.cards.3;
         rom = good.0.rom;
         disk = disk_of_setup saved.setup.disk good.0.disk;
       };
+      few_mib = good.0.mib.1;
       count = good.0.steps.1;
       each = good.1.1.0.1;
     })

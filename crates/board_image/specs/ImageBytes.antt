@@ -157,8 +157,9 @@ pub record IsImageStep (setup : Setup) (step : Statement) : Type 0 where
   pub event : IsInRange setup step.event
   pub sector : IsScriptSector step.event
 
--- what an image can say: a board that can be opened, and steps that it can do
+-- what an image can say: a board that can be opened, with 64 MiB at most as a script has, and steps that it can do
 pub record IsImage (setup : Setup) (steps : List Statement) : Type 0 where
   pub fitted : IsSetup setup
+  pub few_mib : setup.mib ≤ 64
   pub count : length steps ≤ most_statements
   pub each : All (IsImageStep setup) steps

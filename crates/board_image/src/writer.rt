@@ -1,6 +1,6 @@
 //! Writes an image.
 
-ghost use Rattle.std.specs.Prelude.{◌≡◌, ◌++◌, ◌∷◌, [], length, is_some, flat_map, map, All, IfOk, OnOk};
+ghost use Rattle.std.specs.Prelude.{◌≡◌, ◌≤◌, ◌++◌, ◌∷◌, [], length, is_some, flat_map, map, All, IfOk, OnOk};
 ghost use Rattle.board_spec.specs.Setup.{IsBase, IsCard, IsSetup};
 ghost use Rattle.board_spec.specs.Orders.{statements_of};
 ghost use Rattle.pci_bars.specs.Bases.{base_of};
@@ -55,6 +55,7 @@ fn push_card(out: &mut Vec<u8>, card: &CardSpec) -> Result<(), NoMemory>
 /// Four bytes: the memory in MiB, the number of cards, whether there is a disk, and 0, which is reserved.
 fn fittings(setup: &Setup) -> [u8; 4]
     requires fitted { IsSetup setup.now }
+    requires few_mib { setup.now.mib ≤ 64 }
     ensures bytes { result ≡ setup.now.mib ∷ length setup.now.cards ∷ flag_byte (is_some setup.now.disk) ∷ 0 ∷ [] }
 {
     let has_disk = u8::from(setup.disk.is_some());
@@ -95,6 +96,7 @@ fn push_sizes(out: &mut Vec<u8>, setup: &Setup, steps: u32) -> Result<(), NoMemo
 #[tactic(auto, unfolding(crate::specs::ImageBytes::head_bytes))]
 fn push_head(out: &mut Vec<u8>, setup: &Setup, steps: u32) -> Result<(), NoMemory>
     requires fitted { IsSetup setup.now }
+    requires few_mib { setup.now.mib ≤ 64 }
     ensures added { OnOk result (out.new.items ≡ out.old.items ++ head_bytes setup.now steps) }
 {
     out.extend_from_slice(&MAGIC)?;
@@ -106,6 +108,7 @@ fn push_head(out: &mut Vec<u8>, setup: &Setup, steps: u32) -> Result<(), NoMemor
 /// The head, and the cards.
 fn front_piece(alloc: Global, setup: &Setup, steps: u32) -> Result<Vec<u8>, NoMemory>
     requires fitted { IsSetup setup.now }
+    requires few_mib { setup.now.mib ≤ 64 }
     ensures bytes { IfOk result (λ piece. piece.items
         ≡ head_bytes setup.now steps ++ flat_map card_bytes setup.now.cards) }
 {
@@ -132,6 +135,7 @@ fn disk_piece(alloc: Global, setup: &Setup) -> Result<Vec<u8>, NoMemory>
 /// to 7 and each in range.
 pub fn save(alloc: Global, setup: &Setup, history: &History) -> Result<ImageBytes, NoMemory>
     requires fitted { IsSetup setup.now }
+    requires few_mib { setup.now.mib ≤ 64 }
     ensures bytes { IfOk result (λ bytes. bytes ≡ image_bytes setup.now (statements_of history.now.entries)) }
 {
     Ok(ImageBytes {

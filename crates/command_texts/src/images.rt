@@ -1,6 +1,6 @@
 //! The commands `save` and `resume`: the image of a board, and the log of a board that goes on from its image.
 
-ghost use Rattle.std.specs.Prelude.{◌≡◌, ◌↔◌, ◌++◌, true, IfOk};
+ghost use Rattle.std.specs.Prelude.{◌≡◌, ◌≤◌, ◌↔◌, ◌++◌, true, IfOk};
 ghost use Rattle.board_spec.specs.Orders.{IsReplayOf};
 ghost use Rattle.board_spec.specs.Setup.{IsSetup};
 ghost use Rattle.script_spec.specs.ScriptRange.{IsInRangeScript, statements_in};
@@ -71,6 +71,7 @@ fn text_of_image(alloc: Global, image: ImageBytes) -> Result<Text, NoMemory>
 /// The image of the board of a script after the script's replay.
 pub fn image_of_replay(alloc: Global, board: &mut Board, script: &Script) -> Result<Text, NoMemory>
     requires fitted { IsSetup board.old.setup }
+    requires few_mib { board.old.setup.mib ≤ 64 }
     requires fresh { IsFreshFor (said_of script.now) board.old }
     ensures text { IfOk result (λ text. IsSaveText board.old.setup (said_of script.now) text) }
 {

@@ -1,6 +1,6 @@
 //! Images of boards: their bytes, each kind of step, and where bytes are bad.
 
-ghost use Rattle.std.specs.Prelude.{IfSome};
+ghost use Rattle.std.specs.Prelude.{◌≤◌, IfSome};
 ghost use Rattle.board_spec.specs.Setup.{IsSetup};
 
 use board_base::{Access, Kind, Moment, NoMemory, PortAccess, WideAccess, Width};
@@ -277,6 +277,7 @@ fn a_bad_card_is_bad_at_its_field(rt: HostRuntime) -> Result<(), Fail> {
 /// The board of an image.
 fn board_of(alloc: Global, bytes: &[u8]) -> Option<Board>
     ensures fitted { IfSome result (λ board. IsSetup board.setup) }
+    ensures few_mib { IfSome result (λ board. board.setup.mib ≤ 64) }
 {
     match read_image(alloc, bytes) {
         Ok(image) => load(alloc, image).ok(),
@@ -287,6 +288,7 @@ fn board_of(alloc: Global, bytes: &[u8]) -> Option<Board>
 /// The bytes of a board's image, joined.
 fn image_of(alloc: Global, board: &Board) -> Result<Vec<u8>, NoMemory>
     requires fitted { IsSetup board.now.setup }
+    requires few_mib { board.now.setup.mib ≤ 64 }
 {
     let saved = save(alloc, board.setup(), board.history())?;
     let mut bytes = Vec::new(alloc);
