@@ -5,7 +5,7 @@ use Rattle.std.proofs.lemmas.Bool.{cases_Bool, cases_eq, eq-eqb, ne_eqb}
 use Rattle.std.proofs.lemmas.List.Filters.{length-filter_both}
 use Rattle.std.proofs.lemmas.Bool.Decides.{nat_tests}
 use Rattle.board_spec.specs.declared.event.Entry.{Entry}
-use Rattle.board_spec.specs.Setup.{Setup, IsDisk}
+use Rattle.board_spec.specs.Setup.{Setup, IsDisk, IsSetup}
 use Rattle.board_spec.specs.Legal.{entries_by, IsLegal}
 use Rattle.board_spec.specs.MapWrites.{version_of}
 use Rattle.board_spec.specs.Answer.{IsAnswer}
@@ -13,6 +13,7 @@ use Rattle.access_history.specs.Past.{Past}
 use Rattle.board_chipset.specs.Chipset.{Running, IsLeftBy}
 use Rattle.board_chipset.specs.Versions.{version_count}
 use Rattle.board_chipset.proofs.Exact.{few_entries}
+use Rattle.board_chipset.proofs.Lefts.{state_of}
 use Rattle.board_core.specs.Kept.{IsKept}
 
 -- ---- a new board
@@ -29,6 +30,12 @@ not_refused {A} {B} {E} {a} {b} {fault} (to, from) = (
   λ is. absurd (cc),
   λ holds. let no = from holds in absurd (cc),
 )
+
+-- ---- what a board is fitted with
+
+pub fitted : {chipset : Running} {history : List Entry} {spare : ℕ} {counts : List ℕ} →
+    IsKept chipset history spare counts → IsSetup chipset.setup
+fitted kept = (state_of refl kept.left).fits
 
 -- ---- the numbers of entries
 

@@ -3,7 +3,7 @@
 ghost use Rattle.std.specs.Prelude.{◌≡◌, ◌-◌, ◌+◌, ◌++◌, ◌<◌, ◌≤◌, ◌↔◌, ℕ, List, [], ◌∷◌, length, max, slice_index, Err, IsTrue, IfOk, OnOk, OnErr};
 ghost use Rattle.board_spec.specs.declared.event.Entry.{Entry};
 ghost use Rattle.board_spec.specs.Limits.{most_mib, most_card_memory, entry_limit};
-ghost use Rattle.board_spec.specs.Setup.{IsCardList, IsDisk, IsRomSize, memory_of_cards};
+ghost use Rattle.board_spec.specs.Setup.{IsCardList, IsDisk, IsRomSize, IsSetup, memory_of_cards};
 ghost use Rattle.board_spec.specs.InRange.{IsInRange};
 ghost use Rattle.board_spec.specs.Answer.{IsAnswer};
 ghost use Rattle.board_spec.specs.Legal.{IsLegal, next_entry};
@@ -147,9 +147,10 @@ impl Board {
         self.chipset.map_change(event)
     }
 
-    /// What the board is fitted with.
+    /// What the board is fitted with, which is a setup that a board can have.
     pub fn setup(&self) -> &Setup
         ensures setup { result.now ≡ self.now.setup }
+        ensures fitted { IsSetup self.now.setup }
     {
         self.chipset.setup()
     }

@@ -2,7 +2,6 @@
 
 ghost use Rattle.std.specs.Prelude.{◌≡◌, ◌≤◌, ◌↔◌, ◌++◌, true, IfOk};
 ghost use Rattle.board_spec.specs.Orders.{IsReplayOf};
-ghost use Rattle.board_spec.specs.Setup.{IsSetup};
 ghost use Rattle.script_spec.specs.ScriptRange.{IsInRangeScript, statements_in};
 ghost use Rattle.script_text.specs.Script.{said_of};
 ghost use Rattle.board_image.specs.ImageBytes.{IsImage};
@@ -70,7 +69,6 @@ fn text_of_image(alloc: Global, image: ImageBytes) -> Result<Text, NoMemory>
 
 /// The image of the board of a script after the script's replay.
 pub fn image_of_replay(alloc: Global, board: &mut Board, script: &Script) -> Result<Text, NoMemory>
-    requires fitted { IsSetup board.old.setup }
     requires few_mib { board.old.setup.mib ≤ 64 }
     requires fresh { IsFreshFor (said_of script.now) board.old }
     ensures text { IfOk result (λ text. IsSaveText board.old.setup (said_of script.now) text) }
