@@ -1,7 +1,6 @@
 //! The board of the script that a command has read.
 
 ghost use Rattle.std.specs.Prelude.{◌≡◌, ◌≤◌, Some, IfOk};
-ghost use Rattle.board_spec.specs.Setup.{IsSetup};
 ghost use Rattle.script_text.specs.Script.{said_of};
 ghost use Rattle.command_texts.specs.Fresh.{IsFreshFor};
 ghost use Rattle.command_files.specs.Known.{HasBoard, board_of};
@@ -28,7 +27,6 @@ pub(crate) fn prepare(alloc: Global, read: Read) -> Result<Prepared, NoMemory>
     ensures script { IfOk result (λ prepared. read.script ≡ Some (said_of prepared.script)) }
     ensures setup { IfOk result (λ prepared. prepared.board.setup ≡ board_of read (said_of prepared.script)) }
     ensures fresh { IfOk result (λ prepared. IsFreshFor (said_of prepared.script) prepared.board) }
-    ensures fitted { IfOk result (λ prepared. IsSetup prepared.board.setup) }
     ensures few_mib { IfOk result (λ prepared. prepared.board.setup.mib ≤ 64) }
     ensures log { IfOk result (λ prepared. prepared.log.items ≡ read.log) }
     ensures input { IfOk result (λ prepared. prepared.input.items ≡ read.input) }
