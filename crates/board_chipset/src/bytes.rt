@@ -1,4 +1,4 @@
-//! The bytes that a chipset holds, out.
+//! What a monitor can read of a chipset's bytes without an access on the bus.
 
 ghost use Rattle.std.specs.Prelude.{◌≡◌, List, option_map};
 ghost use Rattle.board_spec.specs.declared.event.Entry.{Entry};
@@ -14,7 +14,8 @@ use dram_store::Dram;
 use pci_bars::Contents;
 
 impl Chipset {
-    /// The DRAM, whose bytes can be read in stretches, and each MiB in place where something was written to it.
+    /// The DRAM: its bytes can be copied out in stretches, or seen in place, of each MiB those up to the highest page
+    /// written.
     pub fn dram(&self) -> &Dram
         ensures dram { (history : List Entry) → IsLeftBy self.now history
             → IsDramOf self.now.setup history result.now }
@@ -22,7 +23,7 @@ impl Chipset {
         &self.state.stores.dram
     }
 
-    /// The bytes of the windows of the cards.
+    /// The bytes behind the bases and VGA windows of the cards.
     pub fn contents(&self) -> &Contents
         ensures contents { (history : List Entry) → IsLeftBy self.now history
             → IsContentsOf self.now.setup history result.now }
@@ -30,7 +31,7 @@ impl Chipset {
         &self.state.stores.contents
     }
 
-    /// The disk, where one is fitted: its sectors in place.
+    /// The disk, where one is fitted. Its sectors can be seen in place.
     pub fn disk(&self) -> Option<&Ata>
         ensures disk { (history : List Entry) → IsLeftBy self.now history
             → option_map (λ disk. disk.now) result ≡ disk_of self.now.setup history }
@@ -38,7 +39,8 @@ impl Chipset {
         self.state.devices.disk()
     }
 
-    /// The bytes of the clock's RAM, by address.
+    /// The 128 bytes of the clock by address, as they are kept. A read of the flags of register C and of register D
+    /// gives other bytes.
     pub fn clock_bytes(&self) -> &[u8; CLOCK_BYTES]
         ensures bytes { (history : List Entry) → IsLeftBy self.now history → result.now ≡ (clock_of history).bytes }
     {

@@ -1,4 +1,4 @@
-//! A list of cards of which nothing was proved.
+//! Tests a list of cards of which nothing is known.
 
 ghost use Rattle.std.specs.Prelude.{◌≡◌, ◌≤◌, ◌<◌, ◌+◌, ◌↔◌, All, map, sum_by, IsTrue, IfSome, None};
 ghost use Rattle.board_spec.specs.Limits.{most_card_memory};
@@ -24,7 +24,7 @@ pub(crate) fn are_cards(cards: &[CardSpec]) -> bool
     cards.len() <= MOST_CARDS && rise(cards)
 }
 
-/// Whether cards are in range, each with a device number above that of the card before.
+/// Whether all cards are in range, each with a device number above that of the card before it.
 fn rise(cards: &[CardSpec]) -> bool
     ensures rise { IsTrue result ↔ RiseFrom 1 cards.now }
 {
@@ -48,7 +48,7 @@ fn is_card(card: &CardSpec) -> bool
         && is_expansion_rom(card.rom)
 }
 
-/// Whether bases are in range.
+/// Whether the bases of a card are in range.
 fn are_bases(bases: &[BaseSpec]) -> bool
     ensures bases { IsTrue result ↔ All IsBase (map base_of bases.now) }
 {
@@ -95,7 +95,7 @@ pub(crate) fn fit_windows(cards: &[CardSpec]) -> bool
     true
 }
 
-/// What is left of some memory after that of some bases. None where they have more.
+/// What is left of `room` bytes after the memory of these bases. None where they have more than that.
 fn room_after(bases: &[BaseSpec], room: u32) -> Option<u32>
     requires bases { All IsBase (map base_of bases.now) }
     ensures left { IfSome result (λ left. left + sum_by memory_size (map base_of bases.now) ≡ room) }

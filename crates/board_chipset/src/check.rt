@@ -1,4 +1,4 @@
-//! A setup of which nothing was proved, tested field after field.
+//! Tests a setup of which nothing is known, field after field.
 
 ghost use Rattle.std.specs.Prelude.{◌≡◌, ◌≤◌, ◌↔◌, ◌⊎◌, [], length, IsTrue, MatchResult, IfOk, IfErr, Err, option_map};
 ghost use Rattle.board_spec.specs.Setup.{IsDisk, IsSetup};
@@ -14,7 +14,7 @@ use thiserror::Error;
 /// The most memory, in MiB.
 const MOST_MIB: u32 = 512;
 
-/// Why a setup opens no chipset: the first of its fields that no board can have, or want of memory.
+/// Why no chipset was opened: the first field of the setup that no board can have, or want of memory.
 #[derive(Clone, Copy, PartialEq, Eq, Debug, Error)]
 pub enum SetupFault {
     /// The memory is not of 1 to 512 MiB.
@@ -38,8 +38,8 @@ pub enum SetupFault {
 }
 
 impl Setup {
-    /// Tests the memory, the cards, the memory of their bases, the ROM and the disk, in this order. Refused with the
-    /// first of them that no board can have.
+    /// Tests the memory, the cards, the memory of all their bases, the ROM and the disk, in this order. Refused with
+    /// the first of them that no board can have.
     pub fn check(&self) -> Result<(), SetupFault>
         ensures exact { MatchResult result (λ _. IsSetup self.now) (λ fault. IsSetupFault self.now fault) }
     {
@@ -79,7 +79,7 @@ impl Chipset {
     }
 }
 
-/// Whether so many MiB can be installed.
+/// Whether so many MiB can be installed: 1 to 512.
 fn is_memory(mib: u32) -> bool
     ensures memory { IsTrue result ↔ IsMemory mib }
 {

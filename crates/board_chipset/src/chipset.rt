@@ -27,7 +27,7 @@ use map_builder::FlatMap;
 use std::alloc::Global;
 use std::marker::Model;
 
-/// A chipset. Contracts see its setup, and by which histories it can be left as it is.
+/// A chipset. Contracts see its setup, and which histories leave a board of that setup as this one is.
 #[derive(Drop)]
 pub struct Chipset {
     pub(crate) setup: Setup,
@@ -61,8 +61,8 @@ impl Chipset {
         Ok(Chipset { setup, state })
     }
 
-    /// Does an event, and tells the reply: the answer to the history so far, in which the version of the map that a look
-    /// tells is counted modulo 2^32. It takes no memory.
+    /// Does an event that is in range, and returns the reply: the answer after the history so far. A look's reply has
+    /// the version of the map modulo 2^32. It takes no memory.
     pub fn step(&mut self, event: &Event) -> Reply
         requires in_range { IsInRange self.old.setup event.now }
         ensures setup { self.new.setup ≡ self.old.setup }
@@ -113,7 +113,7 @@ impl Chipset {
         &self.state.registers.map
     }
 
-    /// The registers and bytes that the history left. It takes no memory.
+    /// Ends the chipset, and gives the registers and bytes as they stand, for a bus master. It takes no memory.
     pub fn into_store(self) -> Store
         ensures regs { (history : List Entry) → IsLeftBy self history
             → StandsFor self.setup (byte_of self.setup history) (map_bytes result.regs) }

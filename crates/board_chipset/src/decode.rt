@@ -1,4 +1,4 @@
-//! Where an access would land: it is not made, and nothing changes.
+//! What an access would reach, without doing it: nothing changes.
 
 ghost use Rattle.std.specs.Prelude.{◌≡◌, List};
 ghost use Rattle.board_spec.specs.declared.event.Entry.{Entry};
@@ -12,8 +12,8 @@ use board_spec::{Event, Part};
 use board_stores::decoded;
 
 impl Chipset {
-    /// What would answer an access of one bus cycle, to memory or to a port, and what would deny it. None where the event
-    /// is no such access.
+    /// What would answer an access of one bus cycle, to memory or to a port, and what would deny it. None for every
+    /// other event.
     pub fn decode(&self, event: &Event) -> Option<Part>
         ensures place { (history : List Entry) → IsLeftBy self.now history
             → result ≡ place_of self.now.setup history event.now }

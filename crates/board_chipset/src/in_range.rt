@@ -29,7 +29,7 @@ pub enum OutOfRange {
     /// A wide access has not 2, 4 or 8 bytes.
     #[error("a wide access that has not 2, 4 or 8 bytes")]
     Bytes,
-    /// A wide access of 2 or 4 bytes is aligned, so that one bus cycle moves it.
+    /// A wide access of 2 or 4 bytes is aligned, so that one bus cycle does it: it is no wide one.
     #[error("a wide access that one bus cycle moves")]
     Aligned,
     /// A wide access does not end at FFFFFFFFh or below.
@@ -49,7 +49,7 @@ pub enum OutOfRange {
     Line,
 }
 
-/// Tests an event, field after field.
+/// Whether an event is in range for a board of this setup; if not, the first of its fields that is not.
 pub(crate) fn test(setup: &Setup, event: &Event) -> Result<(), OutOfRange>
     ensures exact { MatchResult result (λ _. IsInRange setup.now event.now) (λ fault. IsFault setup.now event.now fault) }
 {
@@ -65,14 +65,14 @@ pub(crate) fn test(setup: &Setup, event: &Event) -> Result<(), OutOfRange>
     }
 }
 
-/// A fault, unless something holds.
+/// Refuses with `fault` where `holds` is false.
 fn in_case(holds: bool, fault: OutOfRange) -> Result<(), OutOfRange>
     ensures exact { MatchResult result (λ _. holds ≡ true) (λ found. (found ≡ fault) × (holds ≡ false)) }
 {
     if holds { Ok(()) } else { Err(fault) }
 }
 
-/// Tests an access to memory.
+/// Whether an access to memory is in range; if not, its first field that is not.
 fn test_memory(access: &Access) -> Result<(), OutOfRange>
     ensures exact { MatchResult result
         (λ _. IsBusAccess (is_write access.now.kind) access.now.addr access.now.width access.now.value)
@@ -82,7 +82,7 @@ fn test_memory(access: &Access) -> Result<(), OutOfRange>
     test_bus(writes, access.addr, access.width, access.value)
 }
 
-/// Tests an access to a port.
+/// Whether an access to a port is in range; if not, its first field that is not.
 fn test_port(access: &PortAccess) -> Result<(), OutOfRange>
     ensures exact { MatchResult result
         (λ _. IsBusAccess access.now.write access.now.port access.now.width access.now.value)
@@ -96,7 +96,8 @@ fn test_port(access: &PortAccess) -> Result<(), OutOfRange>
     )
 }
 
-/// Tests an access of one bus cycle.
+/// Whether an access of one bus cycle is in range: `place`, its address or port, is a multiple of the width, and the
+/// value fits.
 fn test_bus(writes: bool, place: u32, width: Width, value: u32) -> Result<(), OutOfRange>
     ensures exact { MatchResult result (λ _. IsBusAccess writes place width value)
         (λ fault. IsBusFault writes place width value fault) }
@@ -121,7 +122,7 @@ pub(crate) fn fits(writes: bool, width: Width, value: u32) -> bool
     }
 }
 
-/// Tests a wide access.
+/// Whether a wide access is in range; if not, the first reason in the order of its size, alignment, end and value.
 fn test_wide(access: &WideAccess) -> Result<(), OutOfRange>
     ensures exact { MatchResult result (λ _. IsWideAccess access.now) (λ fault. IsWideFault access.now fault) }
 {
@@ -162,7 +163,7 @@ fn fits_bytes(writes: bool, bytes: u8, value: u64) -> bool
     }
 }
 
-/// Whether the calendar has a moment, with its weekday.
+/// Whether the calendar of 1980 to 2099 has this moment, with this weekday.
 fn is_moment(m: &Moment) -> bool
     ensures moment { IsTrue result ↔ IsMoment m.now }
 {
@@ -172,7 +173,8 @@ fn is_moment(m: &Moment) -> bool
     }
 }
 
-/// The lines of interrupts that can be set from outside: those of no part of the board.
+/// Whether an interrupt request line can be set from outside: 1, 3 to 7, 9 to 12 and 15, which no part of the board
+/// drives.
 fn is_free_line(irq: u8) -> bool
     ensures free { result ≡ is_free_line irq }
 {

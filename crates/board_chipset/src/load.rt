@@ -12,7 +12,7 @@ use cmos_clock::CLOCK_BYTES;
 use dram_store::PastTheEnd;
 use thiserror::Error;
 
-/// The clock has no byte at an address: there are 128.
+/// The refusal of an address of the clock that is not below 128.
 #[derive(Clone, Copy, PartialEq, Eq, Debug, Error)]
 #[error("the clock has no byte at this address")]
 pub struct NoClockByte;
@@ -31,9 +31,9 @@ impl Chipset {
         self.state.stores.dram.load(addr, bytes)
     }
 
-    /// Writes the byte of the clock at an address below 128, as a processor does by ports 70h and 71h that writes the
-    /// index back after it: registers A and B take what a write changes of them, and C and D nothing. Refused exactly
-    /// where the address is not below 128; then nothing has changed.
+    /// Writes the byte of the clock at an address below 128, as a processor does by ports 70h and 71h, and leaves the
+    /// index at port 70h as it was. A write changes some bits of registers A and B, and none of C and D. Refused
+    /// exactly where the address is not below 128; then nothing has changed.
     pub fn set_clock_byte(&mut self, address: u8, byte: u8) -> Result<(), NoClockByte>
         ensures refused { IsErr result ↔ 128 ≤ address }
         ensures unchanged { OnErr result (self.new ≡ self.old) }

@@ -1,4 +1,4 @@
-//! Looks at the memory map, which are no accesses.
+//! Looks at the memory map. A look is no access: it goes to no bus and changes nothing.
 
 ghost use Rattle.std.specs.Prelude.{◌≡◌, List, ◌∷◌};
 ghost use Rattle.board_spec.specs.declared.event.Entry.{Entry};
@@ -12,7 +12,8 @@ use board_base::Kind;
 use board_devices::law_left_alone;
 use board_spec::{Look, Reply};
 
-/// Tells the version of the map, and where this kind of access at an address would land. A look changes nothing.
+/// The reply to a look: the version of the map, what this kind of access reaches at an address, and the longest
+/// interval round it in which that is so.
 pub fn look(state: &State, kind: Kind, addr: u32, smm: bool) -> Reply
     ensures answer { (setup : Setup) (history : List Entry) → IsStateOf setup history state.now
         → IsAnswerModulo setup history (LookAt kind addr smm) result }

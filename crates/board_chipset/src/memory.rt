@@ -15,7 +15,7 @@ use board_devices::law_left_alone;
 use board_spec::Reply;
 use board_stores::{decoded, read, write};
 
-/// Does an access, and tells the reply.
+/// Does an access to memory of one bus cycle, and returns the reply.
 pub fn access(state: &mut State, rom: &[u8], access: &Access) -> Reply
     requires bus { IsBusAccess (is_write access.now.kind) access.now.addr access.now.width access.now.value }
     requires kept { IsState state.old rom.now }

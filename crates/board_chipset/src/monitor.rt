@@ -1,4 +1,4 @@
-//! What a monitor asks of a chipset between two steps, and the door for events that nothing was proved of.
+//! What a monitor asks of a chipset between two steps; and `ask`, which takes any event and refuses one out of range.
 
 ghost use Rattle.std.specs.Prelude.{◌≡◌, ◌≤◌, ◌<◌, ◌↔◌, true, false, List, ◌∷◌, IfSome, IfOk, IfErr, OnErr, IsTrue, IsErr};
 ghost use Rattle.board_base.specs.declared.target.Dev.TheVariants.{Spurious};
@@ -23,7 +23,7 @@ use board_spec::{Event, Reply};
 use map_builder::Changed;
 
 impl Chipset {
-    /// Whether an event is in range: what a bus can ask, or what the world outside can do.
+    /// Whether an event is in range: one that a processor's bus can ask for, or that can happen outside the board.
     pub fn is_in_range(&self, event: &Event) -> bool
         ensures in_range { IsTrue result ↔ IsInRange self.now.setup event.now }
     {
@@ -50,7 +50,7 @@ impl Chipset {
         Ok(self.step(event))
     }
 
-    /// Whether the interrupt controllers assert INT, so that a processor may acknowledge.
+    /// Whether the master 8259A asserts INT, so that a processor may acknowledge an interrupt.
     pub fn interrupt(&self) -> bool
         ensures interrupt { (history : List Entry) → IsLeftBy self.now history
             → result ≡ is_interrupting self.now.setup history }
@@ -60,8 +60,8 @@ impl Chipset {
         self.state.devices.interrupt()
     }
 
-    /// The reset that an event would make now, by a write of reset control, port CF9h: none, a soft one, which is of the
-    /// processor alone, or a hard one, which resets the chipset too.
+    /// The reset that an event would make now, which only a write of reset control (port CF9h) makes: none, a soft one,
+    /// of the processor alone, or a hard one, of the chipset too.
     pub fn reset_of(&self, event: &Event) -> ResetKind
         ensures kind { (history : List Entry) → IsLeftBy self.now history → result ≡ reset_of history event.now }
         ensures hard { (history : List Entry) → IsLeftBy self.now history
@@ -70,8 +70,8 @@ impl Chipset {
         reset_of(&self.state.registers.control, event)
     }
 
-    /// The windows that the last change of the memory map changed, in rising order and apart: an address beside them has
-    /// the areas that it had before. None before the first change.
+    /// The windows in which the last change of the memory map may have changed what answers, in rising order, none
+    /// overlapping another. At an address outside them nothing changed. Before the first change there is no window.
     pub fn changed(&self) -> &[Changed]
         ensures changed { (history : List Entry) → IsLeftBy self.now history
             → AreLastChanged self.now.setup history result.now }
@@ -79,8 +79,8 @@ impl Chipset {
         self.map().changed()
     }
 
-    /// How many pulses of the timer's clock, at most 131,073, until line 0 next rises. None where it never does unless
-    /// something is written before.
+    /// After how many pulses of the timer's clock, at most 131,073, interrupt request line 0 next rises. None where it
+    /// never rises unless something is written first.
     pub fn pulses_to_rise(&self) -> Option<u32>
         ensures rise { (history : List Entry) → IsLeftBy self.now history → IsNextRise (timer_of history) result }
         ensures bound { IfSome result (λ n. n ≤ 131_073) }

@@ -1,4 +1,4 @@
-//! Acknowledges, and what comes from outside the bus.
+//! Interrupt acknowledges, and what happens outside the bus: pulses, the clock's time, interrupt lines, bad sectors.
 
 ghost use Rattle.std.specs.Prelude.{◌≡◌, ℕ, List, ◌∷◌, None};
 ghost use Rattle.board_base.specs.declared.target.Target.TheVariants.{Device};
@@ -13,7 +13,7 @@ use crate::state::State;
 use board_base::{Dev, Target};
 use board_spec::{Event, Reply};
 
-/// Does an event that is for the devices alone, and tells the reply.
+/// Does an event that only the devices have a part in, and returns the reply.
 pub fn answer(state: &mut State, event: &Event) -> Reply
     requires devices { IsForDevices event.now }
     requires in_range { (rom : List ℕ) × CanDo state.old rom event.now }
@@ -53,7 +53,7 @@ pub fn answer(state: &mut State, event: &Event) -> Reply
     }
 }
 
-/// A device answered.
+/// The reply of a device, with the value that it gave, if it gave one.
 fn answered(value: Option<u32>, dev: Dev) -> Reply
     ensures reply { result ≡ Bus value (Device dev) None }
 {

@@ -18,7 +18,7 @@ use board_stores::{PortCycle, port_cycles};
 /// How many ports there are.
 const PORTS: u32 = 0x1_0000;
 
-/// What an access to ports told: the value, where it reads, and the strongest reset that it made.
+/// The reply to an access to ports: the value where it reads, and the strongest reset that it made.
 #[derive(Clone, Copy, PartialEq, Eq, Debug)]
 pub struct PortReply {
     pub value: Option<u32>,
@@ -61,8 +61,8 @@ impl Chipset {
         Ok(PortReply { value, reset })
     }
 
-    /// Does cycles that follow one another from the first port on, of at most four bytes. Tells what they read, 0 where
-    /// they write, and the strongest reset.
+    /// Does cycles that follow one another from port `first` on, of at most four bytes together. Returns the value that
+    /// they read, the byte at `first` lowest (0 where they write), and the strongest reset that one of them made.
     fn cycles(&mut self, first: u16, cycles: &[PortCycle]) -> (u32, ResetKind)
         requires bus { AreBusCycles (port_accesses cycles.now) }
         requires follow { (end : ℕ) × Follow first end (port_accesses cycles.now) × (end ≤ first + 4) }
@@ -79,7 +79,7 @@ impl Chipset {
         (value, reset)
     }
 
-    /// Does one cycle, and tells what it read, 0 where it writes, and the reset that it made.
+    /// Does one cycle. Returns the value that it read (0 where it writes) and the reset that it made.
     fn cycle(&mut self, access: &PortAccess) -> (u32, ResetKind)
         requires bus { IsBusAccess access.now.write access.now.port access.now.width access.now.value }
         ensures setup { self.new.setup ≡ self.old.setup }
@@ -93,7 +93,7 @@ impl Chipset {
     }
 }
 
-/// The bytes that a cycle read, 0 where it writes.
+/// The value that a cycle read, by its reply. 0 where it writes.
 fn bytes_read(cycle: &PortAccess, reply: &Reply) -> u32
     ensures bytes { result ≡ bytes_read cycle.now reply.now }
     ensures small { result < 256 ^ bytes_of cycle.now.width }
@@ -107,7 +107,7 @@ fn bytes_read(cycle: &PortAccess, reply: &Reply) -> u32
     }
 }
 
-/// Tests an access to ports, field after field.
+/// Whether an access to ports is in range; if not, the first of its fields that is not.
 fn test_ports(access: &PortAccess) -> Result<(), OutOfRange>
     ensures exact { MatchResult result (λ _. IsPortAccess access.now) (λ fault. IsPortFault access.now fault) }
 {

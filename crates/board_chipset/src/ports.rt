@@ -17,10 +17,10 @@ use board_devices::law_left_alone;
 use board_spec::Reply;
 use board_spec::offset::SOUTH_BRIDGE;
 
-/// What a read of the empty socket gives.
+/// The byte that a read of the keyboard controller's empty socket gives.
 const EMPTY_SOCKET: u32 = 0xFF;
 
-/// Does an access at a port, and tells the reply.
+/// Does an access at a port, and returns the reply: the value where it reads, what answered, and what denied it.
 pub fn access(state: &mut State, access: &PortAccess) -> Reply
     requires bus { IsBusAccess access.now.write access.now.port access.now.width access.now.value }
     requires kept { (rom : List ℕ) × IsState state.old rom }
@@ -47,7 +47,7 @@ pub fn access(state: &mut State, access: &PortAccess) -> Reply
     }
 }
 
-/// Reads where an access has this target.
+/// The value of a read at a port that `target` answers. The read can change a device.
 fn read(state: &mut State, target: Target, access: &PortAccess) -> u32
     requires reaching { Reaching state.old access.now target }
     requires reads { access.now.write ≡ false }
@@ -67,7 +67,7 @@ fn read(state: &mut State, target: Target, access: &PortAccess) -> u32
     }
 }
 
-/// Reads a port of a device. The socket of the keyboard controller is empty.
+/// The value of a read of a device's port. In place of the keyboard controller there is an empty socket.
 fn read_device(state: &mut State, dev: Dev, access: &PortAccess) -> u32
     requires reaching { Reaching state.old access.now (Device dev) }
     requires reads { access.now.write ≡ false }
@@ -87,7 +87,7 @@ fn read_device(state: &mut State, dev: Dev, access: &PortAccess) -> u32
     }
 }
 
-/// Writes where an access has this target.
+/// Does a write at a port that `target` answers.
 fn write(state: &mut State, target: Target, access: &PortAccess)
     requires reaching { Reaching state.old access.now target }
     requires writes { access.now.write ≡ true }
@@ -104,7 +104,8 @@ fn write(state: &mut State, target: Target, access: &PortAccess)
     }
 }
 
-/// Writes a register in configuration space. Those of the 82371SB can move a route.
+/// Writes a register in configuration space. The PIRQRC registers of the 82371SB route the PCI interrupts, so after a
+/// write to the 82371SB the interrupt lines are set anew.
 fn write_register(state: &mut State, reg: Reg, access: &PortAccess)
     requires reaching { Reaching state.old access.now (Config reg) }
     requires writes { access.now.write ≡ true }

@@ -109,7 +109,8 @@ impl Registers {
         self.south.store(reg, width, value);
     }
 
-    /// Writes reset control, and tells whether that is a hard reset, which gives each register its value after a reset.
+    /// Writes reset control. Returns whether that makes a hard reset, which gives each register its value after a
+    /// reset.
     pub fn write_control(&mut self, byte: u8) -> bool
         ensures hard { result ≡ is_hard_value self.old.control byte }
         ensures registers { (setup : Setup) (history : List Entry) (entry : Entry)
@@ -155,7 +156,7 @@ impl Registers {
         }
     }
 
-    /// The change that a write to a device is: a hard reset, or none.
+    /// The change of the map that a write of this value to a device's port makes: a hard reset, or none.
     fn device_change(&self, dev: Dev, value: u32) -> Option<MapChange>
         ensures control { dev ≡ ResetPort
             → result ≡ (if is_hard_value self.now.control value then Some Reset else None) }
@@ -167,7 +168,7 @@ impl Registers {
         }
     }
 
-    /// The change that a write to reset control is.
+    /// The change of the map that a write of this value to reset control makes: a hard reset, or none.
     fn control_change(&self, value: u32) -> Option<MapChange>
         ensures change { result ≡ (if is_hard_value self.now.control value then Some Reset else None) }
     {
@@ -177,7 +178,8 @@ impl Registers {
         None
     }
 
-    /// The change that a store from a register on is, where the map depends on one of its bytes.
+    /// The change of the map that a store to `reg` and the registers after it makes. None where the map depends on none
+    /// of its bytes.
     fn store_change(&self, reg: Reg, width: Width, value: u32) -> Option<MapChange>
         ensures change { (setup : Setup) (history : List Entry) → HasRegisters setup history self.now
             → result ≡ (if touches_map setup (Store reg width value) then Some (Store reg width value) else None) }

@@ -13,7 +13,7 @@ use std::marker::Model;
 
 /// The number of the bit whose rise resets.
 const RESET_CPU: u32 = 2;
-/// The number of the bit that makes it a hard reset.
+/// The number of the bit by which that reset is a hard one.
 const SYSTEM_RESET: u32 = 1;
 /// The bits that the register keeps.
 const KEPT: u8 = 0x06;
@@ -55,8 +55,8 @@ impl ResetControl {
         self.byte
     }
 
-    /// Writes the register, and tells whether that resets hard: where bits 2 and 1 are written as 1 and
-    /// bit 2 was 0. A hard reset leaves the register at 0.
+    /// Writes the register. Returns whether that makes a hard reset: where bits 2 and 1 are written as 1 and bit 2 was
+    /// 0. A hard reset leaves the register at 0.
     pub fn write(&mut self, byte: u8) -> bool
         ensures hard { result ≡ is_hard_value self.old byte }
         ensures byte { self.new ≡ control_after self.old (Some byte) }
@@ -79,7 +79,7 @@ impl ResetControl {
         ResetKind::Soft
     }
 
-    /// Whether a write of this value would reset hard.
+    /// Whether a write of this value would make a hard reset.
     pub fn resets(&self, value: u32) -> bool
         ensures hard { result ≡ is_hard_value self.now value }
     {

@@ -67,7 +67,7 @@ impl Setup {
     }
 }
 
-/// Whether one of some cards has a device number.
+/// Whether one of these cards has this device number.
 fn any_card(cards: &[CardSpec], dev: u8) -> bool
     ensures any { result ≡ list_any (λ card. card.dev == dev) cards.now }
 {

@@ -20,7 +20,8 @@ pub struct State {
 }
 
 impl State {
-    /// The state of a setup's board after power-on.
+    /// The state after power-on of the board that a setup describes. BadRom exactly where the ROM has no length of a
+    /// BIOS ROM, BadDisk exactly where it has one and the disk is not of 1 to 65,536 whole sectors.
     pub fn open(alloc: Global, setup: &Setup) -> Result<State, BoardOpen>
         requires low { 1 ≤ setup.now.mib }
         requires high { setup.now.mib ≤ most_mib }

@@ -1,4 +1,4 @@
-//! An event, by its kind.
+//! One step of the chipset, by the kind of its event.
 
 ghost use Rattle.std.specs.Prelude.{◌≡◌, List, ◌∷◌};
 ghost use Rattle.board_spec.specs.declared.event.Entry.{Entry};
@@ -10,7 +10,7 @@ use crate::state::State;
 use crate::{looks, memory, outside, ports, wide};
 use board_spec::{Event, Reply};
 
-/// Does an event, and tells the reply.
+/// Does an event, and returns the reply.
 pub fn step(state: &mut State, rom: &[u8], event: &Event) -> Reply
     requires can { CanDo state.old rom.now event.now }
     ensures answer { (setup : Setup) (history : List Entry) → IsStateOf setup history state.old

@@ -1,4 +1,4 @@
-//! What is left of a board for a bus master: registers of the memory map, bytes, and the disk.
+//! What a bus master needs of a board: the registers of the memory map, the bytes behind its addresses, and the disk.
 
 ghost use Rattle.std.specs.Prelude.{◌≡◌};
 ghost use Rattle.board_spec.specs.Registers.{byte_of};

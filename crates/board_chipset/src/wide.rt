@@ -1,4 +1,4 @@
-//! Wide accesses to memory.
+//! Wide accesses to memory: those that take two to four bus cycles.
 
 ghost use Rattle.std.specs.Prelude.{◌≡◌, ◌≤◌, List, ◌∷◌, length};
 ghost use Rattle.board_spec.specs.declared.event.Entry.{Entry};
@@ -17,7 +17,8 @@ use board_spec::laws::law_parts;
 use board_spec::{Parts, Reply};
 use board_stores::{Cycle, cycles_of, read_cycles, write_cycles};
 
-/// Does a wide access, and tells the reply: its cycles are decoded, and then done one by one.
+/// Does a wide access, and returns the reply. First each of its cycles is decoded, then they are done one after
+/// another.
 pub fn access(state: &mut State, rom: &[u8], access: &WideAccess) -> Reply
     requires wide { IsWideAccess access.now }
     requires kept { IsState state.old rom.now }
@@ -41,7 +42,7 @@ pub fn access(state: &mut State, rom: &[u8], access: &WideAccess) -> Reply
     Reply::Parts { value, parts }
 }
 
-/// The answers of two to four cycles.
+/// The parts of the reply, one for each of the two to four cycles.
 fn parts_of(cycles: &[Cycle]) -> Parts
     requires least { 2 ≤ length cycles.now }
     requires most { length cycles.now ≤ 4 }

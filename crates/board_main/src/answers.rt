@@ -1,4 +1,4 @@
-//! What the program answers of itself, without the board.
+//! The answers to `--help` and `--version`, for which no board is opened.
 
 ghost use Rattle.std.specs.Prelude.{◌≡◌, map, is_some, string_bytes, IfSome, OnOk};
 ghost use Rattle.board_main.specs.declared.answers.OwnAnswer.{OwnAnswer};
@@ -45,7 +45,7 @@ Exit status: 0 done, 1 usage, 2 read fault, 3 write fault, 4 too long, 5 bad scr
 
 const VERSION: &str = "board 0.1\n";
 
-/// What the program answers of itself.
+/// An answer of the program's own, for which no board is opened.
 #[derive(Clone, Copy, PartialEq, Eq, Debug)]
 pub enum OwnAnswer {
     Help,
@@ -83,7 +83,7 @@ fn write_help<W: Write>(output: &mut W) -> io::Result<()>
     output.write_all(COMMANDS.as_bytes())
 }
 
-/// Writes such an answer.
+/// Writes an answer of the program's own.
 pub fn write_answer<W: Write>(output: &mut W, own: OwnAnswer) -> io::Result<()>
     ensures written { OnOk result (AppendsOwn own (W.contents output.old) (W.contents output.new)) }
 {

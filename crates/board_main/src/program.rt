@@ -19,8 +19,8 @@ use std::rt::Files;
 use std::sync::Wait;
 use std::thread::Threads;
 
-/// Does what the words of the command line ask for, with real files and this output. What is said where it is not
-/// done goes to `errors`. It tells the exit code, which is that of a status.
+/// Does what the words of the command line ask for, with real files, and writes to `output`. Where it is not done, the
+/// text of the status goes to `errors`. Returns the exit code of the status.
 pub fn run_program<R, W, E>(rt: &R, output: W, mut errors: E) -> ExitCode
 where
     R: Env + Files + AllocGlobal + Threads + Wait + Sync,
@@ -38,9 +38,9 @@ where
     ExitCode::from(exit_code(&status))
 }
 
-/// Does what these words ask for, with the files of a folder, and writes it to `output`, which is given back. What is
-/// said where it is not done goes to `errors`. The status is Usage exactly where the words are neither the program's own
-/// nor a command.
+/// Does what these words ask for, with the files of a folder, and writes to `output`, which is given back. Where it is
+/// not done, the text of the status goes to `errors`. The status is Usage exactly where the words are neither a command
+/// nor `--help` or `--version`.
 pub fn run_words<R, F, W, E>(
     rt: &R,
     folder: F,
@@ -61,7 +61,7 @@ where
     (status, output)
 }
 
-/// Writes what the words ask for: the program's own answer, or that of the board.
+/// Writes what the words ask for: an answer of the program's own, or a command's text.
 fn answer<R, F, W>(rt: &R, folder: F, words: &[String], output: W) -> (Status, W)
 where
     R: AllocGlobal + Threads + Wait + Sync,
@@ -76,7 +76,7 @@ where
     }
 }
 
-/// Does what the words ask of the board, with the files of a folder, and writes it to `output`.
+/// Does the command that the words are, with the files of a folder, and writes its text to `output`.
 fn answer_of_board<R, F, W>(rt: &R, folder: F, words: &[String], output: W) -> (Status, W)
 where
     R: AllocGlobal + Threads + Wait + Sync,
@@ -91,7 +91,7 @@ where
     (status, out.into_inner())
 }
 
-/// Writes what the program answers of itself.
+/// Writes an answer of the program's own, and gives the status.
 fn write_own<W: Write>(mut output: W, own: OwnAnswer) -> (Status, W)
     ensures written { IsOwnAnswer result.0 own (W.contents output) (W.contents result.1) }
 {
@@ -101,8 +101,8 @@ fn write_own<W: Write>(mut output: W, own: OwnAnswer) -> (Status, W)
     }
 }
 
-/// Says why the command was not done. Where there is no memory for that text, or `errors` does not take it, the exit
-/// code alone says it.
+/// Writes the text of a status to `errors`, if it has one. Where there is no memory for that text, or `errors` fails,
+/// the exit code alone says it.
 fn tell<E: Write>(alloc: Global, errors: &mut E, status: &Status) {
     if *status == Status::Done {
         return;

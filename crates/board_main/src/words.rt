@@ -8,7 +8,7 @@ use std::env;
 use std::env::Env;
 use std::io::{Error, ErrorKind};
 
-/// The words after the program's name. One that is not UTF-8 makes a faulty command line.
+/// The words after the program's name. Refused with Usage where one is not UTF-8, and with NoMemory for want of memory.
 pub fn words_of<R: Env + AllocGlobal>(rt: &R) -> Result<Vec<String>, Status>
     ensures refused { IfErr result (λ status. (status ≡ Status.Usage) ⊎ (status ≡ Status.NoMemory)) }
 {
@@ -18,7 +18,7 @@ pub fn words_of<R: Env + AllocGlobal>(rt: &R) -> Result<Vec<String>, Status>
         .map_err(|_| Status::NoMemory)
 }
 
-/// `env::args` refuses a word that is not UTF-8, and otherwise only for want of memory: so each other error is that.
+/// The status of an error of `env::args`, which refuses a word that is not UTF-8, and else only for want of memory.
 fn refusal(error: &Error) -> Status
     ensures refused { (result ≡ Status.Usage) ⊎ (result ≡ Status.NoMemory) }
 {

@@ -1,4 +1,4 @@
-//! The bytes of a chipset, out.
+//! Copies of a chipset's bytes, without an access on the bus.
 
 ghost use Rattle.std.specs.Prelude.{◌≡◌, ◌≢◌, ◌<◌, ◌≤◌, length};
 ghost use Rattle.board_records.specs.Bytes.{clock_bytes, IsDramTold, IsSectorTold, IsSectorRefusal, IsClockByte};
@@ -7,15 +7,16 @@ ghost use Rattle.board_records.specs.Statuses.{ok, closed, no_byte};
 use crate::status::{BAD_LENGTH, NO_BYTE, NO_SECTOR, OK};
 use board_chipset::Chipset;
 
-/// Tells the bytes of the DRAM from an address on, as reads of one byte each would: FFh past the installed memory.
+/// Fills `into` with the bytes of the DRAM from an address on, as reads of one byte each give them: FFh past the
+/// installed memory.
 pub(crate) fn tell_dram(chipset: &Chipset, addr: u32, into: &mut [u8])
     ensures told { IsDramTold chipset.now addr into.old into.new }
 {
     chipset.dram().read_bytes(addr, into);
 }
 
-/// Tells the 512 bytes of a sector, bad or not. Refused with `NO_SECTOR` where there is no disk, or it has no such sector,
-/// and with `BAD_LENGTH` where the room is not that of a sector.
+/// Fills `into` with the 512 bytes of a sector, also of one marked bad. Refused with `NO_SECTOR` where there is no disk
+/// or it has no such sector, and with `BAD_LENGTH` where `into` has not 512 bytes.
 pub(crate) fn tell_sector(chipset: &Chipset, sector: u32, into: &mut [u8]) -> u32
     ensures done { result ≡ ok → IsSectorTold chipset.now sector into.new }
     ensures refused { result ≢ ok → IsSectorRefusal chipset.now sector (length into.old) result }
@@ -36,7 +37,7 @@ pub(crate) fn tell_sector(chipset: &Chipset, sector: u32, into: &mut [u8]) -> u3
     OK
 }
 
-/// Tells the byte of the clock at an address. Refused with `NO_BYTE` from address 128 on.
+/// Sets `byte` to the clock's byte at an address. Refused with `NO_BYTE` from address 128 on.
 pub(crate) fn tell_clock_byte(chipset: &Chipset, address: u8, byte: &mut u8) -> u32
     ensures done { result ≡ ok → IsClockByte chipset.now address byte.new }
     ensures within { result ≡ ok → address < clock_bytes }

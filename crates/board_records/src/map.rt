@@ -9,7 +9,7 @@ use board_base::Area;
 use board_chipset::Chipset;
 use map_builder::{Changed, Range};
 
-/// What one kind of access to a range reaches, in the numbers that it has as a part of a reply.
+/// What one kind of access reaches in a range, by the same numbers as in a part of a reply.
 #[repr(C)]
 #[derive(Clone, Copy, PartialEq, Eq, Debug, Default)]
 pub struct AreaRecord {
@@ -29,7 +29,7 @@ pub struct RangeRecord {
     pub areas: [AreaRecord; 6],
 }
 
-/// A window of addresses that a change of the map changed: the first and the last.
+/// A window of addresses in which a change of the map may have changed what answers: the first and the last address.
 #[repr(C)]
 #[derive(Clone, Copy, PartialEq, Eq, Debug, Default)]
 pub struct WindowRecord {
@@ -37,7 +37,7 @@ pub struct WindowRecord {
     pub hi: u32,
 }
 
-/// The memory map: how many ranges it has, how many windows its last change changed, and its version.
+/// The memory map: how many ranges it has, how many windows its last change has, and its version, modulo 2^32.
 #[repr(C)]
 #[derive(Clone, Copy, PartialEq, Eq, Debug, Default)]
 pub struct MapRecord {
@@ -47,8 +47,8 @@ pub struct MapRecord {
     pub reserved: u32,
 }
 
-/// Tells the memory map, its ranges and the windows that its last change changed: as many of them as there is room for,
-/// and how many there are.
+/// Sets `told` to the counts and the version of the memory map. Fills `ranges` with its ranges and `windows` with the
+/// windows of its last change, the first of them where there is no room for all.
 pub(crate) fn tell_map(
     chipset: &Chipset,
     told: &mut MapRecord,
@@ -72,7 +72,7 @@ pub(crate) fn tell_map(
     tell_windows(changed, windows);
 }
 
-/// Tells the first of some ranges, as many as there is room for.
+/// Fills `room` with the first ranges, as many as fit. What is left of it stays as it was.
 fn tell_ranges(ranges: &[Range], room: &mut [RangeRecord])
     ensures told { room.new ≡ filled (map (λ range. range_said (range_of range)) ranges.now) room.old }
 {
@@ -82,7 +82,7 @@ fn tell_ranges(ranges: &[Range], room: &mut [RangeRecord])
     }
 }
 
-/// Tells the first of some windows, as many as there is room for.
+/// Fills `room` with the first windows, as many as fit. What is left of it stays as it was.
 fn tell_windows(windows: &[Changed], room: &mut [WindowRecord])
     ensures told { room.new ≡ filled (map window_said windows.now) room.old }
 {

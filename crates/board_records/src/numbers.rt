@@ -1,4 +1,4 @@
-//! The numbers by which a record names an enum's cases. 0 names none: a record of zeros says nothing.
+//! The numbers by which a record names the cases of an enum. 0 names none, so a record of zeros is that of no event.
 
 /// An access to memory.
 pub const MEMORY_EVENT: u8 = 1;
@@ -79,18 +79,18 @@ pub const SPURIOUS0_DEVICE: u8 = 14;
 /// The slave's spurious vector.
 pub const SPURIOUS1_DEVICE: u8 = 15;
 
-/// A register denied it.
+/// A register denied the access.
 pub const REGISTER_DENIAL: u8 = 1;
-/// The configuration address register denied it.
+/// The configuration address register denied the access.
 pub const CONFADD_DENIAL: u8 = 2;
-/// No register could change it.
+/// No register could let the access through.
 pub const NO_REGISTER_DENIAL: u8 = 3;
 
-/// The reply of one bus cycle, or of no access.
+/// The reply to one bus cycle, or to an event that is no access and no look.
 pub const BUS_REPLY: u8 = 1;
-/// The reply of a wide access.
+/// The reply to a wide access.
 pub const PARTS_REPLY: u8 = 2;
-/// What a look saw.
+/// The reply to a look.
 pub const LOOK_REPLY: u8 = 3;
 
 /// No reset.

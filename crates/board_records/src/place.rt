@@ -1,4 +1,4 @@
-//! Where an access would land, and when the timer's line next rises: nothing happens.
+//! What an access would reach, and when the timer's line next rises. Nothing in the chipset changes.
 
 ghost use Rattle.std.specs.Prelude.{◌≡◌, ◌≢◌, List, IfSome, IsSomeAnd, None};
 ghost use Rattle.board_spec.specs.declared.event.Entry.{Entry};
@@ -14,8 +14,8 @@ use crate::status::{NO_CYCLE, NO_EVENT, OK};
 use board_chipset::Chipset;
 use board_spec::Event;
 
-/// Tells where the access that a record says would land, and what would deny it. Refused where the record says no event
-/// (`NO_EVENT`), or one that is no access of one bus cycle in range (`NO_CYCLE`).
+/// Sets `part` to what would answer the access of a record, and what would deny it. Refused where the record is that of
+/// no event (`NO_EVENT`), or of one that is no access of one bus cycle in range (`NO_CYCLE`).
 pub(crate) fn tell_place(chipset: &Chipset, event: &EventRecord, part: &mut PartRecord) -> u32
     ensures done { result ≡ ok → IsSomeAnd (event_said event.now) (IsPlaced chipset.now part.new) }
     ensures refused { result ≢ ok → IsNotPlaced chipset.now (event_said event.now) result }
@@ -34,7 +34,7 @@ pub(crate) fn tell_place(chipset: &Chipset, event: &EventRecord, part: &mut Part
     }
 }
 
-/// Where an access of one bus cycle would land, and what would deny it. None where it is none, or out of range.
+/// What would answer an access of one bus cycle, and what would deny it. None for another event, or one out of range.
 fn place_of(chipset: &Chipset, asked: &Event) -> Option<PartRecord>
     ensures placed { IfSome result (λ said. IsPlaced chipset.now said asked.now) }
     ensures none { result ≡ None → (history : List Entry) → IsLeftBy chipset.now history
@@ -49,7 +49,8 @@ fn place_of(chipset: &Chipset, asked: &Event) -> Option<PartRecord>
     }
 }
 
-/// Tells after how many pulses of the timer's clock line 0 next rises. 0 where it does not, unless something is written.
+/// Sets `pulses` to the number of pulses of the timer's clock after which line 0 next rises. 0 where it never rises
+/// unless something is written first.
 pub(crate) fn tell_rise(chipset: &Chipset, pulses: &mut u32)
     ensures rise { IsRiseTold chipset.now pulses.new }
 {

@@ -1,4 +1,4 @@
-//! The commands, from their words to what is put.
+//! The commands, from their words to the bytes that are written.
 
 ghost use Rattle.std.specs.Prelude.{◌≡◌, ◌↔◌, Some, None, IfErr};
 ghost use Rattle.board_base.specs.Outside.{Rose};
@@ -23,7 +23,7 @@ use std::alloc::Global;
 use std::sync::Wait;
 use std::thread::Threads;
 
-/// Reads the files of a command, and makes its text of them.
+/// Reads the files of a command, and gives the text that it makes of them.
 fn answer<R: Threads + Wait + Sync, S: Shelf, G: Gate>(
     rt: &R,
     alloc: Global,
@@ -42,7 +42,7 @@ fn answer<R: Threads + Wait + Sync, S: Shelf, G: Gate>(
     text_of(rt, alloc, command, read, gate)
 }
 
-/// Makes the text of a command from its files, and puts it.
+/// Makes the text of a command from its files, and puts it to the sink.
 fn run_command<R: Threads + Wait + Sync, S: Shelf, K: Sink, G: Gate>(
     rt: &R,
     alloc: Global,
@@ -66,7 +66,7 @@ fn run_command<R: Threads + Wait + Sync, S: Shelf, K: Sink, G: Gate>(
     Ok(())
 }
 
-/// Does what the words ask for. Each status comes only where its cause holds.
+/// Does the command that the words are. Each status comes only where its cause holds.
 fn run_words<R: Threads + Wait + Sync, S: Shelf, K: Sink, G: Gate>(
     rt: &R,
     alloc: Global,
@@ -93,13 +93,9 @@ fn run_words<R: Threads + Wait + Sync, S: Shelf, K: Sink, G: Gate>(
     }
 }
 
-/// Runs one command over a shelf of files and a sink, and puts its text: `replay FILE` the log of the replay of a script,
-/// `run FILE` that of a run with a thread for each processor, `map FILE` the address map after a replay, `check FILE LOG`
-/// whether a log is one of the script, `make N` the summary of a script of N rounds, `dma FILE in|out TABLE LBA COUNT` how a
-/// transfer of the bus master ended, `save FILE` the image of a board, `resume IMAGE FILE` the log of a board that goes on,
-/// `serial FILE INPUT` what the serial port sent, and `blame FILE` which writes made the map. Where several causes hold, the
-/// words come first, then the files in the order in which they are read, and then what is put. Nothing is put before all
-/// else is done. Only `run` may wait.
+/// Does the command that the words are (`Command` has them all), with files from a shelf, and puts its text to a sink.
+/// Where several causes of a status hold, the words come first, then the files in the order in which they are read,
+/// then the output. Nothing is put before all else is done. Only `run` may wait.
 pub fn board<R: Threads + Wait + Sync, S: Shelf, K: Sink, G: Gate>(
     rt: &R,
     alloc: Global,
@@ -119,7 +115,7 @@ pub fn board<R: Threads + Wait + Sync, S: Shelf, K: Sink, G: Gate>(
         (AreFetchesOf (asked words.now) (S.files shelf.old)) }
     ensures puts { OfCalls (K.puts out.old) (K.puts out.new) (ArePutsOf result) }
 {
-    // The words and the files ask for at most one status.
+    // So that the status is the one that words and files ask for: they ask for at most one.
     law_one_status();
     run_words(rt, alloc, words, shelf, out, gate)
 }

@@ -1,4 +1,4 @@
-//! The commands of the board: from the words of the command line to the bytes that are put.
+//! The commands of the board: from the words of the command line to the bytes that are written.
 #![tactic(auto)]
 
 mod command;

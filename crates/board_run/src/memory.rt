@@ -13,7 +13,7 @@ use std::alloc::Global;
 use std::sync::Wait;
 use std::thread::Threads;
 
-/// Runs one command over a shelf and a sink that never fail: no fault can come.
+/// Does one command over a shelf and a sink that never fail, so that its status is never a read or write fault.
 pub fn board_in_memory<R: Threads + Wait + Sync, G: Gate>(
     rt: &R,
     alloc: Global,

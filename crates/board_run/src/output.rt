@@ -10,7 +10,7 @@ ghost use Rattle.board_run.specs.Puts.{PutsBy};
 use board_base::{PutFault, Sink};
 use log_pieces::Text;
 
-/// What is left of bytes after the first of them.
+/// The bytes that are left after the first `count`.
 fn after(bytes: &[u8], count: usize) -> &[u8]
     requires { count ≤ length bytes.now }
     ensures rest { result.now ≡ drop count bytes.now }
@@ -18,7 +18,7 @@ fn after(bytes: &[u8], count: usize) -> &[u8]
     &bytes[count..]
 }
 
-/// Puts all of a piece, in as many calls as the sink wants. An empty one takes no call. Where the sink refuses, what it
+/// Puts a whole piece, in as many calls as the sink needs, none for an empty piece. Where the sink refuses, what it
 /// took before is a front of the piece.
 fn put_piece<K: Sink>(out: &mut K, piece: &[u8]) -> Result<(), PutFault>
     ensures whole { OnOk result (Appends (K.taken out.old) (K.taken out.new) piece.now) }
@@ -37,7 +37,7 @@ fn put_piece<K: Sink>(out: &mut K, piece: &[u8]) -> Result<(), PutFault>
     Ok(())
 }
 
-/// Puts all of a text. Where the sink refuses a piece, what it took before is a front of the text.
+/// Puts a whole text. Where the sink refuses a piece, what it took before is a front of the text.
 pub(crate) fn put_all<K: Sink>(out: &mut K, text: &Text) -> Result<(), PutFault>
     ensures whole { OnOk result (Appends (K.taken out.old) (K.taken out.new) text.now) }
     ensures front { OnErr result (AppendsFront (K.taken out.old) (K.taken out.new) text.now) }

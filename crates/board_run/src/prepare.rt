@@ -1,4 +1,4 @@
-//! The board of the script that a command has read.
+//! The board of the script that a command read.
 
 ghost use Rattle.std.specs.Prelude.{◌≡◌, ◌≤◌, Some, IfOk};
 ghost use Rattle.script_text.specs.Script.{said_of};
@@ -12,7 +12,7 @@ use command_texts::open_board;
 use script_text::Script;
 use std::alloc::Global;
 
-/// A script that was read, the board that it asks for, as after power-on, and the log or the input beside it.
+/// A script that was read, its board as after power-on, and the log or the input that was read with it.
 #[derive(Drop)]
 pub(crate) struct Prepared {
     pub script: Script,
@@ -21,7 +21,7 @@ pub(crate) struct Prepared {
     pub input: Vec<u8>,
 }
 
-/// Opens the board that a script asks for.
+/// Opens the board of the script that was read, with the ROM and the disk that were read.
 pub(crate) fn prepare(alloc: Global, read: Read) -> Result<Prepared, NoMemory>
     requires board { HasBoard read }
     ensures script { IfOk result (λ prepared. read.script ≡ Some (said_of prepared.script)) }

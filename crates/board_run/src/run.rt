@@ -19,9 +19,9 @@ use std::alloc::Global;
 use std::sync::Wait;
 use std::thread::Threads;
 
-/// Runs a script on a fresh board with its cards: in each phase every processor does its own statements on a thread of its
-/// own, and the gate is told before and after each. A phase begins when the one before has ended. The history is legal, and
-/// has each phase's statements, with each look in its place. Their memory is given back phase by phase.
+/// Runs a script on a fresh board with its cards: in each phase every processor does its statements on a thread of its
+/// own, and calls the gate before and after each. A phase begins when the one before has ended. The history is legal
+/// and has the statements of each phase, each look in its place. A phase's statements are given back when it has ended.
 pub fn run_script<R: Threads + Wait + Sync, G: Gate>(
     rt: &R,
     alloc: Global,
@@ -40,7 +40,7 @@ pub fn run_script<R: Threads + Wait + Sync, G: Gate>(
     run_phases(rt, alloc, board, script.cpus, script.phases, gate)
 }
 
-/// The log of a run that has ended, which as many threads write as there are workers.
+/// The log of a run that has ended, written by `workers` threads.
 fn log_of_ended<R: Threads + Sync>(
     rt: &R,
     alloc: Global,
@@ -56,7 +56,7 @@ fn log_of_ended<R: Threads + Sync>(
     }
 }
 
-/// The log of a run of a script, which as many threads write as there are processors.
+/// The log of a run of a script. As many threads write it as the script has processors.
 pub(crate) fn log_of_run<R: Threads + Wait + Sync, G: Gate>(
     rt: &R,
     alloc: Global,

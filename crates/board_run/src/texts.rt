@@ -49,7 +49,7 @@ fn map(alloc: Global, read: Read) -> Result<Text, NoMemory>
     map_after_replay(alloc, &mut prepared.board, &prepared.script)
 }
 
-/// How a transfer of the bus master after the replay of a script ends.
+/// How a transfer of the bus master ends that is done after the replay of a script.
 fn transfer(alloc: Global, transfer: &Transfer, read: Read) -> Result<Text, NoMemory>
     requires board { HasBoard read }
     requires asked { IsTransfer transfer.now }
@@ -59,7 +59,7 @@ fn transfer(alloc: Global, transfer: &Transfer, read: Read) -> Result<Text, NoMe
     transfer_after_replay(alloc, board, &script, transfer)
 }
 
-/// The image of the replay of a script.
+/// The image of the board after the replay of a script.
 fn save(alloc: Global, read: Read) -> Result<Text, NoMemory>
     requires board { HasBoard read }
     ensures text { IfOk result (OnBoard read IsSaveText) }
@@ -68,7 +68,7 @@ fn save(alloc: Global, read: Read) -> Result<Text, NoMemory>
     image_of_replay(alloc, &mut prepared.board, &prepared.script)
 }
 
-/// The bytes that the serial port sends in the replay of a script, while the input comes in.
+/// The bytes that the serial port sends during the replay of a script, while it receives the input.
 fn serial(alloc: Global, read: Read) -> Result<Text, NoMemory>
     requires board { HasBoard read }
     ensures text { IfOk result (OnBoard read (λ setup script. IsSerialText setup script read.input)) }
@@ -82,7 +82,7 @@ fn serial(alloc: Global, read: Read) -> Result<Text, NoMemory>
     sent_in_replay(alloc, board, &script, &input)
 }
 
-/// Which map writes of the replay of a script made the address map.
+/// The address map after the replay of a script, with the map writes that made it.
 fn blame(alloc: Global, read: Read) -> Result<Text, NoMemory>
     requires board { HasBoard read }
     ensures text { IfOk result (OnBoard read IsBlameText) }
@@ -103,7 +103,7 @@ fn verdict(alloc: Global, read: Read) -> Result<Text, Status>
     Ok(text)
 }
 
-/// The log of the board of an image that goes on with a script, where the script asks for that board.
+/// The log of the board of an image that goes on with a script. OtherBoard where the script is for another board.
 fn resume(alloc: Global, read: Read) -> Result<Text, Status>
     requires image { HasImage read }
     ensures text { (image script : List ℕ) → IfOk result (IsTextFor (Resume image script) read) }
@@ -119,7 +119,7 @@ fn resume(alloc: Global, read: Read) -> Result<Text, Status>
     Ok(log_of_resumed(alloc, image, &script)?)
 }
 
-/// The text of a command that waits for nobody.
+/// The text of a command that waits for nobody, from what it read.
 fn text_alone(alloc: Global, command: &Alone, read: Read) -> Result<Text, Status>
     requires called { IsCommand (said_alone command.now) }
     requires read { HasRead (said_alone command.now) read }
@@ -158,7 +158,7 @@ fn run<R: Threads + Wait + Sync, G: Gate>(
     log_of_run(rt, alloc, board, script, gate)
 }
 
-/// The text of a command, from what it read. Only `run` may wait.
+/// The text of a command, from what it read. Only that of `run` may wait.
 pub(crate) fn text_of<R: Threads + Wait + Sync, G: Gate>(
     rt: &R,
     alloc: Global,

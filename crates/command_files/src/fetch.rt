@@ -27,7 +27,7 @@ const IMAGE_LIMIT: usize = 0x280_0000;
 /// The most bytes of input: 1 MiB.
 const INPUT_LIMIT: usize = 0x10_0000;
 
-/// The most bytes of a file.
+/// The most bytes that a file may have.
 fn limit_of(which: Which) -> usize
     ensures limit { result ≡ limit_of which }
 {
@@ -41,7 +41,8 @@ fn limit_of(which: Which) -> usize
     }
 }
 
-/// Reads a file whole, of at most its limit.
+/// Reads a whole file. TooLong where it has more bytes than its limit, ReadFault where the shelf fails, NoMemory for
+/// want of memory.
 pub(crate) fn fetch<S: Shelf>(
     alloc: Global,
     shelf: &mut S,

@@ -39,7 +39,7 @@ impl From<AllocError> for FileFault {
     }
 }
 
-/// How many bytes are asked of a shelf at once.
+/// How many bytes one call of a shelf reads at most.
 const PIECE: usize = 0x1_0000;
 
 /// Zeros, as many as asked for.
@@ -57,8 +57,8 @@ fn append(bytes: &mut Vec<u8>, more: &[u8]) -> Result<(), AllocError>
     bytes.extend_from_slice(more)
 }
 
-/// Reads on where `bytes` ends, at most as much as `piece` holds, and tells how many bytes came: none
-/// at the end of the file.
+/// Reads on where `bytes` ends, at most as much as `piece` holds, and returns how many bytes were read: none at the end
+/// of the file.
 fn read_on<S: Shelf>(
     shelf: &mut S,
     name: &str,

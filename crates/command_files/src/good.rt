@@ -16,7 +16,8 @@ use board_image::{Image, read_image};
 use script_text::{Script, read_script};
 use std::alloc::Global;
 
-/// What a script says, of at most the limit of one.
+/// The script that these bytes spell, which are within the limit of a script. BadScript, with the first bad line, where
+/// they spell none; NoMemory for want of memory.
 pub(crate) fn good_script(alloc: Global, bytes: &[u8]) -> Result<Script, Status>
     requires fits { length bytes.now ≤ limit_of Which.Script }
     ensures said { IfOk result (λ script. IsScriptText bytes.now (said_of script)) }
@@ -27,7 +28,7 @@ pub(crate) fn good_script(alloc: Global, bytes: &[u8]) -> Result<Script, Status>
     Ok(script)
 }
 
-/// A BIOS ROM, where it has 64, 128, 256 or 512 KiB.
+/// These bytes as a BIOS ROM. BadImage where they are not 64, 128, 256 or 512 KiB.
 pub(crate) fn good_rom(bytes: Vec<u8>) -> Result<Vec<u8>, Status>
     ensures same { IfOk result (λ rom. rom.items ≡ bytes.items) }
     ensures size { IfOk result (λ rom. IsRomSize (length bytes.items)) }
@@ -40,7 +41,7 @@ pub(crate) fn good_rom(bytes: Vec<u8>) -> Result<Vec<u8>, Status>
     }
 }
 
-/// A disk, where it has 1 to 65,536 whole sectors.
+/// These bytes as a disk. BadImage where they are not 1 to 65,536 whole sectors of 512 bytes.
 pub(crate) fn good_disk(bytes: Vec<u8>) -> Result<Vec<u8>, Status>
     ensures same { IfOk result (λ disk. disk.items ≡ bytes.items) }
     ensures size { IfOk result (λ disk. IsDiskSize (length bytes.items)) }
@@ -53,7 +54,7 @@ pub(crate) fn good_disk(bytes: Vec<u8>) -> Result<Vec<u8>, Status>
     }
 }
 
-/// What an image says.
+/// The setup and the steps of an image of a board. BadImage where these bytes are none; NoMemory for want of memory.
 pub(crate) fn good_image(alloc: Global, bytes: &[u8]) -> Result<Image, Status>
     ensures image { IfOk result (λ image. IsImage image.setup image.steps
         × (bytes.now ≡ image_bytes image.setup image.steps)) }

@@ -1,4 +1,4 @@
-//! What the words and the files of a command ask for.
+//! A law of the status that the words and the files of a command ask for.
 
 ghost use Rattle.command_files.specs.Laws.{OneStatus};
 

@@ -1,4 +1,4 @@
-//! The files of a command: which it reads, in which order, and what is known of them then; and how a command ends.
+//! The files of a command: which it reads, in which order, and what they must be; and how a command ends.
 #![tactic(auto)]
 
 mod fetch;

@@ -1,4 +1,4 @@
-//! What a person is told of a status.
+//! The text of each status, for a person.
 
 ghost use Rattle.std.specs.Prelude.{◌≡◌, string_bytes, IfOk};
 ghost use Rattle.command_files.specs.FaultText.{name_of, text_of};

@@ -13,7 +13,7 @@ use script_text::Script;
 use std::alloc::Global;
 use std::marker::Model;
 
-/// The name of the ROM, which a script says.
+/// The name of the ROM, where a script was read.
 fn rom_name(script: &Option<Script>) -> Option<&str>
     ensures name { option_map (λ name. name.now) result ≡ rom_of (option_map said_of script.now) }
 {
@@ -21,7 +21,7 @@ fn rom_name(script: &Option<Script>) -> Option<&str>
     Some(script.rom.as_str())
 }
 
-/// The name of the disk, where a script says one.
+/// The name of the disk, where a script was read and names one.
 fn disk_name(script: &Option<Script>) -> Option<&str>
     ensures name { option_map (λ name. name.now) result ≡ disk_of (option_map said_of script.now) }
 {
@@ -30,8 +30,8 @@ fn disk_name(script: &Option<Script>) -> Option<&str>
     Some(disk.as_str())
 }
 
-/// What the files say that a command has read. Of a file that it does not read nothing is known: no script, image or disk,
-/// and no bytes of the others.
+/// What the files have that a command has read. For a file that it does not read there is nothing: no script, image or
+/// disk, and no bytes of the others.
 #[derive(Drop)]
 pub struct Read {
     pub script: Option<Script>,
@@ -42,7 +42,7 @@ pub struct Read {
     /// The log that is checked, at most 64 MiB.
     pub log: Vec<u8>,
     pub image: Option<Image>,
-    /// What the serial port receives, at most 1 MiB.
+    /// The bytes that the serial port receives, at most 1 MiB.
     pub input: Vec<u8>,
 }
 
@@ -70,7 +70,7 @@ impl Read {
     ghost use Rattle.command_files.specs.Known.{nothing_known, name_of, Learns};
     ghost use Rattle.command_files.specs.Steps.{HasRange, IsBad};
 
-    /// What is known before a file was read.
+    /// What is known before the first file is read: nothing.
     pub(crate) fn nothing(alloc: Global) -> Read
         ensures nothing { result ≡ nothing_known }
     {
@@ -84,8 +84,8 @@ impl Read {
         }
     }
 
-    /// The name of a file of a command: it stands in the words, or in the script that was read. None where there is no such
-    /// file.
+    /// The name of a file that a command reads: it is in the command's words, or in the script that was read. None
+    /// where there is no such file.
     pub(crate) fn name_of<'a>(&'a self, command: &'a Command, which: Which) -> Option<&'a str>
         ensures name { option_map (λ name. name.now) result ≡ name_of (said_by command.now) self.now which }
     {
@@ -96,7 +96,8 @@ impl Read {
         }
     }
 
-    /// Takes the bytes of a file within its limit, where they are good.
+    /// Keeps what the bytes of a file have, which are within its limit. Refused with the file's status where they are
+    /// bad.
     pub(crate) fn learn(
         &mut self,
         alloc: Global,

@@ -13,22 +13,22 @@ use script_text::ScriptFault;
 #[derive(Clone, Copy, PartialEq, Eq, Debug)]
 pub enum Which {
     Script,
-    /// The BIOS ROM, whose name the script says.
+    /// The BIOS ROM, which the script names.
     Rom,
-    /// The disk, whose name the script says where one is fitted.
+    /// The disk, which the script names where one is fitted.
     Disk,
     /// The log that is checked.
     Log,
     /// The image that is resumed.
     Image,
-    /// What the serial port receives.
+    /// The bytes that the serial port receives.
     Input,
 }
 
 /// How a command ended.
 #[derive(Clone, Copy, PartialEq, Eq, Debug)]
 pub enum Status {
-    /// All was done, and the whole text was put.
+    /// All was done, and the whole text was written.
     Done,
     /// The words are no command.
     Usage,
@@ -38,15 +38,16 @@ pub enum Status {
     WriteFault,
     /// A file is longer than its limit.
     TooLong(Which),
-    /// The script is refused at a line, counted from 1, for a reason.
+    /// The script is refused: at a line, counted from 1, for a reason by its number.
     BadScript { line: u32, why: u8 },
-    /// A ROM or a disk has another length than one of its kind, or an image is none.
+    /// A ROM or a disk has a length that none can have, or an image is not one of a board.
     BadImage(Which),
-    /// The log that is checked has a line, counted from 1, which no log of the script has after the same lines.
+    /// The log that is checked has a line, counted from 1, that no log of the script has after the lines before it.
     Differs { line: u32 },
     /// There was no memory.
     NoMemory,
-    /// The script asks for another board than that of the image: other memory, other cards, or a disk where it has none.
+    /// The script is for another board than that of the image: with other memory or other cards, or one of them has a
+    /// disk and the other none.
     OtherBoard,
 }
 

@@ -7,13 +7,13 @@ ghost use Rattle.command_files.specs.Table.{files_of, script_name, log_name, ima
 use crate::status::Which;
 use command_words::{Alone, Command};
 
-/// The board that a script asks for: the script, then the ROM and the disk that it names.
+/// The files of a script's board: the script, then the ROM and the disk that it names.
 const WITH_BOARD: [Which; 3] = [Which::Script, Which::Rom, Which::Disk];
 
 const WITH_LOG: [Which; 4] = [Which::Script, Which::Rom, Which::Disk, Which::Log];
 
 const WITH_INPUT: [Which; 4] = [Which::Script, Which::Rom, Which::Disk, Which::Input];
-/// An image has a ROM and a disk of its own.
+/// The files of `resume`: no ROM and no disk, which are in the image.
 const RESUMED: [Which; 2] = [Which::Image, Which::Script];
 
 /// The files that a command reads, in their order.

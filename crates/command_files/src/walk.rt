@@ -18,7 +18,7 @@ use board_base::Shelf;
 use command_words::Command;
 use std::alloc::Global;
 
-/// Reads the next file of a command, where it has a name.
+/// Reads a file of a command, where it has a name. Refused where it cannot be read or is bad.
 fn read_next<S: Shelf>(
     alloc: Global,
     shelf: &mut S,
@@ -44,8 +44,8 @@ fn read_next<S: Shelf>(
     read.learn(alloc, which, bytes)
 }
 
-/// Reads the files of a command in their order, each once: the next only where the one before is good. The first that is
-/// not is the answer.
+/// Reads the files of a command in their order, each once. Refused at the first that cannot be read or is bad, with its
+/// status; those after it are not read.
 pub fn read_files<S: Shelf>(alloc: Global, shelf: &mut S, command: &Command) -> Result<Read, Status>
     ensures read { IfOk result (λ read. OfFiles (S.files shelf.old)
         (λ files. AllRead (said_by command.now) files read)) }

@@ -21,7 +21,7 @@ use map_builder::Range;
 use script_text::Script;
 use std::alloc::Global;
 
-/// Appends a range as the address map has it, without its line feed.
+/// Appends the line of a range as `map` writes it, without its line feed.
 fn push_range_words(text: &mut String, range: &Range) -> Result<(), NoMemory>
     ensures appended { OnOk result (Adds text.old text.new (range_text (range_of range.now))) }
 {
@@ -30,7 +30,7 @@ fn push_range_words(text: &mut String, range: &Range) -> Result<(), NoMemory>
     Ok(())
 }
 
-/// Appends a version of the map and the number of its entry.
+/// Appends a version of the map, and the number of the entry that brought it there.
 fn push_version(text: &mut String, writes: &MapWrites, version: u32) -> Result<(), NoMemory>
     requires version { version ≤ length writes.now.entries.items }
     ensures appended { (setup : Setup) (history : List Entry) → AreWritesOf setup history writes.now
@@ -42,7 +42,7 @@ fn push_version(text: &mut String, writes: &MapWrites, version: u32) -> Result<(
     push_words(text, "\n")
 }
 
-/// Appends the line of a range.
+/// Appends the line of a range, with the version since which it stands.
 fn push_blamed(text: &mut String, writes: &MapWrites, blamed: &Blamed) -> Result<(), NoMemory>
     requires version { blamed.now.since ≤ length writes.now.entries.items }
     ensures appended { (setup : Setup) (history : List Entry) → AreWritesOf setup history writes.now
@@ -53,7 +53,7 @@ fn push_blamed(text: &mut String, writes: &MapWrites, blamed: &Blamed) -> Result
     push_version(text, writes, blamed.since)
 }
 
-/// Appends the line of a map write that is kept.
+/// Appends the line of a map write on which the map rests.
 fn push_keep(text: &mut String, writes: &MapWrites, version: u32) -> Result<(), NoMemory>
     requires version { version ≤ length writes.now.entries.items }
     ensures appended { (setup : Setup) (history : List Entry) → AreWritesOf setup history writes.now
@@ -75,7 +75,7 @@ fn push_ranges(text: &mut String, writes: &MapWrites, ranges: &[Blamed]) -> Resu
     Ok(())
 }
 
-/// Appends the lines of map writes that are kept.
+/// Appends the lines of the map writes on which the map rests.
 fn push_keeps(text: &mut String, writes: &MapWrites, keep: &[u32]) -> Result<(), NoMemory>
     requires versions { All (λ version. version ≤ length writes.now.entries.items) keep.now }
     ensures appended { (setup : Setup) (history : List Entry) → AreWritesOf setup history writes.now
@@ -87,7 +87,7 @@ fn push_keeps(text: &mut String, writes: &MapWrites, keep: &[u32]) -> Result<(),
     Ok(())
 }
 
-/// The text of a report on map writes.
+/// The text of `blame`, from its report.
 fn report_text(alloc: Global, writes: &MapWrites, report: &BlameReport) -> Result<Text, NoMemory>
     requires ranges { All (λ blamed. blamed.since ≤ length writes.now.entries.items) report.now.ranges.items }
     requires keep { All (λ version. version ≤ length writes.now.entries.items) report.now.keep.items }

@@ -12,7 +12,7 @@ use pci_bars::CardSpec;
 use script_text::Script;
 use std::alloc::Global;
 
-/// Cards like these, for a board to keep.
+/// A copy of these cards, for a board to keep.
 fn copies(alloc: Global, cards: &[CardSpec]) -> Result<Vec<CardSpec>, NoMemory>
     requires listed { IsCardList cards.now }
     ensures equal { IfOk result (λ copies. copies.items ≡ cards.now) }

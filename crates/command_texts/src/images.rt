@@ -18,7 +18,8 @@ use pci_bars::CardSpec;
 use script_text::Script;
 use std::alloc::Global;
 
-/// The version of the log of a board that was resumed, whatever the version of the script: it has all kinds of steps.
+/// The version of the log of a resumed board, whatever the version of the script: version 2 has all kinds of
+/// statements, and the image can hold any of them.
 const LOG_VERSION: u8 = 2;
 
 /// Whether two cards are equal.
@@ -31,7 +32,7 @@ fn is_same_card(card: &CardSpec, other: &CardSpec) -> bool
     card.bases == other.bases
 }
 
-/// Whether cards are equal to others, one by one.
+/// Whether two lists have equal cards in the same order.
 fn are_same_cards(cards: &[CardSpec], others: &[CardSpec]) -> bool
     ensures same { (result ≡ true) ↔ (cards.now ≡ others.now) }
 {
@@ -46,7 +47,8 @@ fn are_same_cards(cards: &[CardSpec], others: &[CardSpec]) -> bool
     true
 }
 
-/// Whether a script is for a board with this setup: the memory, the cards, and whether there is a disk are the same.
+/// Whether a script is for a board with this setup: both have the same memory and the same cards, and both have a disk
+/// or neither has.
 pub fn is_same_board(setup: &Setup, script: &Script) -> bool
     ensures same { (result ≡ true) ↔ IsSameBoard setup.now (said_of script.now) }
 {
@@ -78,7 +80,7 @@ pub fn image_of_replay(alloc: Global, board: &mut Board, script: &Script) -> Res
     text_of_image(alloc, image)
 }
 
-/// The board of an image, after it did the statements of a script too.
+/// The board of an image, which has then done the statements of a script too.
 fn resumed(alloc: Global, image: Image, script: &Script) -> Result<Board, NoMemory>
     requires image { IsImage image.setup image.steps }
     requires in_range { IsInRangeScript (said_of script.now) }
@@ -92,8 +94,8 @@ fn resumed(alloc: Global, image: Image, script: &Script) -> Result<Board, NoMemo
     Ok(board)
 }
 
-/// The log of the board of an image which goes on with the statements of a script: of all that the board did, the steps
-/// of the image first. The ROM and the disk are those of the image. Its memory is given back before the log takes its
+/// The log of a board that goes on from an image with the statements of a script: first the steps of the image, then
+/// the script's. The ROM and the disk are those of the image. The image's memory is given back before the log takes its
 /// own.
 pub fn log_of_resumed(alloc: Global, image: Image, script: &Script) -> Result<Text, NoMemory>
     requires image { IsImage image.setup image.steps }

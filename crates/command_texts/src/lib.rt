@@ -1,4 +1,4 @@
-//! The texts of the commands: what each gives for the board and the script that it was handed.
+//! The texts that the commands write, each from a script and its board.
 #![tactic(auto)]
 
 mod blame;

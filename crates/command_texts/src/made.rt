@@ -1,4 +1,4 @@
-//! The command `make`: a script of many rounds, replayed and summed up.
+//! The command `make`: the program makes a script of many rounds, replays it and sums it up.
 
 ghost use Rattle.std.specs.Prelude.{◌≡◌, ◌≤◌, [], IfOk};
 ghost use Rattle.script_spec.specs.ScriptText.{IsScriptText};
@@ -18,7 +18,7 @@ use make_script::{make_disk, make_rom, make_text, push_summary};
 use script_text::{Script, ScriptFault, read_script};
 use std::alloc::Global;
 
-/// The script of so many rounds, read from its text.
+/// The made script of so many rounds, read from its text.
 fn made_script(alloc: Global, rounds: u32) -> Result<Script, NoMemory>
     requires most { rounds ≤ most_rounds }
     ensures says { IfOk result (λ script. IsScriptText (make_text rounds) (said_of script)) }
@@ -33,7 +33,7 @@ fn made_script(alloc: Global, rounds: u32) -> Result<Script, NoMemory>
     }
 }
 
-/// The board that the script is made for, with the images that are made.
+/// The board of the made script, with the ROM and the disk that are made for it.
 fn made_board(alloc: Global, script: &Script) -> Result<Board, NoMemory>
     requires in_range { IsInRangeScript (said_of script.now) }
     ensures fresh { IfOk result (λ board. board ≡ record {
@@ -53,7 +53,7 @@ fn made_board(alloc: Global, script: &Script) -> Result<Board, NoMemory>
     }
 }
 
-/// The summary of what a board was asked, and of its address map.
+/// The summary of what a board did, and of its address map.
 fn summary_of(alloc: Global, board: &Board) -> Result<Text, NoMemory>
     ensures summary { IfOk result (λ text. HasSummary board.now.setup board.now.entries text) }
 {
@@ -69,7 +69,7 @@ fn summary_of(alloc: Global, board: &Board) -> Result<Text, NoMemory>
     Ok(text)
 }
 
-/// The summary of the replay of the script of so many rounds, 1 to 20,000. No file is read.
+/// The summary of the replay of the made script of so many rounds, 1 to 20,000. No file is read.
 pub fn summary_of_made(alloc: Global, rounds: u32) -> Result<Text, NoMemory>
     requires most { rounds ≤ most_rounds }
     ensures text { IfOk result (λ text. IsMakeText rounds text) }

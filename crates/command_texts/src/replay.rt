@@ -1,4 +1,4 @@
-//! What the commands do on the board of a script, and the texts that come of it.
+//! Replays of a script on its board, and the texts of `replay`, `map` and `check`.
 
 ghost use Rattle.std.specs.Prelude.{◌≡◌, ◌∷◌, ◌++◌, ◌≤◌, ◌⊎◌, ℕ, [], Ok, Err, length, map, flat_map, string_bytes, codes, decimal, IfOk, IfErr, OnOk, OnErr};
 ghost use Rattle.board_spec.specs.Legal.{IsLegal};
@@ -27,8 +27,8 @@ use map_builder::Range;
 use script_text::Script;
 use std::alloc::Global;
 
-/// Does the statements of a script in the order of its file, after what the board did before. One thread does it, and
-/// nobody is waited for. Where there is no memory the board is as before.
+/// Does the statements of a script in the order of its file, after what the board did before. One thread does all, and
+/// waits for nobody. Refused for want of memory; then the board is as before.
 pub(crate) fn do_statements(board: &mut Board, script: &Script) -> Result<(), NoMemory>
     requires in_range { IsInRangeScript (said_of script.now) }
     requires cards { board.old.setup.cards ≡ (said_of script.now).cards }
@@ -43,8 +43,8 @@ pub(crate) fn do_statements(board: &mut Board, script: &Script) -> Result<(), No
     Ok(())
 }
 
-/// Does the statements of a script in the order of its file, on a fresh board with its cards. Where there is no memory
-/// the board is as before.
+/// Does the statements of a script in the order of its file, on a fresh board with the script's cards. Refused for want
+/// of memory; then the board is as before.
 pub fn replay_script(board: &mut Board, script: &Script) -> Result<(), NoMemory>
     requires fresh { IsFreshFor (said_of script.now) board.old }
     ensures replay { OnOk result (IsReplayOf board.old.setup (statements_in (said_of script.now)) board.new.entries) }
@@ -54,9 +54,9 @@ pub fn replay_script(board: &mut Board, script: &Script) -> Result<(), NoMemory>
     do_statements(board, script)
 }
 
-/// Checks whether bytes are the log of a legal and complete history of a script, on a fresh board with its setup. It
-/// goes line by line, and names the first line that no such log has after the same lines. The board goes through the
-/// statements of the lines before the named one, and perhaps through that of the named line.
+/// Checks line by line whether bytes are the log of a legal and complete history of a script, on a fresh board of the
+/// script. Returns the number of entries, or the first line that no such log has after the lines before it. The board
+/// does the statements of the lines before that one, and perhaps the statement of that line too.
 pub fn check_log(
     alloc: Global,
     board: &mut Board,
@@ -78,7 +78,7 @@ pub fn check_log(
     log_check::check_log(alloc, board, script.version, &script.phases, bytes)
 }
 
-/// The log, of a version, of what a board did.
+/// The log of all that a board did, in a version of the format.
 pub(crate) fn log_of_board(alloc: Global, version: u8, board: &Board) -> Result<Text, NoMemory>
     ensures text { IfOk result (λ text. text ≡ log_text version board.now.entries) }
 {
@@ -121,7 +121,7 @@ pub fn map_after_replay(alloc: Global, board: &mut Board, script: &Script) -> Re
     Text::whole(alloc, text)
 }
 
-/// `legal` and a number of entries.
+/// The text `legal` with a number of entries.
 fn legal_text(alloc: Global, count: u32) -> Result<Text, NoMemory>
     ensures text { IfOk result (λ text. text ≡ codes "legal " ++ decimal count ++ line_feed ∷ []) }
 {
@@ -132,7 +132,8 @@ fn legal_text(alloc: Global, count: u32) -> Result<Text, NoMemory>
     Text::whole(alloc, text)
 }
 
-/// `legal` and the number of entries of a log, where it is that of a legal and complete history of a script.
+/// The text `legal` with the number of a log's entries, where the log is that of a legal and complete history of a
+/// script.
 pub fn verdict_on_log(
     alloc: Global,
     board: &mut Board,

@@ -21,10 +21,10 @@ use script_text::Script;
 use std::alloc::Global;
 use uart_16550::{SerialBoard, SerialReply};
 
-/// The most steps of the board for a statement: one for the byte that comes before it, and two for its event.
+/// The most steps of the board for one statement: one for the byte that is received before it, and two for its event.
 const MOST_STEPS: u32 = 3;
 
-/// The byte that an access sent.
+/// The byte that the port sent at an access, where it sent one.
 fn byte_in(reply: SerialReply) -> Option<u8>
     ensures byte { result ≡ byte_in reply }
 {
@@ -34,7 +34,7 @@ fn byte_in(reply: SerialReply) -> Option<u8>
     }
 }
 
-/// Receives the next byte of the input, where one is left and the port has room for it. Tells the input that is left.
+/// Receives the next byte of the input, where one is left and the port has room for it. Returns the input that is left.
 fn receive_next<'a>(serial: &mut SerialBoard<Board>, input: &'a [u8]) -> &'a [u8]
     requires standing { IsStanding serial.old }
     requires spare { 1 ≤ serial.old.board.spare }
@@ -53,7 +53,7 @@ fn receive_next<'a>(serial: &mut SerialBoard<Board>, input: &'a [u8]) -> &'a [u8
     left
 }
 
-/// Does a statement, and keeps the byte that it sends.
+/// Does a statement, and adds the byte that the port sends at it, if any, to `sent`.
 fn step(
     serial: &mut SerialBoard<Board>,
     statement: &Statement,
@@ -75,8 +75,8 @@ fn step(
     Ok(())
 }
 
-/// Does statements, and before each receives the next byte of the input. Keeps the bytes that are sent, and tells the
-/// input that is left.
+/// Does statements, and before each receives the next byte of the input. Adds the bytes that the port sends to `sent`,
+/// and returns the input that is left.
 fn steps<'a>(
     serial: &mut SerialBoard<Board>,
     statements: &[Statement],
@@ -98,7 +98,7 @@ fn steps<'a>(
     Ok(left)
 }
 
-/// Does the statements of all phases so.
+/// Does the statements of all phases as `steps` does.
 fn all_steps<'a>(
     serial: &mut SerialBoard<Board>,
     phases: &[Vec<Statement>],
@@ -119,7 +119,7 @@ fn all_steps<'a>(
     Ok(left)
 }
 
-/// A fresh board with a new serial port, and with room for what so many statements may do.
+/// A fresh board with a new serial port on COM1, and with room for the steps of so many statements.
 fn opened(mut board: Board, statements: u32) -> Result<SerialBoard<Board>, NoMemory>
     requires fresh { board.entries ≡ [] }
     requires few { statements ≤ most_statements }
@@ -133,8 +133,8 @@ fn opened(mut board: Board, statements: u32) -> Result<SerialBoard<Board>, NoMem
     Ok(SerialBoard::open(board))
 }
 
-/// The bytes that a board with a serial port sends during a script's replay. Before each statement the next byte of the
-/// input is received, where one is left and the port has room for it.
+/// The bytes that a board with a serial port sends during a script's replay. Before each statement it receives the next
+/// byte of the input, where one is left and the port has room for it.
 pub fn sent_in_replay(
     alloc: Global,
     board: Board,

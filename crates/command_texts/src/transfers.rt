@@ -20,7 +20,8 @@ use log_pieces::Text;
 use script_text::Script;
 use std::alloc::Global;
 
-/// A new bus master that a program has told to start: it wrote the table pointer and then the command.
+/// A bus master that was started: as after a program's writes of the table pointer, byte by byte, and then of the
+/// command.
 #[tactic(auto, unfolding(bus_master::specs::Registers::master_written))]
 fn start(transfer: &Transfer) -> BusMaster
     requires asked { IsTransfer transfer.now }
@@ -37,7 +38,7 @@ fn start(transfer: &Transfer) -> BusMaster
     master
 }
 
-/// The sum of the bytes of a part, at most a MiB.
+/// The sum of these bytes, of which there are at most a MiB.
 fn sum_of(bytes: &[u8]) -> u64
     requires few { length bytes.now ≤ bank_size }
     ensures sum { result ≡ sum_below (length bytes.now) (slice_index bytes.now) }
@@ -86,7 +87,7 @@ fn sector_sum(disk: &Ata) -> u64
     sum
 }
 
-/// Appends how a transfer ended.
+/// Appends the words for how a transfer ended.
 fn push_end(text: &mut String, end: End) -> Result<(), NoMemory>
     ensures appended { OnOk result (Adds text.old text.new (end_text end)) }
 {
@@ -99,7 +100,7 @@ fn push_end(text: &mut String, end: End) -> Result<(), NoMemory>
     }
 }
 
-/// Appends at which address nobody answered, and why.
+/// Appends the address at which nobody answered, and what denied the access.
 fn push_abort(text: &mut String, addr: u32, denial: Denial) -> Result<(), NoMemory>
     ensures appended { OnOk result (Adds text.old text.new (end_text (End.Abort addr denial))) }
 {
@@ -109,7 +110,7 @@ fn push_abort(text: &mut String, addr: u32, denial: Denial) -> Result<(), NoMemo
     push_denial(text, &Some(denial))
 }
 
-/// Appends which sector could not be read.
+/// Appends the number of the sector that does not exist or is bad.
 fn push_sector(text: &mut String, lba: u32) -> Result<(), NoMemory>
     ensures appended { OnOk result (Adds text.old text.new (end_text (End.Sector lba))) }
 {
@@ -129,7 +130,7 @@ fn push_ended(text: &mut String, done: Done, status: u8) -> Result<(), NoMemory>
     push_words(text, "\n")
 }
 
-/// Appends the line of the sums.
+/// Appends the line of the sums of DRAM and disk.
 fn push_sums(text: &mut String, dram: u64, disk: u64) -> Result<(), NoMemory>
     ensures appended { OnOk result (Adds text.old text.new (sums_line dram disk)) }
 {
@@ -140,7 +141,7 @@ fn push_sums(text: &mut String, dram: u64, disk: u64) -> Result<(), NoMemory>
     push_words(text, "\n")
 }
 
-/// Both lines.
+/// The text of both lines.
 fn transfer_text(
     alloc: Global,
     done: Done,
@@ -156,7 +157,7 @@ fn transfer_text(
     Text::whole(alloc, text)
 }
 
-/// Transfers what is asked on the store that is left of a board, and tells of it.
+/// Ends a board, does the transfer on its store, and gives the text of how it ended.
 fn transfer_on(alloc: Global, board: Board, transfer: &Transfer) -> Result<Text, NoMemory>
     requires asked { IsTransfer transfer.now }
     ensures text { IfOk result (HasTransferText board.setup board.entries transfer.now) }
@@ -175,8 +176,8 @@ fn transfer_on(alloc: Global, board: Board, transfer: &Transfer) -> Result<Text,
     )
 }
 
-/// How a transfer ends that is asked of the bus master after a script's replay on its board, and the sums of all bytes of
-/// the DRAM and of the disk after it.
+/// The text of a transfer of the bus master after a script's replay on its board: how it ended, and the sums of all
+/// bytes of the DRAM and of the disk after it.
 pub fn transfer_after_replay(
     alloc: Global,
     mut board: Board,

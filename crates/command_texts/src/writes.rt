@@ -29,7 +29,7 @@ pub(crate) struct MapWrites {
 }
 
 impl MapWrites {
-    /// Those of a history without entries.
+    /// The map writes of a history without entries: none.
     fn new(alloc: Global) -> MapWrites
         ensures none { (setup : Setup) → AreWritesOf setup [] result }
     {
@@ -49,7 +49,7 @@ impl MapWrites {
         Ok(())
     }
 
-    /// The number of the entry that brought the map to a version, and 0 for the version that it begins with.
+    /// The number of the entry that brought the map to a version. 0 for version 0, which the map begins with.
     pub fn entry_of(&self, version: u32) -> u32
         requires version { version ≤ length self.now.entries.items }
         ensures entry { (setup : Setup) (history : List Entry) → AreWritesOf setup history self.now
@@ -62,7 +62,7 @@ impl MapWrites {
     }
 }
 
-/// Does a statement, and notes the map write that it may be.
+/// Does a statement, and notes it where it is a map write.
 fn step_noting(
     board: &mut Board,
     writes: &mut MapWrites,

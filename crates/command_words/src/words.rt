@@ -8,39 +8,39 @@ ghost use Rattle.command_words.specs.Commands.{said_by};
 use crate::transfer::Transfer;
 use script_lines::{decimal_of, hex_of};
 
-/// The commands, as a user is told of them where the words are none.
+/// The usage text: the form of each command. Standard error gets it where the words are no command.
 pub const USAGE: &str =
     "usage: board replay FILE, run FILE, map FILE, check FILE LOG, make N, dma FILE in|out TABLE LBA COUNT, save FILE, resume IMAGE FILE, serial FILE INPUT, blame FILE";
 
-/// A command, with the names of the files that its words say.
+/// A command, with the file names and numbers that its words give.
 #[derive(Clone, Copy)]
 pub enum Command<'a> {
-    /// Puts the log of a run of a script, with a thread for each processor. It alone may wait.
+    /// Writes the log of a run of a script, with a thread for each processor. It alone may wait.
     Run(&'a str),
-    /// One that a single thread does.
+    /// A command that a single thread does.
     Alone(Alone<'a>),
 }
 
-/// A command that a single thread does, and waits for nobody.
+/// A command that a single thread does, which waits for nobody.
 #[derive(Clone, Copy)]
 pub enum Alone<'a> {
-    /// Puts the log of the replay of a script.
+    /// Writes the log of the replay of a script.
     Replay(&'a str),
-    /// Puts the address map after that replay.
+    /// Writes the address map after that replay.
     Map(&'a str),
-    /// Puts how many entries a log has, where it is that of a legal history of a script.
+    /// Writes how many entries a log has, where it is that of a legal history of a script.
     Check { script: &'a str, log: &'a str },
-    /// Puts the summary of the replay of a script of its own with 1 to 20,000 rounds. It reads no file.
+    /// Writes the summary of the replay of a script that the program makes, of 1 to 20,000 rounds. It reads no file.
     Make(u32),
-    /// Puts how a transfer of the bus master after the replay of a script ended.
+    /// Writes how a transfer of the bus master ended, which is done after the replay of a script.
     Dma { script: &'a str, transfer: Transfer },
-    /// Puts the image of the replay of a script.
+    /// Writes the image of the board after the replay of a script.
     Save(&'a str),
-    /// Puts the log of the board of an image that went on with a script.
+    /// Writes the log of the board of an image, which goes on with a script.
     Resume { image: &'a str, script: &'a str },
-    /// Puts the bytes that the serial port sends in a replay, while those of the input come in.
+    /// Writes the bytes that the serial port sends during a replay, while it receives those of the input.
     Serial { script: &'a str, input: &'a str },
-    /// Puts which map writes of the replay made the address map.
+    /// Writes the address map after a replay with the map writes that made it.
     Blame(&'a str),
 }
 
@@ -72,7 +72,7 @@ fn is_round_count(count: u32) -> bool
     count >= 1 && count <= MOST_ROUNDS
 }
 
-/// `make` with its word, a decimal of 1 to 20,000.
+/// The command `make` of its one word, a decimal of 1 to 20,000. None for other words.
 #[tactic(auto, unfolding(crate::specs::Words::make_of))]
 fn make_of<'a>(words: &'a [String]) -> Option<Command<'a>>
     ensures said { option_map said_by result ≡ make_of (map string_bytes words.now) }
@@ -98,7 +98,7 @@ fn is_transfer(transfer: &Transfer) -> bool
         && transfer.count <= MOST_SECTORS
 }
 
-/// `dma` of a script with this transfer, where there is one.
+/// The command `dma` of a script and a transfer. None where a number of the transfer is out of range.
 fn dma_with<'a>(script: &'a str, transfer: Transfer) -> Option<Command<'a>>
     ensures said { option_map said_by result ≡ dma_with script.now transfer }
     ensures called { IfSome result (λ command. IsCommand (said_by command)) }
@@ -110,7 +110,7 @@ fn dma_with<'a>(script: &'a str, transfer: Transfer) -> Option<Command<'a>>
     }
 }
 
-/// Whether a transfer is to memory.
+/// Whether a transfer is to memory: `in` is, `out` is not. None for another word.
 #[tactic(auto, unfolding(crate::specs::Words::direction_of))]
 fn direction_of(word: &str) -> Option<bool>
     ensures direction { result ≡ direction_of word.now }
@@ -122,7 +122,7 @@ fn direction_of(word: &str) -> Option<bool>
     }
 }
 
-/// The address of eight hexadecimal digits.
+/// The address that a word of eight hexadecimal digits spells. None for another word.
 fn address_of(word: &str) -> Option<u32>
     ensures address { result ≡ hex_of 8 word.now }
 {
@@ -130,7 +130,8 @@ fn address_of(word: &str) -> Option<u32>
     Some(address as u32)
 }
 
-/// `dma` with its words: the script, `in` or `out`, the address of the table, the first sector, and how many.
+/// The command `dma` of its words: the script, `in` or `out`, the address of the table, the first sector, and how many
+/// sectors. None for other words.
 #[tactic(auto, unfolding(crate::specs::Words::dma_of))]
 fn dma_of<'a>(words: &'a [String]) -> Option<Command<'a>>
     ensures said { option_map said_by result ≡ dma_of (map string_bytes words.now) }
@@ -154,7 +155,7 @@ fn dma_of<'a>(words: &'a [String]) -> Option<Command<'a>>
     )
 }
 
-/// The only word.
+/// The word, where there is one alone.
 fn name_of(words: &[String]) -> Option<&str>
     ensures name { option_map (λ name. name.now) result ≡ name_of (map string_bytes words.now) }
 {
@@ -164,7 +165,7 @@ fn name_of(words: &[String]) -> Option<&str>
     }
 }
 
-/// The two words, where there are two.
+/// The two words, where there are two and no more.
 fn names_of(words: &[String]) -> Option<(&str, &str)>
     ensures names { option_map (λ names. (names.0.now, names.1.now)) result ≡ names_of (map string_bytes words.now) }
 {
@@ -174,7 +175,7 @@ fn names_of(words: &[String]) -> Option<(&str, &str)>
     }
 }
 
-/// `check` with its words: the script and the log.
+/// The command `check` of its words: the script and the log.
 fn check_of<'a>(words: &'a [String]) -> Option<Command<'a>>
     ensures said { option_map said_by result ≡ with_names Check (map string_bytes words.now) }
     ensures called { IfSome result (λ command. IsCommand (said_by command)) }
@@ -183,7 +184,7 @@ fn check_of<'a>(words: &'a [String]) -> Option<Command<'a>>
     Some(Command::Alone(Alone::Check { script, log }))
 }
 
-/// `resume` with its words: the image, and then the script.
+/// The command `resume` of its words: the image, and then the script.
 fn resume_of<'a>(words: &'a [String]) -> Option<Command<'a>>
     ensures said { option_map said_by result ≡ with_names Resume (map string_bytes words.now) }
     ensures called { IfSome result (λ command. IsCommand (said_by command)) }
@@ -192,7 +193,7 @@ fn resume_of<'a>(words: &'a [String]) -> Option<Command<'a>>
     Some(Command::Alone(Alone::Resume { image, script }))
 }
 
-/// `serial` with its words: the script and the input.
+/// The command `serial` of its words: the script and the input.
 fn serial_of<'a>(words: &'a [String]) -> Option<Command<'a>>
     ensures said { option_map said_by result ≡ with_names Serial (map string_bytes words.now) }
     ensures called { IfSome result (λ command. IsCommand (said_by command)) }
@@ -201,8 +202,8 @@ fn serial_of<'a>(words: &'a [String]) -> Option<Command<'a>>
     Some(Command::Alone(Alone::Serial { script, input }))
 }
 
-/// The command that the words ask for. None where they are no command: another verb, more words or fewer, or a number
-/// that is not spelled as a script spells it or is out of its range.
+/// The command that the words are. None where they are none: another first word, more or fewer words, or a number that
+/// is out of its range or not spelled as in a script.
 #[tactic(auto, unfolding(crate::specs::Words::command_of))]
 pub fn command_of(words: &[String]) -> Option<Command<'_>>
     ensures said { option_map said_by result ≡ asked words.now }
@@ -226,7 +227,7 @@ pub fn command_of(words: &[String]) -> Option<Command<'_>>
     }
 }
 
-/// Words ask for a command exactly where they are its words, and for one at most.
+/// `command_of` finds a command exactly where the words are its words, and words are those of one command at most.
 pub fn law_words()
     ensures decided { WordsDecide }
     ensures one { OneCommand }

@@ -25,8 +25,8 @@ pub const CAPACITY: usize = 160;
 /// The ranges of a map in rising order of address.
 pub type Ranges = FixedList<Range, CAPACITY>;
 
-/// The flat map of registers: from the first address on, the areas at each edge go on in the range below where it has
-/// the same, and else begin a range.
+/// The ranges of the flat map of these registers. At each edge, from address 0 on, the range below goes on where the
+/// areas are the same, and else a new range begins. Each row that is looked up is a step.
 pub fn ranges_of<L: Ledger>(regs: &MapRegs, steps: &mut Steps<L>) -> Ranges
     requires cards { AreFitted regs.now.cards.items }
     requires board { HasBoard (map_bytes regs.now) }
@@ -42,9 +42,9 @@ pub fn ranges_of<L: Ledger>(regs: &MapRegs, steps: &mut Steps<L>) -> Ranges
     ranges
 }
 
-/// Makes the ranges those of the registers, where they were a map that differs in some windows alone: those in the
-/// windows are built anew, the others stay, and equal neighbours at the borders become one. `before` is room for the
-/// ranges as they were: what it holds does not matter, then or afterwards.
+/// Brings a map's ranges up to date with the registers, where they are right outside `windows`: inside them they are
+/// built anew, outside they stay, and neighbours with equal areas become one. `before` is working room: what it holds
+/// before the call and after it does not matter.
 pub fn rebuild<L: Ledger>(
     ranges: &mut Ranges,
     before: &mut [Range; CAPACITY],
@@ -73,7 +73,7 @@ pub fn rebuild<L: Ledger>(
     sweep(ranges, before, regs, windows, steps);
 }
 
-/// Builds the ranges in some windows anew, and takes the others from the map as it was.
+/// Builds the ranges inside the windows anew, and takes those outside from `before`, the map as it was.
 fn sweep<L: Ledger>(
     ranges: &mut Ranges,
     before: &[Range],
@@ -106,7 +106,7 @@ fn sweep<L: Ledger>(
     finish(ranges, last, before, from, hi);
 }
 
-/// The range that begins at the first address, as long as no other follows.
+/// The range that begins at address 0. It is open: it reaches to the last address until a next range is begun.
 fn first_range<L: Ledger>(regs: &MapRegs, steps: &mut Steps<L>) -> Range
     requires cards { AreFitted regs.now.cards.items }
     ensures built { IsBuilt (map_bytes regs.now) [] (range_of result) 0 }
@@ -119,8 +119,8 @@ fn first_range<L: Ledger>(regs: &MapRegs, steps: &mut Steps<L>) -> Range
     }
 }
 
-/// Leaves of a map the ranges below an address, and gives the last range as it stands at the address. `from` is the
-/// index of the range that holds the address below.
+/// Keeps of the ranges those below the address `lo`, and returns the open range that has `lo`. `from` is the index of
+/// the range that has the address below `lo`.
 fn cut_below<L: Ledger>(
     ranges: &mut Ranges,
     before: &[Range],
@@ -148,7 +148,7 @@ fn cut_below<L: Ledger>(
     range_at(ranges, last, lo, row(regs, lo, steps))
 }
 
-/// Goes on with the row of an address, where the ranges are built up to the one below it. Gives the last of them.
+/// Builds on with the row of an address, where the ranges are built up to the address below it. Returns the open range.
 fn row_at<L: Ledger>(
     ranges: &mut Ranges,
     last: Range,
@@ -166,8 +166,8 @@ fn row_at<L: Ledger>(
     range_at(ranges, last, addr, row(regs, addr, steps))
 }
 
-/// Goes on with the ranges of a map after an address up to another, and gives the last of them. The range at the index
-/// `from` begins at the address or below it.
+/// Builds on with the ranges of the map as it was, for the addresses above `after` up to `until`. Returns the open
+/// range. In `before`, the range at index `from` begins at `after` or below.
 fn keep(
     ranges: &mut Ranges,
     last: Range,
@@ -205,8 +205,8 @@ fn keep(
     }
 }
 
-/// Ends the ranges with those of a map after an address. The range at the index `from` begins at the address or below
-/// it.
+/// Builds on to the last address with the ranges of the map as it was, for all addresses above `after`. In `before`,
+/// the range at index `from` begins at `after` or below.
 fn finish(ranges: &mut Ranges, last: Range, before: &[Range], from: usize, after: u32)
     requires tiles { Tiles 0 (map range_of before.now) }
     requires from { Begins before.now from after }
@@ -228,7 +228,8 @@ fn finish(ranges: &mut Ranges, last: Range, before: &[Range], from: usize, after
     ranges.extend(&before[index + 1..]);
 }
 
-/// The index of the range that holds an address, where the range at this index begins at the address or below it.
+/// The index of the range that has an address, searched from index `from` on, whose range begins at the address or
+/// below.
 fn index_from(ranges: &[Range], from: usize, addr: u32) -> usize
     requires tiles { Tiles 0 (map range_of ranges.now) }
     requires from { Begins ranges.now from addr }
@@ -242,7 +243,8 @@ fn index_from(ranges: &[Range], from: usize, addr: u32) -> usize
     index
 }
 
-/// Builds the ranges on from the first to the last address of an interval, and gives the last of them.
+/// Builds on through an interval, from `first`, the open range at its first address. Each edge inside is looked up.
+/// Returns the open range at its last address.
 #[inline(always)]
 fn rows_in<L: Ledger>(
     ranges: &mut Ranges,
@@ -269,7 +271,7 @@ fn rows_in<L: Ledger>(
     last
 }
 
-/// The least edge above an address and at most at another.
+/// The least edge above `addr`, where there is one up to `hi`.
 #[inline(always)]
 fn edge_up_to(regs: &MapRegs, addr: u32, hi: u32) -> Option<u32>
     requires cards { AreFitted regs.now.cards.items }
@@ -286,8 +288,8 @@ fn edge_up_to(regs: &MapRegs, addr: u32, hi: u32) -> Option<u32>
     }
 }
 
-/// The range of an address with these areas, where the last range is this one so far: it goes on where it has the same
-/// areas. Else it ends below the address, is pushed, and a new range begins.
+/// The open range at `addr`, where the areas are those of `row` and `last` was the open range below. It is `last` where
+/// that has the same areas. Else `last` ends below `addr` and is pushed, and a new range begins.
 fn range_at(ranges: &mut Ranges, last: Range, addr: u32, row: SixAreas) -> Range
     requires room { length ranges.old.items < 160 }
     requires above { last.lo < addr }

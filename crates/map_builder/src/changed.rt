@@ -1,4 +1,4 @@
-//! The windows of the address map that a change of the registers may change.
+//! The windows of addresses that a change of the registers covers: those in which it may change the areas.
 ghost use Rattle.std.specs.Prelude.{true, false, ◌||◌, ◌≡◌, ◌≤◌, ◌<◌, ◌+◌, ◌-◌, ◌*◌, ◌++◌, [], ◌∷◌, All, length, map};
 ghost use Rattle.board_spec.specs.declared.map_change.MapChange.TheVariants.{Store};
 ghost use Rattle.board_spec.specs.Setup.{Setup, IsBase, IsCard, IsExpansionRom};
@@ -32,18 +32,19 @@ pub const EVERYTHING: Changed = Changed {
 };
 /// The first PAM register that governs two shadow windows.
 const PAM1: u8 = PAM0 + 1;
-/// The addresses that a row of DRAM can have.
+/// The addresses that can belong to a row of DRAM.
 const ROWS: Changed = Changed {
     lo: 0,
     hi: LARGEST_TOP - 1,
 };
-/// How many addresses the two windows of a PAM register have.
+/// How many addresses the two windows of a PAM register after PAM0 have together.
 const PAM_SIZE: u32 = 0x8000;
 
-/// The windows that a change covers: as many as four register bytes can govern, before a change and after it.
+/// Windows that a change covers. There is room for those of four register bytes, before the change and after it.
 pub type Covered = FixedList<Changed, 64>;
 
-/// Adds the windows that the registers govern which a change covers, by what they hold now.
+/// Adds the windows that a change covers, as the registers are now: those of each register byte that it stores to. A
+/// hard reset covers every address.
 #[tactic(auto, unfolding(crate::specs::Changed::windows_covered))]
 pub fn push_covered(windows: &mut Covered, regs: &MapRegs, change: &MapChange)
     requires cards { AreFitted regs.now.cards.items }
@@ -58,7 +59,8 @@ pub fn push_covered(windows: &mut Covered, regs: &MapRegs, change: &MapChange)
     }
 }
 
-/// Adds them by what the registers hold after the change, unless they are known to be the same.
+/// Adds the windows that a change covers, as the registers are after it, unless `same` says that they are those from
+/// before.
 pub fn push_again(windows: &mut Covered, same: bool, regs: &MapRegs, change: &MapChange)
     requires cards { AreFitted regs.now.cards.items }
     requires room { length windows.old.items ≤ 32 }
@@ -72,15 +74,16 @@ pub fn push_again(windows: &mut Covered, same: bool, regs: &MapRegs, change: &Ma
     }
 }
 
-/// Whether the windows that a change covers are known to be the same after it as before: where the register keeps its
-/// byte, and where none of them rests on what the registers hold.
+/// Whether the windows that a change covers are known to be the same after it as before: because the register keeps its
+/// byte (`kept`), or because no register's value moves them.
 pub fn keeps_windows(kept: bool, change: &MapChange) -> bool
     ensures keeps { result ≡ (kept || is_fixed change.now) }
 {
     kept || is_fixed(change)
 }
 
-/// Whether no window that a change covers rests on what the registers hold: a hard reset, and a store to a bridge.
+/// Whether no register's value moves the windows that a change covers: those of a hard reset, and of a store to device
+/// 0 or 1.
 fn is_fixed(change: &MapChange) -> bool
     ensures fixed { result ≡ is_fixed change.now }
 {
@@ -90,7 +93,7 @@ fn is_fixed(change: &MapChange) -> bool
     }
 }
 
-/// Adds the windows of the registers that a store covers.
+/// Adds the windows of each register byte that a store goes to.
 fn push_of_store(windows: &mut Covered, regs: &MapRegs, reg: Reg, width: Width)
     requires cards { AreFitted regs.now.cards.items }
     requires room { length windows.old.items ≤ 32 }
@@ -104,7 +107,7 @@ fn push_of_store(windows: &mut Covered, regs: &MapRegs, reg: Reg, width: Width)
     }
 }
 
-/// Adds the windows of the registers that a store covers, one after another.
+/// Adds the windows of each of the two or four register bytes that a store goes to.
 fn push_of_wide_store(windows: &mut Covered, regs: &MapRegs, reg: Reg, width: Width)
     requires cards { AreFitted regs.now.cards.items }
     requires room { length windows.old.items ≤ 32 }
@@ -117,7 +120,7 @@ fn push_of_wide_store(windows: &mut Covered, regs: &MapRegs, reg: Reg, width: Wi
     }
 }
 
-/// Adds the windows of the register `k` offsets after another. None past offset FFh.
+/// Adds the windows of the register `k` offsets above another. Past offset FFh there is none.
 fn push_after(windows: &mut Covered, regs: &MapRegs, reg: Reg, k: u8)
     requires cards { AreFitted regs.now.cards.items }
     requires room { length windows.old.items ≤ 56 }
@@ -131,7 +134,7 @@ fn push_after(windows: &mut Covered, regs: &MapRegs, reg: Reg, k: u8)
     }
 }
 
-/// Adds the windows that a register governs.
+/// Adds the windows of a register: the addresses whose areas can depend on it.
 fn push_of_register(windows: &mut Covered, regs: &MapRegs, reg: Reg)
     requires cards { AreFitted regs.now.cards.items }
     requires room { length windows.old.items ≤ 56 }
@@ -210,7 +213,7 @@ fn push_of_isa(windows: &mut Covered, off: u8)
     }
 }
 
-/// Adds the windows of a register of the card at a device number. None where there is no such card.
+/// Adds the windows of a register of the card at a device number. Where there is no such card there is none.
 fn push_of_device(windows: &mut Covered, cards: &[CardRegs], dev: u8, off: u8)
     requires cards { AreCards cards.now }
     requires room { length windows.old.items ≤ 56 }
@@ -238,7 +241,7 @@ fn push_of_card(windows: &mut Covered, card: &CardRegs, off: u8)
     }
 }
 
-/// Adds the memory bases of a card, its expansion ROM and its VGA window.
+/// Adds the addresses of a card's memory bases, its expansion ROM and its VGA window.
 fn push_of_command(windows: &mut Covered, card: &CardRegs)
     requires card { IsCard card.now.card }
     requires room { length windows.old.items ≤ 56 }
@@ -253,7 +256,7 @@ fn push_of_command(windows: &mut Covered, card: &CardRegs)
     }
 }
 
-/// Adds the expansion ROM of a card. None where it has none.
+/// Adds the addresses of a card's expansion ROM, where it has one.
 fn push_rom_of(windows: &mut Covered, card: &CardRegs)
     requires card { IsCard card.now.card }
     requires room { length windows.old.items ≤ 63 }
@@ -263,7 +266,7 @@ fn push_rom_of(windows: &mut Covered, card: &CardRegs)
     push_rom(windows, card.spec.rom, card.rom);
 }
 
-/// Adds the addresses that an expansion ROM with this register covers.
+/// Adds the addresses of an expansion ROM, where there is one, whose register has this value.
 fn push_rom(windows: &mut Covered, rom: Option<u8>, register: u32)
     requires rom { IsExpansionRom rom }
     requires room { length windows.old.items ≤ 63 }
@@ -276,7 +279,7 @@ fn push_rom(windows: &mut Covered, rom: Option<u8>, register: u32)
     }
 }
 
-/// Adds the memory bases among these that hold these values.
+/// Adds the addresses of each memory base among these, whose registers have these values.
 fn push_bases(windows: &mut Covered, bases: &[BaseSpec], values: &[u32; 6])
     requires bases { All IsBase (map base_of bases.now) }
     requires count { length bases.now ≤ 6 }
@@ -289,7 +292,7 @@ fn push_bases(windows: &mut Covered, bases: &[BaseSpec], values: &[u32; 6])
     }
 }
 
-/// Adds a base of a card, 0 to 5. None where it does not exist, or is for I/O ports.
+/// Adds the addresses of a card's base 0 to 5, where it exists and is for memory.
 fn push_base_of(windows: &mut Covered, card: &CardRegs, index: usize)
     requires card { IsCard card.now.card }
     requires index { index < 6 }
@@ -300,7 +303,8 @@ fn push_base_of(windows: &mut Covered, card: &CardRegs, index: usize)
     push_base_at(windows, &card.spec.bases, &card.bases, index);
 }
 
-/// Adds one of these bases that hold these values. None where it does not exist, or is for I/O ports.
+/// Adds the addresses of the base at an index, where it exists and is for memory. The registers of the bases have these
+/// values.
 fn push_base_at(windows: &mut Covered, bases: &[BaseSpec], values: &[u32; 6], index: usize)
     requires bases { All IsBase (map base_of bases.now) }
     requires index { index < 6 }
@@ -314,7 +318,7 @@ fn push_base_at(windows: &mut Covered, bases: &[BaseSpec], values: &[u32; 6], in
     }
 }
 
-/// Adds the addresses that a base decodes where it holds this value. None where it is for I/O ports.
+/// Adds the addresses of a base whose register has this value, where it is for memory.
 fn push_base(windows: &mut Covered, base: BaseSpec, value: u32)
     requires base { IsBase (base_of base) }
     requires room { length windows.old.items ≤ 63 }
@@ -327,7 +331,7 @@ fn push_base(windows: &mut Covered, base: BaseSpec, value: u32)
     }
 }
 
-/// The addresses that agree with this one but in the low bits.
+/// The 2^`bits` addresses that differ from `inside` in the low `bits` bits alone.
 fn block(inside: u32, bits: u8) -> Changed
     requires bits { bits ≤ 24 }
     ensures block { result ≡ block inside bits }

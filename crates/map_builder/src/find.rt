@@ -34,7 +34,7 @@ pub fn index_of(ranges: &[Range], addr: u32) -> usize
     ranges.partition_point(|range| range.hi < addr)
 }
 
-/// The place of a kind of access among the areas of a row.
+/// The column of a kind of access among the six areas of a row: fetch, read and write outside SMM, and then in SMM.
 fn column_of(kind: Kind, smm: bool) -> usize
     ensures below { result < 6 }
     ensures column { (setup : Setup) (bytes : Bytes) (addr : ℕ)
@@ -59,7 +59,7 @@ fn area_at(ranges: &[Range], index: usize, column: usize) -> Area
     ranges[index].row.areas[column]
 }
 
-/// The index of the first of the ranges up to this one that have its area in a column.
+/// The index of the first range from which on all ranges up to this one have its area in a column.
 fn first_alike(ranges: &[Range], index: usize, column: usize) -> usize
     requires index { index < length ranges.now }
     requires column { column < 6 }
@@ -74,7 +74,7 @@ fn first_alike(ranges: &[Range], index: usize, column: usize) -> usize
     0
 }
 
-/// The index of the last of the ranges from this one on that have its area in a column.
+/// The index of the last range up to which all ranges from this one on have its area in a column.
 fn last_alike(ranges: &[Range], index: usize, column: usize) -> usize
     requires index { index < length ranges.now }
     requires column { column < 6 }

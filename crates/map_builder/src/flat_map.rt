@@ -40,7 +40,7 @@ pub struct FlatMap {
     before: [Range; CAPACITY],
     /// Room for the windows of a change.
     windows: Covered,
-    /// Those in which the ranges were built anew by the last change.
+    /// The windows in which the last change built the ranges anew.
     chosen: Windows,
     version: u32,
 }
@@ -135,8 +135,9 @@ impl FlatMap {
         self.version
     }
 
-    /// The windows that the last change changed, in rising order and apart: an address beside them has the areas that it
-    /// had before. None before the first change, and where the registers kept what they held.
+    /// The windows in which the last change may have changed the areas, in rising order, none overlapping another: an
+    /// address outside them kept its areas. There is none before the first change, and where the registers kept what
+    /// they held.
     pub fn changed(&self) -> &[Changed]
         ensures windows { result.now ≡ self.now.changed }
     {
@@ -151,16 +152,16 @@ impl FlatMap {
         span_of(self.ranges.as_slice(), addr, kind, smm)
     }
 
-    /// Makes a change of the registers, which raises the version by one modulo 2^32, keeps the windows that changed for
-    /// `changed`, and tells the bounds of the addresses whose areas it may change: the least first and the greatest last address of the windows that the registers govern
-    /// which it covers. Both are 0 where there is no such window, and then no area changes (`law_changed_bounds`).
+    /// Makes a change of the registers, and raises the version by one, modulo 2^32. Returns the bounds of the addresses
+    /// whose areas it may change: the least first and the greatest last address of the windows that the change covers.
+    /// Both are 0 where there is no such window, and then no area changes (`law_changed_bounds`).
     pub fn apply(&mut self, change: &MapChange) -> Changed
         ensures applied { IsApplied self.old self.new change.now result }
     {
         self.apply_uncounted::<Brand>(change, Blank::new(1))
     }
 
-    /// Makes a change that nobody counts.
+    /// Makes a change as `apply` does, and counts nothing.
     fn apply_uncounted<L: Ledger>(&mut self, change: &MapChange, blank: Blank) -> Changed
         requires name { blank.name ≡ L.name }
         requires parts { blank.parts ≡ L.parts }
@@ -171,8 +172,8 @@ impl FlatMap {
         self.apply_counted(change, &mut steps)
     }
 
-    /// Makes a change as `apply` does, and counts each row that is looked up as a step: at most one for each window, and one
-    /// for each edge that lies inside the windows after the change.
+    /// Makes a change as `apply` does, and counts each row that is looked up as a step: at most one for each window,
+    /// and one for each edge inside the windows after the change.
     pub fn apply_counted<L: Ledger>(&mut self, change: &MapChange, steps: &mut Steps<L>) -> Changed
         ensures applied { IsApplied self.old self.new change.now result }
         ensures rows { (setup : Setup) (bytes : Bytes) → StandsFor setup bytes self.old.regs
@@ -232,7 +233,7 @@ impl FlatMap {
         }
     }
 
-    /// Makes a change that covers no byte on which the map depends.
+    /// Stores to registers of which the map depends on none.
     fn set_beside(&mut self, change: &MapChange)
         requires beside { (setup : Setup) (bytes : Bytes) → StandsFor setup bytes self.old.regs → touches_map setup change.now ≡ false }
         ensures stands { (setup : Setup) (bytes : Bytes) → StandsFor setup bytes self.old.regs
@@ -249,7 +250,7 @@ impl FlatMap {
     }
 }
 
-/// The flat map of registers, which nobody counts.
+/// The ranges of the flat map of these registers, without a count.
 fn uncounted_ranges<L: Ledger>(regs: &MapRegs, blank: Blank) -> Ranges
     requires name { blank.name ≡ L.name }
     requires parts { blank.parts ≡ L.parts }

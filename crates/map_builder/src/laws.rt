@@ -1,14 +1,14 @@
-//! Laws of the windows that a change may change, and of the rows that it looks up. Each function does nothing: its
-//! clause is the law.
+//! Laws of the windows that a change covers, and of how many rows it looks up. Each function does nothing: its clause
+//! is the law.
 
 ghost use Rattle.map_builder.specs.Laws.{WindowsHoldChanges, BoundsHoldChanges, RowsAreFew};
 
-/// An address outside the windows that a change may change keeps its areas.
+/// An address outside the windows that a change covers keeps its areas.
 pub fn law_changed_windows()
     ensures kept { WindowsHoldChanges }
 {}
 
-/// And so does an address outside their bounds.
+/// An address outside the bounds of these windows keeps its areas.
 pub fn law_changed_bounds()
     ensures kept { BoundsHoldChanges }
 {}

@@ -1,9 +1,9 @@
-//! A list with room for so many elements, which is shortened without writing anything.
+//! A list with room for a fixed number of elements. It is shortened without writing to them.
 ghost use Rattle.std.specs.Prelude.{◌≡◌, ◌+◌, ◌<◌, ◌≤◌, ◌++◌, [], ◌∷◌, length, take, slice_set};
 
 use std::marker::Model;
 
-/// A list of at most `CAP` elements. Unlike an `ArrayVec` it writes none to drop some.
+/// A list of at most `CAP` elements. To drop its last ones it sets the length alone, where an `ArrayVec` writes each.
 #[derive(Drop)]
 pub struct FixedList<T, const CAP: usize> {
     cells: [T; CAP],
@@ -24,7 +24,7 @@ impl<T, const CAP: usize> Model for FixedList<T, CAP> {
 }
 
 impl<T: Copy + Default + Drop, const CAP: usize> FixedList<T, CAP> {
-    /// No element.
+    /// The empty list.
     pub fn new() -> FixedList<T, CAP>
         ensures items { result.items ≡ [] }
     {
@@ -42,7 +42,7 @@ impl<T: Copy + Default + Drop, const CAP: usize> FixedList<T, CAP> {
         &self.cells[..self.len]
     }
 
-    /// Adds an element.
+    /// Adds an element at the end.
     pub fn push(&mut self, element: T)
         requires room { length self.old.items < CAP }
         ensures items { self.new.items ≡ self.old.items ++ element ∷ [] }
@@ -52,7 +52,7 @@ impl<T: Copy + Default + Drop, const CAP: usize> FixedList<T, CAP> {
         self.len = len + 1;
     }
 
-    /// Puts an element in the place of another.
+    /// Replaces the element at an index below the length.
     pub fn set(&mut self, index: usize, element: T)
         requires within { index < length self.old.items }
         ensures items { self.new.items ≡ slice_set self.old.items index element }
@@ -61,7 +61,7 @@ impl<T: Copy + Default + Drop, const CAP: usize> FixedList<T, CAP> {
         cells[index] = element;
     }
 
-    /// Adds some elements.
+    /// Adds these elements at the end.
     pub fn extend(&mut self, elements: &[T])
         requires room { length self.old.items + length elements.now ≤ CAP }
         ensures items { self.new.items ≡ self.old.items ++ elements.now }
@@ -73,7 +73,7 @@ impl<T: Copy + Default + Drop, const CAP: usize> FixedList<T, CAP> {
         self.len = end;
     }
 
-    /// Keeps the first elements, so many as are asked.
+    /// Keeps the first `len` elements alone.
     pub fn truncate(&mut self, len: usize)
         ensures items { self.new.items ≡ take len self.old.items }
         ensures fits { length self.old.items ≤ CAP }

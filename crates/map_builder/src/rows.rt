@@ -1,4 +1,4 @@
-//! The part of the rows of DRAM that a store to their boundaries moves.
+//! The addresses whose row of DRAM a store to the row boundaries, DRB0 to DRB7, may change.
 ghost use Rattle.std.specs.Prelude.{◌≡◌, ◌≤◌, ◌<◌, ◌*◌, ◌-◌, ◌⊎◌, ℕ, false, true, [], length, IfSome};
 ghost use Rattle.board_spec.specs.Ranges.{boundary_unit};
 ghost use Rattle.map_builder.specs.Changed.{IsOutside};
@@ -14,9 +14,9 @@ use board_spec::range::BOUNDARY_UNIT;
 /// The row that ends at the top of DRAM.
 const LAST_ROW: usize = 7;
 
-/// Makes a list the windows in which the rows of the map are looked up anew: those that a change covers, in rising
-/// order. Of a store to boundaries of rows alone, only the addresses whose row may change. None where the registers are
-/// known to keep what they hold. What the list held before does not matter.
+/// Sets `chosen` to the windows in which the areas are looked up anew, in rising order: `windows`, which the change
+/// covers; after a store to row boundaries alone the least window of all addresses whose row may change; none where the
+/// registers are known to keep what they hold (`kept`). What `chosen` held before does not matter.
 pub fn choose_windows(
     chosen: &mut Windows,
     kept: bool,
@@ -39,7 +39,7 @@ pub fn choose_windows(
     }
 }
 
-/// Whether a store covers boundaries of rows and no other register.
+/// Whether a change is a store to row boundaries and to no other register.
 fn stores_rows(change: &MapChange) -> bool
     ensures rows { result ≡ stores_rows_by change.now }
 {
@@ -54,7 +54,7 @@ fn stores_rows(change: &MapChange) -> bool
     }
 }
 
-/// Makes a list the least window that holds the addresses whose row may change. None where there are none.
+/// Sets `chosen` to the least window of all addresses whose row may change, or to none where there are none.
 fn choose_moved(chosen: &mut Windows, old: &[u8; 8], new: &[u8; 8])
     ensures moved { AreMoved old.now new.now chosen.new.items }
 {
@@ -64,9 +64,9 @@ fn choose_moved(chosen: &mut Windows, old: &[u8; 8], new: &[u8; 8])
     }
 }
 
-/// The least interval that holds the addresses whose row may change: those between the old boundary of a row and the
-/// new one, unless they belong to an earlier row both times, or lie above the top of DRAM both times. None where there
-/// are none.
+/// The least interval with all addresses whose row may change: those between the old boundary of a row and the new one,
+/// unless they belong to an earlier row before and after, or lie above the top of DRAM before and after. None where
+/// there are none.
 fn moved(old: &[u8; 8], new: &[u8; 8]) -> Option<Changed>
     ensures within { IfSome result IsInRows }
     ensures beside { (addr : ℕ) → IfSome result (IsOutside addr) → RowStays old.now new.now addr }
@@ -83,7 +83,8 @@ fn moved(old: &[u8; 8], new: &[u8; 8]) -> Option<Changed>
     moved
 }
 
-/// An interval that also holds what lies between two boundaries, where the first is the lower.
+/// The least interval with all of `interval` and the addresses between two boundaries, in units of 8 MiB. Where `first`
+/// is not below `end` it is `interval`.
 fn widened(interval: Option<Changed>, first: u8, end: u8) -> Option<Changed>
     ensures within { IfSome interval IsInRows → IfSome result IsInRows }
     ensures wider { (addr : ℕ) → IfSome result (IsOutside addr) → IfSome interval (IsOutside addr) }
@@ -96,7 +97,7 @@ fn widened(interval: Option<Changed>, first: u8, end: u8) -> Option<Changed>
     interval
 }
 
-/// The addresses between two boundaries, of which the first is the lower.
+/// The addresses between two boundaries, in units of 8 MiB.
 fn between(first: u8, end: u8) -> Changed
     requires order { first < end }
     ensures first { result.lo ≡ first * boundary_unit }

@@ -1,4 +1,4 @@
-//! The byte of the register to which a change stores one byte, so that it can be compared before and after.
+//! The byte that a register has where a change stores one byte, so that it can be compared before and after.
 ghost use Rattle.std.specs.Prelude.{ℕ, ◌≡◌, ◌<◌, ◌/◌, ◌%◌, ◌==◌, ◌&&◌, IfSome, is_some, slice_index, true};
 ghost use Rattle.board_spec.specs.declared.map_change.MapChange.TheVariants.{Store};
 ghost use Rattle.board_spec.specs.Setup.{Setup};
@@ -16,8 +16,8 @@ use board_spec::offset::{
 };
 use pci_bars::{CardRegs, card_at};
 
-/// The byte of the register to which a change stores one byte alone. None for any other change, and for a register that
-/// is not compared.
+/// The byte of the register to which a change stores one byte. None for a wider store, a hard reset, and a register
+/// that is not compared.
 #[inline(always)]
 pub fn held_at(regs: &MapRegs, change: &MapChange) -> Option<u8>
     ensures compared { is_some result ≡ is_compared regs.now.cards.items change.now }
@@ -30,7 +30,7 @@ pub fn held_at(regs: &MapRegs, change: &MapChange) -> Option<u8>
     }
 }
 
-/// Whether both are the same byte.
+/// Whether there are two bytes, and they are the same.
 pub fn is_same_byte(before: Option<u8>, later: Option<u8>) -> bool
     ensures same { result ≡ true → IsSameByte before later }
     ensures other { IsSameByte before later → result ≡ true }
@@ -41,7 +41,8 @@ pub fn is_same_byte(before: Option<u8>, later: Option<u8>) -> bool
     }
 }
 
-/// The byte of a register to which a store of one byte goes. None for a wider store.
+/// The byte of a register to which a store of one byte goes. None for a wider store, and for a register that is not
+/// compared.
 #[inline(always)]
 fn held_alone(regs: &MapRegs, reg: Reg, width: Width) -> Option<u8>
     ensures compared { (value : ℕ) → is_some result ≡ is_compared regs.now.cards.items (Store reg width value) }
@@ -54,7 +55,7 @@ fn held_alone(regs: &MapRegs, reg: Reg, width: Width) -> Option<u8>
     }
 }
 
-/// The byte of a register that is compared.
+/// The byte of a register. None for one that is not compared.
 #[inline(always)]
 fn held(regs: &MapRegs, reg: Reg) -> Option<u8>
     ensures compared { is_some result ≡ is_compared_register regs.now.cards.items reg }
@@ -71,7 +72,7 @@ fn held(regs: &MapRegs, reg: Reg) -> Option<u8>
     }
 }
 
-/// The byte of PAM, FDHC or SMRAM.
+/// The byte of PAM0 to PAM6, FDHC or SMRAM, by its offset in the host bridge. None at other offsets.
 #[inline(always)]
 fn held_by_bridge(regs: &MapRegs, off: u8) -> Option<u8>
     ensures compared { is_some result ≡ is_compared_in_bridge off }
@@ -86,7 +87,7 @@ fn held_by_bridge(regs: &MapRegs, off: u8) -> Option<u8>
     }
 }
 
-/// The byte of XBCS.
+/// The byte of XBCS, by its offset in the ISA bridge. None at other offsets.
 #[inline(always)]
 fn held_by_isa(regs: &MapRegs, off: u8) -> Option<u8>
     ensures compared { is_some result ≡ (off == xbcs.off) }
@@ -99,7 +100,7 @@ fn held_by_isa(regs: &MapRegs, off: u8) -> Option<u8>
     }
 }
 
-/// The byte of a command or a base of the card at a device number.
+/// The byte of the command or a base of the card at a device number. None at other offsets, and where there is no card.
 #[inline(always)]
 fn held_by_cards(cards: &[CardRegs], dev: u8, off: u8) -> Option<u8>
     ensures compared { is_some result ≡ (is_card cards.now dev && is_compared_in_card off) }
@@ -112,7 +113,7 @@ fn held_by_cards(cards: &[CardRegs], dev: u8, off: u8) -> Option<u8>
     }
 }
 
-/// The byte of a command or a base of a card.
+/// The byte of the command or a base of a card. None at other offsets.
 #[inline(always)]
 fn held_by_card(card: &CardRegs, off: u8) -> Option<u8>
     ensures compared { is_some result ≡ is_compared_in_card off }
@@ -126,7 +127,7 @@ fn held_by_card(card: &CardRegs, off: u8) -> Option<u8>
     }
 }
 
-/// One of the 24 bytes of bases.
+/// One of the 24 bytes of a card's bases, by its distance from the first.
 #[inline(always)]
 fn byte_of_base(bases: &[u32; 6], index: u8) -> u8
     requires index { index < 24 }

@@ -1,4 +1,4 @@
-//! What the types of the registers say of their values: that they are bytes and doublewords.
+//! The types of the registers as clauses, for the proofs: their values are bytes and doublewords.
 ghost use Rattle.std.specs.Prelude.{◌<◌, ◌^◌, ℕ, All, slice_index};
 ghost use Rattle.addr_decode.specs.MapRegs.{map_bytes};
 ghost use Rattle.map_builder.specs.Map.{HoldsDoublewords, HaveWidths};
@@ -6,7 +6,7 @@ ghost use Rattle.map_builder.specs.Map.{HoldsDoublewords, HaveWidths};
 use addr_decode::MapRegs;
 use pci_bars::CardRegs;
 
-/// Does nothing: its clause says of registers what their types do.
+/// Does nothing: its clause says that the registers are bytes and doublewords.
 pub fn hold_widths(regs: &MapRegs)
     ensures widths { HaveWidths (map_bytes regs.now) }
 {
@@ -14,7 +14,7 @@ pub fn hold_widths(regs: &MapRegs)
     hold_doublewords(regs.cards.as_slice());
 }
 
-/// Does nothing: its clause says of the registers of cards what their types do.
+/// Does nothing: its clause says that the bases and expansion ROM registers of cards are doublewords.
 fn hold_doublewords(cards: &[CardRegs])
     ensures doublewords { All HoldsDoublewords cards.now }
 {
@@ -23,7 +23,7 @@ fn hold_doublewords(cards: &[CardRegs])
     }
 }
 
-/// Does nothing: its clause says of the registers of a card what their types do.
+/// Does nothing: its clause says that the bases and the expansion ROM register of a card are doublewords.
 fn hold_of_card(card: &CardRegs)
     ensures doublewords { HoldsDoublewords card.now }
 {
@@ -31,17 +31,17 @@ fn hold_of_card(card: &CardRegs)
     is_doubleword(card.rom);
 }
 
-/// Does nothing: its clause says of a number what its type does.
+/// Does nothing: its clause says that the value is below 2^32.
 fn is_doubleword(value: u32)
     ensures doubleword { value < 2 ^ 32 }
 {}
 
-/// Does nothing: its clause says of numbers what their type does.
+/// Does nothing: its clause says that each of the values is below 2^8.
 fn are_bytes(values: &[u8])
     ensures bytes { (k : ℕ) → slice_index values.now k < 2 ^ 8 }
 {}
 
-/// Does nothing: its clause says of numbers what their type does.
+/// Does nothing: its clause says that each of the values is below 2^32.
 fn are_doublewords(values: &[u32])
     ensures doublewords { (k : ℕ) → slice_index values.now k < 2 ^ 32 }
 {}

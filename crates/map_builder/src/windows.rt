@@ -7,7 +7,7 @@ ghost use Rattle.map_builder.specs.Sorted.{with_window as with_one, sorted as so
 use crate::list::FixedList;
 use crate::range::Changed;
 
-/// Windows that rise and do not overlap, of as many as a change can cover.
+/// Windows in rising order that do not overlap, with room for as many as a change can cover.
 pub type Windows = FixedList<Changed, 64>;
 
 /// The least first and the greatest last address of some windows. None where there is no window.
@@ -22,7 +22,7 @@ pub fn bounds_of(windows: &[Changed]) -> Option<Changed>
     bounds
 }
 
-/// The least interval that holds both, of which the second may be missing.
+/// The least interval with all of both, of which the second may be missing.
 pub fn joined(here: Changed, there: Option<Changed>) -> Changed
     ensures joined { result ≡ joined_by here there }
 {
@@ -32,7 +32,7 @@ pub fn joined(here: Changed, there: Option<Changed>) -> Changed
     }
 }
 
-/// The least interval that holds both.
+/// The least interval with all of both.
 fn both(here: Changed, there: Changed) -> Changed
     ensures both { result ≡ both_of here there }
 {
@@ -42,8 +42,8 @@ fn both(here: Changed, there: Changed) -> Changed
     }
 }
 
-/// Makes a list the same addresses as some windows, in windows that rise and do not overlap. What it held before does
-/// not matter.
+/// Sets `rising` to windows in rising order that do not overlap and have the addresses of these windows. What it held
+/// before does not matter.
 #[tactic(auto, unfolding(crate::specs::Sorted::sorted))]
 pub fn sort_into(rising: &mut Windows, windows: &[Changed])
     requires count { length windows.now ≤ 64 }
@@ -55,7 +55,7 @@ pub fn sort_into(rising: &mut Windows, windows: &[Changed])
     }
 }
 
-/// Puts one more window among some that rise and do not overlap: those that overlap it become one with it.
+/// Adds a window to some in rising order that do not overlap: those that overlap it become one with it.
 fn add_window(rising: &mut Windows, window: Changed)
     requires count { length rising.old.items < 64 }
     ensures windows { rising.new.items ≡ with_one window rising.old.items }

@@ -1,4 +1,4 @@
-//! What was seen of a publisher's list: the map that it opened with, and the changes since.
+//! What was seen of a publisher's list: the map that the list opens with, and the changes after it.
 ghost use Rattle.std.specs.Prelude.{◌≡◌, ◌≤◌, ◌<◌, ◌+◌, ◌++◌, ◌∷◌, [], length, None, IfSome, IsTrue, IsFalse};
 ghost use mathlib.Core.List.{IsPrefix};
 ghost use Rattle.board_spec.specs.Limits.{entry_limit};
@@ -32,7 +32,7 @@ impl Rule<Mark, u64> for ListRule {
     ghost moves = { λ ask before after answer. Unit {0} };
 }
 
-/// An addition trades nothing.
+/// What an addition brings beside its entry: nothing.
 struct Nothing;
 
 impl Gain<Mark, u64> for Nothing {
@@ -59,7 +59,7 @@ impl Play<Mark, u64> for Read {
     ghost then = { Reads };
 }
 
-/// Asks for no entry.
+/// The entry of a step that only reads: none is added.
 struct NoEntry;
 
 impl Plain<(), Mark, u64> for NoEntry {
@@ -72,7 +72,7 @@ impl Plain<(), Mark, u64> for NoEntry {
     ghost state = { λ about. None };
 }
 
-/// Asks for the entry of a map that is opened.
+/// The entry that opens a list: a map.
 struct Opens;
 
 impl Plain<FlatMap, Mark, u64> for Opens {
@@ -84,7 +84,7 @@ impl Plain<FlatMap, Mark, u64> for Opens {
     ghost state = { λ map. None };
 }
 
-/// Asks for the entry of a change.
+/// The entry that is added for a change.
 struct Changes;
 
 impl Plain<MapChange, Mark, u64> for Changes {
@@ -98,13 +98,13 @@ impl Plain<MapChange, Mark, u64> for Changes {
 
 type Listed = Seen<Mark, u64, ListRule>;
 
-/// An entry that is asked for. It takes no bytes.
+/// The entry that a step is to add. It takes no bytes.
 type Asked = Offer<Mark, u64, ListRule, Nothing>;
 
 /// The word that keeps the length of the list. Only the publisher adds to the list; viewers read its length.
 pub(crate) type Head = Word<Mark, u64, ListRule>;
 
-/// A beginning of the list, of at least the opened map. It takes no bytes beside its length.
+/// A beginning of the list, of at least the opened map. Only its length takes bytes.
 #[derive(Drop)]
 pub struct Front {
     pub count: u32,
@@ -113,7 +113,8 @@ pub struct Front {
     pub ghost begun: { length seen.log ≡ 1 + length (changes_of seen.log) },
 }
 
-/// What was seen, with the entry added to the list that is asked for. None where more stands in the list.
+/// Adds an entry to the list, and returns what was seen with that entry at its end. None, and no entry added, where the
+/// list already has more than was seen.
 fn added(seen: &Listed, count: u32, head: &Head, asked: Asked) -> Option<Listed>
     requires head { head.now ≡ head_of seen.now.book }
     requires count { count ≡ length seen.now.log }
@@ -168,7 +169,7 @@ impl Front {
         self.count <= other.count
     }
 
-    /// Whether nothing stands in the list after this beginning. It makes no entry.
+    /// Whether this beginning is the whole list. It adds no entry.
     pub(crate) fn is_whole(&self, head: &Head) -> bool
         requires head { head.now ≡ head_of self.now.seen.book }
     {
@@ -178,7 +179,8 @@ impl Front {
         found == u64::from(self.count)
     }
 
-    /// This beginning with a change added to the list. None where more stands in the list.
+    /// Adds a change to the list, and returns this beginning with the change at its end. None where the list already
+    /// has more than this beginning.
     pub(crate) fn add(&self, head: &Head, change: &MapChange) -> Option<Front>
         requires head { head.now ≡ head_of self.now.seen.book }
         requires room { length self.now.seen.log ≤ entry_limit }

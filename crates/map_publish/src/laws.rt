@@ -2,8 +2,9 @@
 
 ghost use Rattle.map_publish.specs.Laws.{LooksGoOn};
 
-/// Where the copies were opened with the map of a board, a look shows the board's map after the map writes that led to
-/// the opened map and the published ones: how many they are, and the span of the registers after them.
+/// Where the copies were opened with the map of a board, a look shows that board's map after the map writes that led to
+/// the opened map and some of the published ones, the first: how many map writes these are together, and the span that
+/// the registers have after them.
 pub fn law_looks_go_on()
     ensures goes_on { LooksGoOn }
 {}

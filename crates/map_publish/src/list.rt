@@ -30,14 +30,14 @@ impl Rule<Mark, u64> for AnyList {
 /// A list of marks. It takes no bytes.
 pub type Marks = Seen<Mark, u64, AnyList>;
 
-/// Begins with the mark of a map alone.
+/// The opening of a list that has one mark, that of a map.
 struct OfMap;
 
 impl Opening<FlatMap, Mark> for OfMap {
     ghost log = { λ count map. Opened map ∷ [] };
 }
 
-/// Begins with the marks of a list and that of a change.
+/// The opening of a list that has the marks of another, and then the mark of a change.
 struct WithChange;
 
 impl Opening<(Marks, MapChange), Mark> for WithChange {
@@ -52,7 +52,7 @@ pub(crate) fn opened(map: &FlatMap) -> Marks
     list
 }
 
-/// A list with a change after it.
+/// A list with a change added at its end.
 pub(crate) fn grown(list: &Marks, change: &MapChange) -> Marks
     ensures list { result.log ≡ list.now.log ++ Changed change.now ∷ [] }
 {

@@ -3,7 +3,8 @@ use crate::shown::Shown;
 use atomic_table::{Join, Split};
 use crossbeam_utils::rule::{Outcome, Protocol};
 
-/// What a seat at the copies knows: nothing, or which list they follow. No value of it is made.
+/// What the publisher or a reader of the copies knows: nothing, or which list the copies follow. No value of it is
+/// made.
 pub struct Name {
     pub named: bool,
     pub number: u64,
@@ -11,7 +12,7 @@ pub struct Name {
     pub cells_name: u64,
 }
 
-/// Each seat that knows a list is right: the published map is that of a beginning of this list.
+/// What each of them knows is true: the published map is that of a beginning of the list that it knows.
 pub struct Published;
 
 impl Protocol<Shown, Name> for Published {
@@ -22,7 +23,7 @@ impl Protocol<Shown, Name> for Published {
     ghost first = { nobody };
 }
 
-/// A publish that names the copies.
+/// A publish after which the publisher knows the list that the copies follow.
 pub struct Names;
 
 impl Outcome<Shown, Name> for Names {
@@ -31,7 +32,7 @@ impl Outcome<Shown, Name> for Names {
     ghost then = { Names };
 }
 
-/// A publish or an entry that leaves the name as it is.
+/// A publish, or an entry of a reader, after which each knows what it knew before.
 pub struct Stays;
 
 impl Outcome<Shown, Name> for Stays {
@@ -40,7 +41,7 @@ impl Outcome<Shown, Name> for Stays {
     ghost then = { Stays };
 }
 
-/// The publisher tells a reader the name.
+/// The publisher passes what it knows on to a reader.
 pub struct Tells;
 
 impl Split<Name> for Tells {

@@ -36,7 +36,8 @@ pub struct Publisher {
     ghost named: { view writer.desk.place ≡ name front.seen.book },
 }
 
-/// Publishes what is published already, which names the copies.
+/// Publishes once more what is published already, by which the publisher learns the name of the list that the copies
+/// follow.
 fn named<R: Wait>(rt: &R, writer: Copies) -> (Copies, Result<(), NoMemory>)
     requires quiet { drop writer.behind writer.log.items ≡ [] }
     requires listed { writer.desk.shown.value.list.log ≡ writer.desk.shown.value.front.seen.log }
@@ -56,7 +57,8 @@ fn named<R: Wait>(rt: &R, writer: Copies) -> (Copies, Result<(), NoMemory>)
     }
 }
 
-/// Publishes the map with a change made in it, and the list with the change at its end.
+/// Publishes the map with a change made in it, and the list with the change at its end. Refused for want of memory;
+/// then what is published is as before.
 fn published<R: Wait>(
     writer: Copies,
     what: (&R, MapChange, Front),
@@ -100,7 +102,7 @@ impl Publisher {
         Ok(())
     }
 
-    /// A note of the list that is published.
+    /// A note of the list as it is published now, from which a viewer can learn.
     pub fn tell(&mut self) -> Note
         ensures note { result.front ≡ self.old.front }
         ensures same { self.new ≡ self.old }
@@ -177,7 +179,7 @@ pub fn open<R: Wait>(
     Ok((publisher, viewers))
 }
 
-/// The copies of a map, with room for so many viewers.
+/// The copies of a map, with room for so many viewers. It may wait. Refused for want of memory.
 fn publisher_of<R: Wait>(
     rt: &R,
     alloc: Global,
@@ -198,8 +200,9 @@ fn publisher_of<R: Wait>(
         writer.take(rt);
         return Err(refused);
     }
-    // Once more: two wait at most to be made in both copies, and for these there is room from here on. A change that was
-    // refused for want of memory would have lengthened the list, and every later one would be refused.
+    // Once more, for room: at most two changes at a time wait until both copies have them, and from here on there is
+    // room for two. Else a change could be refused for want of memory after it had lengthened the list, and then every
+    // later one would be refused.
     let (writer, result) = named(rt, writer);
     if let Err(refused) = result {
         writer.take(rt);
@@ -212,7 +215,7 @@ fn publisher_of<R: Wait>(
     })
 }
 
-/// As many viewers as are asked for.
+/// So many viewers of a publisher's map. Refused for want of memory.
 fn viewers(
     alloc: Global,
     publisher: &mut Publisher,

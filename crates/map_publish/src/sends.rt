@@ -1,4 +1,4 @@
-//! Publishers, viewers and notes may go to other threads. The check of each function is that its bound is met.
+//! Publishers, viewers and notes may go to other threads. Each function passes its check only where its type may.
 ghost use Rattle.std.specs.Prelude.{◌≡◌};
 
 use crate::publisher::Publisher;

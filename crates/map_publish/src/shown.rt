@@ -14,7 +14,7 @@ use left_right::Absorb;
 use map_builder::FlatMap;
 use std::alloc::AllocError;
 
-/// A map with its list, and the same list as viewers learn it.
+/// A published copy: a map, the list of the changes that made it, and the same list in the form that viewers keep.
 #[derive(Drop)]
 pub struct Shown {
     pub map: FlatMap,
@@ -55,7 +55,7 @@ impl Absorb<Next> for Shown {
 }
 
 impl Shown {
-    /// A copy of a map, as it is opened, and its list.
+    /// The first published copy of a map, with its list, which has no change yet.
     pub(crate) fn new(map: &FlatMap, front: &Front) -> Shown
         ensures list { result.list.log ≡ Opened map.now ∷ [] }
         ensures front { result.front ≡ front.now }
@@ -67,7 +67,7 @@ impl Shown {
         }
     }
 
-    /// Takes in a change, and the list with the change at its end. A map that has had the most changes stays as it is.
+    /// Takes in a change, and the list with the change at its end. A map that has had 4,000,000 changes stays as it is.
     fn take_in(&mut self, change: &MapChange, front: Front)
         ensures list { self.new.list.log ≡ with_change self.old.list.log change.now }
         ensures front { self.new.front ≡ front }

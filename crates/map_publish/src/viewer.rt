@@ -18,7 +18,8 @@ use left_right::reader::Reader;
 use map_builder::FlatMap;
 use std::sync::Arc;
 
-/// What a publisher tells: the list that was published when it told the note. It takes no bytes beside its length.
+/// What a publisher gives a viewer to learn from: the list as it was published when the note was made. Only its length
+/// takes bytes.
 #[derive(Drop)]
 pub struct Note {
     pub front: Front,
@@ -26,11 +27,11 @@ pub struct Note {
 
 pub(crate) type Place = Reader<Shown, Name, Published>;
 
-/// A viewer, with a copy of the newest map that it was opened with, looked at or learnt, and a place at the published
-/// copies, which it keeps.
+/// A viewer. It keeps a copy of the newest map that it was opened with, found by a look, or learnt from a note, and its
+/// place at the published copies.
 #[derive(Drop)]
 pub struct Viewer {
-    /// None only while the viewer looks at what is published.
+    /// None only inside a call that reads what is published.
     reader: Option<Place>,
     head: Arc<Head>,
     map: FlatMap,
@@ -57,8 +58,8 @@ impl Viewer {
         }
     }
 
-    /// Whether the note's list begins with every list that this viewer looked at or learnt. False exactly where it is
-    /// shorter than one of them.
+    /// Whether the note is at least as new as what this viewer knows: the note's list begins with the viewer's. False
+    /// exactly where the note's list is the shorter one.
     pub fn meets(&mut self, note: Note) -> bool
         requires own { note.front.seen.book ≡ self.old.front.seen.book }
         ensures yes { IsTrue result → IsPrefix self.old.front.seen.log note.front.seen.log }
@@ -68,7 +69,8 @@ impl Viewer {
         self.front.begins(&note.front)
     }
 
-    /// Takes in the map that was published when the note was told. It is copied where the note's list is longer.
+    /// Takes in the map that was published when the note was made. It is copied only where the note's list is longer
+    /// than the viewer's.
     pub fn learn(&mut self, note: Note, map: &FlatMap)
         requires own { note.front.seen.book ≡ self.old.front.seen.book }
         requires begins { IsPrefix self.old.front.seen.log note.front.seen.log }
@@ -83,8 +85,8 @@ impl Viewer {
         }
     }
 
-    /// Takes in a list that begins with the viewer's own, and its map. A function pays at entry for the size of a map that
-    /// it makes, so this stays apart from what happens at each turn and each look.
+    /// Takes in a list that begins with the viewer's own, and its map. It is not inlined: a function that makes a map
+    /// pays for the map's size at each call, and so would each turn and each look.
     #[inline(never)]
     fn take_in(&mut self, front: Front, map: &FlatMap)
         requires own { front.seen.book ≡ self.old.front.seen.book }
@@ -96,9 +98,9 @@ impl Viewer {
         self.front = front;
     }
 
-    /// Looks at the newest map: how many changes led to it, and the longest interval round an address in which this kind
-    /// of access has one area. It is no older than a map that the viewer looked at or learnt. It neither waits nor takes
-    /// memory.
+    /// Looks at the newest published map that it finds: how many changes led to it, and the longest interval round an
+    /// address in which this kind of access has one area. The map is no older than one that the viewer found or learnt
+    /// before. It neither waits nor takes memory.
     pub fn look(&mut self, addr: u32, kind: Kind, smm: bool) -> Look
         ensures own { self.new.front.seen.book ≡ self.old.front.seen.book }
         ensures opened { opened_of self.new.front.seen.log ≡ opened_of self.old.front.seen.log }
@@ -117,8 +119,8 @@ impl Viewer {
         self.map.version()
     }
 
-    /// Takes in the published map where the list has more than the viewer's own. No clause can say that it asks: what a
-    /// viewer knows of the list is a beginning of it also where it has not asked.
+    /// Takes in the published map where the list is longer than the viewer's own. No clause can say that it compares
+    /// them: what a viewer knows is a beginning of the list, whether it looked at the list or not.
     fn keep_up(&mut self)
         ensures own { self.new.front.seen.book ≡ self.old.front.seen.book }
         ensures later { IsPrefix self.old.front.seen.log self.new.front.seen.log }
@@ -128,7 +130,8 @@ impl Viewer {
         }
     }
 
-    /// Takes in the published map where its list is longer. The viewer stays as it is where the publisher has gone.
+    /// Takes in the published map where its list is longer. The viewer stays as it is where the publisher has closed
+    /// the copies.
     #[inline(never)]
     fn refresh(&mut self)
         ensures own { self.new.front.seen.book ≡ self.old.front.seen.book }
@@ -150,7 +153,7 @@ impl Viewer {
         }
     }
 
-    /// Looks at the viewer's own copy.
+    /// A look at the viewer's own copy of the map.
     fn find(&self, addr: u32, kind: Kind, smm: bool) -> Look
         ensures look { IsLookIn self.now.front.seen.log addr kind smm result }
     {
