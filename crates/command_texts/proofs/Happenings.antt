@@ -12,15 +12,17 @@ use Rattle.board_spec.specs.Registers.{reset_control, resets_hard, control_writt
 use Rattle.board_spec.specs.Orders.{statement_of, statements_of}
 use Rattle.board_core.specs.Kept.{Standing}
 use Rattle.uart_16550.specs.declared.com1.Com1.{Com1}
+use Rattle.uart_16550.specs.declared.com1.Happening.{Happening}
+use Rattle.uart_16550.specs.declared.com1.Happening.TheVariants.{Comes, Happens}
 use Rattle.uart_16550.specs.Uart.{received}
 use Rattle.uart_16550.specs.Writes.{differ}
 use Rattle.uart_16550.specs.Com1.{com1_actor, com1_at_reset, com1_irq, level_of, line_steps, change_steps, com1_after, board_steps}
 use Rattle.uart_16550.specs.Serial.{Serial, GoesOn, IsLeftAt, IsLeftAfter}
-use Rattle.uart_16550.specs.Sent.{Happening, Comes, Happens, Sending, sending_after, sent_by, bytes_sent}
+use Rattle.uart_16550.specs.Sent.{Sending, sending_after, sent_by, bytes_sent, steps_for}
 use Rattle.uart_16550.specs.SerialOrder.{after_all}
 use Rattle.uart_16550.proofs.ControlProofs.{control_follows}
 use Rattle.uart_16550.proofs.SerialSteps.{statements_joined}
-use Rattle.command_texts.specs.Serial.{steps_for, steps_for_all}
+use Rattle.command_texts.specs.Serial.{steps_for_all}
 use Rattle.command_texts.specs.SerialSteps.{IsStanding, Happened, port_of}
 
 -- ---- lists of happenings, cut
@@ -57,7 +59,7 @@ none_sent port (byte ∷ bytes) = none_sent (sending_after port (Comes byte)) by
 
 abbrev IsLeftHere : Standing → Bool → List Entry → Type 0
 IsLeftHere board level history =
-    IsLeftAt IsAnswer (λ (b : Standing). b.setup) (λ (b : Standing) (h : List Entry). b.entries ≡ h) board level history
+    IsLeftAt (λ (b : Standing) (h : List Entry). b.entries ≡ h) board level history
 
 abbrev IsAfterHere : Standing → Bool → List Entry → List Statement → Type 0
 IsAfterHere board level before steps =

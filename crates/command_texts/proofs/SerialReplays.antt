@@ -9,8 +9,10 @@ use Rattle.board_spec.specs.OrderLaws.{in_file_order}
 use Rattle.board_spec.specs.Orders.{statements_of}
 use Rattle.board_spec.specs.Setup.{Setup}
 use Rattle.board_core.specs.Kept.{Standing}
+use Rattle.uart_16550.specs.declared.com1.Happening.{Happening}
+use Rattle.uart_16550.specs.declared.com1.Happening.TheVariants.{Comes, Happens}
 use Rattle.uart_16550.specs.Serial.{Serial}
-use Rattle.uart_16550.specs.Sent.{Happening, Comes, Happens, Sending, sending_after, sent_by, bytes_sent}
+use Rattle.uart_16550.specs.Sent.{Sending, sending_after, sent_by, bytes_sent}
 use Rattle.uart_16550.specs.SerialOrder.{after_all}
 use Rattle.script_spec.specs.Phases.{lists_of}
 use Rattle.log_check.proofs.PhaseLists.{all_of_phase, few_so_far, phases_cut, phases_more, statements_cut}

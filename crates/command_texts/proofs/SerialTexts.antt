@@ -18,13 +18,13 @@ use Rattle.board_core.specs.Kept.{Standing}
 use Rattle.script_spec.specs.ScriptText.{Script as Said}
 use Rattle.script_spec.specs.ScriptRange.{IsInRangeScript, statements_in}
 use Rattle.uart_16550.specs.declared.com1.Com1.{Com1}
+use Rattle.uart_16550.specs.declared.com1.Happening.TheVariants.{Happens}
 use Rattle.uart_16550.specs.declared.com1.SerialReply.{SerialReply}
 use Rattle.uart_16550.specs.declared.com1.SerialReply.TheVariants.{Board}
 use Rattle.uart_16550.specs.Uart.{Uart, has_room}
 use Rattle.uart_16550.specs.Com1.{com1_at_reset, uart_access, uart_reply}
 use Rattle.uart_16550.specs.Serial.{Serial}
-use Rattle.uart_16550.specs.Sent.{Happens, Sending, sending_at_reset, sent_by, sent_by_access}
-use Rattle.uart_16550.proofs.SerialSteps.{answered_is_legal}
+use Rattle.uart_16550.specs.Sent.{Sending, sending_at_reset, sent_by, sent_by_access}
 use Rattle.command_texts.specs.Serial.{bytes_before, left_after, happenings_in, steps_in, sent_in, IsSerialText}
 use Rattle.command_texts.specs.SerialSteps.{IsForPort, Place, WentOn, port_of}
 use Rattle.command_texts.proofs.Happenings.{port_is}
@@ -54,14 +54,13 @@ no_steps_later port input = refl
 pub serial_told : LegalKeepsLock → (setup : Setup) (script : Said) (fresh last : Serial Standing)
     (input left sent text : List ℕ) → fresh.board.setup ≡ setup → fresh.board.entries ≡ [] → fresh.com1 ≡ com1_at_reset →
     WentOn (record { serial = fresh; input = input; sent = [] }) (statements_in script)
-    (record { serial = last; input = left; sent = sent }) →
+    (record { serial = last; input = left; sent = sent }) → IsLegal last.board.setup last.board.entries →
     text ≡ sent → IsSerialText setup script input text
-serial_told locks setup script fresh last input left sent text fitted none new went is =
+serial_told locks setup script fresh last input left sent text fitted none new went legal is =
     let begin : port_of fresh ≡ sending_at_reset = reset_port fresh new none in
     let same : last.board.setup ≡ setup = went.setup ∙ fitted in
     let history = last.board.entries in
-    let is_legal : IsLegal setup history =
-    subst (λ (s : Setup). IsLegal s history) same (answered_is_legal last.board.setup history went.standing.answered) in
+    let is_legal : IsLegal setup history = subst (λ (s : Setup). IsLegal s history) same legal in
     let all : statements_in script ++ [] ≡ statements_in script = append-nil (statements_in script) in
     record {
       history = history;

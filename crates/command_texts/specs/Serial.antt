@@ -3,12 +3,12 @@ use Rattle.std.specs.Prelude.{ℕ, ◌≡◌, ◌++◌, ◌∷◌, [], List, len
 use Rattle.board_spec.specs.declared.event.Entry.{Entry}
 use Rattle.board_spec.specs.declared.event.Statement.{Statement}
 use Rattle.board_spec.specs.Setup.{Setup}
-use Rattle.board_spec.specs.Registers.{control_written, resets_hard}
 use Rattle.board_spec.specs.Orders.{IsReplayOf}
 use Rattle.board_spec.specs.LockLaw.{LockLaw}
+use Rattle.uart_16550.specs.declared.com1.Happening.{Happening}
+use Rattle.uart_16550.specs.declared.com1.Happening.TheVariants.{Comes, Happens}
 use Rattle.uart_16550.specs.Uart.{Uart, has_room}
-use Rattle.uart_16550.specs.Com1.{board_steps, change_steps}
-use Rattle.uart_16550.specs.Sent.{Happening, Comes, Happens, Sending, sending_at_reset, sending_after, bytes_sent}
+use Rattle.uart_16550.specs.Sent.{Sending, sending_at_reset, sending_after, steps_for, bytes_sent}
 use Rattle.uart_16550.specs.SerialOrder.{after_all}
 use Rattle.script_spec.specs.ScriptText.{Script as Said}
 use Rattle.script_spec.specs.ScriptRange.{statements_in}
@@ -34,12 +34,7 @@ happenings_in port input (statement ∷ later) =
     let now = happenings_of (bytes_before port.com1.uart input) statement in
     now ++ happenings_in (after_all port now) (left_after port.com1.uart input) later
 
--- ---- what the board does for it: the events that are not for the port, and the changes of line 4
-
-abbrev pub steps_for : (actor : ℕ) → Sending → Happening → List Statement
-steps_for actor port (Comes byte) = change_steps port.com1 (sending_after port (Comes byte)).com1
-steps_for actor port (Happens event) =
-    board_steps actor (resets_hard port.control (control_written event)) event port.com1
+-- ---- what the board does for it
 
 abbrev pub steps_for_all : (actor : ℕ) → Sending → List Happening → List Statement
 steps_for_all actor port [] = []

@@ -3,15 +3,15 @@ use Rattle.std.specs.Prelude.{ℕ, ◌≡◌, ◌+◌, ◌*◌, ◌<◌, ◌≤�
 use Rattle.board_spec.specs.declared.event.Statement.{Statement}
 use Rattle.board_spec.specs.Setup.{Setup}
 use Rattle.board_spec.specs.InRange.{IsInRange}
-use Rattle.board_spec.specs.Answer.{IsAnswer}
 use Rattle.board_spec.specs.Registers.{reset_control}
 use Rattle.board_spec.specs.Orders.{statements_of}
 use Rattle.board_core.specs.Kept.{Standing}
+use Rattle.uart_16550.specs.declared.com1.Happening.{Happening}
 use Rattle.uart_16550.specs.declared.com1.SerialReply.{SerialReply}
 use Rattle.uart_16550.specs.declared.com1.SerialReply.TheVariants.{Board, Uart}
 use Rattle.uart_16550.specs.Com1.{com1_actor}
 use Rattle.uart_16550.specs.Serial.{Serial, IsLeftBy}
-use Rattle.uart_16550.specs.Sent.{Happening, Sending}
+use Rattle.uart_16550.specs.Sent.{Sending}
 use Rattle.uart_16550.specs.SerialOrder.{after_all}
 use Rattle.command_texts.specs.Serial.{steps_for_all, steps_in, sent_in}
 
@@ -32,7 +32,7 @@ port_of serial = record { com1 = serial.com1; control = reset_control serial.boa
 -- the history of the board left it and the port
 abbrev pub IsStanding : Serial Standing → Type 0
 IsStanding serial =
-    IsLeftBy IsAnswer (λ board. board.setup) (λ board history. board.entries ≡ history) serial serial.board.entries
+    IsLeftBy (λ board history. board.entries ≡ history) serial serial.board.entries
 
 -- these happened to it, each event by this processor
 pub record Happened (actor : ℕ) (old : Serial Standing) (happenings : List Happening) (new : Serial Standing) : Type 0 where

@@ -6,7 +6,8 @@ ghost use Rattle.board_spec.specs.OrderLaws.{in_file_order};
 ghost use Rattle.script_spec.specs.Phases.{lists_of};
 ghost use Rattle.script_text.specs.Script.{said_of};
 ghost use Rattle.uart_16550.specs.Com1.{com1_at_reset};
-ghost use Rattle.uart_16550.specs.Sent.{Comes, Happens, sent_by};
+ghost use Rattle.uart_16550.specs.declared.com1.Happening.TheVariants.{Comes, Happens};
+ghost use Rattle.uart_16550.specs.Sent.{sent_by};
 ghost use Rattle.command_texts.specs.Fresh.{IsFreshFor};
 ghost use Rattle.command_texts.specs.Serial.{IsSerialText, bytes_before, left_after};
 ghost use Rattle.command_texts.specs.SerialSteps.{Happened, IsForPort, IsStanding, WentOn, byte_in, port_of};
@@ -147,6 +148,8 @@ pub fn sent_in_replay(
     let mut serial = opened(board, statement_count(&script.phases))?;
     let mut sent = Vec::new(alloc);
     all_steps(&mut serial, &script.phases, input, &mut sent)?;
+    // A board with its history tells that it is legal.
+    let _legal = serial.board().history();
     law_lock();
     Text::of_bytes(alloc, sent)
 }

@@ -545,5 +545,20 @@ fn chipset_with_a_serial_port(rt: HostRuntime) -> Result<(), Fail> {
     for row in rows {
         ask_chipset(&rt, &mut serial, row);
     }
+    bytes_from_outside(&rt, &mut serial);
+    ask_chipset(&rt, &mut serial, (Out(0x70, 0x10), By(Dev::Clock)));
+    ask_chipset(&rt, &mut serial, (In(0x71), Gives(0x5A, Dev::Clock)));
     Ok(())
+}
+
+/// Bytes come into memory of 8 MiB and into the clock, and none where there is no room for them.
+fn bytes_from_outside(rt: &impl Abort, serial: &mut SerialBoard<Chipset>) {
+    assert!(rt; serial.write_dram(0x7F_FFFE, &[0x12, 0x34]).is_ok());
+    assert!(rt; serial.write_dram(0x7F_FFFF, &[0x56, 0x78]).is_err());
+    let mut bytes = [0; 3];
+    serial.board().dram().read_bytes(0x7F_FFFE, &mut bytes);
+    assert_eq!(rt; bytes, [0x12, 0x34, 0xFF]);
+    assert!(rt; serial.set_clock_byte(0x10, 0x5A).is_ok());
+    assert!(rt; serial.set_clock_byte(0x80, 0x5A).is_err());
+    assert!(rt; serial.level());
 }

@@ -13,12 +13,14 @@ use Rattle.uart_16550.specs.declared.register.ReadRegister.TheVariants as read
 use Rattle.uart_16550.specs.declared.register.WriteRegister.{WriteRegister}
 use Rattle.uart_16550.specs.declared.register.WriteRegister.TheVariants as write
 use Rattle.uart_16550.specs.declared.com1.Com1.{Com1}
+use Rattle.uart_16550.specs.declared.com1.Happening.{Happening}
+use Rattle.uart_16550.specs.declared.com1.Happening.TheVariants.{Comes, Happens}
 use Rattle.uart_16550.specs.Uart.{Uart, is_dlab, is_loopback, pending}
 use Rattle.uart_16550.specs.Reads.{register_read, front_of, rest_of, value_of, after_identity, after_value}
 use Rattle.uart_16550.specs.Writes.{register_written, is_emptying, with_value}
 use Rattle.uart_16550.specs.Com1.{com1_irq, is_for_uart, com1_after}
 use Rattle.uart_16550.specs.Calls.{Call, Renews, Receives, Reads, Writes, after_call, brought, front_taken, taken, is_kept, is_keeping, after_calls, all_brought, all_taken, ReadInOrder, calls_of}
-use Rattle.uart_16550.specs.Sent.{Happening, Comes, Happens, Sending, sending_after}
+use Rattle.uart_16550.specs.Sent.{Sending, sending_after}
 use Rattle.uart_16550.specs.SerialOrder.{calls_for, all_calls, after_all, bytes_come, SerialReadsInOrder}
 
 front_and_rest : (queue : List ℕ) → front_taken queue read.Rbr (front_of queue) ++ rest_of queue ≡ queue

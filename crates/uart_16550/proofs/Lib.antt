@@ -2,3 +2,4 @@ pub mod SerialSteps
 pub mod Resets
 pub mod CallProofs
 pub mod ControlProofs
+pub mod Loads

@@ -1,5 +1,5 @@
 -- How the histories go on that leave a board with a serial port.
-use Rattle.std.proofs.Common.{◌≡◌, ℕ, ◌<◌, Bool, false, List, [], ◌∷◌, ◌++◌, map, reverse, refl, sym, ap, ◌∙◌, append_assoc, lt_irrefl}
+use Rattle.std.proofs.Common.{◌≡◌, ℕ, ◌<◌, Bool, false, List, [], ◌∷◌, ◌++◌, map, reverse, refl, sym, ap, subst, ◌∙◌, append_assoc, lt_irrefl}
 use Rattle.std.specs.Prelude.{◌==◌, None, unwrap_or}
 use Rattle.std.proofs.lemmas.Bool.{ne_eqb}
 use Rattle.std.proofs.lemmas.List.{reverse-append, map-append}
@@ -11,11 +11,11 @@ use Rattle.board_spec.specs.declared.event.Entry.{Entry}
 use Rattle.board_spec.specs.declared.event.Statement.{Statement}
 use Rattle.board_spec.specs.Setup.{Setup}
 use Rattle.board_spec.specs.Devices.{line_set, irq_of}
-use Rattle.board_spec.specs.Legal.{IsLegal, next_entry}
+use Rattle.board_spec.specs.Legal.{next_entry}
 use Rattle.board_spec.specs.Orders.{statement_of, statements_of}
 use Rattle.uart_16550.specs.declared.com1.Com1.{Com1}
 use Rattle.uart_16550.specs.Com1.{com1_irq, com1_actor, level_of, board_event, line_steps, change_steps, com1_after, board_steps, uart_access}
-use Rattle.uart_16550.specs.Serial.{SetsLine, GoesOn, AreAnswered, AnsweredIsLegal, IsLeftAt, IsLeftAfter}
+use Rattle.uart_16550.specs.Serial.{SetsLine, GoesOn, IsNextBy, AreAnswered, AnsweredIsLegal, IsLeftAt, IsLeftAfter}
 
 -- a processor is not the port
 pub other_actor : (actor : ℕ) (event : Event) → actor < com1_actor → actor ≡ com1_actor → SetsLine event
@@ -35,14 +35,24 @@ goes_on_twice before middle after first second one two = record {
       ∙ ap (λ (list : List Statement). first ++ list) two.same);
 }
 
-answered_as : (is_answer : Setup → List Entry → Event → Reply → Type 0) (setup other : Setup) (history : List Entry) →
-    setup ≡ other → AreAnswered (is_answer other) history → AreAnswered (is_answer setup) history
-answered_as is_answer setup other history same answered = rw same answered
+answered_as : (is_answer : Setup → List Entry → Event → Reply → Type 0) (setup other : Setup) (before more : List Entry) →
+    setup ≡ other → AreAnswered (is_answer other) before more → AreAnswered (is_answer setup) before more
+answered_as is_answer setup other before more same answered = rw same answered
+
+answered_twice : (is_answer : List Entry → Event → Reply → Type 0) (before one two : List Entry) →
+    AreAnswered is_answer before one → AreAnswered is_answer (one ++ before) two → AreAnswered is_answer before (two ++ one)
+answered_twice is_answer before one [] first second = first
+answered_twice is_answer before one (entry ∷ two) first second = (
+  subst (λ (list : List Entry). IsNextBy is_answer list entry) (sym (append_assoc two one before)) second.0,
+  answered_twice is_answer before one two first second.1,
+)
 
 pub answered_is_legal : AnsweredIsLegal
-answered_is_legal setup [] answered = tt
-answered_is_legal setup (entry ∷ before) answered =
-    (record { number = answered.0.number; answer = answered.0.answer }, answered_is_legal setup before answered.1)
+answered_is_legal setup before [] legal answered = legal
+answered_is_legal setup before (entry ∷ more) legal answered = (
+  record { number = answered.0.number; answer = answered.0.answer },
+  answered_is_legal setup before more legal answered.1,
+)
 
 -- ---- an event that is no access at a port and no level of a line is for the board alone
 
@@ -121,16 +131,27 @@ is_plain (BadSector sector) no_port no_line = record {
 abbrev pub with_level : Com1 → Bool → Com1
 with_level com1 on = record com1 { script_level = on }
 
+-- nothing happened yet
+pub fresh_left : {B : Type 0} (left_by : B → List Entry → Type 0) (board : B) → left_by board [] →
+    IsLeftAt left_by board false []
+unfolding irq_of
+fresh_left left_by board left = record { left = left; level_is = refl; own = tt }
+
 module _ {B : Type 0} (is_answer : Setup → List Entry → Event → Reply → Type 0) (setup_of : B → Setup)
     (left_by : B → List Entry → Type 0) where
-  -- nothing happened yet
-  pub fresh_left : (board : B) → left_by board [] → IsLeftAt is_answer setup_of left_by board false []
-  unfolding irq_of
-  fresh_left board left = record { left = left; answered = tt; level_is = refl; own = tt }
+  -- the board does nothing
+  pub no_step : (board : B) (level : Bool) (history : List Entry) → IsLeftAt left_by board level history →
+      IsLeftAfter is_answer setup_of left_by board level history []
+  no_step board level history left_at = record {
+    after = history;
+    left_at = left_at;
+    goes_on = record { more = []; grows = refl; same = refl };
+    answered = tt;
+  }
 
   -- the board does one event
   pub one_step : (old new : B) (level next : Bool) (history : List Entry) (actor : ℕ) (event : Event) (reply : Reply) →
-      IsLeftAt is_answer setup_of left_by old level history → setup_of new ≡ setup_of old →
+      IsLeftAt left_by old level history → setup_of new ≡ setup_of old →
       is_answer (setup_of old) history event reply → left_by new (next_entry history actor event reply ∷ history) →
       unwrap_or (line_set com1_irq event) level ≡ next → (actor ≡ com1_actor → SetsLine event) →
       IsLeftAfter is_answer setup_of left_by new next history (record { actor = actor; event = event } ∷ [])
@@ -139,18 +160,18 @@ module _ {B : Type 0} (is_answer : Setup → List Entry → Event → Reply → 
     after = next_entry history actor event reply ∷ history;
     left_at = record {
       left = left;
-      answered =
-          answered_as is_answer (setup_of new) (setup_of old) (next_entry history actor event reply ∷ history) same
-          (record { number = refl; answer = answer }, left_at.answered);
       level_is = ap (unwrap_or (line_set com1_irq event)) left_at.level_is ∙ is;
       own = (own, left_at.own);
     };
     goes_on = record { more = next_entry history actor event reply ∷ []; grows = refl; same = refl };
+    answered =
+        answered_as is_answer (setup_of new) (setup_of old) history (next_entry history actor event reply ∷ []) same
+        (record { number = refl; answer = answer }, tt);
   }
 
   -- the same under another name of the event
   pub one_step_as : (old new : B) (level next : Bool) (history : List Entry) (actor : ℕ) (event name : Event) (reply : Reply) →
-      IsLeftAt is_answer setup_of left_by old level history → setup_of new ≡ setup_of old →
+      IsLeftAt left_by old level history → setup_of new ≡ setup_of old →
       is_answer (setup_of old) history event reply → left_by new (next_entry history actor event reply ∷ history) →
       unwrap_or (line_set com1_irq event) level ≡ next → actor < com1_actor → event ≡ name →
       IsLeftAfter is_answer setup_of left_by new next history (record { actor = actor; event = name } ∷ [])
@@ -161,7 +182,7 @@ module _ {B : Type 0} (is_answer : Setup → List Entry → Event → Reply → 
   -- the script gives line 4 a level
   pub level_given : (old new : B) (com1 : Com1) (irq : ℕ) (on level : Bool) (history : List Entry) (actor : ℕ) (reply : Reply) →
       irq ≡ com1_irq → level ≡ level_of (with_level com1 on) →
-      IsLeftAt is_answer setup_of left_by old (level_of com1) history → setup_of new ≡ setup_of old →
+      IsLeftAt left_by old (level_of com1) history → setup_of new ≡ setup_of old →
       is_answer (setup_of old) history (Line irq level) reply → left_by new (next_entry history actor (Line irq level) reply ∷ history) →
       actor < com1_actor →
       IsLeftAfter is_answer setup_of left_by new (level_of (with_level com1 on)) history
@@ -173,7 +194,7 @@ module _ {B : Type 0} (is_answer : Setup → List Entry → Event → Reply → 
   -- the script gives another line a level
   pub other_given : (old new : B) (com1 : Com1) (irq : ℕ) (on : Bool) (history : List Entry) (actor : ℕ) (reply : Reply) →
       (irq ≡ com1_irq → ⊥) →
-      IsLeftAt is_answer setup_of left_by old (level_of com1) history → setup_of new ≡ setup_of old →
+      IsLeftAt left_by old (level_of com1) history → setup_of new ≡ setup_of old →
       is_answer (setup_of old) history (Line irq on) reply → left_by new (next_entry history actor (Line irq on) reply ∷ history) →
       actor < com1_actor →
       IsLeftAfter is_answer setup_of left_by new (level_of com1) history
@@ -185,38 +206,46 @@ module _ {B : Type 0} (is_answer : Setup → List Entry → Event → Reply → 
 
   -- the board does something, and then something more
   pub then_more : (middle new : B) (level next : Bool) (before : List Entry) (first second : List Statement) →
+      setup_of new ≡ setup_of middle →
       IsLeftAfter is_answer setup_of left_by middle level before first →
-      ((history : List Entry) → IsLeftAt is_answer setup_of left_by middle level history →
+      ((history : List Entry) → IsLeftAt left_by middle level history →
       IsLeftAfter is_answer setup_of left_by new next history second) →
       IsLeftAfter is_answer setup_of left_by new next before (first ++ second)
-  then_more middle new level next before first second one two =
+  unfolding goes_on_twice
+  then_more middle new level next before first second same one two =
       let last = two one.after one.left_at in
+      let answers = is_answer (setup_of new) in
       record {
         after = last.after;
         left_at = last.left_at;
         goes_on = goes_on_twice before one.after last.after first second one.goes_on last.goes_on;
+        answered =
+            answered_twice answers before one.goes_on.more last.goes_on.more
+            (answered_as is_answer (setup_of new) (setup_of middle) before one.goes_on.more same one.answered)
+            (subst (λ (list : List Entry). AreAnswered answers list last.goes_on.more) one.goes_on.grows last.answered);
       }
 
   -- the board does an access, and then hears of the line what is new
   pub accessed : (old middle new : B) (com1 next : Com1) (history : List Entry) (actor : ℕ) (access : PortAccess) (reply : Reply)
-      (was now : Bool) → IsLeftAt is_answer setup_of left_by old (level_of com1) history → setup_of middle ≡ setup_of old →
+      (was now : Bool) → IsLeftAt left_by old (level_of com1) history → setup_of middle ≡ setup_of old →
+      setup_of new ≡ setup_of middle →
       is_answer (setup_of old) history (Port access) reply →
       left_by middle (next_entry history actor (Port access) reply ∷ history) → actor < com1_actor →
       was ≡ level_of com1 → now ≡ level_of next →
-      ((after : List Entry) → IsLeftAt is_answer setup_of left_by middle was after →
+      ((after : List Entry) → IsLeftAt left_by middle was after →
       IsLeftAfter is_answer setup_of left_by new now after (line_steps was now)) →
       IsLeftAfter is_answer setup_of left_by new (level_of next) history
       (record { actor = actor; event = Port access } ∷ change_steps com1 next)
-  accessed old middle new com1 next history actor access reply was now left_at same answer left below was_is now_is moved =
+  accessed old middle new com1 next history actor access reply was now left_at same stays answer left below was_is now_is moved =
       then_more middle new (level_of com1) (level_of next) history (record { actor = actor; event = Port access } ∷ [])
-      (change_steps com1 next)
+      (change_steps com1 next) stays
       (one_step old middle (level_of com1) (level_of com1) history actor (Port access) reply left_at same answer left refl
       (other_actor actor (Port access) below))
       (rw (was_is, now_is) at moved)
 
   -- the board does an event that is for it alone
   pub plain_step : (old new : B) (com1 : Com1) (history : List Entry) (actor : ℕ) (event : Event) (resets : Bool) (reply : Reply) →
-      IsPlain event → IsLeftAt is_answer setup_of left_by old (level_of com1) history → setup_of new ≡ setup_of old →
+      IsPlain event → IsLeftAt left_by old (level_of com1) history → setup_of new ≡ setup_of old →
       is_answer (setup_of old) history event reply → left_by new (next_entry history actor event reply ∷ history) →
       actor < com1_actor → IsLeftAfter is_answer setup_of left_by new (level_of com1) history (board_steps actor resets event com1)
   plain_step old new com1 history actor event resets reply plain left_at same answer left below =

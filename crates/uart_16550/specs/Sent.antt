@@ -4,17 +4,15 @@ use Rattle.std.specs.Option.{option_to_list}
 use Rattle.board_base.specs.declared.access.PortAccess.{PortAccess}
 use Rattle.board_spec.specs.declared.event.Event.{Event}
 use Rattle.board_spec.specs.declared.event.Entry.{Entry}
+use Rattle.board_spec.specs.declared.event.Statement.{Statement}
 use Rattle.board_spec.specs.Registers.{control_written, control_after, resets_hard, reset_control, is_hard_reset}
 use Rattle.uart_16550.specs.declared.com1.Com1.{Com1}
+use Rattle.uart_16550.specs.declared.com1.Happening.{Happening}
+use Rattle.uart_16550.specs.declared.com1.Happening.TheVariants.{Comes, Happens}
 use Rattle.uart_16550.specs.Uart.{Uart, received}
 use Rattle.uart_16550.specs.Writes.{byte_sent}
-use Rattle.uart_16550.specs.Com1.{com1_at_reset, uart_access, offset_of, com1_after, board_steps}
+use Rattle.uart_16550.specs.Com1.{com1_at_reset, uart_access, offset_of, com1_after, board_steps, change_steps}
 use Rattle.uart_16550.specs.Serial.{GoesOn}
-
--- what happens to the board: a byte comes from outside, or an event is done
-pub data Happening : Type 0 where
-  Comes : (byte : ℕ) → Happening
-  Happens : (event : Event) → Happening
 
 -- the port, and the reset control register of the board
 pub record Sending : Type 0 where
@@ -31,6 +29,12 @@ sending_after before (Happens event) = record {
   com1 = com1_after (resets_hard before.control (control_written event)) event before.com1;
   control = control_after before.control (control_written event);
 }
+
+-- what the board does for it: the event, by this processor, where it is not for the port, and the changes of line 4
+abbrev pub steps_for : (actor : ℕ) → Sending → Happening → List Statement
+steps_for actor port (Comes byte) = change_steps port.com1 (sending_after port (Comes byte)).com1
+steps_for actor port (Happens event) =
+    board_steps actor (resets_hard port.control (control_written event)) event port.com1
 
 abbrev pub sent_by_access : Option PortAccess → Uart → List ℕ
 sent_by_access None uart = []

@@ -1,5 +1,5 @@
 -- A board with a serial port, and how it stands to the histories of its board.
-use Rattle.std.specs.Prelude.{ℕ, ◌≡◌, ◌+◌, Bool, List, [], ◌∷◌, ◌++◌, length}
+use Rattle.std.specs.Prelude.{◌≡◌, ◌+◌, Bool, List, [], ◌∷◌, ◌++◌, length}
 use Rattle.board_spec.specs.declared.event.Event.{Event}
 use Rattle.board_spec.specs.declared.event.Event.TheVariants.{Line}
 use Rattle.board_spec.specs.declared.event.Reply.{Reply}
@@ -43,34 +43,39 @@ pub record IsNextBy (is_answer : List Entry → Event → Reply → Type 0) (bef
   pub number : entry.seq ≡ length (entries_by entry.actor before) + 1
   pub answer : is_answer before entry.event entry.reply
 
--- each entry is the next of those before it. Where answers are those of a board the history is legal (`law_legal`)
-abbrev pub AreAnswered : (List Entry → Event → Reply → Type 0) → List Entry → Type 0
-AreAnswered is_answer [] = Unit {0}
-AreAnswered is_answer (entry ∷ before) = IsNextBy is_answer before entry × AreAnswered is_answer before
+-- entries, newest first, that go on from a history: each is the next of those before it
+abbrev pub AreAnswered : (List Entry → Event → Reply → Type 0) → (before more : List Entry) → Type 0
+AreAnswered is_answer before [] = Unit {0}
+AreAnswered is_answer before (entry ∷ earlier) =
+    IsNextBy is_answer (earlier ++ before) entry × AreAnswered is_answer before earlier
 
+-- where answers are those of a board, a legal history so goes on to a legal one (`law_legal`)
 abbrev pub AnsweredIsLegal : Type 0
-AnsweredIsLegal = (setup : Setup) (history : List Entry) → AreAnswered (IsAnswer setup) history → IsLegal setup history
+AnsweredIsLegal =
+    (setup : Setup) (before more : List Entry) → IsLegal setup before → AreAnswered (IsAnswer setup) before more →
+    IsLegal setup (more ++ before)
 
--- of a kind of board: what is an answer, the setup of one, and which histories leave it
-module _ {B : Type 0} (is_answer : Setup → List Entry → Event → Reply → Type 0) (setup_of : B → Setup)
-    (left_by : B → List Entry → Type 0) where
-  -- this history left the board: each reply is an answer, line 4 was given this level last, and what the port moved by
-  -- itself was that line
+-- of a kind of board: which histories leave one
+module _ {B : Type 0} (left_by : B → List Entry → Type 0) where
+  -- this history left the board: line 4 was given this level last, and what the port moved by itself was that line
   pub record IsLeftAt (board : B) (level : Bool) (history : List Entry) : Type 0 where
     pub left : left_by board history
-    pub answered : AreAnswered (is_answer (setup_of board)) history
     pub level_is : irq_of history com1_irq ≡ level
     pub own : AreOwn history
-
-  -- so did one that goes on from here with these statements
-  pub record IsLeftAfter (board : B) (level : Bool) (before : List Entry) (statements : List Statement) : Type 0 where
-    pub after : List Entry
-    pub left_at : IsLeftAt board level after
-    pub goes_on : GoesOn before statements after
 
   -- the level of line 4 is that of the port: the or of the UART's line and the level that the script set
   abbrev pub IsLeftBy : Serial B → List Entry → Type 0
   IsLeftBy serial history = IsLeftAt serial.board (level_of serial.com1) history
+
+-- and what is an answer, and the setup of one
+module _ {B : Type 0} (is_answer : Setup → List Entry → Event → Reply → Type 0) (setup_of : B → Setup)
+    (left_by : B → List Entry → Type 0) where
+  -- a history left the board that goes on from this one with these statements, each with an answer
+  pub record IsLeftAfter (board : B) (level : Bool) (before : List Entry) (statements : List Statement) : Type 0 where
+    pub after : List Entry
+    pub left_at : IsLeftAt left_by board level after
+    pub goes_on : GoesOn before statements after
+    pub answered : AreAnswered (is_answer (setup_of board)) before goes_on.more
 
   abbrev pub IsAfter : Serial B → (before : List Entry) → List Statement → Type 0
   IsAfter serial before statements = IsLeftAfter serial.board (level_of serial.com1) before statements

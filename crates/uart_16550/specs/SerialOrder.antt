@@ -1,8 +1,10 @@
 -- A board with a serial port loses no byte that it received, and all are read in their order.
 use Rattle.std.specs.Prelude.{ℕ, ◌≡◌, List, [], ◌∷◌, ◌++◌}
 use Rattle.board_spec.specs.Registers.{control_written, resets_hard}
+use Rattle.uart_16550.specs.declared.com1.Happening.{Happening}
+use Rattle.uart_16550.specs.declared.com1.Happening.TheVariants.{Comes, Happens}
 use Rattle.uart_16550.specs.Calls.{Call, Receives, calls_of, AllKeep, all_taken}
-use Rattle.uart_16550.specs.Sent.{Happening, Comes, Happens, Sending, sending_after}
+use Rattle.uart_16550.specs.Sent.{Sending, sending_after}
 
 -- the calls of the UART that are made for what happens
 abbrev pub calls_for : Sending → Happening → List Call

@@ -7,7 +7,7 @@ ghost use Rattle.uart_16550.specs.Com1.{com1_at_reset, is_for_uart, level_of, of
 
 use crate::uart::Uart;
 use board_base::PortAccess;
-use board_spec::Reply;
+use board_spec::{Event, Reply};
 
 /// The port of the first of the eight registers.
 pub const COM1: u16 = 0x3F8;
@@ -17,6 +17,15 @@ pub const COM1_END: u16 = 0x3FF;
 pub const COM1_IRQ: u8 = 4;
 /// The number under which the port itself moves its line. Processors have 0 to 7.
 pub const COM1_ACTOR: u8 = 8;
+
+/// What happens to a board with a serial port.
+#[derive(Clone, Copy, PartialEq, Eq, Debug)]
+pub enum Happening {
+    /// The port receives a byte from outside.
+    Comes(u8),
+    /// An event is done.
+    Happens(Event),
+}
 
 /// What a board with a serial port replies to an event.
 #[derive(Clone, Copy, PartialEq, Eq, Debug)]

@@ -21,7 +21,7 @@ pub fn law_control_follows()
     ensures control { ControlFollows }
 {}
 
-/// Where each entry is the next of those before it, and its reply the answer, the history is legal.
+/// A legal history that goes on with entries that are each the next, with the answer as its reply, is legal.
 pub fn law_legal()
     ensures legal { AnsweredIsLegal }
 {}

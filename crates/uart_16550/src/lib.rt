@@ -8,13 +8,14 @@ mod interrupt;
 pub mod laws;
 mod line;
 mod modem;
+mod over_chipset;
 mod queue;
 mod register;
 mod serial;
 mod stepped;
 mod uart;
 
-pub use com1::SerialReply;
+pub use com1::{Happening, SerialReply, is_for_uart};
 pub use serial::SerialBoard;
 pub use stepped::SteppedBoard;
 pub use uart::Uart;

@@ -14,7 +14,7 @@ pub fn move_line<B: SteppedBoard>(board: &mut B, old: bool, new: bool)
     requires room { B.has_room board.old 1 }
     ensures setup { B.setup board.new ≡ B.setup board.old }
     ensures room { (n : ℕ) → B.has_room board.old (n + 1) → B.has_room board.new n }
-    ensures moved { (history : List Entry) → IsLeftAt B.is_answer B.setup B.is_left_by board.old old history
+    ensures moved { (history : List Entry) → IsLeftAt B.is_left_by board.old old history
         → IsLeftAfter B.is_answer B.setup B.is_left_by board.new new history (line_steps old new) }
 {
     if old != new {

@@ -9,7 +9,7 @@ ghost use Rattle.board_spec.specs.InRange.{IsInRange, IsBusAccess, is_free_line}
 ghost use Rattle.board_spec.specs.Registers.{is_hard_reset};
 ghost use Rattle.uart_16550.specs.declared.com1.SerialReply.TheVariants.{Board};
 ghost use Rattle.uart_16550.specs.Uart.{has_room, received, is_interrupting};
-ghost use Rattle.uart_16550.specs.Com1.{com1_at_reset, com1_after, com1_irq, com1_actor, is_for_uart, uart_access, uart_reply, board_event, board_steps, change_steps};
+ghost use Rattle.uart_16550.specs.Com1.{com1_at_reset, com1_after, com1_irq, com1_actor, is_for_uart, level_of, uart_access, uart_reply, board_event, board_steps, change_steps};
 ghost use Rattle.uart_16550.specs.Serial.{IsLeftBy, IsAfter};
 
 use crate::com1::{COM1_IRQ, Com1, SerialReply, is_for_uart};
@@ -21,11 +21,11 @@ use board_spec::{Event, Reply};
 use std::marker::Model;
 
 /// A board with a 16550 on COM1: ports 3F8h to 3FFh, interrupt line 4. Contracts see the board and the port. Some
-/// history left it, in which each reply is an answer, and line 4 has the or of the UART's line and the script's level.
+/// history left it, in which line 4 has the or of the UART's line and the script's level.
 #[derive(Drop)]
 pub struct SerialBoard<B: SteppedBoard> {
-    board: B,
-    com1: Com1,
+    pub(crate) board: B,
+    pub(crate) com1: Com1,
 }
 
 impl<B: SteppedBoard> Model for SerialBoard<B> {
@@ -39,7 +39,7 @@ impl<B: SteppedBoard> Model for SerialBoard<B> {
 
     ghost invariant = { λ serial.
         (history : List Entry)
-        × IsLeftBy B.is_answer B.setup B.is_left_by (record { board = serial.board; com1 = serial.com1 }) history };
+        × IsLeftBy B.is_left_by (record { board = serial.board; com1 = serial.com1 }) history };
 }
 
 impl<B: SteppedBoard> SerialBoard<B> {
@@ -61,6 +61,13 @@ impl<B: SteppedBoard> SerialBoard<B> {
         self.com1.uart.room()
     }
 
+    /// The level of interrupt line 4: the or of the UART's line and of the level that events gave it.
+    pub fn level(&self) -> bool
+        ensures level { result ≡ level_of self.now.com1 }
+    {
+        self.com1.level()
+    }
+
     /// Receives a byte from outside. The port gives the board a change of line 4.
     pub fn receive(&mut self, byte: u8)
         requires room { has_room self.old.com1.uart ≡ true }
@@ -68,7 +75,7 @@ impl<B: SteppedBoard> SerialBoard<B> {
         ensures setup { B.setup self.new.board ≡ B.setup self.old.board }
         ensures spare { (n : ℕ) → B.has_room self.old.board (n + 1) → B.has_room self.new.board n }
         ensures com1 { self.new.com1 ≡ record self.old.com1 { uart = received self.old.com1.uart byte } }
-        ensures history { (history : List Entry) → IsLeftBy B.is_answer B.setup B.is_left_by self.old history
+        ensures history { (history : List Entry) → IsLeftBy B.is_left_by self.old history
             → IsAfter B.is_answer B.setup B.is_left_by self.new history (change_steps self.old.com1 self.new.com1) }
     {
         let old = self.com1.level();
@@ -88,11 +95,11 @@ impl<B: SteppedBoard> SerialBoard<B> {
         ensures uart { (access : PortAccess) → uart_access event.now ≡ Some access
             → result ≡ uart_reply access self.old.com1.uart }
         ensures board { uart_access event.now ≡ None → (reply : Reply) × (result ≡ Board reply)
-            × ((history : List Entry) → IsLeftBy B.is_answer B.setup B.is_left_by self.old history
+            × ((history : List Entry) → IsLeftBy B.is_left_by self.old history
             → B.is_answer (B.setup self.old.board) history (board_event self.old.com1 event.now) reply) }
-        ensures com1 { (history : List Entry) → IsLeftBy B.is_answer B.setup B.is_left_by self.old history
+        ensures com1 { (history : List Entry) → IsLeftBy B.is_left_by self.old history
             → self.new.com1 ≡ com1_after (is_hard_reset history event.now) event.now self.old.com1 }
-        ensures history { (history : List Entry) → IsLeftBy B.is_answer B.setup B.is_left_by self.old history
+        ensures history { (history : List Entry) → IsLeftBy B.is_left_by self.old history
             → IsAfter B.is_answer B.setup B.is_left_by self.new history
             (board_steps actor (is_hard_reset history event.now) event.now self.old.com1) }
     {
@@ -117,7 +124,7 @@ impl<B: SteppedBoard> SerialBoard<B> {
         ensures spare { (n : ℕ) → B.has_room self.old.board (n + 1) → B.has_room self.new.board n }
         ensures reply { result ≡ uart_reply access.now self.old.com1.uart }
         ensures com1 { self.new.com1 ≡ com1_after false (Port access.now) self.old.com1 }
-        ensures history { (history : List Entry) → IsLeftBy B.is_answer B.setup B.is_left_by self.old history
+        ensures history { (history : List Entry) → IsLeftBy B.is_left_by self.old history
             → IsAfter B.is_answer B.setup B.is_left_by self.new history (change_steps self.old.com1 self.new.com1) }
     {
         let old = self.com1.level();
@@ -134,11 +141,11 @@ impl<B: SteppedBoard> SerialBoard<B> {
         requires spare { B.has_room self.old.board 2 }
         ensures setup { B.setup self.new.board ≡ B.setup self.old.board }
         ensures spare { (n : ℕ) → B.has_room self.old.board (n + 2) → B.has_room self.new.board n }
-        ensures answer { (history : List Entry) → IsLeftBy B.is_answer B.setup B.is_left_by self.old history
+        ensures answer { (history : List Entry) → IsLeftBy B.is_left_by self.old history
             → B.is_answer (B.setup self.old.board) history (Port access.now) result }
-        ensures com1 { (history : List Entry) → IsLeftBy B.is_answer B.setup B.is_left_by self.old history
+        ensures com1 { (history : List Entry) → IsLeftBy B.is_left_by self.old history
             → self.new.com1 ≡ com1_after (is_hard_reset history (Port access.now)) (Port access.now) self.old.com1 }
-        ensures history { (history : List Entry) → IsLeftBy B.is_answer B.setup B.is_left_by self.old history
+        ensures history { (history : List Entry) → IsLeftBy B.is_left_by self.old history
             → IsAfter B.is_answer B.setup B.is_left_by self.new history
             (record { actor = actor; event = Port access.now } ∷ change_steps self.old.com1 self.new.com1) }
     {
@@ -159,10 +166,10 @@ impl<B: SteppedBoard> SerialBoard<B> {
         requires spare { B.has_room self.old.board 1 }
         ensures setup { B.setup self.new.board ≡ B.setup self.old.board }
         ensures spare { (n : ℕ) → B.has_room self.old.board (n + 1) → B.has_room self.new.board n }
-        ensures answer { (history : List Entry) → IsLeftBy B.is_answer B.setup B.is_left_by self.old history
+        ensures answer { (history : List Entry) → IsLeftBy B.is_left_by self.old history
             → B.is_answer (B.setup self.old.board) history (board_event self.old.com1 (Line irq on)) result }
         ensures com1 { self.new.com1 ≡ com1_after false (Line irq on) self.old.com1 }
-        ensures history { (history : List Entry) → IsLeftBy B.is_answer B.setup B.is_left_by self.old history
+        ensures history { (history : List Entry) → IsLeftBy B.is_left_by self.old history
             → IsAfter B.is_answer B.setup B.is_left_by self.new history
             (board_steps actor false (Line irq on) self.old.com1) }
     {
@@ -177,7 +184,7 @@ impl<B: SteppedBoard> SerialBoard<B> {
     /// The board.
     pub fn board(&self) -> &B
         ensures board { result.now ≡ self.now.board }
-        ensures left { (history : List Entry) × IsLeftBy B.is_answer B.setup B.is_left_by self.now history }
+        ensures left { (history : List Entry) × IsLeftBy B.is_left_by self.now history }
     {
         &self.board
     }

@@ -1,6 +1,6 @@
 use Rattle.std.proofs.Common.{◌≡◌, ℕ, List, map, refl, sym, subst, ◌∙◌}
 use Rattle.std.specs.Prelude.{slice_index}
-use Rattle.uart_16550.specs.Sent.{Comes}
+use Rattle.uart_16550.specs.declared.com1.Happening.TheVariants.{Comes}
 use Rattle.command_texts.specs.SerialSteps.{Happened}
 use Rattle.command_texts.proofs.Happenings.{byte_came}
 use Rattle.command_texts.proofs.SerialTexts.{one_comes}

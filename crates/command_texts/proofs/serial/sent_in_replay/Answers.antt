@@ -26,5 +26,6 @@ returns c =
           c.args.input.now c.in_ok-all_steps.field-0.now c.all_steps.new.sent.items text c.in_ok-serial.ensures.setup
           c.in_ok-serial.ensures.entries c.in_ok-serial.ensures.com1
           (subst (λ (sent : List ℕ). WentOn (record { serial = c.in_ok-serial.serial; input = c.args.input.now; sent = sent })
-          (statements_in (said_of c.args.script.now)) last) c.new-sent.ensures.items went) is);
+          (statements_in (said_of c.args.script.now)) last) c.new-sent.ensures.items went)
+          (rw c.board.ensures.board at c.history.ensures.legal) is);
     }

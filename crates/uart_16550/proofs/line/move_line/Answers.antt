@@ -3,7 +3,7 @@ use Rattle.std.proofs.Math.Bool.{beq}
 use Rattle.board_spec.specs.declared.event.Event.TheVariants.{Line}
 use Rattle.uart_16550.specs.Com1.{com1_irq, com1_actor}
 use Rattle.uart_16550.specs.Writes.{differ}
-use Rattle.uart_16550.proofs.SerialSteps.{one_step}
+use Rattle.uart_16550.proofs.SerialSteps.{no_step, one_step}
 use Rattle.uart_16550.proofs.line.move_line.Goals as goal
 
 differs : (old new : Bool) → not (beq old new) ≡ true → differ old new ≡ true
@@ -18,3 +18,17 @@ returns-then-old-new-clause-moved g c = λ history left_at.
     (one_step g.B.SteppedBoard.is_answer g.B.SteppedBoard.setup g.B.SteppedBoard.is_left_by c.args.board.now c.step.new.self c.args.old c.args.new
     history com1_actor (Line com1_irq c.args.new) c.step.result left_at c.step.ensures.setup
     (c.step.ensures.answer history left_at.left) (c.step.ensures.left history left_at.left) refl (λ _. refl))
+
+agrees : (old new : Bool) → not (beq old new) ≡ false → (old ≡ new) × (differ old new ≡ false)
+agrees true true is = (refl, refl)
+agrees true false is = absurd (cc is)
+agrees false true is = absurd (cc is)
+agrees false false is = (refl, refl)
+
+pub returns-else-old-new-clause-moved : goal.returns-else-old-new-clause-moved
+returns-else-old-new-clause-moved g c =
+    let stays = agrees c.args.old c.args.new c.if-old-new.false in
+    λ history left_at.
+    rw (stays.1)
+    (no_step g.B.SteppedBoard.is_answer g.B.SteppedBoard.setup g.B.SteppedBoard.is_left_by c.args.board.now c.args.new
+    history (rw (stays.0) at left_at))

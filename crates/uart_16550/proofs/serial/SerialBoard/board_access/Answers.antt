@@ -15,6 +15,7 @@ returns-clause-history g c =
     accessed g.B.SteppedBoard.is_answer g.B.SteppedBoard.setup g.B.SteppedBoard.is_left_by c.self.inside.board c.step-reply.new.self
     c.move_line.new.board c.self.inside.com1 c.if-resets.self-inside.com1 history c.args.actor c.args.access.now
     c.step-reply.result c.level-old.result c.level.result left_at c.step-reply.ensures.setup
+    (rw board_is at c.move_line.ensures.setup)
     (c.step-reply.ensures.answer history left_at.left) (c.step-reply.ensures.left history left_at.left)
     c.requires.actor c.level-old.ensures.level c.level.ensures.level (rw board_is at c.move_line.ensures.moved))
 
