@@ -7,6 +7,8 @@
 mod file_shelf;
 mod folder;
 mod out_sink;
+#[cfg(test)]
+mod tests;
 mod tries;
 
 pub use file_shelf::FileShelf;

@@ -1,0 +1,252 @@
+//! Readers and writers that take a byte at once, are interrupted, and fail late.
+
+ghost use Rattle.std.specs.Prelude.{None};
+
+use crate::{FileShelf, Folder, OutSink};
+use board_base::{Failed, PutFault, Shelf, Sink};
+use std::io;
+use std::io::{ErrorKind, Read, Write};
+use std::process::Abort;
+use std::sync::atomic::{AtomicU32, Ordering};
+
+/// What is read and written.
+const BYTES: [u8; 5] = *b"bytes";
+
+/// How often each call is interrupted, and after how many bytes one fails; more than there are: never.
+#[derive(Clone, Copy)]
+struct Habit {
+    interruptions: u32,
+    lasts: usize,
+}
+
+/// Nothing goes wrong.
+const QUIET: Habit = Habit {
+    interruptions: 0,
+    lasts: 6,
+};
+
+/// How many bytes went through, and how often the next call is still interrupted.
+#[derive(Clone, Copy)]
+struct Course {
+    habit: Habit,
+    count: usize,
+    left: u32,
+}
+
+impl Course {
+    fn new(habit: Habit) -> Course {
+        Course {
+            habit,
+            count: 0,
+            left: habit.interruptions,
+        }
+    }
+
+    /// Refuses a call that is interrupted, or the one that comes too late.
+    fn pass(&mut self) -> io::Result<()> {
+        if self.left > 0 {
+            self.left -= 1;
+            return Err(io::Error::from(ErrorKind::Interrupted));
+        }
+        self.left = self.habit.interruptions;
+        if self.count == self.habit.lasts {
+            return Err(io::Error::from(ErrorKind::Other));
+        }
+        Ok(())
+    }
+}
+
+/// A file that gives a byte a read.
+#[derive(Drop)]
+struct Drip {
+    course: Course,
+}
+
+impl Read for Drip {
+    fn read(&mut self, into: &mut [u8]) -> io::Result<usize> {
+        self.course.pass()?;
+        match (BYTES.get(self.course.count), into.first_mut()) {
+            (Some(byte), Some(place)) => {
+                *place = *byte;
+                self.course.count = self.course.count.wrapping_add(1);
+                Ok(1)
+            }
+            _ => Ok(0),
+        }
+    }
+}
+
+/// A folder in which each name can be opened a few times.
+#[derive(Drop)]
+struct Drips {
+    habit: Habit,
+    opens: AtomicU32,
+}
+
+impl Folder for Drips {
+    type File = Drip;
+
+    ghost files = { λ _. None };
+
+    fn open(&self, _name: &str) -> io::Result<Drip> {
+        if self.opens.load(Ordering::SeqCst) == 0 {
+            return Err(io::Error::from(ErrorKind::NotFound));
+        }
+        self.opens.fetch_sub(1, Ordering::SeqCst);
+        Ok(Drip {
+            course: Course::new(self.habit),
+        })
+    }
+}
+
+/// The shelf of such a folder.
+fn shelf_of(habit: Habit, opens: u32) -> FileShelf<Drips> {
+    FileShelf::new(Drips {
+        habit,
+        opens: AtomicU32::new(opens),
+    })
+}
+
+/// What a fetch of a few bytes from a place gives: a byte, nothing at the end, or a fault.
+fn fetched(shelf: &mut FileShelf<Drips>, name: &str, at: usize) -> Result<Option<u8>, Failed> {
+    let mut into = [0; 8];
+    match shelf.fetch(name, at as u64, &mut into) {
+        Ok(0) => Ok(None),
+        Ok(1) => Ok(Some(into[0])),
+        Ok(_) => Err(Failed),
+        Err(Failed) => Err(Failed),
+    }
+}
+
+/// A file that is opened once comes byte by byte, however often a signal interrupts, and then ends.
+#[test]
+fn a_file_comes_byte_by_byte(rt: HostRuntime) {
+    for interruptions in [0, 1, 63] {
+        let mut shelf = shelf_of(
+            Habit {
+                interruptions,
+                ..QUIET
+            },
+            1,
+        );
+        for at in 0..=BYTES.len() {
+            assert_eq!(rt;
+                fetched(&mut shelf, "f", at),
+                Ok(BYTES.get(at).copied()),
+                "byte {at}"
+            );
+        }
+        assert_eq!(rt;
+            fetched(&mut shelf, "g", 0),
+            Err(Failed),
+            "a file that is not there"
+        );
+    }
+}
+
+/// An error is a fault where it comes, never the end, and the file is opened anew after it.
+#[test]
+fn a_read_that_fails_is_no_end(rt: HostRuntime) {
+    for lasts in 0..=BYTES.len() {
+        let mut shelf = shelf_of(Habit { lasts, ..QUIET }, 2);
+        for at in 0..lasts {
+            assert_eq!(rt;
+                fetched(&mut shelf, "f", at),
+                Ok(BYTES.get(at).copied()),
+                "byte {at}"
+            );
+        }
+        assert_eq!(rt;
+            fetched(&mut shelf, "f", lasts),
+            Err(Failed),
+            "after {lasts}"
+        );
+        let again = if lasts == 0 {
+            Err(Failed)
+        } else {
+            Ok(Some(b'b'))
+        };
+        assert_eq!(rt; fetched(&mut shelf, "f", 0), again, "again after {lasts}");
+    }
+    let mut shelf = shelf_of(
+        Habit {
+            interruptions: 64,
+            ..QUIET
+        },
+        1,
+    );
+    assert_eq!(rt; fetched(&mut shelf, "f", 0), Err(Failed));
+}
+
+/// A file is read from a place at which no handle stands, and not past an error on the way.
+#[test]
+fn a_file_is_read_from_a_place_within(rt: HostRuntime) {
+    for at in 0..=BYTES.len() {
+        assert_eq!(rt;
+            fetched(&mut shelf_of(QUIET, 1), "f", at),
+            Ok(BYTES.get(at).copied())
+        );
+        for lasts in 0..=at {
+            let mut shelf = shelf_of(Habit { lasts, ..QUIET }, 1);
+            assert_eq!(rt; fetched(&mut shelf, "f", at), Err(Failed), "{at}, {lasts}");
+        }
+    }
+}
+
+/// A writer that takes a byte a write.
+#[derive(Drop)]
+struct Miser {
+    course: Course,
+    taken: [u8; 5],
+}
+
+impl Write for Miser {
+    fn write(&mut self, bytes: &[u8]) -> io::Result<usize> {
+        self.course.pass()?;
+        match (bytes.first(), self.taken.get_mut(self.course.count)) {
+            (Some(byte), Some(place)) => {
+                *place = *byte;
+                self.course.count = self.course.count.wrapping_add(1);
+                Ok(1)
+            }
+            _ => Ok(0),
+        }
+    }
+
+    fn flush(&mut self) -> io::Result<()> {
+        Ok(())
+    }
+}
+
+/// A put tells a fault where the writer fails or takes nothing, and else that one byte was taken.
+#[test]
+fn a_writer_takes_little_and_fails_late(rt: HostRuntime) {
+    for interruptions in [0, 1, 63] {
+        for lasts in 0..=6 {
+            let course = Course::new(Habit {
+                interruptions,
+                lasts,
+            });
+            let mut sink = OutSink::new(Miser {
+                course,
+                taken: [0; 5],
+            });
+            let count = lasts.min(BYTES.len());
+            for at in 0..count {
+                assert!(rt; sink.put(&BYTES[at..]) == Ok(1), "byte {at} of {lasts}");
+            }
+            assert!(rt; sink.put(b"more") == Err(PutFault::Failed), "after {lasts}");
+            let Miser { taken, .. } = sink.into_inner();
+            assert!(rt; taken[..count] == BYTES[..count], "{count} bytes");
+        }
+    }
+    let course = Course::new(Habit {
+        interruptions: 64,
+        ..QUIET
+    });
+    let mut sink = OutSink::new(Miser {
+        course,
+        taken: [0; 5],
+    });
+    assert!(rt; sink.put(&BYTES) == Err(PutFault::Failed));
+}
