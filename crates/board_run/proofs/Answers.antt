@@ -17,7 +17,7 @@ use Rattle.command_files.specs.Asked.{CanBeDone, OfCheck, OfResume, LogDiffers, 
 use Rattle.command_files.specs.Outcomes.{ShelfCall, OfFiles, CanEnd, CompareBoards, IsRefused}
 use Rattle.command_files.proofs.Refusals.{of_files, at_files}
 use Rattle.board_run.specs.Texts.{IsTextFor, IsCommandText}
-use Rattle.board_run.specs.Statuses.{StopsAt, IsAnswered}
+use Rattle.board_run.specs.Statuses.{HasNoText, IsAnswered}
 
 pub refused_answer :
     (command : Command) (shelf : ShelfCall) (result : Result (List ℕ) Status) (status : Status) → result ≡ Err status →
@@ -68,7 +68,7 @@ module _ (command : Command) (shelf : ShelfCall) (known : Known) (read : OfFiles
       of_files shelf.files P (λ files is. each files (at_files shelf.files files (λ files'. AllRead command files' known) is read))
 
   -- the text stopped
-  pub stopped : (status : Status) → StopsAt command known status → IsRefused command shelf status
+  pub stopped : (status : Status) → HasNoText command known status → IsRefused command shelf status
   stopped Done is = absurd is
   stopped Usage is = absurd is
   stopped (ReadFault which) is = absurd is
@@ -98,7 +98,7 @@ module _ (command : Command) (shelf : ShelfCall) (known : Known) (read : OfFiles
 pub read_answer :
     (command : Command) (shelf : ShelfCall) (known : Known) (result : Result (List ℕ) Status) →
     OfFiles shelf.files (λ files. AllRead command files known) → shelf.faults_now ≡ shelf.faults_before →
-    IfOk result (IsTextFor command known) → IfOk result (λ _. CanBeDone command known) → IfErr result (StopsAt command known) →
+    IfOk result (IsTextFor command known) → IfOk result (λ _. CanBeDone command known) → IfErr result (HasNoText command known) →
     IsAnswered command shelf result
 read_answer command shelf known (Ok text) read quiet says done stops =
     text_answer command shelf text (text_there command shelf known read text says done) quiet
@@ -110,7 +110,7 @@ pub check_stopped :
     (known : Known) (said : Said) (setup : Setup) (bytes script log : List ℕ) → known.script ≡ Some said →
     setup ≡ board_of known said → bytes ≡ known.log → (fault : CheckFault) →
     ((line : ℕ) → fault ≡ DiffersAtLine line → DiffersAt setup said.version said.phases bytes line) →
-    StopsAt (Check script log) known (status_of_check_fault fault)
+    HasNoText (Check script log) known (status_of_check_fault fault)
 check_stopped known said setup bytes script log is fits same (DiffersAtLine line) differs = (
   said,
   is,

@@ -10,11 +10,11 @@ use Rattle.command_files.specs.Outcomes.{ShelfCall, OfFiles, IsRefused}
 use Rattle.board_run.specs.Texts.{IsCommandText}
 
 -- why a command whose files were read has no text: memory ran out, or what is known asks for another end
-abbrev pub StopsAt : Command → Known → Status → Type 0
-StopsAt command known NoMemory = Unit {0}
-StopsAt command known (Differs line) = EndsWith command known (Differs line)
-StopsAt command known OtherBoard = EndsWith command known OtherBoard
-StopsAt command known _ = ⊥
+abbrev pub HasNoText : Command → Known → Status → Type 0
+HasNoText command known NoMemory = Unit {0}
+HasNoText command known (Differs line) = EndsWith command known (Differs line)
+HasNoText command known OtherBoard = EndsWith command known OtherBoard
+HasNoText command known _ = ⊥
 
 -- what a command answers before anything is put: its text, or why it has none. No fault of the shelf is passed over
 pub record IsAnswered (command : Command) (shelf : ShelfCall) (result : Result (List ℕ) Status) : Type 0 where

@@ -11,7 +11,7 @@ ghost use Rattle.command_words.specs.Commands.{said_alone, said_by};
 ghost use Rattle.command_files.specs.Known.{HasBoard, HasImage, HasRead};
 ghost use Rattle.command_files.specs.Asked.{CanBeDone};
 ghost use Rattle.board_run.specs.Texts.{OnBoard, IsRunText, IsTextFor};
-ghost use Rattle.board_run.specs.Statuses.{StopsAt};
+ghost use Rattle.board_run.specs.Statuses.{HasNoText};
 
 use crate::prepare::{Prepared, prepare};
 use crate::run::log_of_run;
@@ -95,7 +95,7 @@ fn blame(alloc: Global, read: Read) -> Result<Text, NoMemory>
 fn verdict(alloc: Global, read: Read) -> Result<Text, Status>
     requires board { HasBoard read }
     ensures text { IfOk result (OnBoard read (λ setup script. IsLegalText setup script read.log)) }
-    ensures stops { (script log : List ℕ) → IfErr result (StopsAt (Check script log) read) }
+    ensures stops { (script log : List ℕ) → IfErr result (HasNoText (Check script log) read) }
 {
     let mut prepared = prepare(alloc, read)?;
     let log = &prepared.log;
@@ -108,7 +108,7 @@ fn resume(alloc: Global, read: Read) -> Result<Text, Status>
     requires image { HasImage read }
     ensures text { (image script : List ℕ) → IfOk result (IsTextFor (Resume image script) read) }
     ensures done { (image script : List ℕ) → IfOk result (λ _. CanBeDone (Resume image script) read) }
-    ensures stops { (image script : List ℕ) → IfErr result (StopsAt (Resume image script) read) }
+    ensures stops { (image script : List ℕ) → IfErr result (HasNoText (Resume image script) read) }
 {
     let Read { script, image, .. } = read;
     let Some(script) = script else { unreachable!() };
@@ -125,7 +125,7 @@ fn text_alone(alloc: Global, command: &Alone, read: Read) -> Result<Text, Status
     requires read { HasRead (said_alone command.now) read }
     ensures text { IfOk result (IsTextFor (said_alone command.now) read) }
     ensures done { IfOk result (λ _. CanBeDone (said_alone command.now) read) }
-    ensures stops { IfErr result (StopsAt (said_alone command.now) read) }
+    ensures stops { IfErr result (HasNoText (said_alone command.now) read) }
 {
     let text = match command {
         Alone::Check { .. } => return verdict(alloc, read),
@@ -170,7 +170,7 @@ pub(crate) fn text_of<R: Threads + Wait + Sync, G: Gate>(
     requires read { HasRead (said_by command.now) read }
     ensures text { IfOk result (IsTextFor (said_by command.now) read) }
     ensures done { IfOk result (λ _. CanBeDone (said_by command.now) read) }
-    ensures stops { IfErr result (StopsAt (said_by command.now) read) }
+    ensures stops { IfErr result (HasNoText (said_by command.now) read) }
 {
     match command {
         Command::Run(_) => Ok(run(rt, alloc, read, gate)?),

@@ -6,7 +6,7 @@ use Rattle.script_spec.specs.ScriptRange.{IsInRangeScript}
 use Rattle.command_words.specs.Words.{Command, Replay, Run, Map, Check, Make, Dma, Save, Resume, Serial, Blame}
 use Rattle.command_files.specs.declared.status.Which.TheVariants.{Script, Rom, Disk, Log, Image, Input}
 use Rattle.command_files.specs.Table.{files_of, script_name}
-use Rattle.command_files.specs.Known.{Files, Known, rom_of, disk_of, OfScript, HasBoard, HasImage, HasRead}
+use Rattle.command_files.specs.Known.{Files, Known, rom_name, disk_name, OfScript, HasBoard, HasImage, HasRead}
 use Rattle.command_files.specs.Steps.{IsTaken, IsPassed}
 use Rattle.command_files.proofs.Places.{AreTaken}
 
@@ -27,7 +27,7 @@ module _ (told : Option Files) where
 
   rom_read :
       (before now : Known) (script : Option Said) → before.script ≡ script → HasScript before →
-      IsPassed told before Rom (rom_of script) now → HasRom now
+      IsPassed told before Rom (rom_name script) now → HasRom now
   rom_read before now None none has is =
       let same : None ≡ Some has.script.0 = sym none ∙ has.script.1 in absurd cc
   rom_read before now (Some script) some has is =
@@ -51,7 +51,7 @@ module _ (told : Option Files) where
       script_read nothing with_script name (ap (λ (k : Known). k.disk) none)
       (subst (λ (name' : Option (List ℕ)). IsPassed told nothing Script name' with_script) named script) in
       let second = rom_read with_script with_rom with_script.script refl first rom in
-      disk_read with_rom known (disk_of with_rom.script) second disk
+      disk_read with_rom known (disk_name with_rom.script) second disk
 
   log_read : (before now : Known) (name : List ℕ) → HasBoard before → IsTaken told before Log name now → HasBoard now
   log_read before now name has is =

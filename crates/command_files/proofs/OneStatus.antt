@@ -18,7 +18,7 @@ use Rattle.command_files.specs.declared.status.Which.TheVariants.{Script, Rom, D
 use Rattle.command_files.specs.declared.status.Status.{Status}
 use Rattle.command_files.specs.declared.status.Status.TheVariants.{Done, Usage, ReadFault, WriteFault, TooLong, BadScript, BadImage, Differs, NoMemory, OtherBoard}
 use Rattle.command_files.specs.Table.{files_of, limit_of}
-use Rattle.command_files.specs.Known.{Files, Known, nothing_known, name_of, Learns, Passes, AreReadAs, AllRead, ComesTo, board_of, OfScript, OfImage}
+use Rattle.command_files.specs.Known.{Files, Known, nothing_known, file_name, Learns, Passes, AreReadAs, AllRead, ComesTo, board_of, OfScript, OfImage}
 use Rattle.command_files.specs.Asked.{IsNoImage, LogIsLegal, LogDiffers, BoardsAgree, BoardsDiffer, CanBeDone, OfCheck, OfResume, EndsWith, AsksFor}
 use Rattle.command_files.specs.Laws.{OneStatus}
 
@@ -231,7 +231,7 @@ Stage files known which (Some name) Later status =
 abbrev EndsAt : Command → Files → Known → List Which → Status → Type 0
 EndsAt command files known [] status = EndsWith command known status
 EndsAt command files known (which ∷ later) status =
-    Stage files known which (name_of command known which) (λ now status'. EndsAt command files now later status') status
+    Stage files known which (file_name command known which) (λ now status'. EndsAt command files now later status') status
 
 one_stage :
     OneSpelling → (files : Files) (known : Known) (which : Which) (name : Option (List ℕ))
@@ -262,7 +262,7 @@ one_end :
     IsOne (EndsAt command files known later)
 one_end spelling command files known [] = one_with command known
 one_end spelling command files known (which ∷ later) =
-    one_stage spelling files known which (name_of command known which)
+    one_stage spelling files known which (file_name command known which)
     (λ now status. EndsAt command files now later status) (λ now. one_end spelling command files now later)
 
 -- ---- from what was read before a file to all files
@@ -288,7 +288,7 @@ from_start command files [] later known status read ends =
 from_start command files (which ∷ before) later known status read ends =
     subst (λ (whiches : List Which). EndsAt command files nothing_known whiches status) (reverse_on before later which)
     (from_start command files before (which ∷ later) read.0 status read.1
-    (passed files read.0 known which (name_of command read.0 which)
+    (passed files read.0 known which (file_name command read.0 which)
     (λ now status'. EndsAt command files now later status') status read.2 ends))
 
 -- a command that comes to a file, where it ends so

@@ -12,11 +12,11 @@ use Rattle.command_files.specs.declared.status.Which.TheVariants.{Script, Rom, D
 use Rattle.command_files.specs.declared.status.Status.{Status}
 use Rattle.command_files.specs.declared.status.Status.TheVariants.{Done, Usage, ReadFault, WriteFault, TooLong, BadScript, BadImage, Differs, OtherBoard, NoMemory}
 use Rattle.command_files.specs.Table.{files_of, name_in_words, limit_of}
-use Rattle.command_files.specs.Known.{Files, Known, nothing_known, name_of, Learns, Passes, AreReadAs, ComesTo}
+use Rattle.command_files.specs.Known.{Files, Known, nothing_known, file_name, Learns, Passes, AreReadAs, ComesTo}
 use Rattle.command_files.specs.Asked.{ReadsFile, Fits, IsNoImage}
 use Rattle.command_files.specs.Outcomes.{ShelfCall, OfFiles, CanRead, FailsAt, IsNotTaken, IsRefused}
 use Rattle.command_files.specs.Calls.{OfCalls, FoundEnd, Reaches, Reads, ReadEach, FetchesOf}
-use Rattle.command_files.specs.Steps.{IsPassed, StopsAt, ReadsNamed}
+use Rattle.command_files.specs.Steps.{IsPassed, IsNotPassed, ReadsNamed}
 use Rattle.command_files.proofs.CallLemmas.{Both, calls_both, calls_hold}
 use Rattle.command_files.proofs.Refusals.{of_files, at_files, at_file, any_file}
 
@@ -40,7 +40,7 @@ placed files index d within = rw (reverse-reverse (take index files)) (split_at 
 abbrev pub AreTaken : Command → Option Files → List Which → Known → Type 0
 AreTaken command told [] known = known ≡ nothing_known
 AreTaken command told (which ∷ before) known =
-    (earlier : Known) × AreTaken command told before earlier × IsPassed told earlier which (name_of command earlier which) known
+    (earlier : Known) × AreTaken command told before earlier × IsPassed told earlier which (file_name command earlier which) known
 
 passed_as :
     (files : Files) (before : Known) (which : Which) (name : Option (List ℕ)) (now : Known) →
@@ -56,7 +56,7 @@ taken_as command files [] known is = is
 taken_as command files (which ∷ before) known (earlier, are, passed) = (
   earlier,
   taken_as command files before earlier are,
-  passed_as files earlier which (name_of command earlier which) known passed,
+  passed_as files earlier which (file_name command earlier which) known passed,
 )
 
 pub are_read :
@@ -69,7 +69,7 @@ are_read command (Some files) whiches known is = taken_as command files whiches 
 
 -- a name in the words is the name
 in_words :
-    (command : Command) (known : Known) (which : Which) (name other : List ℕ) → name_of command known which ≡ Some name →
+    (command : Command) (known : Known) (which : Which) (name other : List ℕ) → file_name command known which ≡ Some name →
     name_in_words command which ≡ Some other → other ≡ name
 in_words command known Script name other named is = cc
 in_words command known Rom name other named is = absurd cc
@@ -98,7 +98,7 @@ not_read command told (other ∷ others) whiches more made is = (
 
 module _ (command : Command) (told : Option Files) (which : Which) (before later : List Which) (known : Known)
     (place : files_of command ≡ reverse before ++ which ∷ later) (are : AreTaken command told before known) where
-  reaches : (name : List ℕ) → name_of command known which ≡ Some name → Reaches command told which name
+  reaches : (name : List ℕ) → file_name command known which ≡ Some name → Reaches command told which name
   reaches name named = record {
     can_read = (reverse before, later, place);
     comes =
@@ -116,7 +116,7 @@ module _ (command : Command) (told : Option Files) (which : Which) (before later
     in_words = λ other is. in_words command known which name other named is;
   }
 
-  module _ (start now : ℕ) (kept : List ℕ) (name : List ℕ) (named : name_of command known which ≡ Some name) where
+  module _ (start now : ℕ) (kept : List ℕ) (name : List ℕ) (named : file_name command known which ≡ Some name) where
     abbrev Call : ShelfCall
     Call = record { files = told; faults_before = start; faults_now = now; failed_name = kept }
 
@@ -164,8 +164,8 @@ module _ (command : Command) (told : Option Files) (which : Which) (before later
     not_taken NoMemory is = tt
 
   stopped_at :
-      (start now : ℕ) (kept : List ℕ) (name : Option (List ℕ)) → name_of command known which ≡ name → (status : Status) →
-      StopsAt which name (record { files = told; faults_before = start; faults_now = now; failed_name = kept }) status →
+      (start now : ℕ) (kept : List ℕ) (name : Option (List ℕ)) → file_name command known which ≡ name → (status : Status) →
+      IsNotPassed which name (record { files = told; faults_before = start; faults_now = now; failed_name = kept }) status →
       IsRefused command (record { files = told; faults_before = start; faults_now = now; failed_name = kept }) status
   stopped_at start now kept None named status is = absurd is
   stopped_at start now kept (Some name) named status is = not_taken start now kept name named status is
@@ -173,16 +173,16 @@ module _ (command : Command) (told : Option Files) (which : Which) (before later
   -- the command stops at this place, after none of the fetches before had failed
   stops :
       (start between now : ℕ) (kept : List ℕ) (status : Status) → between ≡ start →
-      StopsAt which (name_of command known which) (record { files = told; faults_before = between; faults_now = now; failed_name = kept }) status →
+      IsNotPassed which (file_name command known which) (record { files = told; faults_before = between; faults_now = now; failed_name = kept }) status →
       IsRefused command (record { files = told; faults_before = start; faults_now = now; failed_name = kept }) status
   stops start between now kept status same is =
       subst (λ (start' : ℕ). IsRefused command (record { files = told; faults_before = start'; faults_now = now; failed_name = kept }) status) same
-      (stopped_at between now kept (name_of command known which) refl status is)
+      (stopped_at between now kept (file_name command known which) refl status is)
 
   -- ---- the fetches
 
   own_read :
-      {T E : Type 0} (result : Result T E) (name : Option (List ℕ)) → name_of command known which ≡ name →
+      {T E : Type 0} (result : Result T E) (name : Option (List ℕ)) → file_name command known which ≡ name →
       (more made : List Fetch) → ReadsNamed result name (limit_of which) made →
       (more ≢ [] → OnOk result (FoundEnd made) → FoundEnd made) → (made ≡ []) ⊎ Reads command told which more made
   own_read result None named more made is whole = inl is
@@ -192,27 +192,27 @@ module _ (command : Command) (told : Option Files) (which : Which) (before later
   -- the file at this place was read to its end
   own_whole :
       {T : Type 0} (E : Type 0) (value : T) (made : List Fetch) →
-      Both (WholeBefore command told before) (ReadsNamed {E = E} (Ok value) (name_of command known which) (limit_of which)) made →
+      Both (WholeBefore command told before) (ReadsNamed {E = E} (Ok value) (file_name command known which) (limit_of which)) made →
       WholeBefore command told (which ∷ before) made
   own_whole E value made is = λ more. (
     is.second,
     is.first,
     is.parts,
-    own_read {E = E} (Ok value) (name_of command known which) refl more is.second is.two (λ some found. found),
+    own_read {E = E} (Ok value) (file_name command known which) refl more is.second is.two (λ some found. found),
     is.one (more ++ is.second),
   )
 
   fetches_next :
       {T : Type 0} (E : Type 0) (value : T) (start between now : Option (List Fetch)) →
       OfCalls start between (WholeBefore command told before) →
-      OfCalls between now (ReadsNamed {E = E} (Ok value) (name_of command known which) (limit_of which)) →
+      OfCalls between now (ReadsNamed {E = E} (Ok value) (file_name command known which) (limit_of which)) →
       OfCalls start now (WholeBefore command told (which ∷ before))
   fetches_next E value start between now one two =
       calls_hold start now
-      (Both (WholeBefore command told before) (ReadsNamed {E = E} (Ok value) (name_of command known which) (limit_of which)))
+      (Both (WholeBefore command told before) (ReadsNamed {E = E} (Ok value) (file_name command known which) (limit_of which)))
       (WholeBefore command told (which ∷ before)) (own_whole E value)
       (calls_both start between now (WholeBefore command told before)
-      (ReadsNamed {E = E} (Ok value) (name_of command known which) (limit_of which)) one two)
+      (ReadsNamed {E = E} (Ok value) (file_name command known which) (limit_of which)) one two)
 
   -- the table from its end
   mirrored : reverse (files_of command) ≡ reverse later ++ which ∷ before
@@ -225,7 +225,7 @@ module _ (command : Command) (told : Option Files) (which : Which) (before later
 
   last_read :
       {T E : Type 0} (result : Result T E) (made : List Fetch) →
-      Both (WholeBefore command told before) (ReadsNamed result (name_of command known which) (limit_of which)) made →
+      Both (WholeBefore command told before) (ReadsNamed result (file_name command known which) (limit_of which)) made →
       FetchesOf command told made
   last_read result made is =
       subst (λ (whiches : List Which). ReadEach command told whiches [] made) (sym mirrored)
@@ -233,7 +233,7 @@ module _ (command : Command) (told : Option Files) (which : Which) (before later
         is.second,
         is.first,
         is.parts,
-        own_read result (name_of command known which) refl [] is.second is.two (λ some. absurd (some refl)),
+        own_read result (file_name command known which) refl [] is.second is.two (λ some. absurd (some refl)),
         is.one ([] ++ is.second),
       ))
 
@@ -241,13 +241,13 @@ module _ (command : Command) (told : Option Files) (which : Which) (before later
   fetches_last :
       {T E : Type 0} (result : Result T E) (start between now : Option (List Fetch)) →
       OfCalls start between (WholeBefore command told before) →
-      OfCalls between now (ReadsNamed result (name_of command known which) (limit_of which)) →
+      OfCalls between now (ReadsNamed result (file_name command known which) (limit_of which)) →
       OfCalls start now (FetchesOf command told)
   fetches_last result start between now one two =
-      calls_hold start now (Both (WholeBefore command told before) (ReadsNamed result (name_of command known which) (limit_of which)))
+      calls_hold start now (Both (WholeBefore command told before) (ReadsNamed result (file_name command known which) (limit_of which)))
       (FetchesOf command told) (last_read result)
       (calls_both start between now (WholeBefore command told before)
-      (ReadsNamed result (name_of command known which) (limit_of which)) one two)
+      (ReadsNamed result (file_name command known which) (limit_of which)) one two)
 
 -- the command read all files
 pub fetches_all :
@@ -272,7 +272,7 @@ module _ (command : Command) (told : Option Files) (files : List Which) (index :
 
   -- the file at the index was read or passed over
   pub taken_next :
-      (now : Known) → IsPassed told known here (name_of command known here) now →
+      (now : Known) → IsPassed told known here (file_name command known here) now →
       AreTaken command told (reverse (take (index + 1) files)) now
   taken_next now passed =
       subst (λ (whiches : List Which). AreTaken command told whiches now) (sym (taken_more files index d within))
@@ -281,7 +281,7 @@ module _ (command : Command) (told : Option Files) (files : List Which) (index :
   pub whole_next :
       (E : Type 0) (value : Unit {0}) (start between now : Option (List Fetch)) →
       OfCalls start between (WholeBefore command told passed_by) →
-      OfCalls between now (ReadsNamed {E = E} (Ok value) (name_of command known here) (limit_of here)) →
+      OfCalls between now (ReadsNamed {E = E} (Ok value) (file_name command known here) (limit_of here)) →
       OfCalls start now (WholeBefore command told (reverse (take (index + 1) files)))
   whole_next E value start between now one two =
       subst (λ (whiches : List Which). OfCalls start now (WholeBefore command told whiches))
@@ -291,7 +291,7 @@ module _ (command : Command) (told : Option Files) (files : List Which) (index :
   -- the command stops at it
   pub stops_here :
       (start between now : ℕ) (kept : List ℕ) (status : Status) → between ≡ start →
-      StopsAt here (name_of command known here)
+      IsNotPassed here (file_name command known here)
       (record { files = told; faults_before = between; faults_now = now; failed_name = kept }) status →
       IsRefused command (record { files = told; faults_before = start; faults_now = now; failed_name = kept }) status
   stops_here = stops command told here passed_by (drop (suc index) files) known at_here are
@@ -299,7 +299,7 @@ module _ (command : Command) (told : Option Files) (files : List Which) (index :
   pub fetches_here :
       {T E : Type 0} (result : Result T E) (start between now : Option (List Fetch)) →
       OfCalls start between (WholeBefore command told passed_by) →
-      OfCalls between now (ReadsNamed result (name_of command known here) (limit_of here)) →
+      OfCalls between now (ReadsNamed result (file_name command known here) (limit_of here)) →
       OfCalls start now (FetchesOf command told)
   fetches_here result =
       fetches_last command told here passed_by (drop (suc index) files) known at_here are result

@@ -6,22 +6,22 @@ use Rattle.command_files.specs.declared.status.Which.TheVariants.{Script, Rom, D
 use Rattle.command_files.specs.declared.status.Status.{Status}
 use Rattle.command_files.specs.declared.status.Status.TheVariants.{Done, Usage, ReadFault, WriteFault, TooLong, BadScript, BadImage, Differs, NoMemory, OtherBoard}
 
-abbrev pub name_of : Which → List ℕ
-name_of Script = codes "script"
-name_of Rom = codes "rom"
-name_of Disk = codes "disk"
-name_of Log = codes "log"
-name_of Image = codes "image"
-name_of Input = codes "input"
+abbrev pub kind_text : Which → List ℕ
+kind_text Script = codes "script"
+kind_text Rom = codes "rom"
+kind_text Disk = codes "disk"
+kind_text Log = codes "log"
+kind_text Image = codes "image"
+kind_text Input = codes "input"
 
 abbrev pub text_of : Status → List ℕ
 text_of Done = []
 text_of Usage = usage_text
-text_of (ReadFault which) = codes "read fault: " ++ name_of which
+text_of (ReadFault which) = codes "read fault: " ++ kind_text which
 text_of WriteFault = codes "write fault"
-text_of (TooLong which) = codes "too long: " ++ name_of which
+text_of (TooLong which) = codes "too long: " ++ kind_text which
 text_of (BadScript line why) = codes "bad script: line " ++ (decimal line ++ (codes ": reason " ++ decimal why))
-text_of (BadImage which) = codes "bad image: " ++ name_of which
+text_of (BadImage which) = codes "bad image: " ++ kind_text which
 text_of (Differs line) = codes "differs: line " ++ decimal line
 text_of NoMemory = codes "no memory"
 text_of OtherBoard = codes "other board"

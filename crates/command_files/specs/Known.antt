@@ -28,19 +28,19 @@ nothing_known = record { script = None; rom = []; disk = None; log = []; image =
 
 -- ---- the name of a file
 
-abbrev pub rom_of : Option Said → Option (List ℕ)
-rom_of None = None
-rom_of (Some script) = Some script.rom
+abbrev pub rom_name : Option Said → Option (List ℕ)
+rom_name None = None
+rom_name (Some script) = Some script.rom
 
-abbrev pub disk_of : Option Said → Option (List ℕ)
-disk_of None = None
-disk_of (Some script) = script.disk
+abbrev pub disk_name : Option Said → Option (List ℕ)
+disk_name None = None
+disk_name (Some script) = script.disk
 
 -- it stands in the words, or in the script that was read. None where there is no such file
-abbrev pub name_of : Command → Known → Which → Option (List ℕ)
-name_of command known Rom = rom_of known.script
-name_of command known Disk = disk_of known.script
-name_of command known which = name_in_words command which
+abbrev pub file_name : Command → Known → Which → Option (List ℕ)
+file_name command known Rom = rom_name known.script
+file_name command known Disk = disk_name known.script
+file_name command known which = name_in_words command which
 
 -- ---- one file
 
@@ -68,7 +68,7 @@ abbrev pub AreReadAs : Command → Files → List Which → Known → Type 0
 AreReadAs command files [] known = known ≡ nothing_known
 AreReadAs command files (which ∷ before) known =
     (earlier : Known) × AreReadAs command files before earlier
-    × Passes files earlier which (name_of command earlier which) known
+    × Passes files earlier which (file_name command earlier which) known
 
 -- all files of a command were read
 abbrev pub AllRead : Command → Files → Known → Type 0
@@ -80,7 +80,7 @@ pub record ComesTo (command : Command) (files : Files) (which : Which) (known : 
   pub later : List Which
   pub place : files_of command ≡ reverse before ++ which ∷ later
   pub read : AreReadAs command files before known
-  pub named : name_of command known which ≡ Some name
+  pub named : file_name command known which ≡ Some name
 
 -- ---- what was read
 

@@ -43,9 +43,9 @@ IsPassed told before which None now = now ≡ before
 IsPassed told before which (Some name) now = IsTaken told before which name now
 
 -- why the command stops at it
-abbrev pub StopsAt : Which → (name : Option (List ℕ)) → ShelfCall → Status → Type 0
-StopsAt which None shelf status = ⊥
-StopsAt which (Some name) shelf status = IsNotTaken which name shelf status
+abbrev pub IsNotPassed : Which → (name : Option (List ℕ)) → ShelfCall → Status → Type 0
+IsNotPassed which None shelf status = ⊥
+IsNotPassed which (Some name) shelf status = IsNotTaken which name shelf status
 
 -- the fetches read it, where there is such a file
 abbrev pub ReadsNamed : {T E : Type 0} → Result T E → (name : Option (List ℕ)) → (limit : ℕ) → List Fetch → Type 0

@@ -1,7 +1,7 @@
 //! The text of each status, for a person.
 
 ghost use Rattle.std.specs.Prelude.{◌≡◌, string_bytes, IfOk};
-ghost use Rattle.command_files.specs.FaultText.{name_of, text_of};
+ghost use Rattle.command_files.specs.FaultText.{kind_text, text_of};
 
 use crate::status::{Status, Which};
 use board_base::NoMemory;
@@ -9,8 +9,8 @@ use board_script::Line;
 use command_words::USAGE;
 use std::alloc::{AllocError, Global};
 
-fn name_of(which: Which) -> &'static str
-    ensures name { result.now ≡ name_of which }
+fn kind_text(which: Which) -> &'static str
+    ensures name { result.now ≡ kind_text which }
 {
     match which {
         Which::Script => "script",
@@ -28,13 +28,13 @@ fn text_of(alloc: Global, status: &Status) -> Result<String, AllocError>
     match status {
         Status::Done => Ok(String::new(alloc)),
         Status::Usage => String::from_str(alloc, USAGE),
-        Status::ReadFault(which) => format!(in alloc; "read fault: {}", name_of(*which)),
+        Status::ReadFault(which) => format!(in alloc; "read fault: {}", kind_text(*which)),
         Status::WriteFault => String::from_str(alloc, "write fault"),
-        Status::TooLong(which) => format!(in alloc; "too long: {}", name_of(*which)),
+        Status::TooLong(which) => format!(in alloc; "too long: {}", kind_text(*which)),
         Status::BadScript { line, why } => format!(in alloc;
             "bad script: line {line}: reason {why}"
         ),
-        Status::BadImage(which) => format!(in alloc; "bad image: {}", name_of(*which)),
+        Status::BadImage(which) => format!(in alloc; "bad image: {}", kind_text(*which)),
         Status::Differs { line } => format!(in alloc; "differs: line {line}"),
         Status::NoMemory => String::from_str(alloc, "no memory"),
         Status::OtherBoard => String::from_str(alloc, "other board"),

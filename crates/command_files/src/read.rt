@@ -2,7 +2,7 @@
 
 ghost use Rattle.std.specs.Prelude.{◌≡◌, option_map};
 ghost use Rattle.script_text.specs.Script.{said_of};
-ghost use Rattle.command_files.specs.Known.{rom_of, disk_of};
+ghost use Rattle.command_files.specs.Known.{rom_name, disk_name};
 
 use crate::good::{good_disk, good_image, good_rom, good_script};
 use crate::status::{Status, Which};
@@ -15,7 +15,7 @@ use std::marker::Model;
 
 /// The name of the ROM, where a script was read.
 fn rom_name(script: &Option<Script>) -> Option<&str>
-    ensures name { option_map (λ name. name.now) result ≡ rom_of (option_map said_of script.now) }
+    ensures name { option_map (λ name. name.now) result ≡ rom_name (option_map said_of script.now) }
 {
     let script = script.as_ref()?;
     Some(script.rom.as_str())
@@ -23,7 +23,7 @@ fn rom_name(script: &Option<Script>) -> Option<&str>
 
 /// The name of the disk, where a script was read and names one.
 fn disk_name(script: &Option<Script>) -> Option<&str>
-    ensures name { option_map (λ name. name.now) result ≡ disk_of (option_map said_of script.now) }
+    ensures name { option_map (λ name. name.now) result ≡ disk_name (option_map said_of script.now) }
 {
     let script = script.as_ref()?;
     let disk = script.disk.as_ref()?;
@@ -67,7 +67,7 @@ impl Read {
     ghost use Rattle.std.specs.Prelude.{◌≡◌, ◌≤◌, length, option_map, OnOk, IfErr};
     ghost use Rattle.command_words.specs.Commands.{said_by};
     ghost use Rattle.command_files.specs.Table.{limit_of};
-    ghost use Rattle.command_files.specs.Known.{nothing_known, name_of, Learns};
+    ghost use Rattle.command_files.specs.Known.{nothing_known, file_name, Learns};
     ghost use Rattle.command_files.specs.Steps.{HasRange, IsBad};
 
     /// What is known before the first file is read: nothing.
@@ -86,8 +86,8 @@ impl Read {
 
     /// The name of a file that a command reads: it is in the command's words, or in the script that was read. None
     /// where there is no such file.
-    pub(crate) fn name_of<'a>(&'a self, command: &'a Command, which: Which) -> Option<&'a str>
-        ensures name { option_map (λ name. name.now) result ≡ name_of (said_by command.now) self.now which }
+    pub(crate) fn file_name<'a>(&'a self, command: &'a Command, which: Which) -> Option<&'a str>
+        ensures name { option_map (λ name. name.now) result ≡ file_name (said_by command.now) self.now which }
     {
         match which {
             Which::Rom => rom_name(&self.script),

@@ -5,10 +5,10 @@ ghost use Rattle.command_words.specs.Commands.{said_by};
 ghost use Rattle.command_files.specs.declared.status.Which.{Which};
 ghost use Rattle.command_files.specs.declared.status.Status.{Status};
 ghost use Rattle.command_files.specs.Table.{limit_of};
-ghost use Rattle.command_files.specs.Known.{name_of, AllRead, HasRead};
+ghost use Rattle.command_files.specs.Known.{file_name, AllRead, HasRead};
 ghost use Rattle.command_files.specs.Outcomes.{OfFiles, shelf_call, IsRefused};
 ghost use Rattle.command_files.specs.Calls.{OfCalls, FetchesOf};
-ghost use Rattle.command_files.specs.Steps.{IsPassed, StopsAt, ReadsNamed};
+ghost use Rattle.command_files.specs.Steps.{IsPassed, IsNotPassed, ReadsNamed};
 
 use crate::fetch::fetch;
 use crate::read::Read;
@@ -27,17 +27,17 @@ fn read_next<S: Shelf>(
     read: &mut Read,
 ) -> Result<(), Status>
     ensures passed { OnOk result (IsPassed (S.files shelf.old) read.old which
-        (name_of (said_by command.now) read.old which) read.new) }
-    ensures refused { IfErr result (StopsAt which (name_of (said_by command.now) read.old which)
+        (file_name (said_by command.now) read.old which) read.new) }
+    ensures refused { IfErr result (IsNotPassed which (file_name (said_by command.now) read.old which)
         (shelf_call S.files S.faults S.failed_name shelf.old shelf.new)) }
     ensures quiet { OnOk result (S.faults shelf.new ≡ S.faults shelf.old) }
     ensures no_fault { IfErr result (λ status. ((of : Which) → status ≢ Status.ReadFault of)
         → S.faults shelf.new ≡ S.faults shelf.old) }
     ensures same_files { S.files shelf.new ≡ S.files shelf.old }
     ensures fetches { OfCalls (S.fetches shelf.old) (S.fetches shelf.new)
-        (ReadsNamed result (name_of (said_by command.now) read.old which) (limit_of which)) }
+        (ReadsNamed result (file_name (said_by command.now) read.old which) (limit_of which)) }
 {
-    let Some(name) = read.name_of(command, which) else {
+    let Some(name) = read.file_name(command, which) else {
         return Ok(());
     };
     let bytes = fetch(alloc, shelf, which, name)?;
