@@ -1,4 +1,4 @@
-/* board.h: the proved PC board (82441FX, 82371SB, two 8259A, 8254, MC146818, ATA by PIO) as a C library.
+/* board.h: the proved PC board (82441FX, 82371SB, two 8259A, 8254, MC146818, ATA by PIO, a 16550 on COM1) as a C library.
  *
  * A board is a handle of two words, which the caller keeps; every call takes a pointer to it. A call that is refused
  * leaves the board and the reply as they were. Nothing prints, traps or ends the process.
@@ -16,7 +16,7 @@ extern "C" {
 #endif
 
 /* The version of this interface. */
-#define BOARD_INTERFACE 1u
+#define BOARD_INTERFACE 2u
 
 /* A handle. Zeros are a closed one. */
 typedef struct board {
@@ -29,7 +29,8 @@ enum board_status {
     BOARD_OK = 0,
     BOARD_CLOSED = 1,     /* the handle holds no board; or, at board_open, it holds one */
     BOARD_NO_MEMORY = 2,
-    BOARD_BAD_SIZE = 3,   /* the guest's memory is not of 1 to 64 MiB */
+    BOARD_BAD_SIZE = 3,   /* the guest's memory is not of 1 to 512 MiB */
+    BOARD_BAD_CARDS = 4,  /* a record says no card, or the cards are none that a board can be fitted with */
     BOARD_BAD_ROM = 5,    /* the ROM is not of 64, 128, 256 or 512 KiB */
     BOARD_BAD_DISK = 6,   /* the disk is not of 1 to 65,536 whole sectors of 512 bytes */
     BOARD_NO_EVENT = 7,   /* the record names no event */
@@ -44,8 +45,10 @@ enum board_status {
     BOARD_LINE = 16,      /* the line cannot be set from outside */
     BOARD_NO_CYCLE = 17,  /* the event is no access that one bus cycle makes */
     BOARD_NO_SECTOR = 18, /* there is no disk, or it has no such sector */
+    BOARD_PAST_END = 19,  /* the bytes do not all lie in the installed memory */
     BOARD_NO_BYTE = 20,   /* the clock has 128 bytes */
-    BOARD_BAD_LENGTH = 21 /* a sector has 512 bytes */
+    BOARD_BAD_LENGTH = 21, /* a sector has 512 bytes */
+    BOARD_SERIAL_FULL = 24 /* COM1 can receive no byte: its queue is full, or loopback is on */
 };
 
 /* What is asked. */
@@ -57,8 +60,10 @@ enum board_what {
     BOARD_PULSE = 5,      /* value: 1 to 1,000,000 pulses of the 8254's clock */
     BOARD_TIME = 6,       /* value: year, month, day, hour, minute, second as digits, 20261128143000 */
     BOARD_WIRE = 7,       /* INTA# of the card at device addr takes the level value, 0 or 1 */
-    BOARD_IRQ = 8,        /* interrupt request line addr takes the level value, 0 or 1 */
-    BOARD_BAD_SECTOR = 9  /* sector addr of the disk goes bad */
+    BOARD_IRQ = 8,        /* interrupt request line addr takes the level value, 0 or 1; of line 4 the board hears the or
+                           * with the level of COM1 */
+    BOARD_BAD_SECTOR = 9, /* sector addr of the disk goes bad */
+    BOARD_SERIAL = 10     /* COM1 receives the byte value, 0 to 255, from outside */
 };
 
 enum board_kind { BOARD_FETCH = 1, BOARD_READ = 2, BOARD_WRITE = 3 };
@@ -102,7 +107,8 @@ enum board_device {
     BOARD_VECTOR0,
     BOARD_VECTOR1,
     BOARD_SPURIOUS0,
-    BOARD_SPURIOUS1
+    BOARD_SPURIOUS1,
+    BOARD_UART /* the 16550 of COM1: accesses of one byte at 3F8h to 3FFh, whatever card decodes them */
 };
 
 enum board_denial { BOARD_NOT_DENIED = 0, BOARD_BY_REGISTER = 1, BOARD_BY_CONFADD = 2, BOARD_BY_NO_REGISTER = 3 };
@@ -137,7 +143,11 @@ typedef struct board_reply {
     uint8_t interrupt; /* 1 where INT is asserted after the step, so that a processor may acknowledge */
     uint32_t reset;    /* board_reset: the reset that the step made */
     board_part part[4];
-    uint64_t reserved;
+    uint8_t sent;        /* the byte that COM1 sent in this step; 0 where it sent none */
+    uint8_t has_sent;
+    uint8_t irq4;        /* the level of interrupt request line 4 after the step: the or of COM1's and of BOARD_IRQ's */
+    uint8_t serial_room; /* 1 where COM1 can receive a byte */
+    uint32_t reserved;
 } board_reply;
 
 /* What one kind of access to a range reaches, as board_part has it. */
@@ -173,8 +183,29 @@ typedef struct board_map {
 /* Room that is enough for every map. */
 enum { BOARD_MOST_RANGES = 142, BOARD_MOST_WINDOWS = 64 };
 
-/* Opens a board over copies of the ROM's and the disk's bytes, without cards. A disk of no bytes is none. */
-uint32_t board_open(board *handle, uint32_t mib, const uint8_t *rom, size_t rom_bytes, const uint8_t *disk, size_t disk_bytes);
+/* The kind of a base of a card. */
+enum board_base_kind { BOARD_MEMORY_BASE = 1, BOARD_IO_BASE = 2 };
+
+/* A base of a card: its kind, and log2 of its size: 4 to 24 of bytes of memory, 2 to 8 of ports. */
+typedef struct board_base {
+    uint8_t kind; /* board_base_kind */
+    uint8_t bits;
+} board_base;
+
+/* A PCI card. Bases past the count of bases are not read; reserved is 0. The memory bases of all cards have at most
+ * 64 MiB together. */
+typedef struct board_card {
+    uint8_t device; /* its device number, 2 to 9 */
+    uint8_t vga;    /* 1 for a VGA adapter, else 0 */
+    uint8_t rom;    /* log2 of the bytes of its expansion ROM, 11 to 24, or 0 for none */
+    uint8_t bases;  /* 0 to 6 */
+    board_base base[6];
+    uint64_t reserved;
+} board_card;
+
+/* Opens a board with these cards, in rising order of device, over copies of the ROM's and the disk's bytes. A disk of no
+ * bytes is none. */
+uint32_t board_open(board *handle, uint32_t mib, const board_card *cards, size_t card_count, const uint8_t *rom, size_t rom_bytes, const uint8_t *disk, size_t disk_bytes);
 /* Does an event, and tells the reply. */
 uint32_t board_step(board *handle, const board_event *event, board_reply *reply);
 /* Frees the board. The handle is closed from then on. */
@@ -196,6 +227,14 @@ uint32_t board_dram_read(board *handle, uint32_t addr, uint8_t *into, size_t byt
 uint32_t board_disk_read(board *handle, uint32_t sector, uint8_t *into, size_t bytes);
 /* Tells a byte of the clock, address 0 to 127. */
 uint32_t board_cmos_read(board *handle, uint8_t address, uint8_t *byte);
+
+/* ---- bytes that the guest did not write; no reply, and nothing else changes */
+
+/* Puts bytes into the memory that the board keeps, as the guest's writes would, whatever the map says. */
+uint32_t board_dram_write(board *handle, uint32_t addr, const uint8_t *from, size_t bytes);
+/* Writes a byte of the clock, address 0 to 127, as the guest's writes of ports 70h and 71h would: registers A to D take
+ * what a write changes of them. */
+uint32_t board_cmos_write(board *handle, uint8_t address, uint8_t byte);
 
 /* ---- over board_step */
 
@@ -284,6 +323,11 @@ static inline uint32_t board_time(board *handle, uint32_t year, uint32_t month, 
 
 static inline uint32_t board_irq(board *handle, uint8_t line, bool level, board_reply *reply) {
     return board_ask(handle, BOARD_IRQ, 0, line, 0, 0, level, reply);
+}
+
+/* COM1 receives a byte: BOARD_SERIAL_FULL where reply->serial_room was 0 last. */
+static inline uint32_t board_receive(board *handle, uint8_t byte, board_reply *reply) {
+    return board_ask(handle, BOARD_SERIAL, 0, 0, 0, 0, byte, reply);
 }
 
 static inline uint32_t board_wire(board *handle, uint8_t device, bool level, board_reply *reply) {

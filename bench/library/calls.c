@@ -24,6 +24,8 @@ static void rom_fetch(void) { board_fetch(&b, 0xFFFF0000u | (at & 0xFFFC), 4, fa
 static void wide_read(void) { board_read(&b, (at & 0x7FFF0) + 3, 8, false, &r); }
 static void port_61(void) { board_in(&b, 0x61, 1, &r); }
 static void config_read(void) { board_in(&b, 0xCFC, 4, &r); }
+static void uart_read(void) { board_in(&b, 0x3FD, 1, &r); }
+static void uart_write(void) { board_out(&b, 0x3F8, 1, at & 0xFF, &r); }
 static void pam_write(void) { board_out(&b, 0xCFE, 1, (at & 4) ? 0x33 : 0x10, &r); }
 static void look(void) { board_look(&b, BOARD_READ, at & 0xFFFFC, false, &r); }
 static void ack(void) { board_ack(&b, &r); }
@@ -39,7 +41,7 @@ static void decode(void) {
 
 static const struct { const char *name; void (*call)(void); } rows[] = {
     {"closed handle", closed}, {"no event", nothing}, {"DRAM read", dram_read}, {"DRAM write", dram_write}, {"ROM fetch", rom_fetch},
-    {"wide read", wide_read}, {"port 61h", port_61}, {"configuration read", config_read}, {"PAM write", pam_write}, {"look", look},
+    {"wide read", wide_read}, {"port 61h", port_61}, {"UART read", uart_read}, {"UART write", uart_write}, {"configuration read", config_read}, {"PAM write", pam_write}, {"look", look},
     {"decode", decode}, {"acknowledge", ack}, {"100 pulses", pulse}, {"pulses to rise", rise}, {"ranges", all_ranges},
 };
 
@@ -52,7 +54,8 @@ static double now(void) {
 int main(int argc, char **argv) {
     long calls = argc > 1 ? atol(argv[1]) : 200000;
     static uint8_t rom[65536];
-    if (board_open(&b, 8, rom, sizeof rom, rom, 0)) return 1;
+    static board_card cards[1];
+    if (board_open(&b, 8, cards, 0, rom, sizeof rom, rom, 0)) return 1;
     board_out(&b, 0xCF8, 4, 0x80000058, &r);
     for (size_t k = 0; k < sizeof rows / sizeof *rows; k++) {
         double best = 1e18;

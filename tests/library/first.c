@@ -32,9 +32,10 @@ static void show(uint32_t status, const board_reply *r, int bytes) {
 int main(void) {
     unsigned char *rom = malloc(65536);
     board b = {0};
+    board_card cards[1] = {{0}};
     board_reply r;
     for (int i = 0; i < 65536; i++) rom[i] = (unsigned char)i;
-    if (board_open(&b, 8, rom, 65536, rom, 0)) return 1;
+    if (board_open(&b, 8, cards, 0, rom, 65536, rom, 0)) return 1;
     free(rom);
     show(board_out(&b, 0xCF8, 4, 0x80000058, &r), &r, 4);
     show(board_out(&b, 0xCFF, 1, 0x20, &r), &r, 1);

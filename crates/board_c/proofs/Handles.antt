@@ -1,19 +1,16 @@
 -- The machine value of a handle. Assumes `Logic`.
-use Rattle.std.proofs.Common.{◌≡◌, ℕ, List, [], ◌∷◌, ◌++◌, refl, subst}
-use mathlib.Core.Bool.{Bool, true, false, ◌&&◌}
+use Rattle.std.proofs.Common.{◌≡◌, List, [], ◌∷◌, ◌++◌, refl, subst}
+use mathlib.Core.Bool.{Bool, true, false}
 use lib.Dec.{T}
 use seplogic.Ra.Ura.{Ura}
 use mir.Syntax.{impl, tnil, dnil}
-use mir.Raw.{raw as bare}
-use mir.Val.{Val, vptr, vbool, vstruct, vcons, vnil, of_list, has_ty, WT}
-use base.Logic.{never, fst∗}
+use mir.Val.{Val, vbool, vstruct, vcons, vnil, of_list, has_ty, WT}
 use base.Fml.{Fml, ftrue}
-use types.Logic.{Logic, sem}
+use types.Logic.{Logic}
 use types.Kit.{Item, Goal, Seq, Step, step, ‵, ◌$◌, move, drop, fsplit, fjoin, fpick, fpack, rewrite, feq_i, feq_l}
 use denote.RattleType.{RattleType, Valss}
 use denote.Builtin.{RawPtr, bool}
-use denote.Memory.{lone}
-use denote.RawPtr.{Ptr, block_ptr, null_ptr, ptr_val, in_a_block}
+use denote.RawPtr.{Ptr, block_ptr, null_ptr, ptr_val}
 use denote.Steps.{nothing}
 use denote.Param.{layout}
 use denote.Struct.Struct.{within}

@@ -1,7 +1,7 @@
 //! What C asks of a board between two steps: the board stays as it is.
 
 ghost use Rattle.std.specs.Prelude.{◌≡◌, ◌≢◌, true, false, IsSomeAnd};
-ghost use Rattle.board_records.specs.Events.{event_said};
+ghost use Rattle.board_records.specs.Events.{asked_said};
 ghost use Rattle.board_records.specs.Maps.{AreRangesTold, AreWindowsTold, IsVersion};
 ghost use Rattle.board_records.specs.Places.{IsPlaced, IsNotPlaced, IsRiseTold};
 ghost use Rattle.board_records.specs.Statuses.{ok, closed};
@@ -25,11 +25,11 @@ pub extern "C" fn board_ranges(
     ensures unchanged { handle.old.full ≡ true → handle.new.held ≡ handle.old.held }
     ensures closed { handle.old.full ≡ false → result ≡ closed }
     ensures open { handle.old.full ≡ true → result ≡ ok }
-    ensures version { result ≡ ok → IsSomeAnd handle.old.held (λ chipset. IsVersion chipset map.new.version) }
+    ensures version { result ≡ ok → IsSomeAnd handle.old.held (λ serial. IsVersion serial.board map.new.version) }
     ensures ranges { result ≡ ok → IsSomeAnd handle.old.held
-        (λ chipset. AreRangesTold chipset map.new.ranges ranges.old ranges.new) }
+        (λ serial. AreRangesTold serial.board map.new.ranges ranges.old ranges.new) }
     ensures windows { result ≡ ok → IsSomeAnd handle.old.held
-        (λ chipset. AreWindowsTold chipset map.new.windows windows.old windows.new) }
+        (λ serial. AreWindowsTold serial.board map.new.windows windows.old windows.new) }
     ensures no_map { result ≢ ok → map.new ≡ map.old }
     ensures no_ranges { result ≢ ok → ranges.new ≡ ranges.old }
     ensures no_windows { result ≢ ok → windows.new ≡ windows.old }
@@ -56,9 +56,9 @@ pub extern "C" fn board_decode(
     ensures closed { handle.old.full ≡ false → result ≡ closed }
     ensures open { handle.old.full ≡ true → result ≢ closed }
     ensures done { result ≡ ok → IsSomeAnd handle.old.held
-        (λ chipset. IsSomeAnd (event_said event.now) (IsPlaced chipset part.new)) }
+        (λ serial. IsSomeAnd (asked_said event.now) (IsPlaced serial.board part.new)) }
     ensures refused { handle.old.full ≡ true → result ≢ ok
-        → IsSomeAnd handle.old.held (λ chipset. IsNotPlaced chipset (event_said event.now) result) }
+        → IsSomeAnd handle.old.held (λ serial. IsNotPlaced serial.board (asked_said event.now) result) }
     ensures untold { result ≢ ok → part.new ≡ part.old }
 {
     let Some(board) = handle.take(alloc) else {
@@ -77,7 +77,7 @@ pub extern "C" fn board_pulses_to_rise(alloc: Global, handle: &mut Handle, pulse
     ensures unchanged { handle.old.full ≡ true → handle.new.held ≡ handle.old.held }
     ensures closed { handle.old.full ≡ false → result ≡ closed }
     ensures open { handle.old.full ≡ true → result ≡ ok }
-    ensures rise { result ≡ ok → IsSomeAnd handle.old.held (λ chipset. IsRiseTold chipset pulses.new) }
+    ensures rise { result ≡ ok → IsSomeAnd handle.old.held (λ serial. IsRiseTold serial.board pulses.new) }
     ensures untold { result ≢ ok → pulses.new ≡ pulses.old }
 {
     let Some(board) = handle.take(alloc) else {

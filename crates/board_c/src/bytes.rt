@@ -1,8 +1,10 @@
-//! The bytes of a board, out.
+//! The bytes of a board, out and in.
 
-ghost use Rattle.std.specs.Prelude.{◌≡◌, ◌≢◌, ◌<◌, ◌≤◌, length, true, false, IsSomeAnd};
-ghost use Rattle.board_records.specs.Bytes.{clock_bytes, IsDramTold, IsSectorTold, IsSectorRefusal, IsClockByte};
-ghost use Rattle.board_records.specs.Statuses.{ok, closed, no_byte};
+ghost use Rattle.std.specs.Prelude.{◌≡◌, ◌≢◌, ◌+◌, ◌<◌, ◌≤◌, length, true, false, IsSomeAnd};
+ghost use Rattle.board_spec.specs.Setup.{installed};
+ghost use Rattle.board_records.specs.Bytes.{clock_bytes, IsDramTold, IsSectorTold, IsSectorRefusal, IsClockByte, IsDramWritten, IsClockWritten};
+ghost use Rattle.board_records.specs.Doors.{OnBoth};
+ghost use Rattle.board_records.specs.Statuses.{ok, closed, no_byte, past_end};
 
 use crate::handle::Handle;
 use board_records::status::{CLOSED, OK};
@@ -21,7 +23,7 @@ pub extern "C" fn board_dram_read(
     ensures unchanged { handle.old.full ≡ true → handle.new.held ≡ handle.old.held }
     ensures closed { handle.old.full ≡ false → result ≡ closed }
     ensures open { handle.old.full ≡ true → result ≡ ok }
-    ensures told { result ≡ ok → IsSomeAnd handle.old.held (λ chipset. IsDramTold chipset addr into.old into.new) }
+    ensures told { result ≡ ok → IsSomeAnd handle.old.held (λ serial. IsDramTold serial.board addr into.old into.new) }
     ensures untold { result ≢ ok → into.new ≡ into.old }
 {
     let Some(board) = handle.take(alloc) else {
@@ -45,9 +47,9 @@ pub extern "C" fn board_disk_read(
     ensures unchanged { handle.old.full ≡ true → handle.new.held ≡ handle.old.held }
     ensures closed { handle.old.full ≡ false → result ≡ closed }
     ensures open { handle.old.full ≡ true → result ≢ closed }
-    ensures done { result ≡ ok → IsSomeAnd handle.old.held (λ chipset. IsSectorTold chipset sector into.new) }
+    ensures done { result ≡ ok → IsSomeAnd handle.old.held (λ serial. IsSectorTold serial.board sector into.new) }
     ensures refused { handle.old.full ≡ true → result ≢ ok
-        → IsSomeAnd handle.old.held (λ chipset. IsSectorRefusal chipset sector (length into.old) result) }
+        → IsSomeAnd handle.old.held (λ serial. IsSectorRefusal serial.board sector (length into.old) result) }
     ensures untold { result ≢ ok → into.new ≡ into.old }
 {
     let Some(board) = handle.take(alloc) else {
@@ -71,7 +73,7 @@ pub extern "C" fn board_cmos_read(
     ensures unchanged { handle.old.full ≡ true → handle.new.held ≡ handle.old.held }
     ensures closed { handle.old.full ≡ false → result ≡ closed }
     ensures open { handle.old.full ≡ true → result ≢ closed }
-    ensures done { result ≡ ok → IsSomeAnd handle.old.held (λ chipset. IsClockByte chipset address byte.new) }
+    ensures done { result ≡ ok → IsSomeAnd handle.old.held (λ serial. IsClockByte serial.board address byte.new) }
     ensures within { result ≡ ok → address < clock_bytes }
     ensures refused { handle.old.full ≡ true → result ≢ ok → (result ≡ no_byte) × (clock_bytes ≤ address) }
     ensures untold { result ≢ ok → byte.new ≡ byte.old }
@@ -80,6 +82,52 @@ pub extern "C" fn board_cmos_read(
         return CLOSED;
     };
     let status = board.tell_clock_byte(address, byte);
+    handle.put(board);
+    status
+}
+
+/// Puts bytes into the DRAM from an address on, as if processors had written them. `CLOSED` exactly where the handle is
+/// closed, and `PAST_END` exactly where they do not all lie in the installed memory; then nothing has changed.
+#[unsafe(no_mangle)]
+pub extern "C" fn board_dram_write(
+    alloc: Global,
+    handle: &mut Handle,
+    addr: u32,
+    from: &[u8],
+) -> u32
+    ensures kept { handle.new.full ≡ handle.old.full }
+    ensures closed { handle.old.full ≡ false → result ≡ closed }
+    ensures open { handle.old.full ≡ true → result ≢ closed }
+    ensures done { result ≡ ok
+        → OnBoth handle.old.held handle.new.held (λ old new. IsDramWritten old new addr from.now) }
+    ensures refused { handle.old.full ≡ true → result ≢ ok → IsSomeAnd handle.old.held
+        (λ serial. (result ≡ past_end) × (installed serial.board.setup < addr + length from.now)) }
+    ensures unchanged { handle.old.full ≡ true → result ≢ ok → handle.new.held ≡ handle.old.held }
+{
+    let Some(mut board) = handle.take(alloc) else {
+        return CLOSED;
+    };
+    let status = board.write_dram(addr, from);
+    handle.put(board);
+    status
+}
+
+/// Writes the byte of the clock at an address, as if a processor had written it. `CLOSED` exactly where the handle is
+/// closed, and `NO_BYTE` exactly where it is open and the address is 128 or more; then nothing has changed.
+#[unsafe(no_mangle)]
+pub extern "C" fn board_cmos_write(alloc: Global, handle: &mut Handle, address: u8, byte: u8) -> u32
+    ensures kept { handle.new.full ≡ handle.old.full }
+    ensures closed { handle.old.full ≡ false → result ≡ closed }
+    ensures open { handle.old.full ≡ true → result ≢ closed }
+    ensures done { result ≡ ok
+        → OnBoth handle.old.held handle.new.held (λ old new. IsClockWritten old new address byte) }
+    ensures refused { handle.old.full ≡ true → result ≢ ok → (result ≡ no_byte) × (clock_bytes ≤ address) }
+    ensures unchanged { handle.old.full ≡ true → result ≢ ok → handle.new.held ≡ handle.old.held }
+{
+    let Some(mut board) = handle.take(alloc) else {
+        return CLOSED;
+    };
+    let status = board.write_clock_byte(address, byte);
     handle.put(board);
     status
 }

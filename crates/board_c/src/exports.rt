@@ -1,37 +1,40 @@
 //! The functions that C calls. One call at a time is inside a handle, and its pointers are good: what the caller owes.
 
 ghost use Rattle.std.specs.Prelude.{◌≡◌, ◌≢◌, true, false, IsSomeAnd};
-ghost use Rattle.board_records.specs.Doors.{Opens, IsOpenRefusal, OnBoth};
-ghost use Rattle.board_records.specs.Events.{event_said};
+ghost use Rattle.board_records.specs.Doors.{Opens, IsOpenRefusal, OnBoth, setup_said};
+ghost use Rattle.board_records.specs.Events.{asked_said};
 ghost use Rattle.board_records.specs.Statuses.{ok, closed, IsRefusal};
 ghost use Rattle.board_records.specs.Steps.{IsStep};
 
 use crate::handle::Handle;
 use board_records::status::{CLOSED, NO_MEMORY, OK};
-use board_records::{Door, EventRecord, ReplyRecord};
+use board_records::{CardRecord, Door, EventRecord, ReplyRecord};
 use std::alloc::Global;
 
-/// Opens a board over copies of these bytes, without cards. A disk of no bytes is none. `CLOSED` where the handle is open
+/// Opens a board with these cards over copies of these bytes. A disk of no bytes is none. `CLOSED` where the handle is open
 /// already; a handle that is refused is as before.
 #[unsafe(no_mangle)]
 pub extern "C" fn board_open(
     alloc: Global,
     handle: &mut Handle,
     mib: u32,
+    cards: &[CardRecord],
     rom: &[u8],
     disk: &[u8],
 ) -> u32
-    ensures done { result ≡ ok → (handle.new.full ≡ true) × IsSomeAnd handle.new.held (Opens mib rom.now disk.now) }
+    ensures done { result ≡ ok → (handle.new.full ≡ true) × IsSomeAnd handle.new.held
+        (λ serial. IsSomeAnd (setup_said mib cards.now rom.now disk.now) (Opens serial)) }
     ensures twice { handle.old.full ≡ true → result ≡ closed }
     ensures held { handle.old.full ≡ true → handle.new.held ≡ handle.old.held }
-    ensures refused { handle.old.full ≡ false → result ≢ ok → IsOpenRefusal mib rom.now disk.now result }
+    ensures refused { handle.old.full ≡ false → result ≢ ok
+        → IsOpenRefusal (setup_said mib cards.now rom.now disk.now) result }
     ensures kept { result ≢ ok → handle.new.full ≡ handle.old.full }
 {
     if let Some(board) = handle.take(alloc) {
         handle.put(board);
         return CLOSED;
     }
-    let board = match Door::open(alloc, mib, rom, disk) {
+    let board = match Door::open(alloc, mib, cards, rom, disk) {
         Ok(board) => board,
         Err(status) => return status,
     };
@@ -54,10 +57,10 @@ pub extern "C" fn board_step(
     ensures kept { handle.new.full ≡ handle.old.full }
     ensures closed { handle.old.full ≡ false → result ≡ closed }
     ensures open { handle.old.full ≡ true → result ≢ closed }
-    ensures done { result ≡ ok → IsSomeAnd (event_said event.now)
+    ensures done { result ≡ ok → IsSomeAnd (asked_said event.now)
         (λ asked. OnBoth handle.old.held handle.new.held (λ old new. IsStep old new reply.new asked)) }
     ensures refused { handle.old.full ≡ true → result ≢ ok
-        → IsSomeAnd handle.old.held (λ chipset. IsRefusal chipset.setup (event_said event.now) result) }
+        → IsSomeAnd handle.old.held (λ serial. IsRefusal serial (asked_said event.now) result) }
     ensures unchanged { handle.old.full ≡ true → result ≢ ok → handle.new.held ≡ handle.old.held }
     ensures untold { result ≢ ok → reply.new ≡ reply.old }
 {

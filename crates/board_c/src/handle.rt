@@ -4,6 +4,7 @@ ghost use Rattle.std.specs.Prelude.{◌≡◌, true, false, None, IsSomeAnd};
 ghost use Rattle.std_alloc.specs.Box.Ownership.{box_owns};
 ghost use Rattle.board_records.specs.contracts.door.Door.{the_row as door_row};
 ghost use Rattle.board_chipset.specs.Chipset.{Running};
+ghost use Rattle.uart_16550.specs.Serial.{Serial};
 ghost use Rattle.std.specs.Prelude.{Option};
 ghost use Rattle.board_c.specs.Owned.{owned_if};
 
@@ -18,7 +19,7 @@ pub struct Handle {
     at: *mut u8,
     full: bool,
     alloc: Global,
-    ghost held: { Option Running },
+    ghost held: { Option (Serial Running) },
 }
 
 impl Model for Handle {

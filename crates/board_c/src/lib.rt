@@ -7,6 +7,8 @@ mod exports;
 mod handle;
 
 pub use asks::{board_decode, board_pulses_to_rise, board_ranges};
-pub use bytes::{board_cmos_read, board_disk_read, board_dram_read};
+pub use bytes::{
+    board_cmos_read, board_cmos_write, board_disk_read, board_dram_read, board_dram_write,
+};
 pub use exports::{board_close, board_open, board_step};
 pub use handle::Handle;

@@ -1,4 +1,4 @@
-pub mod AfterSteps
+pub mod EventReplies
 pub mod Filled
 pub mod Said
 pub mod Cycles

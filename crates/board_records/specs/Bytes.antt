@@ -3,9 +3,13 @@ use Rattle.std.specs.Prelude.{ℕ, ◌≡◌, ◌≢◌, ◌+◌, ◌<◌, ◌�
 use Rattle.device_spec.specs.Ata.State.{sectors_of, sector_bytes}
 use Rattle.board_spec.specs.declared.event.Entry.{Entry}
 use Rattle.board_spec.specs.Devices.{clock_of, disk_of}
+use Rattle.board_spec.specs.Setup.{installed}
 use Rattle.board_spec.specs.Stored.{dram_byte}
 use Rattle.board_chipset.specs.Chipset.{Running, IsLeftBy}
+use Rattle.board_chipset.specs.Loads.{WriteAll, WriteClockByte}
+use Rattle.uart_16550.specs.Serial.{Serial, AreOwn}
 use Rattle.board_records.specs.Statuses.{no_sector, bad_length}
+use Rattle.board_records.specs.Steps.{IsHistoryOf}
 
 -- the bytes of the DRAM from an address on, as reads give them: FFh past the installed memory
 pub record IsDramTold (chipset : Running) (addr : ℕ) (before after : List ℕ) : Type 0 where
@@ -28,6 +32,14 @@ IsSectorRefusal chipset sector room status =
     ((status ≡ bad_length) ×
     IfSome (disk_of chipset.setup history) (λ disk. room ≢ length (sector_bytes disk.medium sector)))
 
+-- these bytes stand in the DRAM from an address on, as if processors had written them one after another
+pub record IsDramWritten (old new : Serial Running) (addr : ℕ) (bytes : List ℕ) : Type 0 where
+  pub within : addr + length bytes ≤ installed old.board.setup
+  pub setup : new.board.setup ≡ old.board.setup
+  pub com1 : new.com1 ≡ old.com1
+  pub left : (history entries : List Entry) → IsHistoryOf old history → WriteAll addr bytes entries → AreOwn entries →
+      IsHistoryOf new (entries ++ history)
+
 -- how many bytes the clock has
 abbrev pub clock_bytes : ℕ
 clock_bytes = 128
@@ -35,3 +47,11 @@ clock_bytes = 128
 abbrev pub IsClockByte : Running → (address byte : ℕ) → Type 0
 IsClockByte chipset address byte =
     (history : List Entry) → IsLeftBy chipset history → byte ≡ slice_index (clock_of history).bytes address
+
+-- this byte stands in the clock, as if a processor had written it
+pub record IsClockWritten (old new : Serial Running) (address byte : ℕ) : Type 0 where
+  pub within : address < clock_bytes
+  pub setup : new.board.setup ≡ old.board.setup
+  pub com1 : new.com1 ≡ old.com1
+  pub left : (history later : List Entry) → IsHistoryOf old history → WriteClockByte history address byte later →
+      AreOwn later → IsHistoryOf new later

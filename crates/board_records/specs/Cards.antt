@@ -1,5 +1,5 @@
 -- Which cards some records say: none where a number of one names nothing.
-use Rattle.std.specs.Prelude.{ℕ, ◌==◌, nat_le, Bool, ◌&&◌, if◌then◌else◌, List, [], ◌∷◌, take, Option, Some, None, option_map, option_and_then}
+use Rattle.std.specs.Prelude.{ℕ, ◌==◌, nat_le, ◌&&◌, if◌then◌else◌, List, [], ◌∷◌, take, Option, Some, None, option_map, option_and_then}
 use Rattle.board_spec.specs.Setup.{Base, MemoryBase, IoBase, FittedCard}
 use Rattle.board_records.specs.declared.card.BaseRecord.{BaseRecord}
 use Rattle.board_records.specs.declared.card.CardRecord.{CardRecord}

@@ -1,31 +1,39 @@
 -- What holds a chipset, or none; and what an open gives.
-use Rattle.std.specs.Prelude.{ℕ, ◌≡◌, ◌≤◌, ◌⊎◌, List, [], ◌∷◌, length, Option, Some, None}
-use Rattle.board_spec.specs.Setup.{IsDisk, IsRomSize}
-use Rattle.board_records.specs.Statuses.{no_memory, bad_size, bad_rom, bad_disk}
+use Rattle.std.specs.Prelude.{ℕ, ◌≡◌, ◌⊎◌, List, [], ◌∷◌, Option, Some, None, option_map}
+use Rattle.board_spec.specs.Setup.{Setup, IsSetup}
+use Rattle.board_chipset.specs.declared.check.SetupFault.{SetupFault}
 use Rattle.board_chipset.specs.Chipset.{Running, IsLeftBy}
+use Rattle.board_chipset.specs.Setups.{IsSetupFault}
+use Rattle.uart_16550.specs.Com1.{com1_at_reset}
+use Rattle.uart_16550.specs.Serial.{Serial}
+use Rattle.board_records.specs.declared.card.CardRecord.{CardRecord}
+use Rattle.board_records.specs.Cards.{cards_said}
+use Rattle.board_records.specs.Statuses.{no_memory, bad_cards, setup_status}
 
 -- the disk that these bytes are: none where there are none
 abbrev pub disk_of : List ℕ → Option (List ℕ)
 disk_of [] = None
 disk_of (byte ∷ bytes) = Some (byte ∷ bytes)
 
--- it was opened with this memory, ROM and disk, without cards, and nothing was asked of it yet
-pub record Opens (mib : ℕ) (rom disk : List ℕ) (chipset : Running) : Type 0 where
-  pub same_mib : chipset.setup.mib ≡ mib
-  pub no_cards : chipset.setup.cards ≡ []
-  pub same_rom : chipset.setup.rom ≡ rom
-  pub same_disk : chipset.setup.disk ≡ disk_of disk
-  pub power_on : IsLeftBy chipset []
+-- what an open asks for: nothing where the records say no cards
+abbrev pub setup_said : (mib : ℕ) → List CardRecord → (rom disk : List ℕ) → Option Setup
+setup_said mib records rom disk =
+    option_map (λ cards. record { mib = mib; cards = cards; rom = rom; disk = disk_of disk }) (cards_said records)
 
--- why none is opened: the size of the memory, the ROM or the disk, or there was no memory
-abbrev pub IsOpenRefusal : (mib : ℕ) (rom disk : List ℕ) (status : ℕ) → Type 0
-IsOpenRefusal mib rom disk status =
-    (status ≡ no_memory) ⊎
-    ((status ≡ bad_size) × ¬ ((1 ≤ mib) × (mib ≤ 64))) ⊎
-    ((status ≡ bad_rom) × ¬ IsRomSize (length rom)) ⊎
-    ((status ≡ bad_disk) × ¬ IsDisk (disk_of disk))
+-- a board can have this setup, it was opened with it, and nothing was asked of it yet
+pub record Opens (serial : Serial Running) (setup : Setup) : Type 0 where
+  pub fits : IsSetup setup
+  pub same : serial.board.setup ≡ setup
+  pub power_on : IsLeftBy serial.board []
+  pub new_port : serial.com1 ≡ com1_at_reset
+
+-- why none is opened: there was no memory, the records say no cards, or the first field that no board can have
+abbrev pub IsOpenRefusal : Option Setup → (status : ℕ) → Type 0
+IsOpenRefusal None status = (status ≡ no_memory) ⊎ (status ≡ bad_cards)
+IsOpenRefusal (Some setup) status =
+    (status ≡ no_memory) ⊎ ((fault : SetupFault) × IsSetupFault setup fault × (status ≡ setup_status fault))
 
 -- both hold a chipset, and something holds of them
-abbrev pub OnBoth : Option Running → Option Running → (Running → Running → Type 0) → Type 0
+abbrev pub OnBoth : Option (Serial Running) → Option (Serial Running) → (Serial Running → Serial Running → Type 0) → Type 0
 OnBoth (Some old) (Some new) P = P old new
 OnBoth _ _ P = ⊥

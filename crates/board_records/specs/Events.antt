@@ -1,5 +1,5 @@
 -- Which event a record says: none where a number of it names nothing, or does not fit where it goes.
-use Rattle.std.specs.Prelude.{ℕ, ◌≡◌, ◌==◌, ◌%◌, ◌/◌, ◌^◌, nat_lt, nat_le, Bool, true, false, ◌&&◌, if◌then◌else◌, Option, Some, None, option_map, option_and_then}
+use Rattle.std.specs.Prelude.{ℕ, ◌==◌, ◌%◌, ◌/◌, ◌^◌, nat_lt, nat_le, Bool, true, false, ◌&&◌, if◌then◌else◌, Option, Some, None, option_map, option_and_then}
 use Rattle.board_base.specs.declared.access.Kind.{Kind}
 use Rattle.board_base.specs.declared.access.Kind.TheVariants.{Fetch, Read, Write}
 use Rattle.board_base.specs.declared.access.Width.{Width}
@@ -9,8 +9,10 @@ use Rattle.board_base.specs.Access.{bytes_of}
 use Rattle.board_base.specs.Calendar.{days_in_month, moment_of}
 use Rattle.board_spec.specs.declared.event.Event.{Event}
 use Rattle.board_spec.specs.declared.event.Event.TheVariants.{Memory, Wide, Port, Look as LookAt, Ack, Pulses, Time, Wire, Line, BadSector}
+use Rattle.uart_16550.specs.declared.com1.Happening.{Happening}
+use Rattle.uart_16550.specs.declared.com1.Happening.TheVariants.{Comes, Happens}
 use Rattle.board_records.specs.declared.event.EventRecord.{EventRecord}
-use Rattle.board_records.specs.Numbers.{memory_event, port_event, look_event, ack_event, pulses_event, time_event, wire_event, line_event, bad_sector_event, fetch_kind, read_kind, write_kind}
+use Rattle.board_records.specs.Numbers.{memory_event, port_event, look_event, ack_event, pulses_event, time_event, wire_event, line_event, bad_sector_event, serial_event, fetch_kind, read_kind, write_kind}
 
 unfoldable pub kind_said : ℕ → Option Kind
 kind_said number =
@@ -108,5 +110,17 @@ asked_by said =
     if said.what == bad_sector_event then Some (BadSector said.addr) else None
 
 -- what is kept for later versions is 0, and the flag of management mode 0 or 1
+abbrev pub is_plain : EventRecord → Bool
+is_plain said = (said.reserved == 0) && nat_le said.smm 1
+
 unfoldable pub event_said : EventRecord → Option Event
-event_said said = if (said.reserved == 0) && nat_le said.smm 1 then asked_by said else None
+event_said said = if is_plain said then asked_by said else None
+
+-- ---- an event, or a byte that COM1 receives
+
+unfoldable pub byte_said : EventRecord → Option Happening
+byte_said said = if is_plain said && nat_lt said.value 256 then Some (Comes said.value) else None
+
+unfoldable pub asked_said : EventRecord → Option Happening
+asked_said said =
+    if said.what == serial_event then byte_said said else option_map (λ event. Happens event) (event_said said)

@@ -11,7 +11,6 @@ use Rattle.board_chipset.specs.Versions.{version_count, AreLastChanged}
 use Rattle.board_records.specs.declared.map.AreaRecord.{AreaRecord}
 use Rattle.board_records.specs.declared.map.RangeRecord.{RangeRecord}
 use Rattle.board_records.specs.declared.map.WindowRecord.{WindowRecord}
-use Rattle.board_records.specs.declared.map.MapRecord.{MapRecord}
 use Rattle.board_records.specs.Replies.{area_said}
 
 -- ---- one range, one window

@@ -34,6 +34,10 @@ line_event = 8
 abbrev pub bad_sector_event : ℕ
 bad_sector_event = 9
 
+-- COM1 receives a byte
+abbrev pub serial_event : ℕ
+serial_event = 10
+
 -- ---- the kind of an access
 
 abbrev pub fetch_kind : ℕ
@@ -97,6 +101,10 @@ device_number Ata = 10
 device_number Wires = 11
 device_number (Vector chip) = if chip == 0 then 12 else 13
 device_number (Spurious chip) = if chip == 0 then 14 else 15
+
+-- the UART of COM1, which is no device of the board itself
+abbrev pub uart_device : ℕ
+uart_device = 16
 
 -- ---- what denied an access
 

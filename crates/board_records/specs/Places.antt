@@ -1,15 +1,20 @@
 -- Where an access would land, in numbers.
 use Rattle.std.specs.Prelude.{ℕ, suc, zero, ◌≡◌, List, Option, Some, None, option_map}
+use Rattle.board_base.specs.declared.access.PortAccess.{PortAccess}
 use Rattle.board_spec.specs.declared.event.Event.{Event}
 use Rattle.board_spec.specs.declared.event.Event.TheVariants.{Memory, Port}
+use Rattle.board_spec.specs.declared.event.Part.{Part}
 use Rattle.board_spec.specs.declared.event.Entry.{Entry}
 use Rattle.board_spec.specs.InRange.{IsInRange}
 use Rattle.board_spec.specs.Devices.{timer_of}
 use Rattle.pit_8254.specs.NextRise.{IsNextRise}
 use Rattle.board_chipset.specs.Chipset.{Running, IsLeftBy}
 use Rattle.board_chipset.specs.Places.{place_of}
+use Rattle.uart_16550.specs.declared.com1.Happening.{Happening}
+use Rattle.uart_16550.specs.declared.com1.Happening.TheVariants.{Comes, Happens}
+use Rattle.uart_16550.specs.Com1.{uart_access}
 use Rattle.board_records.specs.declared.reply.PartRecord.{PartRecord}
-use Rattle.board_records.specs.Replies.{of_part}
+use Rattle.board_records.specs.Replies.{of_part, uart_part}
 use Rattle.board_records.specs.Statuses.{no_event, no_cycle}
 
 -- an access of one bus cycle, to memory or to a port
@@ -18,16 +23,27 @@ IsCycle (Memory access) = Unit {0}
 IsCycle (Port access) = Unit {0}
 IsCycle _ = ⊥
 
--- the access can be made, and what would answer it and deny it is told
-pub record IsPlaced (chipset : Running) (said : PartRecord) (asked : Event) : Type 0 where
+-- the UART answers its own accesses, before any card, and the chipset the others
+abbrev pub placed_by : Option PortAccess → Option Part → Option PartRecord
+placed_by (Some access) part = Some uart_part
+placed_by None part = option_map of_part part
+
+-- an event that can be asked, and the part that would answer it
+pub record IsEventPlaced (chipset : Running) (said : PartRecord) (asked : Event) : Type 0 where
   pub in_range : IsInRange chipset.setup asked
   pub part : (history : List Entry) → IsLeftBy chipset history →
-      Some said ≡ option_map of_part (place_of chipset.setup history asked)
+      Some said ≡ placed_by (uart_access asked) (place_of chipset.setup history asked)
 
--- why none is told: the record says no event, or one that is no access of one bus cycle in range
-abbrev pub IsNotPlaced : Running → Option Event → (status : ℕ) → Type 0
+-- the access can be made, and what would answer it and deny it is told
+abbrev pub IsPlaced : Running → PartRecord → Happening → Type 0
+IsPlaced chipset said (Comes byte) = ⊥
+IsPlaced chipset said (Happens asked) = IsEventPlaced chipset said asked
+
+-- why none is told: the record asks nothing, or no access of one bus cycle in range
+abbrev pub IsNotPlaced : Running → Option Happening → (status : ℕ) → Type 0
 IsNotPlaced chipset None status = status ≡ no_event
-IsNotPlaced chipset (Some asked) status =
+IsNotPlaced chipset (Some (Comes byte)) status = status ≡ no_cycle
+IsNotPlaced chipset (Some (Happens asked)) status =
     (status ≡ no_cycle) ×
     ((history : List Entry) → IsLeftBy chipset history → ¬ (IsInRange chipset.setup asked × IsCycle asked))
 

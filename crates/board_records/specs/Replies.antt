@@ -1,6 +1,5 @@
 -- The record of a reply, with what stands after its step.
-use Rattle.std.specs.Prelude.{ℕ, Bool, true, false, Option, Some, None}
-use Rattle.board_base.specs.declared.target.Reg.{Reg}
+use Rattle.std.specs.Prelude.{ℕ, Option, Some, None}
 use Rattle.board_base.specs.declared.target.Area.{Area}
 use Rattle.board_base.specs.declared.target.Area.TheVariants as areas
 use Rattle.board_base.specs.declared.target.Target.{Target}
@@ -13,10 +12,12 @@ use Rattle.board_spec.specs.declared.event.Parts.TheVariants as parts
 use Rattle.board_spec.specs.declared.event.Look.{Look}
 use Rattle.board_spec.specs.declared.event.Reply.{Reply}
 use Rattle.board_spec.specs.declared.event.Reply.TheVariants as replies
+use Rattle.uart_16550.specs.declared.com1.SerialReply.{SerialReply}
+use Rattle.uart_16550.specs.declared.com1.SerialReply.TheVariants.{Board as OfBoard, Uart as OfUart}
 use Rattle.board_records.specs.declared.reply.PartRecord.{PartRecord}
 use Rattle.board_records.specs.declared.reply.ReplyRecord.{ReplyRecord}
 use Rattle.board_records.specs.declared.reply.AfterStep.{AfterStep}
-use Rattle.board_records.specs.Numbers.{dram_target, shadow_target, smram_target, rom_target, card_target, device_target, config_target, abort_target, device_number, register_denial, confadd_denial, no_register_denial, bus_reply, parts_reply, look_reply, reset_number, flag}
+use Rattle.board_records.specs.Numbers.{dram_target, shadow_target, smram_target, rom_target, card_target, device_target, config_target, abort_target, device_number, uart_device, register_denial, confadd_denial, no_register_denial, bus_reply, parts_reply, look_reply, reset_number, flag}
 
 -- ---- one part
 
@@ -85,6 +86,10 @@ blank after = record {
   part1 = no_part;
   part2 = no_part;
   part3 = no_part;
+  sent = 0;
+  has_sent = 0;
+  irq4 = flag after.irq4;
+  serial_room = flag after.serial_room;
   reserved = 0;
 }
 
@@ -124,3 +129,21 @@ unfoldable pub record_said : Reply → AfterStep → ReplyRecord
 record_said (replies.Bus value target denial) after = bus_said value target denial after
 record_said (replies.Parts parts value) after = wide_said parts value after
 record_said (replies.Saw look) after = look_said look after
+
+-- ---- of a board with a serial port
+
+abbrev pub uart_part : PartRecord
+uart_part = placed device_target uart_device 0 0
+
+abbrev pub with_sent : ReplyRecord → Option ℕ → ReplyRecord
+with_sent said None = said
+with_sent said (Some byte) = record said { sent = byte; has_sent = 1 }
+
+-- the UART was read, or written; or COM1 received a byte, which is neither
+unfoldable pub uart_said : Option ℕ → (sent : Option ℕ) → AfterStep → ReplyRecord
+uart_said value sent after =
+    with_sent (with_value (record (blank after) { form = bus_reply; parts = 1; part0 = uart_part }) value) sent
+
+unfoldable pub serial_said : SerialReply → AfterStep → ReplyRecord
+serial_said (OfBoard reply) after = record_said reply after
+serial_said (OfUart value sent) after = uart_said value sent after

@@ -1,12 +1,15 @@
 -- How a call ends, as a number.
-use Rattle.std.specs.Prelude.{ℕ, ◌≡◌, Option, Some, None}
-use Rattle.board_spec.specs.declared.event.Event.{Event}
-use Rattle.board_spec.specs.Setup.{Setup}
-use Rattle.board_chipset.specs.declared.setup.BoardOpen.{BoardOpen}
-use Rattle.board_chipset.specs.declared.setup.BoardOpen.TheVariants.{BadRom, BadDisk, NoMemory}
+use Rattle.std.specs.Prelude.{ℕ, ◌≡◌, false, Option, Some, None}
+use Rattle.board_chipset.specs.declared.check.SetupFault.{SetupFault}
+use Rattle.board_chipset.specs.declared.check.SetupFault.TheVariants.{Memory, Cards, Windows, Rom, Disk, NoMemory}
 use Rattle.board_chipset.specs.declared.in_range.OutOfRange.{OutOfRange}
 use Rattle.board_chipset.specs.declared.in_range.OutOfRange.TheVariants as faults
 use Rattle.board_chipset.specs.OutOfRange.{IsFault}
+use Rattle.board_chipset.specs.Chipset.{Running}
+use Rattle.uart_16550.specs.declared.com1.Happening.{Happening}
+use Rattle.uart_16550.specs.declared.com1.Happening.TheVariants.{Comes, Happens}
+use Rattle.uart_16550.specs.Uart.{has_room}
+use Rattle.uart_16550.specs.Serial.{Serial}
 
 abbrev pub ok : ℕ
 ok = 0
@@ -62,10 +65,18 @@ no_reply = 22
 abbrev pub no_room : ℕ
 no_room = 23
 
-abbrev pub open_status : BoardOpen → ℕ
-open_status BadRom = bad_rom
-open_status BadDisk = bad_disk
-open_status NoMemory = no_memory
+-- COM1 can receive no byte: its queue is full, or loopback is on
+abbrev pub serial_full : ℕ
+serial_full = 24
+
+-- why a setup opens no board
+abbrev pub setup_status : SetupFault → ℕ
+setup_status Memory = bad_size
+setup_status Cards = bad_cards
+setup_status Windows = bad_cards
+setup_status Rom = bad_rom
+setup_status Disk = bad_disk
+setup_status NoMemory = no_memory
 
 abbrev pub fault_status : OutOfRange → ℕ
 fault_status faults.Alignment = 8
@@ -78,7 +89,10 @@ fault_status faults.Date = 14
 fault_status faults.Device = 15
 fault_status faults.Line = 16
 
--- why the event of a record is refused: there is none, or its first field that is out of range
-abbrev pub IsRefusal : Setup → Option Event → (status : ℕ) → Type 0
-IsRefusal setup None status = status ≡ no_event
-IsRefusal setup (Some asked) status = (fault : OutOfRange) × IsFault setup asked fault × (status ≡ fault_status fault)
+-- why what a record asks is refused: it asks nothing; COM1 has no room for a byte; or the first field of an event that
+-- is out of range
+abbrev pub IsRefusal : Serial Running → Option Happening → (status : ℕ) → Type 0
+IsRefusal serial None status = status ≡ no_event
+IsRefusal serial (Some (Comes byte)) status = (status ≡ serial_full) × (has_room serial.com1.uart ≡ false)
+IsRefusal serial (Some (Happens event)) status =
+    (fault : OutOfRange) × IsFault serial.board.setup event fault × (status ≡ fault_status fault)

@@ -1,38 +1,89 @@
 -- A step that was asked by a record, and told by one.
-use Rattle.std.specs.Prelude.{◌≡◌, ◌%◌, List, ◌∷◌}
+use Rattle.std.specs.Prelude.{◌≡◌, ◌%◌, true, List, Option, Some, None}
+use Rattle.board_base.specs.declared.access.PortAccess.{PortAccess}
 use Rattle.board_spec.specs.declared.event.Event.{Event}
-use Rattle.board_spec.specs.declared.event.Reply.{Reply}
 use Rattle.board_spec.specs.declared.event.Entry.{Entry}
 use Rattle.board_spec.specs.Setup.{Setup}
 use Rattle.board_spec.specs.InRange.{IsInRange}
 use Rattle.board_spec.specs.MapWrites.{version_of}
+use Rattle.board_spec.specs.Registers.{reset_control}
 use Rattle.board_devices.specs.Outside.{is_interrupting}
-use Rattle.board_chipset.specs.Chipset.{Running, IsLeftBy}
+use Rattle.board_chipset.specs.declared.reset_control.ResetKind.{ResetKind}
+use Rattle.board_chipset.specs.declared.reset_control.ResetKind.TheVariants.{None as NoReset}
+use Rattle.board_chipset.specs.Chipset.{Running, IsLeftBy as IsChipsetLeftBy}
 use Rattle.board_chipset.specs.Resets.{reset_of}
 use Rattle.board_chipset.specs.Versions.{version_count, IsAnswerModulo}
+use Rattle.uart_16550.specs.declared.com1.Com1.{Com1}
+use Rattle.uart_16550.specs.declared.com1.Happening.{Happening}
+use Rattle.uart_16550.specs.declared.com1.Happening.TheVariants.{Comes, Happens}
+use Rattle.uart_16550.specs.declared.com1.SerialReply.{SerialReply}
+use Rattle.uart_16550.specs.declared.com1.SerialReply.TheVariants.{Board as OfBoard, Uart as OfUart}
+use Rattle.uart_16550.specs.Uart.{has_room}
+use Rattle.uart_16550.specs.Com1.{level_of, uart_access, uart_reply, board_event}
+use Rattle.uart_16550.specs.Serial.{Serial, IsLeftBy, IsAfter}
+use Rattle.uart_16550.specs.Sent.{Sending, sending_after, steps_for}
 use Rattle.board_records.specs.declared.reply.ReplyRecord.{ReplyRecord}
 use Rattle.board_records.specs.declared.reply.AfterStep.{AfterStep}
-use Rattle.board_records.specs.Replies.{record_said}
+use Rattle.board_records.specs.Replies.{serial_said}
 
--- what stands after an entry: the version of the map and INT after it, and the reset that its event made
-abbrev pub after_entry : Setup → Entry → List Entry → AfterStep
-after_entry setup entry before = record {
-  version = version_of setup (entry ∷ before) % version_count;
-  interrupt = is_interrupting setup (entry ∷ before);
-  reset = reset_of before entry.event;
+-- this history left the chipset and its serial port
+abbrev pub IsHistoryOf : Serial Running → List Entry → Type 0
+IsHistoryOf serial history = IsLeftBy IsChipsetLeftBy serial history
+
+-- a byte needs room in the queue of COM1, and an event is in range
+abbrev pub CanHappen : Serial Running → Happening → Type 0
+CanHappen serial (Comes byte) = has_room serial.com1.uart ≡ true
+CanHappen serial (Happens event) = IsInRange serial.board.setup event
+
+-- the serial port, with the reset control register of the chipset
+abbrev pub port_of : Serial Running → List Entry → Sending
+port_of serial history = record { com1 = serial.com1; control = reset_control history }
+
+-- ---- the reply
+
+-- the UART answers its own accesses, and the chipset what it hears of all else
+abbrev pub IsEventReply : Serial Running → List Entry → Event → Option PortAccess → SerialReply → Type 0
+IsEventReply serial history event (Some access) reply = reply ≡ uart_reply access serial.com1.uart
+IsEventReply serial history event None (OfBoard reply) =
+    IsAnswerModulo serial.board.setup history (board_event serial.com1 event) reply
+IsEventReply serial history event None (OfUart value sent) = ⊥
+
+-- a byte that comes is neither read nor sent
+abbrev pub IsReply : Serial Running → List Entry → Happening → SerialReply → Type 0
+IsReply serial history (Comes byte) reply = reply ≡ OfUart None None
+IsReply serial history (Happens event) reply = IsEventReply serial history event (uart_access event) reply
+
+abbrev pub reset_by : List Entry → Happening → ResetKind
+reset_by history (Comes byte) = NoReset
+reset_by history (Happens event) = reset_of history event
+
+-- what stands after a step: the version of the map and INT after the history, the reset that the step made, line 4,
+-- and whether COM1 has room for a byte
+abbrev pub after_step : Setup → (after : List Entry) → ResetKind → Com1 → AfterStep
+after_step setup after reset com1 = record {
+  version = version_of setup after % version_count;
+  interrupt = is_interrupting setup after;
+  reset = reset;
+  irq4 = level_of com1;
+  serial_room = has_room com1.uart;
 }
 
--- of a chipset as each history leaves it, this event was answered by this reply, and the record is that of the reply
-pub record IsAnswered (old new : Running) (asked : Event) (reply : Reply) (said : ReplyRecord) : Type 0 where
-  pub answer : (history : List Entry) → IsLeftBy old history → IsAnswerModulo old.setup history asked reply
-  pub left : (history : List Entry) (entry : Entry) → IsLeftBy old history →
-      entry.event ≡ asked → entry.reply ≡ reply → IsLeftBy new (entry ∷ history)
-  pub told : (history : List Entry) (entry : Entry) → IsLeftBy old history →
-      entry.event ≡ asked → entry.reply ≡ reply → said ≡ record_said reply (after_entry old.setup entry history)
+-- ---- the step
 
--- the event is in range, and its reply is told
-pub record IsStep (old new : Running) (said : ReplyRecord) (asked : Event) : Type 0 where
-  pub in_range : IsInRange old.setup asked
-  pub setup : new.setup ≡ old.setup
-  pub reply : Reply
-  pub answered : IsAnswered old new asked reply said
+-- of a history that left the chipset: this is the reply to what was asked; the port is as that leaves it, and the
+-- history goes on by the steps that the port makes of it, those of processor 0; and the record is that of the reply
+pub record IsAnswered (old new : Serial Running) (asked : Happening) (reply : SerialReply) (said : ReplyRecord)
+    (history : List Entry) : Type 0 where
+  pub answer : IsReply old history asked reply
+  pub com1 : new.com1 ≡ (sending_after (port_of old history) asked).com1
+  pub goes_on :
+      IsAfter IsAnswerModulo (λ chipset. chipset.setup) IsChipsetLeftBy new history
+      (steps_for 0 (port_of old history) asked)
+  pub told : said ≡ serial_said reply (after_step old.board.setup goes_on.after (reset_by history asked) new.com1)
+
+-- what was asked can happen, and its reply is told, whatever history left the chipset
+pub record IsStep (old new : Serial Running) (said : ReplyRecord) (asked : Happening) : Type 0 where
+  pub can : CanHappen old asked
+  pub setup : new.board.setup ≡ old.board.setup
+  pub reply : SerialReply
+  pub answered : (history : List Entry) → IsHistoryOf old history → IsAnswered old new asked reply said history

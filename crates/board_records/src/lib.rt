@@ -2,6 +2,7 @@
 //! call ends as a status.
 #![tactic(auto)]
 
+mod asked;
 mod bytes;
 mod calls;
 mod card;
@@ -12,9 +13,11 @@ pub mod numbers;
 mod place;
 mod reply;
 pub mod status;
+mod write;
 
+pub use asked::asked_of;
 pub use card::{BaseRecord, CardRecord, cards_of};
 pub use door::Door;
 pub use event::{EventRecord, event_of};
 pub use map::{AreaRecord, MapRecord, RangeRecord, WindowRecord};
-pub use reply::{AfterStep, PartRecord, ReplyRecord, record_of};
+pub use reply::{AfterStep, PartRecord, ReplyRecord, record_of, serial_record_of};

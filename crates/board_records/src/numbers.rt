@@ -18,6 +18,8 @@ pub const WIRE_EVENT: u8 = 7;
 pub const LINE_EVENT: u8 = 8;
 /// A sector that goes bad.
 pub const BAD_SECTOR_EVENT: u8 = 9;
+/// A byte that COM1 receives.
+pub const SERIAL_EVENT: u8 = 10;
 
 /// A code fetch.
 pub const FETCH_KIND: u8 = 1;
@@ -78,6 +80,8 @@ pub const VECTOR1_DEVICE: u8 = 13;
 pub const SPURIOUS0_DEVICE: u8 = 14;
 /// The slave's spurious vector.
 pub const SPURIOUS1_DEVICE: u8 = 15;
+/// The UART of COM1.
+pub const UART_DEVICE: u8 = 16;
 
 /// A register denied the access.
 pub const REGISTER_DENIAL: u8 = 1;

@@ -1,31 +1,45 @@
 //! What an access would reach, and when the timer's line next rises. Nothing in the chipset changes.
 
-ghost use Rattle.std.specs.Prelude.{◌≡◌, ◌≢◌, List, IfSome, IsSomeAnd, None};
+ghost use Rattle.std.specs.Prelude.{◌≡◌, ◌≢◌, List, IfSome, IsSomeAnd, Some, None, is_some};
 ghost use Rattle.board_spec.specs.declared.event.Entry.{Entry};
 ghost use Rattle.board_spec.specs.InRange.{IsInRange};
 ghost use Rattle.board_chipset.specs.Chipset.{IsLeftBy};
-ghost use Rattle.board_records.specs.Events.{event_said};
-ghost use Rattle.board_records.specs.Places.{IsCycle, IsPlaced, IsNotPlaced, IsRiseTold};
+ghost use Rattle.uart_16550.specs.declared.com1.Happening.TheVariants.{Happens};
+ghost use Rattle.uart_16550.specs.Com1.{uart_access};
+ghost use Rattle.board_records.specs.Events.{asked_said};
+ghost use Rattle.board_records.specs.Places.{IsCycle, IsEventPlaced, IsPlaced, IsNotPlaced, IsRiseTold};
 ghost use Rattle.board_records.specs.Statuses.{ok, closed};
 
-use crate::event::{EventRecord, event_of};
-use crate::reply::{PartRecord, of_part};
+use crate::asked::asked_of;
+use crate::event::EventRecord;
+use crate::reply::{PartRecord, of_part, uart_part};
 use crate::status::{NO_CYCLE, NO_EVENT, OK};
 use board_chipset::Chipset;
 use board_spec::Event;
+use uart_16550::{Happening, is_for_uart};
 
-/// Sets `part` to what would answer the access of a record, and what would deny it. Refused where the record is that of
-/// no event (`NO_EVENT`), or of one that is no access of one bus cycle in range (`NO_CYCLE`).
+/// Sets `part` to what would answer the access of a record, and what would deny it. Refused where the record asks nothing
+/// (`NO_EVENT`), or no access of one bus cycle in range (`NO_CYCLE`).
 pub(crate) fn tell_place(chipset: &Chipset, event: &EventRecord, part: &mut PartRecord) -> u32
-    ensures done { result ≡ ok → IsSomeAnd (event_said event.now) (IsPlaced chipset.now part.new) }
-    ensures refused { result ≢ ok → IsNotPlaced chipset.now (event_said event.now) result }
+    ensures done { result ≡ ok → IsSomeAnd (asked_said event.now) (IsPlaced chipset.now part.new) }
+    ensures refused { result ≢ ok → IsNotPlaced chipset.now (asked_said event.now) result }
     ensures untold { result ≢ ok → part.new ≡ part.old }
     ensures open { result ≢ closed }
 {
-    let Some(asked) = event_of(event) else {
-        return NO_EVENT;
-    };
-    match place_of(chipset, &asked) {
+    match asked_of(event) {
+        Some(Happening::Comes(_)) => NO_CYCLE,
+        Some(Happening::Happens(asked)) => placed(chipset, &asked, part),
+        None => NO_EVENT,
+    }
+}
+
+fn placed(chipset: &Chipset, asked: &Event, part: &mut PartRecord) -> u32
+    ensures done { result ≡ ok → IsEventPlaced chipset.now part.new asked.now }
+    ensures refused { result ≢ ok → IsNotPlaced chipset.now (Some (Happens asked.now)) result }
+    ensures untold { result ≢ ok → part.new ≡ part.old }
+    ensures open { result ≢ closed }
+{
+    match place_of(chipset, asked) {
         Some(place) => {
             *part = place;
             OK
@@ -36,16 +50,29 @@ pub(crate) fn tell_place(chipset: &Chipset, event: &EventRecord, part: &mut Part
 
 /// What would answer an access of one bus cycle, and what would deny it. None for another event, or one out of range.
 fn place_of(chipset: &Chipset, asked: &Event) -> Option<PartRecord>
-    ensures placed { IfSome result (λ said. IsPlaced chipset.now said asked.now) }
+    ensures placed { IfSome result (λ said. IsEventPlaced chipset.now said asked.now) }
     ensures none { result ≡ None → (history : List Entry) → IsLeftBy chipset.now history
         → ¬ (IsInRange chipset.now.setup asked.now × IsCycle asked.now) }
 {
     if !chipset.is_in_range(asked) {
         return None;
     }
+    if is_uart_access(asked) {
+        return Some(uart_part());
+    }
     match chipset.decode(asked) {
         Some(part) => Some(of_part(part)),
         None => None,
+    }
+}
+
+/// Whether an event is an access that the UART of COM1 answers.
+fn is_uart_access(asked: &Event) -> bool
+    ensures uart { result ≡ is_some (uart_access asked.now) }
+{
+    match asked {
+        Event::Port(access) => is_for_uart(access),
+        _ => false,
     }
 }
 

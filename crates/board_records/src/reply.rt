@@ -3,19 +3,20 @@
 ghost use Rattle.std.specs.Prelude.{◌≡◌, Some};
 ghost use Rattle.board_base.specs.declared.target.Denial.TheVariants.{Register};
 ghost use Rattle.board_records.specs.Numbers.{device_number, reset_number};
-ghost use Rattle.board_records.specs.Replies.{placed, target_said, area_said, with_denial, part_said, blank, with_value, with_parts, look_said, bus_said, wide_said, record_said, of_part};
+ghost use Rattle.board_records.specs.Replies.{placed, target_said, area_said, with_denial, part_said, blank, with_value, with_parts, look_said, bus_said, wide_said, record_said, of_part, uart_part, uart_said, serial_said};
 
 use crate::numbers::{
     ABORT_TARGET, ATA_DEVICE, BUS_REPLY, CARD_TARGET, CLOCK_DEVICE, CONFADD_DENIAL, CONFADD_DEVICE,
     CONFIG_TARGET, DEVICE_TARGET, DRAM_TARGET, ELCR_DEVICE, HARD_RESET, KEYBOARD_DEVICE,
     LOOK_REPLY, NO_REGISTER_DENIAL, NO_RESET, PARTS_REPLY, PIC0_DEVICE, PIC1_DEVICE, PIT_DEVICE,
     REGISTER_DENIAL, RESET_DEVICE, ROM_TARGET, SHADOW_TARGET, SMRAM_TARGET, SOFT_RESET,
-    SPURIOUS0_DEVICE, SPURIOUS1_DEVICE, SYSTEM_DEVICE, VECTOR0_DEVICE, VECTOR1_DEVICE,
+    SPURIOUS0_DEVICE, SPURIOUS1_DEVICE, SYSTEM_DEVICE, UART_DEVICE, VECTOR0_DEVICE, VECTOR1_DEVICE,
     WIRES_DEVICE,
 };
 use board_base::{Area, Denial, Dev, Reg, Target};
 use board_chipset::ResetKind;
 use board_spec::{Look, Part, Parts, Reply};
+use uart_16550::SerialReply;
 
 /// What answered an access, or one part of it, and what denied it: a target (`DRAM_TARGET` ..), the row of DRAM, the
 /// device (a PCI device of a card or register, `PIT_DEVICE` .. of the board), the base of a card or function of a
@@ -35,8 +36,8 @@ pub struct PartRecord {
 }
 
 /// A reply in numbers: what was read, where anything was; which reply it is (`BUS_REPLY` ..) and how many of its parts
-/// are filled; of a look the version of the map before it and the interval; and what stands after the step: the version
-/// of the map, whether INT is asserted, and the reset that the step made (`NO_RESET` ..).
+/// are filled; of a look the version of the map before it and the interval; the byte that COM1 sent, where it sent one; and
+/// what stands after the step, as `AfterStep` has it.
 #[repr(C)]
 #[derive(Clone, Copy, PartialEq, Eq, Debug, Default)]
 pub struct ReplyRecord {
@@ -54,15 +55,22 @@ pub struct ReplyRecord {
     pub part1: PartRecord,
     pub part2: PartRecord,
     pub part3: PartRecord,
-    pub reserved: u64,
+    pub sent: u8,
+    pub has_sent: u8,
+    pub irq4: u8,
+    pub serial_room: u8,
+    pub reserved: u32,
 }
 
-/// What stands after a step: the version of the map, whether INT is asserted, and the reset that the step made.
+/// What stands after a step: the version of the map, whether INT is asserted, the reset that the step made, the level of
+/// interrupt line 4, and whether COM1 has room for a byte.
 #[derive(Clone, Copy, PartialEq, Eq, Debug)]
 pub struct AfterStep {
     pub version: u32,
     pub interrupt: bool,
     pub reset: ResetKind,
+    pub irq4: bool,
+    pub serial_room: bool,
 }
 
 /// The record of a reply, with what stands after its step.
@@ -134,6 +142,48 @@ fn look_record(look: Look, after: AfterStep) -> ReplyRecord
     }
 }
 
+/// The record of a reply of a board with a serial port, with what stands after its step.
+#[tactic(auto, unfolding(crate::specs::Replies::serial_said))]
+pub fn serial_record_of(reply: &SerialReply, after: AfterStep) -> ReplyRecord
+    ensures said { result ≡ serial_said reply.now after }
+{
+    match reply {
+        SerialReply::Board(reply) => record_of(reply, after),
+        SerialReply::Uart { value, sent } => uart_record(*value, *sent, after),
+    }
+}
+
+#[tactic(auto, unfolding(crate::specs::Replies::uart_said))]
+fn uart_record(value: Option<u8>, sent: Option<u8>, after: AfterStep) -> ReplyRecord
+    ensures said { result ≡ uart_said value sent after }
+{
+    let record = ReplyRecord {
+        form: BUS_REPLY,
+        parts: 1,
+        part0: uart_part(),
+        ..blank(after)
+    };
+    let record = match value {
+        Some(value) => valued(record, value.into()),
+        None => record,
+    };
+    match sent {
+        Some(sent) => ReplyRecord {
+            sent,
+            has_sent: 1,
+            ..record
+        },
+        None => record,
+    }
+}
+
+/// The UART of COM1, as a part.
+pub(crate) fn uart_part() -> PartRecord
+    ensures part { result ≡ uart_part }
+{
+    placed(DEVICE_TARGET, UART_DEVICE, 0, 0)
+}
+
 /// What every record has of what stands after the step.
 #[tactic(auto, unfolding(crate::specs::Replies::blank))]
 fn blank(after: AfterStep) -> ReplyRecord
@@ -143,6 +193,8 @@ fn blank(after: AfterStep) -> ReplyRecord
         version: after.version,
         interrupt: u8::from(after.interrupt),
         reset: reset_number(after.reset),
+        irq4: u8::from(after.irq4),
+        serial_room: u8::from(after.serial_room),
         ..ReplyRecord::default()
     }
 }

@@ -1,9 +1,9 @@
 //! How a call ends, as a number.
 
 ghost use Rattle.std.specs.Prelude.{◌≡◌};
-ghost use Rattle.board_records.specs.Statuses.{fault_status, open_status};
+ghost use Rattle.board_records.specs.Statuses.{fault_status, setup_status};
 
-use board_chipset::{BoardOpen, OutOfRange};
+use board_chipset::{OutOfRange, SetupFault};
 
 /// Done.
 pub const OK: u32 = 0;
@@ -11,9 +11,9 @@ pub const OK: u32 = 0;
 pub const CLOSED: u32 = 1;
 /// There was no memory.
 pub const NO_MEMORY: u32 = 2;
-/// The memory of the guest is not of 1 to 64 MiB.
+/// The memory of the guest is not of 1 to 512 MiB.
 pub const BAD_SIZE: u32 = 3;
-/// The cards are not those of a board.
+/// A record says no card, or the cards are none that a board can be fitted with.
 pub const BAD_CARDS: u32 = 4;
 /// The ROM is not of 64, 128, 256 or 512 KiB.
 pub const BAD_ROM: u32 = 5;
@@ -53,6 +53,8 @@ pub const BAD_LENGTH: u32 = 21;
 pub const NO_REPLY: u32 = 22;
 /// The text does not fit.
 pub const NO_ROOM: u32 = 23;
+/// COM1 can receive no byte: its queue is full, or loopback is on.
+pub const SERIAL_FULL: u32 = 24;
 
 /// The status of an event that is out of range.
 pub fn fault_status(fault: OutOfRange) -> u32
@@ -71,13 +73,16 @@ pub fn fault_status(fault: OutOfRange) -> u32
     }
 }
 
-/// The status of a board that was not opened.
-pub fn open_status(fault: BoardOpen) -> u32
-    ensures status { result ≡ open_status fault }
+/// The status of a setup that opens no board.
+pub fn setup_status(fault: SetupFault) -> u32
+    ensures status { result ≡ setup_status fault }
 {
     match fault {
-        BoardOpen::BadRom => BAD_ROM,
-        BoardOpen::BadDisk => BAD_DISK,
-        BoardOpen::NoMemory => NO_MEMORY,
+        SetupFault::Memory => BAD_SIZE,
+        SetupFault::Cards => BAD_CARDS,
+        SetupFault::Windows => BAD_CARDS,
+        SetupFault::Rom => BAD_ROM,
+        SetupFault::Disk => BAD_DISK,
+        SetupFault::NoMemory => NO_MEMORY,
     }
 }

@@ -1,7 +1,6 @@
 use Rattle.std.proofs.Common.{◌∙◌, ap, sym, List, length, map}
 use Rattle.std.proofs.lemmas.List.{length-map}
 use Rattle.std.proofs.lemmas.Simd.{map-map}
-use Rattle.board_spec.specs.FlatMap.{MapRange}
 use Rattle.map_builder.specs.Map.{range_of}
 use Rattle.board_records.specs.declared.map.RangeRecord.{RangeRecord}
 use Rattle.board_records.specs.Maps.{range_said, window_said, filled}

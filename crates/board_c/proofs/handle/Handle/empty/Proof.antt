@@ -1,5 +1,5 @@
 -- `empty` makes a handle of nothing.
-use Rattle.std.proofs.Common.{◌≡◌, List, [], ◌∷◌, ◌++◌, refl, sym, subst}
+use Rattle.std.proofs.Common.{List, [], ◌∷◌, ◌++◌, refl, sym, subst}
 use mathlib.Core.Bool.{false}
 use mir.Val.{Val}
 use base.Logic.{SProp, ent, id⊢}

@@ -1,6 +1,6 @@
 -- `into_loose` moves the pointer and the heap's handle, where the handle is full.
 use Rattle.std.proofs.Common.{◌≡◌, List, [], ◌∷◌, ◌++◌, refl, sym, subst, ◌∙◌, lit<}
-use mathlib.Core.Bool.{Bool, true, false}
+use mathlib.Core.Bool.{true, false}
 use lib.Dec.{T}
 use mir.Raw.{raw as bare}
 use mir.Val.{Val, vptr, vcons, vnil}

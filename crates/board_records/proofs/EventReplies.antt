@@ -1,0 +1,38 @@
+-- The reply of a chipset with a serial port, by whom the event is for, and the history that goes on from a step.
+use Rattle.std.proofs.Common.{◌≡◌, List, Option, Some, None, refl, ◌∙◌}
+use Rattle.board_base.specs.declared.access.PortAccess.{PortAccess}
+use Rattle.board_spec.specs.declared.event.Event.{Event}
+use Rattle.board_spec.specs.declared.event.Reply.{Reply}
+use Rattle.board_spec.specs.declared.event.Entry.{Entry}
+use Rattle.board_spec.specs.declared.event.Statement.{Statement}
+use Rattle.board_chipset.specs.Chipset.{Running, IsLeftBy as IsChipsetLeftBy}
+use Rattle.board_chipset.specs.Versions.{IsAnswerModulo}
+use Rattle.uart_16550.specs.declared.com1.SerialReply.{SerialReply}
+use Rattle.uart_16550.specs.declared.com1.SerialReply.TheVariants.{Board as OfBoard}
+use Rattle.uart_16550.specs.Com1.{uart_reply, board_event}
+use Rattle.uart_16550.specs.Serial.{Serial, IsAfter}
+use Rattle.board_records.specs.Steps.{IsHistoryOf, IsEventReply}
+
+pub reply_is : (serial : Serial Running) (history : List Entry) (event : Event) (access : Option PortAccess)
+    (told : SerialReply) → IsHistoryOf serial history →
+    ((at : PortAccess) → access ≡ Some at → told ≡ uart_reply at serial.com1.uart) →
+    (access ≡ None → (reply : Reply) × (told ≡ OfBoard reply) ×
+    ((before : List Entry) → IsHistoryOf serial before →
+    IsAnswerModulo serial.board.setup before (board_event serial.com1 event) reply)) →
+    IsEventReply serial history event access told
+reply_is serial history event (Some access) told left uart board = uart access refl
+reply_is serial history event None told left uart board =
+    let is = board refl in rw (is.1) (is.2 history left)
+
+abbrev pub IsAfterThese : Serial Running → List Entry → List Statement → Type 0
+IsAfterThese serial history steps = IsAfter IsAnswerModulo (λ (chipset : Running). chipset.setup) IsChipsetLeftBy serial history steps
+
+-- the same under another name of the steps
+abbrev pub after_as : (serial : Serial Running) (history : List Entry) (steps others : List Statement) → steps ≡ others →
+    IsAfterThese serial history steps → IsAfterThese serial history others
+after_as serial history steps others is gone = record {
+  after = gone.after;
+  left_at = gone.left_at;
+  goes_on = record { more = gone.goes_on.more; grows = gone.goes_on.grows; same = gone.goes_on.same ∙ is };
+  answered = gone.answered;
+}

@@ -1,0 +1,27 @@
+use Rattle.std.proofs.Common.{None, refl, sym, ap, ◌∙◌}
+use Rattle.board_chipset.specs.declared.reset_control.ResetKind.TheVariants.{None as NoReset}
+use Rattle.uart_16550.specs.declared.com1.SerialReply.TheVariants.{Uart as OfUart}
+use Rattle.uart_16550.specs.Com1.{change_steps}
+use Rattle.board_records.specs.Replies.{serial_said}
+use Rattle.board_records.specs.Steps.{after_step}
+use Rattle.board_records.proofs.EventReplies.{after_as}
+use Rattle.board_records.proofs.calls.receive.Goals as goal
+
+pub returns-clause-done : goal.returns-clause-done
+returns-clause-done c = λ ok. record {
+  can = sym c.if-not-room.ensures.room;
+  setup = c.receive.ensures.setup;
+  reply = OfUart None None;
+  answered = λ history left.
+      let gone = c.receive.ensures.history history left in
+      record {
+        answer = refl;
+        com1 = c.receive.ensures.com1;
+        goes_on = after_as c.receive.new.self history _ _ (ap (change_steps c.args.serial.now.com1) c.receive.ensures.com1) gone;
+        told =
+            c.serial_record_of.ensures.said
+            ∙ ap (serial_said (OfUart None None))
+            (c.after_step.ensures.after gone.after gone.left_at.left
+            ∙ ap (λ setup. after_step setup gone.after NoReset c.receive.new.self.com1) c.receive.ensures.setup);
+      };
+}
