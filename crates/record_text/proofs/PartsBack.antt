@@ -1,6 +1,6 @@
 -- What the record of a part names is this part.
-use Rattle.std.proofs.Common.{◌≡◌, ℕ, zero, suc, ◌<◌, ◌==◌, Option, Some, None, refl, ap, ◌∙◌, arith}
-use Rattle.std.specs.Prelude.{nat_lt, true, if◌then◌else◌}
+use Rattle.std.proofs.Common.{◌≡◌, zero, suc, Option, Some, None, refl, arith}
+use Rattle.std.proofs.lemmas.Bool.{lt-ltb}
 use Rattle.board_base.specs.declared.target.Dev.{Dev}
 use Rattle.board_base.specs.declared.target.Dev.TheVariants as devices
 use Rattle.board_base.specs.declared.target.Area.{Area}
@@ -39,7 +39,7 @@ device_back (devices.Spurious (suc (suc chip))) fits = absurd (omega (arith, fit
 
 register_back : (reg : Reg) → FitsTarget (targets.Config reg) → target_of (target_said (targets.Config reg)) ≡ Some (targets.Config reg)
 unfolding target_of config_of
-register_back reg fits = rw (lt-true reg.off 256 fits.2) refl
+register_back reg fits = rw (lt-ltb reg.off 256 fits.2) refl
 
 target_back : (target : Target) → FitsTarget target → target_of (target_said target) ≡ Some target
 unfolding target_of
@@ -60,16 +60,48 @@ denied_target said (Some (Register reg)) = refl
 denied_target said (Some Confadd) = refl
 denied_target said (Some NoRegister) = refl
 
+not_denied : (target : Target) → (target_said target).denial ≡ 0
+not_denied (targets.Dram row) = refl
+not_denied (targets.Shadow row) = refl
+not_denied targets.Smram = refl
+not_denied (targets.Rom off) = refl
+not_denied (targets.Card dev base off) = refl
+not_denied (targets.Device dev) = refl
+not_denied (targets.Config reg) = refl
+not_denied targets.Abort = refl
+
+unreserved : (target : Target) → (target_said target).reserved ≡ 0
+unreserved (targets.Dram row) = refl
+unreserved (targets.Shadow row) = refl
+unreserved targets.Smram = refl
+unreserved (targets.Rom off) = refl
+unreserved (targets.Card dev base off) = refl
+unreserved (targets.Device dev) = refl
+unreserved (targets.Config reg) = refl
+unreserved targets.Abort = refl
+
+not_reserved : (target : Target) (denial : Option Denial) → (with_denial (target_said target) denial).reserved ≡ 0
+not_reserved target None = unreserved target
+not_reserved target (Some (Register reg)) = unreserved target
+not_reserved target (Some Confadd) = unreserved target
+not_reserved target (Some NoRegister) = unreserved target
+
 denial_back : (target : Target) (denial : Option Denial) → denial_of (part_said target denial) ≡ Some denial
 unfolding denial_of part_said
-denial_back target None = ?
+denial_back target None = rw (not_denied target) refl
 denial_back target (Some (Register reg)) = refl
 denial_back target (Some Confadd) = refl
 denial_back target (Some NoRegister) = refl
 
 pub part_back : (part : Part) → FitsPart part → part_of (of_part part) ≡ Some part
 unfolding part_of part_said
-part_back part fits = ?
+part_back part fits =
+    rw (
+      not_reserved part.target part.denial,
+      denied_target (target_said part.target) part.denial,
+      target_back part.target fits.0,
+      denial_back part.target part.denial,
+    ) refl
 
 pub area_back : (area : Area) → area_of (area_said area) ≡ Some area
 unfolding area_of

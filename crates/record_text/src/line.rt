@@ -38,6 +38,7 @@ fn write(line: &[u8], into: &mut [u8]) -> u32
 /// Writes line `number` of a log, with its line feed, of the entry of a processor, the number of its statement, an event and
 /// its reply, and tells how many bytes the line has. Refused with `NO_EVENT` or `NO_REPLY` where a record says none, and
 /// with `NO_ROOM` where the line does not fit: then its count of bytes is told. `NO_MEMORY` may come where both say something.
+#[tactic(auto, unfolding(crate::specs::Lines::entry_said))]
 pub fn tell_line(
     alloc: Global,
     event: &EventRecord,
