@@ -5,8 +5,10 @@ mod asks;
 mod bytes;
 mod exports;
 mod handle;
+mod text;
 
 pub use asks::{board_decode, board_pulses_to_rise, board_ranges};
 pub use bytes::{board_cmos_read, board_disk_read, board_dram_read};
 pub use exports::{board_close, board_open, board_step};
 pub use handle::Handle;
+pub use text::board_text;
