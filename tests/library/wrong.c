@@ -12,20 +12,6 @@ static void expect(const char *what, uint32_t got, uint32_t status) {
     failed = 1;
 }
 
-/* the sizes and offsets of the records, as the library has them */
-_Static_assert(sizeof(board) == 16 && offsetof(board, open) == 8, "board");
-_Static_assert(sizeof(board_event) == 24 && offsetof(board_event, addr) == 8 && offsetof(board_event, what) == 12
-    && offsetof(board_event, smm) == 15 && offsetof(board_event, reserved) == 16, "board_event");
-_Static_assert(sizeof(board_part) == 12 && offsetof(board_part, target) == 4 && offsetof(board_part, denial) == 7
-    && offsetof(board_part, reserved) == 11, "board_part");
-_Static_assert(sizeof(board_reply) == 88 && offsetof(board_reply, version) == 8 && offsetof(board_reply, form) == 24
-    && offsetof(board_reply, reset) == 28 && offsetof(board_reply, part) == 32 && offsetof(board_reply, reserved) == 80,
-    "board_reply");
-_Static_assert(sizeof(board_area) == 4 && offsetof(board_area, reserved) == 3, "board_area");
-_Static_assert(sizeof(board_range) == 32 && offsetof(board_range, hi) == 4 && offsetof(board_range, area) == 8, "board_range");
-_Static_assert(sizeof(board_window) == 8 && offsetof(board_window, hi) == 4, "board_window");
-_Static_assert(sizeof(board_map) == 24 && offsetof(board_map, windows) == 8 && offsetof(board_map, version) == 16, "board_map");
-
 static const struct { const char *name; board_event event; uint32_t status; } rows[] = {
     {"zeros", {0}, BOARD_NO_EVENT},
     {"no such event", {.what = 10}, BOARD_NO_EVENT},
@@ -142,6 +128,79 @@ static void asked(board *b, board *closed) {
     must("register B", byte == 2);
 }
 
+/* ---- lines of a log */
+
+/* replies that are none: one that a step gave, with a field changed */
+static void no_replies(const board_event *event, const board_reply *good) {
+    board_reply r[24];
+    size_t n = sizeof r / sizeof *r;
+    for (size_t k = 0; k < n; k++) r[k] = *good;
+    memset(&r[0], 0, sizeof *r);
+    r[1].reserved = 1;
+    r[2].has_value = 2;
+    r[3].form = 4;
+    r[4].form = BOARD_LOOK_REPLY, r[4].part[0].target = BOARD_IS_DEVICE;
+    r[5].parts = 0;
+    r[6].parts = 2;
+    r[7].form = BOARD_PARTS_REPLY;
+    r[8].form = BOARD_PARTS_REPLY, r[8].parts = 5;
+    r[9].form = BOARD_PARTS_REPLY, r[9].parts = 2, memset(&r[9].part[1], 0, sizeof r[9].part[1]);
+    r[10].value = 1ull << 32;
+    r[11].part[0].target = BOARD_NOTHING;
+    r[12].part[0].target = 9;
+    r[13].part[0].reserved = 1;
+    r[14].part[0].denial = 4;
+    r[15].part[0].target = BOARD_CONFIG, r[15].part[0].offset = 256;
+    r[16].part[0].target = BOARD_IS_DEVICE, r[16].part[0].unit = 0;
+    r[17].part[0].target = BOARD_IS_DEVICE, r[17].part[0].unit = 16;
+    r[18].form = BOARD_LOOK_REPLY, r[18].part[0].target = BOARD_CONFIG;
+    r[19].form = BOARD_LOOK_REPLY, r[19].part[0].target = BOARD_NOTHING;
+    r[20].form = BOARD_LOOK_REPLY, r[20].parts = 2;
+    r[21].form = 0;
+    r[22].form = 255, r[22].parts = 255;
+    r[23].part[0].unit = 255, r[23].part[0].target = BOARD_IS_DEVICE;
+    for (size_t k = 0; k < n; k++) {
+        uint8_t line[BOARD_LONGEST_LINE];
+        size_t bytes = 77;
+        memset(line, 0xA5, sizeof line);
+        uint32_t status = board_text(event, &r[k], 1, 0, 1, line, sizeof line, &bytes);
+        if (status != BOARD_NO_REPLY) printf("reply %zu\n", k);
+        expect("no reply", status, BOARD_NO_REPLY);
+        must("a refused text was written", bytes == 77 && is_untouched(line, 0, sizeof line));
+    }
+}
+
+static void text(board *b) {
+    static const char want[] = "18446744073709551615 255.4294967295 w q 000CC003 0102030405060708 smm = - ";
+    board_event event = {.what = BOARD_MEMORY, .kind = BOARD_READ, .bytes = 4, .addr = 0x1000}, none = event;
+    board_reply reply;
+    uint8_t line[BOARD_LONGEST_LINE + 1];
+    size_t bytes = 77, length = strlen("1 0.1 r d 00001000 = 00000000 dram:0 -\n");
+    expect("a step", board_step(b, &event, &reply), BOARD_OK);
+    no_replies(&event, &reply);
+    none.kind = 4;
+    memset(line, 0xA5, sizeof line);
+    expect("a text of no event", board_text(&none, &reply, 1, 0, 1, line, sizeof line, &bytes), BOARD_NO_EVENT);
+    must("a text of no event was written", bytes == 77 && is_untouched(line, 0, sizeof line));
+    for (size_t room = 0; room < length; room++) {
+        bytes = 77;
+        expect("a text without room", board_text(&event, &reply, 1, 0, 1, line, room, &bytes), BOARD_NO_ROOM);
+        must("a text without room", bytes == length && is_untouched(line, 0, sizeof line));
+    }
+    expect("a text", board_text(&event, &reply, 1, 0, 1, line, length, &bytes), BOARD_OK);
+    must("a text", bytes == length && !memcmp(line, "1 0.1 r d 00001000 = 00000000 dram:0 -\n", length) && is_untouched(line, length, sizeof line));
+    event = (board_event){.what = BOARD_MEMORY, .kind = BOARD_WRITE, .bytes = 8, .addr = 0xCC003, .smm = 1, .value = 0x102030405060708};
+    expect("a wide write", board_step(b, &event, &reply), BOARD_OK);
+    expect("a wide text", board_text(&event, &reply, UINT64_MAX, 255, UINT32_MAX, line, sizeof line, &bytes), BOARD_OK);
+    must("a wide text", bytes > sizeof want && !memcmp(line, want, sizeof want - 1));
+    memset(reply.part, 0, sizeof reply.part);
+    for (int k = 0; k < 4; k++)
+        reply.part[k] = (board_part){.target = BOARD_CARD, .unit = 255, .base = 255, .offset = UINT32_MAX, .denial = BOARD_BY_REGISTER, .denial_dev = 255};
+    reply.parts = 4, reply.has_value = 1, reply.value = UINT64_MAX;
+    expect("the longest text", board_text(&event, &reply, UINT64_MAX, 255, UINT32_MAX, line, BOARD_LONGEST_LINE, &bytes), BOARD_OK);
+    must("the longest text", bytes <= BOARD_LONGEST_LINE);
+}
+
 int main(void) {
     size_t bytes = 65536;
     uint8_t *rom = calloc(bytes, 1);
@@ -171,6 +230,7 @@ int main(void) {
     if (reply.parts != 3 || reply.form != BOARD_PARTS_REPLY) { printf("parts: %u\n", reply.parts); failed = 1; }
     ranges(&b, &closed);
     asked(&b, &closed);
+    text(&b);
     board_close(&b);
     board_close(&b);
     return failed;

@@ -26,6 +26,9 @@ impl Model for Handle {
     ghost also_owns = { λ h. owned_if h.full (box_owns (⟦<Global as Allocator>⟧.dealloc_token h.alloc) door_row h.at h.held) };
 }
 
+// What a handle owns says the same to every thread, so it may move between threads.
+unsafe impl Send for Handle {}
+
 impl Handle {
     /// A closed handle.
     fn empty(alloc: Global) -> Handle

@@ -5,6 +5,7 @@ mod asks;
 mod bytes;
 mod exports;
 mod handle;
+mod text;
 
 pub use asks::{board_decode, board_pulses_to_rise, board_ranges};
 pub use bytes::{
@@ -12,3 +13,4 @@ pub use bytes::{
 };
 pub use exports::{board_close, board_open, board_step};
 pub use handle::Handle;
+pub use text::board_text;

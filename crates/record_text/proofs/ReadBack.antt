@@ -1,0 +1,154 @@
+-- What the record of a reply says is this reply.
+use Rattle.std.proofs.Common.{◌≡◌, ℕ, ◌<◌, ◌≤◌, ◌^◌, Bool, true, false, Option, Some, None, [], ◌∷◌, length, All, refl, arith, lit<}
+use Rattle.std.specs.Prelude.{IfSome}
+use Rattle.std.proofs.Math.Nat.{pow-le-pow_right}
+use Rattle.std.proofs.lemmas.Bool.{lt-ltb}
+use Rattle.std.proofs.lemmas.List.Elements.{All-head, All-tail}
+use Rattle.board_base.specs.declared.access.Width.{Width}
+use Rattle.board_base.specs.declared.access.Width.TheVariants.{One, Two as TwoBytes, Four as FourBytes}
+use Rattle.board_base.specs.declared.target.Dev.{Dev}
+use Rattle.board_base.specs.declared.target.Dev.TheVariants.{Pit, Clock, Wires, Ata}
+use Rattle.board_base.specs.declared.target.Target.{Target}
+use Rattle.board_base.specs.declared.target.Target.TheVariants.{Device}
+use Rattle.board_base.specs.declared.target.Denial.{Denial}
+use Rattle.board_base.specs.Access.{bytes_of}
+use Rattle.board_spec.specs.declared.event.Event.{Event}
+use Rattle.board_spec.specs.declared.event.Event.TheVariants.{Memory, Wide, Port, Look as LookAt, Ack, Pulses, Time, Wire, Line, BadSector}
+use Rattle.board_spec.specs.declared.event.Parts.{Parts}
+use Rattle.board_spec.specs.declared.event.Parts.TheVariants.{Two, Three, Four}
+use Rattle.board_spec.specs.declared.event.Look.{Look}
+use Rattle.board_spec.specs.declared.event.Reply.{Reply}
+use Rattle.board_spec.specs.declared.event.Reply.TheVariants.{Bus, Parts as InParts, Saw}
+use Rattle.board_spec.specs.Stored.{is_write}
+use Rattle.board_spec.specs.Answer.{outside_answer}
+use Rattle.board_spec.specs.WideParts.{parts_list, parts_of as cut_of}
+use Rattle.script_spec.specs.WellFormed.{FitsPart, FitsTarget, IsReplyValue, IsBusReply, IsWideReply, IsLookReply, HasShape}
+use Rattle.board_records.specs.declared.reply.AfterStep.{AfterStep}
+use Rattle.board_records.specs.Replies.{record_said, bus_said, wide_said, look_said, blank}
+use Rattle.record_text.specs.Replies.{bus_of, two_of, three_of, four_of, parts_of, wide_of, look_of, cycle_value_of, formed_by, reply_said}
+use Rattle.record_text.specs.Laws.{RecordSaysReply}
+use Rattle.record_text.proofs.PartsBack.{part_back, area_back}
+
+-- ---- by the form
+
+cycle_back : (value : Option ℕ) (target : Target) (denial : Option Denial) (after : AfterStep) →
+    IfSome value (λ v. v < 2 ^ 32) → FitsPart (record { target = target; denial = denial }) →
+    reply_said (bus_said value target denial after) ≡ Some (Bus value target denial)
+unfolding reply_said formed_by bus_of cycle_value_of bus_said blank
+cycle_back None target denial after small fits = rw (part_back (record { target = target; denial = denial }) fits) refl
+cycle_back (Some value) target denial after small fits =
+    rw (lt-ltb value (2 ^ 32) small, part_back (record { target = target; denial = denial }) fits) refl
+
+area_seen : (look : Look) (after : AfterStep) → reply_said (look_said look after) ≡ Some (Saw look)
+unfolding reply_said formed_by look_of look_said blank
+area_seen look after = rw (area_back look.area) refl
+
+wide_back : (parts : Parts) (value : Option ℕ) (after : AfterStep) → All FitsPart (parts_list parts) →
+    reply_said (wide_said parts value after) ≡ Some (InParts parts value)
+unfolding reply_said formed_by wide_of parts_of two_of three_of four_of wide_said blank
+wide_back (Two a b) None after fits =
+    let second = All-tail FitsPart a (b ∷ []) fits in
+    rw (
+      part_back a (All-head FitsPart a (b ∷ []) fits),
+      part_back b (All-head FitsPart b [] second),
+    ) refl
+wide_back (Two a b) (Some value) after fits =
+    let second = All-tail FitsPart a (b ∷ []) fits in
+    rw (
+      part_back a (All-head FitsPart a (b ∷ []) fits),
+      part_back b (All-head FitsPart b [] second),
+    ) refl
+wide_back (Three a b c) None after fits =
+    let second = All-tail FitsPart a (b ∷ c ∷ []) fits in
+    let third = All-tail FitsPart b (c ∷ []) second in
+    rw (
+      part_back a (All-head FitsPart a (b ∷ c ∷ []) fits),
+      part_back b (All-head FitsPart b (c ∷ []) second),
+      part_back c (All-head FitsPart c [] third),
+    ) refl
+wide_back (Three a b c) (Some value) after fits =
+    let second = All-tail FitsPart a (b ∷ c ∷ []) fits in
+    let third = All-tail FitsPart b (c ∷ []) second in
+    rw (
+      part_back a (All-head FitsPart a (b ∷ c ∷ []) fits),
+      part_back b (All-head FitsPart b (c ∷ []) second),
+      part_back c (All-head FitsPart c [] third),
+    ) refl
+wide_back (Four a b c d) None after fits =
+    let second = All-tail FitsPart a (b ∷ c ∷ d ∷ []) fits in
+    let third = All-tail FitsPart b (c ∷ d ∷ []) second in
+    let fourth = All-tail FitsPart c (d ∷ []) third in
+    rw (
+      part_back a (All-head FitsPart a (b ∷ c ∷ d ∷ []) fits),
+      part_back b (All-head FitsPart b (c ∷ d ∷ []) second),
+      part_back c (All-head FitsPart c (d ∷ []) third),
+      part_back d (All-head FitsPart d [] fourth),
+    ) refl
+wide_back (Four a b c d) (Some value) after fits =
+    let second = All-tail FitsPart a (b ∷ c ∷ d ∷ []) fits in
+    let third = All-tail FitsPart b (c ∷ d ∷ []) second in
+    let fourth = All-tail FitsPart c (d ∷ []) third in
+    rw (
+      part_back a (All-head FitsPart a (b ∷ c ∷ d ∷ []) fits),
+      part_back b (All-head FitsPart b (c ∷ d ∷ []) second),
+      part_back c (All-head FitsPart c (d ∷ []) third),
+      part_back d (All-head FitsPart d [] fourth),
+    ) refl
+
+-- ---- by the event
+
+narrow_value : (writes : Bool) (bytes : ℕ) (value : Option ℕ) → bytes ≤ 4 → IsReplyValue writes bytes value →
+    IfSome value (λ v. v < 2 ^ 32)
+narrow_value true bytes value few fits = rw fits tt
+narrow_value false bytes None few fits = tt
+narrow_value false bytes (Some n) few fits = omega (arith, fits, pow-le-pow_right {n = 256} (lit< tt) few)
+
+few_bytes : (width : Width) → bytes_of width ≤ 4
+few_bytes One = omega arith
+few_bytes TwoBytes = omega arith
+few_bytes FourBytes = omega arith
+
+bus_back : (writes : Bool) (bytes : ℕ) (reply : Reply) (after : AfterStep) → bytes ≤ 4 → IsBusReply writes bytes reply →
+    reply_said (record_said reply after) ≡ Some reply
+unfolding record_said
+bus_back writes bytes (Bus value target denial) after few fits =
+    cycle_back value target denial after (narrow_value writes bytes value few fits.0) (fits.1, fits.2)
+bus_back writes bytes (InParts parts value) after few fits = absurd fits
+bus_back writes bytes (Saw look) after few fits = absurd fits
+
+parted_back : (writes : Bool) (bytes count : ℕ) (reply : Reply) (after : AfterStep) → IsWideReply writes bytes count reply →
+    reply_said (record_said reply after) ≡ Some reply
+unfolding record_said
+parted_back writes bytes count (Bus value target denial) after fits = absurd fits
+parted_back writes bytes count (InParts parts value) after fits = wide_back parts value after fits.1
+parted_back writes bytes count (Saw look) after fits = absurd fits
+
+look_back : (reply : Reply) (after : AfterStep) → IsLookReply reply → reply_said (record_said reply after) ≡ Some reply
+unfolding record_said
+look_back (Bus value target denial) after fits = absurd fits
+look_back (InParts parts value) after fits = absurd fits
+look_back (Saw look) after fits = area_seen look after
+
+outside_back : (dev : Dev) (reply : Reply) (after : AfterStep) → FitsTarget (Device dev) → reply ≡ outside_answer dev →
+    reply_said (record_said reply after) ≡ Some reply
+unfolding record_said
+outside_back dev reply after fits is = rw is (cycle_back None (Device dev) None after tt (fits, tt))
+
+reply_back : (event : Event) (reply : Reply) (after : AfterStep) → HasShape event reply →
+    reply_said (record_said reply after) ≡ Some reply
+reply_back (Memory access) reply after shape =
+    bus_back (is_write access.kind) (bytes_of access.width) reply after (few_bytes access.width) shape
+reply_back (Wide access) reply after shape =
+    parted_back (is_write access.kind) access.bytes (length (cut_of access)) reply after shape
+reply_back (Port access) reply after shape =
+    bus_back access.write (bytes_of access.width) reply after (few_bytes access.width) shape
+reply_back (LookAt kind addr smm) reply after shape = look_back reply after shape
+reply_back Ack reply after shape = bus_back false 1 reply after (omega arith) shape
+reply_back (Pulses count) reply after shape = outside_back Pit reply after tt shape
+reply_back (Time moment) reply after shape = outside_back Clock reply after tt shape
+reply_back (Wire dev on) reply after shape = outside_back Wires reply after tt shape
+reply_back (Line irq on) reply after shape = outside_back Wires reply after tt shape
+reply_back (BadSector sector) reply after shape = outside_back Ata reply after tt shape
+
+pub read_back : RecordSaysReply
+read_back version entry after formed = reply_back entry.event entry.reply after formed.shape

@@ -1,0 +1,4 @@
+pub mod Parts
+pub mod Replies
+pub mod Lines
+pub mod Laws

@@ -1,0 +1,34 @@
+-- The line of a log that an event and its reply have, both as records.
+use Rattle.std.specs.Prelude.{ℕ, ◌≡◌, ◌≢◌, ◌<◌, ◌≤◌, ◌⊎◌, List, [], ◌∷◌, ◌++◌, length, drop, Option, Some, None}
+use Rattle.board_spec.specs.declared.event.Entry.{Entry}
+use Rattle.board_spec.specs.Text.{line_feed}
+use Rattle.board_spec.specs.LogText.{line_text}
+use Rattle.script_lines.specs.Numbers.{◌>>=◌}
+use Rattle.board_records.specs.declared.event.EventRecord.{EventRecord}
+use Rattle.board_records.specs.declared.reply.ReplyRecord.{ReplyRecord}
+use Rattle.board_records.specs.Events.{event_said}
+use Rattle.board_records.specs.Statuses.{no_memory, no_event, no_reply, no_room}
+use Rattle.record_text.specs.Replies.{reply_said}
+
+-- the entry of a processor, the number of this entry among its processor's, an event and its reply
+unfoldable pub entry_said : (processor statement : ℕ) → EventRecord → ReplyRecord → Option Entry
+entry_said processor statement event reply = do
+  asked ← event_said event
+  answered ← reply_said reply
+  Some (record { actor = processor; seq = statement; event = asked; reply = answered })
+
+-- line `number` of the log, with its line feed
+abbrev pub whole_line : (number : ℕ) → Entry → List ℕ
+whole_line number entry = line_text number entry ++ line_feed ∷ []
+
+-- the line stands in front, and what lies past it is as before
+pub record IsWritten (line before after : List ℕ) : Type 0 where
+  pub fits : length line ≤ length before
+  pub written : after ≡ line ++ drop (length line) before
+
+-- why no line is written: one of the records says nothing, the event's first; or there is no room; or no memory
+abbrev pub IsLineRefusal : Option Entry → EventRecord → (number room status : ℕ) → Type 0
+IsLineRefusal None event number room status =
+    ((status ≡ no_event) × (event_said event ≡ None)) ⊎ ((status ≡ no_reply) × (event_said event ≢ None))
+IsLineRefusal (Some entry) event number room status =
+    (status ≡ no_memory) ⊎ ((status ≡ no_room) × (room < length (whole_line number entry)))

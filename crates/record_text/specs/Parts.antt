@@ -1,0 +1,78 @@
+-- What one part of a reply's record names: none where a number of it names nothing, or does not fit where it goes.
+use Rattle.std.specs.Prelude.{ℕ, ◌==◌, nat_lt, if◌then◌else◌, Option, Some, None, option_map}
+use Rattle.board_base.specs.declared.target.Dev.{Dev}
+use Rattle.board_base.specs.declared.target.Dev.TheVariants as devices
+use Rattle.board_base.specs.declared.target.Area.{Area}
+use Rattle.board_base.specs.declared.target.Area.TheVariants as areas
+use Rattle.board_base.specs.declared.target.Target.{Target}
+use Rattle.board_base.specs.declared.target.Target.TheVariants as targets
+use Rattle.board_base.specs.declared.target.Denial.{Denial}
+use Rattle.board_base.specs.declared.target.Denial.TheVariants.{Register, Confadd, NoRegister}
+use Rattle.board_spec.specs.declared.event.Part.{Part}
+use Rattle.script_lines.specs.Numbers.{◌>>=◌}
+use Rattle.board_records.specs.declared.reply.PartRecord.{PartRecord}
+use Rattle.board_records.specs.Numbers.{dram_target, shadow_target, smram_target, rom_target, card_target, device_target, config_target, abort_target, register_denial, confadd_denial, no_register_denial}
+
+-- the devices in the order of their numbers, from 1 on
+unfoldable pub device_of : (number : ℕ) → Option Dev
+device_of number =
+    if number == 1 then Some devices.Confadd else
+    if number == 2 then Some devices.Reset else
+    if number == 3 then Some devices.Pic0 else
+    if number == 4 then Some devices.Pic1 else
+    if number == 5 then Some devices.Pit else
+    if number == 6 then Some devices.System else
+    if number == 7 then Some devices.Keyboard else
+    if number == 8 then Some devices.Clock else
+    if number == 9 then Some devices.Elcr else
+    if number == 10 then Some devices.Ata else
+    if number == 11 then Some devices.Wires else
+    if number == 12 then Some (devices.Vector 0) else
+    if number == 13 then Some (devices.Vector 1) else
+    if number == 14 then Some (devices.Spurious 0) else
+    if number == 15 then Some (devices.Spurious 1) else None
+
+-- the first register of an access to configuration space, whose offset is a byte
+unfoldable pub config_of : PartRecord → Option Target
+config_of said =
+    if nat_lt said.offset 256
+    then Some (targets.Config (record { dev = said.unit; fun = said.base; off = said.offset }))
+    else None
+
+unfoldable pub target_of : PartRecord → Option Target
+target_of said =
+    if said.target == dram_target then Some (targets.Dram said.unit) else
+    if said.target == shadow_target then Some (targets.Shadow said.unit) else
+    if said.target == smram_target then Some targets.Smram else
+    if said.target == rom_target then Some (targets.Rom said.offset) else
+    if said.target == card_target then Some (targets.Card said.unit said.base said.offset) else
+    if said.target == device_target then option_map targets.Device (device_of said.unit) else
+    if said.target == config_target then config_of said else
+    if said.target == abort_target then Some targets.Abort else None
+
+unfoldable pub denial_of : PartRecord → Option (Option Denial)
+denial_of said =
+    if said.denial == 0 then Some None else
+    if said.denial == register_denial
+    then Some (Some (Register (record { dev = said.denial_dev; fun = said.denial_fun; off = said.denial_off }))) else
+    if said.denial == confadd_denial then Some (Some Confadd) else
+    if said.denial == no_register_denial then Some (Some NoRegister) else None
+
+-- what is kept for later versions is 0
+unfoldable pub part_of : PartRecord → Option Part
+part_of said = if said.reserved == 0
+    then (do
+      target ← target_of said
+      denial ← denial_of said
+      Some (record { target = target; denial = denial }))
+    else None
+
+-- the area that a look saw
+unfoldable pub area_of : PartRecord → Option Area
+area_of said =
+    if said.target == dram_target then Some (areas.Dram said.unit) else
+    if said.target == shadow_target then Some (areas.Shadow said.unit) else
+    if said.target == smram_target then Some areas.Smram else
+    if said.target == rom_target then Some areas.Rom else
+    if said.target == card_target then Some (areas.Card said.unit said.base) else
+    if said.target == abort_target then Some areas.Abort else None
