@@ -66,8 +66,11 @@ phase
 ";
 
 const ROM_SIZE: usize = 0x8_0000;
+
 const DISK_SIZE: usize = 0x200_0000;
+
 const INPUT_SIZE: usize = 0x10_0000;
+
 const SECTOR: usize = 512;
 
 /// Files by their names.

@@ -14,7 +14,8 @@ const CPUS: u32 = 8;
 /// The most bytes of a script.
 const SCRIPT_SIZE: usize = 0x100_0000;
 /// A line that says nothing.
-const COMMENT: &str = "# 345678901234567890123456789012345678901234567890123456789012345678901234567890\n";
+const COMMENT: &str =
+    "# 345678901234567890123456789012345678901234567890123456789012345678901234567890\n";
 
 /// The script: in each phase one processor reads, and comments fill up what a script may have.
 pub fn longest_script(alloc: Global) -> Result<Vec<u8>, NoMemory> {
