@@ -1,0 +1,105 @@
+//! Commands over files in memory, at the limits of what they take: the largest board, the longest script with its log and
+//! its image, the most rounds of `make`, and files with as many bytes as they may have, and with one more.
+#![tactic(auto)]
+
+mod files;
+mod longest;
+
+use crate::files::{Files, bytes_of, files_at_the_ends, grow};
+use board_base::{NoMemory, QuietGate, SafeShelf, SafeSink};
+use board_run::{board_in_memory, exit_code, fault_text};
+use std::alloc::Global;
+use std::io::Write;
+use std::process::ExitCode;
+use std::sync::Wait;
+use std::thread::Threads;
+
+/// The exit code for want of memory.
+const NO_MEMORY: u8 = 8;
+
+/// Commands whose whole output is shown.
+const SHOWN: [&str; 5] = [
+    "make 20000",
+    "replay ends",
+    "dma ends in 00001000 65280 256",
+    "serial ends input",
+    "check longest log",
+];
+
+/// Commands whose output is the longest log.
+const LOGS: [&str; 3] = ["replay longest", "run longest", "resume image setup"];
+
+/// Files with the most bytes that they may have, or with one more, and a command that reads them.
+const GROWN: [(&str, usize, &str); 7] = [
+    ("log", 0x400_0000, "check longest log"),
+    ("log", 0x400_0001, "check longest log"),
+    ("image", 0x280_0000, "resume image setup"),
+    ("image", 0x280_0001, "resume image setup"),
+    ("input", 0x10_0001, "serial ends input"),
+    ("disk", 0x200_0001, "replay ends"),
+    ("longest", 0x100_0001, "replay longest"),
+];
+
+/// The words of a line, cut at each space.
+fn words_of(alloc: Global, line: &str) -> Result<Vec<String>, NoMemory> {
+    let mut words = Vec::new(alloc);
+    for word in line.split(' ') {
+        words.push(word.to_string(alloc)?)?;
+    }
+    Ok(words)
+}
+
+/// What a command puts. Its words and its exit code are written, and why it was not done.
+fn output_of<R: AllocGlobal + Threads + Wait + Sync, W: Write>(
+    rt: &R,
+    told: &mut W,
+    shelf: &mut SafeShelf,
+    line: &str,
+) -> Result<Vec<u8>, NoMemory> {
+    let words = words_of(rt.alloc(), line)?;
+    let mut out = SafeSink::new(rt.alloc());
+    let status = board_in_memory(rt, rt.alloc(), &words, shelf, &mut out, &QuietGate);
+    let text = fault_text(rt.alloc(), &status)?;
+    let _ = writeln!(told, "{line}: {} {}", exit_code(&status), text.as_str());
+    Ok(out.bytes)
+}
+
+/// Writes how many bytes a text has, and whether it is the longest log.
+fn compare<W: Write>(told: &mut W, text: &[u8], files: &Files) {
+    let log = bytes_of(files, "log");
+    let _ = writeln!(told, "{} bytes, the log: {}", text.len(), text == log);
+}
+
+/// Does all commands.
+fn tell_all<R: AllocGlobal + Threads + Wait + Sync, W: Write>(
+    rt: &R,
+    told: &mut W,
+) -> Result<(), NoMemory> {
+    let mut shelf = SafeShelf {
+        files: files_at_the_ends(rt.alloc())?,
+    };
+    for line in SHOWN {
+        let text = output_of(rt, told, &mut shelf, line)?;
+        let _ = told.write_all(&text);
+    }
+    let image = output_of(rt, told, &mut shelf, "save longest")?;
+    let _ = writeln!(told, "{} bytes", image.len());
+    shelf.files.push(("image".to_string(rt.alloc())?, image))?;
+    for line in LOGS {
+        let text = output_of(rt, told, &mut shelf, line)?;
+        compare(told, &text, &shelf.files);
+    }
+    for (name, size, line) in GROWN {
+        grow(&mut shelf.files, name, size)?;
+        let _ = writeln!(told, "{name} of {size} bytes");
+        output_of(rt, told, &mut shelf, line)?;
+    }
+    Ok(())
+}
+
+fn main(rt: HostRuntime) -> ExitCode {
+    match tell_all(&rt, &mut rt.stdout()) {
+        Ok(()) => ExitCode::from(0),
+        Err(NoMemory) => ExitCode::from(NO_MEMORY),
+    }
+}
