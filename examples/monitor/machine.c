@@ -177,7 +177,7 @@ void machine_close(machine *m, const char *why) {
     if (m->options.keep_disk) keep_disk(m);
     record_close(&m->record);
     if (m->options.explain) explain_close(&m->explain);
-    fprintf(stderr, "\nmonitor: %s after %.3f s of the guest's time\n", why, (double)m->time / NANOSECONDS);
+    fprintf(stderr, "\nmonitor: %s after %.3f s of the guest's time\n", why, (double)processor_time() / NANOSECONDS);
     fprintf(stderr, "exits: %llu ports, %llu memory, %llu interrupts taken; %llu disk words, %llu maps, %llu soft and %llu hard resets\n",
             (unsigned long long)c->ports, (unsigned long long)c->memory, (unsigned long long)c->interrupts, (unsigned long long)c->disk_words,
             (unsigned long long)c->maps, (unsigned long long)c->resets[BOARD_SOFT_RESET], (unsigned long long)c->resets[BOARD_HARD_RESET]);
