@@ -1,0 +1,178 @@
+// The guest's processor is that of Bochs: its ports, its memory and its interrupts are the machine's. Bochs's own devices
+// are there and reach nothing. This file is Bochs's instrumentation, so that Bochs itself is compiled as it stands.
+#include "bochs.h"
+#include "cpu/cpu.h"
+#include "cpu/apic.h"
+#include "iodev/iodev.h"
+#include "machine.h"
+#include <time.h>
+#include <unistd.h>
+
+static machine m;
+static options wanted;
+static int timer = BX_NULL_TIMER_HANDLE;
+static const char *why;
+static Bit64u host_start, listened;
+
+enum { LISTEN = 1000000 }; // nanoseconds of the guest's time between two looks at the terminal
+
+static Bit64u host_time() {
+  struct timespec t;
+  clock_gettime(CLOCK_MONOTONIC, &t);
+  return (Bit64u)t.tv_sec * NANOSECONDS + (Bit64u)t.tv_nsec;
+}
+
+// Bochs counts its processor's instructions as ticks: these are the guest's time.
+uint64_t processor_time(void) {
+  Bit64u ticks = bx_pc_system.time_ticks();
+  return ticks / wanted.speed * 1000 + ticks % wanted.speed * 1000 / wanted.speed;
+}
+
+static void end(const char *reason) {
+  why = reason;
+  double seconds = (double)(host_time() - host_start) / NANOSECONDS;
+  machine_close(&m, reason);
+  fprintf(stderr, "bochs: at %04X:%llX; %.1f million ticks in %.2f s\n", BX_CPU(0)->sregs[BX_SEG_REG_CS].selector.value,
+          (unsigned long long)BX_CPU(0)->get_instruction_pointer(), (double)bx_pc_system.time_ticks() / 1e6, seconds);
+  exit(0);
+}
+
+// ---- memory: one handler over all addresses, in the place of Bochs's own memory
+
+static bool read_memory(bx_phy_address addr, unsigned bytes, void *data, void *) {
+  Bit8u *host = slots_find(&m, (Bit32u)addr, false);
+  if (host) memcpy(data, host, bytes);
+  else machine_memory(&m, BOARD_READ, (Bit32u)addr, bytes, (Bit8u *)data);
+  return true;
+}
+
+static bool write_memory(bx_phy_address addr, unsigned bytes, void *data, void *) {
+  Bit8u *host = slots_find(&m, (Bit32u)addr, true);
+  pageWriteStampTable.decWriteStamp(addr); // code that Bochs has decoded from there is stale
+  if (host) memcpy(host, data, bytes);
+  else machine_memory(&m, BOARD_WRITE, (Bit32u)addr, bytes, (Bit8u *)data);
+  return true;
+}
+
+static Bit8u *direct_memory(bx_phy_address addr, unsigned access, void *) {
+  return slots_find(&m, (Bit32u)addr, access == BX_WRITE || access == BX_RW);
+}
+
+static void move_slots() {
+  m.slots_moved = false;
+  BX_CPU(0)->TLB_flush();
+  flushICaches();
+}
+
+// ---- interrupts: INT of the board is INTR of the processor, and the vector is asked when the processor takes it
+
+static void show_interrupt() {
+  if (m.interrupt) BX_CPU(0)->raise_INTR();
+  else BX_CPU(0)->clear_INTR();
+}
+
+class board_pic : public bx_pic_stub_c {
+ public:
+  void raise_irq(unsigned) {}
+  void lower_irq(unsigned) {}
+  void set_mode(bool, Bit8u) {}
+  Bit8u IAC(void) {
+    Bit8u vector = machine_acknowledge(&m);
+    show_interrupt();
+    return vector;
+  }
+};
+
+static board_pic pic;
+
+// ---- time: a timer of Bochs rings when the machine's clock must run
+
+static void plan() {
+  Bit64u now = processor_time(), next = m.wake < now + LISTEN ? m.wake : now + LISTEN;
+  Bit64u ticks = (next - now) * wanted.speed / 1000 + 1;
+  bx_pc_system.activate_timer_ticks(timer, ticks, false);
+}
+
+// Where someone types the guest's time does not run before the host's.
+static void pace() {
+  Bit64u guest = processor_time(), host = host_time() - host_start;
+  if (guest <= host || !isatty(STDIN_FILENO)) return;
+  struct timespec rest = {0, (long)((guest - host) % NANOSECONDS)};
+  fflush(stdout);
+  nanosleep(&rest, NULL);
+}
+
+static void on_timer(void *) {
+  Bit64u now = processor_time();
+  if (now >= m.wake) clock_runs_to(&m, now);
+  if (now >= listened + LISTEN) {
+    listened = now;
+    pace();
+    console_listen(&m);
+    if (console_ended()) end("ended");
+    if (wanted.seconds && host_time() - host_start > wanted.seconds * NANOSECONDS) end("the time is up");
+  }
+  show_interrupt();
+  plan();
+}
+
+// ---- ports
+
+static void after_exit() {
+  if (m.slots_moved) move_slots();
+  if (m.reset) {
+    unsigned type = machine_take_reset(&m) == BOARD_HARD_RESET ? BX_RESET_HARDWARE : BX_RESET_SOFTWARE;
+    bx_pc_system.Reset(type);
+    if (m.slots_moved) move_slots();
+  }
+  show_interrupt();
+  plan();
+}
+
+Bit32u board_port_in(Bit16u port, unsigned bytes) {
+  Bit32u value = machine_in(&m, port, bytes);
+  show_interrupt();
+  return value;
+}
+
+void board_port_out(Bit16u port, Bit32u value, unsigned bytes) {
+  machine_out(&m, port, bytes, value);
+  after_exit();
+}
+
+// ---- from the first instruction on
+
+static int terminal; // standard error, while Bochs talks of its configuration
+
+void board_processor_start(void) {
+  dup2(terminal, STDERR_FILENO);
+  machine_open(&m, &wanted);
+  host_start = host_time();
+  BX_MEM(0)->registerMemoryHandlers(NULL, read_memory, write_memory, direct_memory, 0, 0xFFFFFFFF);
+  timer = bx_pc_system.register_timer_ticks(NULL, on_timer, 1000, false, true, "board");
+}
+
+// The processor has been reset: at the start, by CF9h, or by a triple fault. It has no APIC, as the board has none.
+void board_processor_reset(unsigned) {
+  bx_devices.pluginPicDevice = &pic;
+  BX_CPU(0)->msr.apicbase = 0;
+  BX_CPU(0)->lapic->set_base(0);
+}
+
+// The words are the monitor's. Bochs gets its own: a processor, and the files without which it does not begin.
+extern "C" int __real_main(int count, char **words);
+extern "C" int __wrap_main(int count, char **words) {
+  options_read(&wanted, count, words);
+  enum { MOST_WORDS = 20 };
+  char *copies[MOST_WORDS + 1] = {};
+  const char *own[] = {words[0], "-q", "-f", "/dev/null", "cpu: model=p4_prescott_celeron_336, ips=50000000",
+    "cpu: reset_on_triple_fault=1, ignore_bad_msrs=1, add_features=rdrand, exclude_features=xapic", "megs: 32",
+    "romimage: file=/usr/share/seabios/bios.bin, options=none", "vgaromimage: file=/usr/share/seabios/vgabios-stdvga.bin",
+    "display_library: nogui", "clock: sync=none", "log: /dev/null", "panic: action=fatal", "error: action=ignore",
+    "info: action=ignore", "debug: action=ignore"};
+  count = sizeof own / sizeof *own;
+  for (int k = 0; k < count; k++) copies[k] = strdup(own[k]); // Bochs writes into its words
+  terminal = dup(STDERR_FILENO);
+  if (!freopen("/dev/null", "w", stderr)) return 1;
+  return __real_main(count, copies);
+}

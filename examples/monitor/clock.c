@@ -1,0 +1,56 @@
+/* Time: the board has none of its own. The 8254 gets a pulse each 1/1,193,182 of a second, the MC146818 a date each
+ * second. The processor says how much time has passed, and asks when it must come back. */
+#define _POSIX_C_SOURCE 200809L
+#include "machine.h"
+#include <time.h>
+
+enum { PIT_HERTZ = 1193182, MOST_PULSES = 1000000 };
+
+static uint64_t pulses_at(uint64_t nanoseconds) {
+    return nanoseconds / NANOSECONDS * PIT_HERTZ + nanoseconds % NANOSECONDS * PIT_HERTZ / NANOSECONDS;
+}
+
+/* The first nanosecond at which there have been so many pulses. */
+static uint64_t time_of(uint64_t pulses) {
+    uint64_t rest = pulses % PIT_HERTZ * NANOSECONDS;
+    return pulses / PIT_HERTZ * NANOSECONDS + (rest + PIT_HERTZ - 1) / PIT_HERTZ;
+}
+
+static void pulse_to(machine *m, uint64_t due) {
+    while (m->pulses < due) {
+        uint64_t count = due - m->pulses;
+        if (count > MOST_PULSES) count = MOST_PULSES;
+        board_reply reply;
+        machine_step(m, &(board_event){.what = BOARD_PULSE, .value = count}, &reply);
+        m->pulses += count;
+    }
+}
+
+static void date_to(machine *m, int64_t date) {
+    time_t at = (time_t)date;
+    struct tm t;
+    gmtime_r(&at, &t);
+    uint64_t digits = (uint64_t)(t.tm_year + 1900);
+    const int parts[] = {t.tm_mon + 1, t.tm_mday, t.tm_hour, t.tm_min, t.tm_sec};
+    for (size_t k = 0; k < sizeof parts / sizeof *parts; k++) digits = digits * 100 + (uint64_t)parts[k];
+    board_reply reply;
+    machine_step(m, &(board_event){.what = BOARD_TIME, .value = digits}, &reply);
+    m->date = date;
+}
+
+void clock_runs_to(machine *m, uint64_t nanoseconds) {
+    if (nanoseconds < m->time) return;
+    m->time = nanoseconds;
+    pulse_to(m, pulses_at(nanoseconds));
+    int64_t date = m->date_at_start + (int64_t)(nanoseconds / NANOSECONDS);
+    if (date != m->date) date_to(m, date);
+    clock_plan(m);
+}
+
+void clock_plan(machine *m) {
+    uint32_t pulses;
+    m->wake = (m->time / NANOSECONDS + 1) * NANOSECONDS;
+    if (board_pulses_to_rise(&m->board, &pulses) != BOARD_OK || pulses == 0) return;
+    uint64_t rise = time_of(m->pulses + pulses);
+    if (rise < m->wake) m->wake = rise;
+}

@@ -1,0 +1,108 @@
+/* The guest's accesses that the processor does not do itself: ports, and memory outside the slots. */
+#include "machine.h"
+#include <string.h>
+
+enum {
+    DEBUG_PORT = 0x402,   /* on which SeaBIOS says what it does */
+    DEBUG_THERE = 0xE9,   /* reads so where someone listens */
+    PIT_FIRST = 0x40,
+    PIT_LAST = 0x43,
+    SYSTEM_PORT = 0x61,   /* its bits 4 and 5 show the 8254 */
+    DISK_DATA = 0x1F0,
+    PORTS = 0x10000,
+    MOST_BYTES = 8        /* of one event to memory */
+};
+
+static uint32_t all_ones(unsigned bytes) { return bytes < 4 ? (1u << 8 * bytes) - 1 : UINT32_MAX; }
+
+static bool shows_time(uint32_t port) { return (port >= PIT_FIRST && port <= PIT_LAST) || port == SYSTEM_PORT; }
+
+/* One bus cycle at a port, kind BOARD_READ or BOARD_WRITE: what it reads. */
+static uint32_t cycle_at(machine *m, uint8_t kind, uint32_t port, uint8_t bytes, uint32_t value) {
+    board_reply reply;
+    if (port >= PORTS) return all_ones(bytes);
+    if (shows_time(port)) clock_runs_to(m, processor_time());
+    machine_step(m, &(board_event){.what = BOARD_PORT, .kind = kind, .addr = port, .bytes = bytes, .value = value}, &reply);
+    if (kind == BOARD_WRITE && shows_time(port)) clock_plan(m);
+    if (port == DISK_DATA) m->counts.disk_words += bytes / 2;
+    return (uint32_t)reply.value;
+}
+
+uint32_t machine_in(machine *m, uint16_t port, unsigned bytes) {
+    uint32_t value = 0;
+    m->counts.ports++;
+    if (m->options.nothing) return all_ones(bytes);
+    if (port == DEBUG_PORT) return DEBUG_THERE;
+    for (unsigned done = 0; done < bytes;) {
+        uint8_t cycle = board_cycle(port + done, bytes - done);
+        value |= cycle_at(m, BOARD_READ, port + done, cycle, 0) << 8 * done;
+        done += cycle;
+    }
+    return value;
+}
+
+void machine_out(machine *m, uint16_t port, unsigned bytes, uint32_t value) {
+    m->counts.ports++;
+    if (m->options.nothing) return;
+    if (port == DEBUG_PORT) {
+        if (!m->options.quiet) console_put((uint8_t)value);
+        return;
+    }
+    for (unsigned done = 0; done < bytes;) {
+        uint8_t cycle = board_cycle(port + done, bytes - done);
+        cycle_at(m, BOARD_WRITE, port + done, cycle, value >> 8 * done & all_ones(cycle));
+        done += cycle;
+    }
+}
+
+/* How many bytes the next part of an access has, as the board cuts it: the longest of 4, 2 and 1 that is aligned. */
+static size_t part_bytes(const board_reply *reply, uint32_t addr, size_t left) {
+    size_t bytes = 4;
+    if (reply->parts == 1) return left;
+    while (bytes > left || addr % bytes) bytes /= 2;
+    return bytes;
+}
+
+/* Main memory is the monitor's: where the board says that a part landed there, its bytes are moved there. */
+static void move_parts(machine *m, const board_reply *reply, const board_event *event, uint8_t *data) {
+    uint64_t end = (uint64_t)m->options.mib << 20;
+    uint32_t addr = event->addr;
+    size_t left = event->bytes;
+    for (unsigned k = 0; k < reply->parts; k++) {
+        size_t bytes = part_bytes(reply, addr, left);
+        uint8_t target = reply->part[k].target;
+        if ((target == BOARD_DRAM || target == BOARD_SHADOW) && addr + bytes <= end) {
+            if (event->kind == BOARD_WRITE) memcpy(m->memory + addr, data, bytes);
+            else memcpy(data, m->memory + addr, bytes);
+        }
+        addr += (uint32_t)bytes;
+        data += bytes;
+        left -= bytes;
+    }
+}
+
+static void memory_event(machine *m, uint8_t kind, uint32_t addr, uint8_t bytes, uint8_t *data) {
+    board_event event = {.what = BOARD_MEMORY, .kind = kind, .addr = addr, .bytes = bytes};
+    board_reply reply;
+    if (kind == BOARD_WRITE) memcpy(&event.value, data, bytes);
+    machine_step(m, &event, &reply);
+    if (kind == BOARD_READ) memcpy(data, &reply.value, bytes);
+    move_parts(m, &reply, &event, data);
+}
+
+void machine_memory(machine *m, uint8_t kind, uint32_t addr, size_t bytes, uint8_t *data) {
+    m->counts.memory++;
+    if (m->options.nothing) {
+        if (kind == BOARD_READ) memset(data, UINT8_MAX, bytes);
+        return;
+    }
+    while (bytes > 0) {
+        uint8_t count = MOST_BYTES;
+        while (count > bytes || addr > UINT32_MAX - (count - 1u)) count /= 2;
+        memory_event(m, kind, addr, count, data);
+        addr += count;
+        data += count;
+        bytes -= count;
+        if (addr == 0) return;
+    }
+}

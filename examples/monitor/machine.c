@@ -1,0 +1,188 @@
+/* The machine: opens the board, prepares it as a PC's board is when its processor starts, and does its steps. */
+#define _GNU_SOURCE
+#include "machine.h"
+#include <errno.h>
+#include <stdio.h>
+#include <stdlib.h>
+#include <string.h>
+#include <sys/mman.h>
+#include <sys/stat.h>
+#include <time.h>
+
+enum {
+    CONFIG_ADDRESS = 0xCF8,
+    CONFIG_DATA = 0xCFC,
+    DRB0 = 0x60,      /* of 00.0: where rows of memory end, in 8 MiB */
+    ROWS = 8,
+    ROW_MIB = 8,
+    SOUTH_BRIDGE = 1, /* 01.0 */
+    XBCS = 0x4E,      /* of 01.0 */
+    XBCS_BIOS = 0xC3, /* the clock, the keyboard controller, and the BIOS from FFF80000h and from E0000h on */
+    CMOS_INDEX = 0x70,
+    CMOS_DATA = 0x71,
+    SECTOR = 512
+};
+#define CONFIG_ENABLE 0x80000000u
+
+static uint64_t host_time(void) {
+    struct timespec t;
+    clock_gettime(CLOCK_MONOTONIC, &t);
+    return (uint64_t)t.tv_sec * NANOSECONDS + (uint64_t)t.tv_nsec;
+}
+
+static _Noreturn void fail(const char *what) {
+    fprintf(stderr, "monitor: %s: %s\n", what, strerror(errno));
+    exit(1);
+}
+
+static uint8_t *pages(size_t bytes) {
+    void *at = mmap(NULL, bytes, PROT_READ | PROT_WRITE, MAP_PRIVATE | MAP_ANONYMOUS, -1, 0);
+    if (at == MAP_FAILED) fail("memory");
+    return at;
+}
+
+/* A whole file, in pages of its own: a slot can begin there. */
+static uint8_t *read_file(const char *name, size_t *bytes) {
+    struct stat about;
+    FILE *file = fopen(name, "rb");
+    if (!file || fstat(fileno(file), &about)) fail(name);
+    *bytes = (size_t)about.st_size;
+    uint8_t *at = pages(*bytes + 1);
+    if (fread(at, 1, *bytes, file) != *bytes) fail(name);
+    fclose(file);
+    return at;
+}
+
+static void out(machine *m, uint32_t port, uint8_t bytes, uint32_t value) {
+    board_reply reply;
+    machine_step(m, &(board_event){.what = BOARD_PORT, .kind = BOARD_WRITE, .addr = port, .bytes = bytes, .value = value}, &reply);
+}
+
+static void write_config(machine *m, uint32_t device, uint32_t offset, uint8_t value) {
+    out(m, CONFIG_ADDRESS, 4, CONFIG_ENABLE | device << 11 | (offset & ~3u));
+    out(m, CONFIG_DATA + (offset & 3), 1, value);
+}
+
+/* What firmware finds set by the board's maker, and a reset takes back: the whole ROM answers, all memory is decoded. */
+static void prepare_registers(machine *m) {
+    uint32_t rows = (m->options.mib + ROW_MIB - 1) / ROW_MIB;
+    write_config(m, SOUTH_BRIDGE, XBCS, XBCS_BIOS);
+    for (uint32_t row = 0; row < ROWS; row++) write_config(m, 0, DRB0 + row, (uint8_t)(row < rows ? row + 1 : rows));
+}
+
+/* What the battery keeps: how much memory there is, in KiB from 1 MiB on and in 64 KiB from 16 MiB on. */
+static void prepare_cmos(machine *m) {
+    uint32_t above_1 = (m->options.mib - 1) * 1024, above_16 = m->options.mib > 16 ? (m->options.mib - 16) * 16 : 0;
+    const struct {
+        uint8_t address, value;
+    } bytes[] = {
+        {0x15, 0x80}, {0x16, 0x02}, /* 640 KiB below */
+        {0x17, (uint8_t)above_1}, {0x18, (uint8_t)(above_1 >> 8)},
+        {0x30, (uint8_t)above_1}, {0x31, (uint8_t)(above_1 >> 8)},
+        {0x34, (uint8_t)above_16}, {0x35, (uint8_t)(above_16 >> 8)},
+        {0x38, 0x01}, {0x3D, 0x02}, /* boots from the disk, without a check of floppies */
+    };
+    for (size_t k = 0; k < sizeof bytes / sizeof *bytes; k++) {
+        out(m, CMOS_INDEX, 1, bytes[k].address);
+        out(m, CMOS_DATA, 1, bytes[k].value);
+    }
+}
+
+void machine_open(machine *m, const options *wanted) {
+    size_t disk_bytes = 0;
+    board_card no_card = {0};
+    uint8_t no_disk = 0, *disk = &no_disk;
+    memset(m, 0, sizeof *m);
+    m->options = *wanted;
+    m->rom = read_file(wanted->rom, &m->rom_bytes);
+    if (wanted->disk) disk = read_file(wanted->disk, &disk_bytes);
+    m->memory = pages((size_t)wanted->mib << 20);
+    uint32_t status = board_open(&m->board, wanted->mib, &no_card, 0, m->rom, m->rom_bytes, disk, disk_bytes);
+    if (status != BOARD_OK) {
+        fprintf(stderr, "monitor: board_open: status %u (5: the ROM's size, 6: the disk's)\n", status);
+        exit(1);
+    }
+    record_open(&m->record, wanted, m->rom, m->rom_bytes, disk, disk_bytes);
+    if (wanted->disk) munmap(disk, disk_bytes + 1);
+    m->date_at_start = time(NULL);
+    prepare_registers(m);
+    prepare_cmos(m);
+    clock_runs_to(m, 0);
+    slots_follow_map(m);
+    console_open();
+}
+
+/* What stands after a step. */
+static void see(machine *m, const board_reply *reply) {
+    m->interrupt = reply->interrupt;
+    m->serial_room = reply->serial_room;
+    if (reply->reset > m->reset) m->reset = reply->reset;
+    if (reply->has_sent) console_put(reply->sent);
+    record_line_4(&m->record, reply->irq4);
+    if (reply->version != m->map_version && m->counts.maps) slots_follow_map(m);
+}
+
+static _Noreturn void refused(const board_event *e, uint32_t status) {
+    fprintf(stderr, "monitor: board_step: status %u of what %u kind %u at %08X bytes %u value %llX\n", status, e->what, e->kind,
+            e->addr, e->bytes, (unsigned long long)e->value);
+    exit(1);
+}
+
+void machine_step(machine *m, const board_event *event, board_reply *reply) {
+    uint64_t from = m->options.timing ? host_time() : 0;
+    uint32_t status = board_step(&m->board, event, reply);
+    if (m->options.timing) m->counts.step_time += host_time() - from;
+    if (status != BOARD_OK) refused(event, status);
+    m->counts.steps++;
+    record_step(&m->record, event, reply);
+    if (m->options.explain) explain_step(&m->explain, event, reply);
+    see(m, reply);
+}
+
+void machine_receive(machine *m, uint8_t byte) {
+    board_reply reply;
+    if (board_receive(&m->board, byte, &reply) == BOARD_OK) see(m, &reply);
+}
+
+uint32_t machine_take_reset(machine *m) {
+    uint32_t reset = m->reset;
+    m->reset = BOARD_NO_RESET;
+    m->counts.resets[reset]++;
+    if (reset == BOARD_HARD_RESET) {
+        prepare_registers(m);
+        clock_plan(m);
+    }
+    return reset;
+}
+
+uint8_t machine_acknowledge(machine *m) {
+    board_reply reply;
+    machine_step(m, &(board_event){.what = BOARD_ACK}, &reply);
+    m->counts.interrupts++;
+    return (uint8_t)reply.value;
+}
+
+static void keep_disk(machine *m) {
+    uint8_t sector[SECTOR];
+    FILE *file = fopen(m->options.keep_disk, "wb");
+    if (!file) fail(m->options.keep_disk);
+    for (uint32_t k = 0; board_disk_read(&m->board, k, sector, SECTOR) == BOARD_OK; k++)
+        if (fwrite(sector, 1, SECTOR, file) != SECTOR) fail(m->options.keep_disk);
+    if (fclose(file)) fail(m->options.keep_disk);
+}
+
+void machine_close(machine *m, const char *why) {
+    const machine_counts *c = &m->counts;
+    fflush(stdout);
+    if (m->options.keep_disk) keep_disk(m);
+    record_close(&m->record);
+    if (m->options.explain) explain_close(&m->explain);
+    fprintf(stderr, "\nmonitor: %s after %.3f s of the guest's time\n", why, (double)processor_time() / NANOSECONDS);
+    fprintf(stderr, "exits: %llu ports, %llu memory, %llu interrupts taken; %llu disk words, %llu maps, %llu soft and %llu hard resets\n",
+            (unsigned long long)c->ports, (unsigned long long)c->memory, (unsigned long long)c->interrupts, (unsigned long long)c->disk_words,
+            (unsigned long long)c->maps, (unsigned long long)c->resets[BOARD_SOFT_RESET], (unsigned long long)c->resets[BOARD_HARD_RESET]);
+    fprintf(stderr, "board: %llu steps", (unsigned long long)c->steps);
+    if (m->options.timing && c->steps) fprintf(stderr, ", %.0f ns each", (double)c->step_time / (double)c->steps);
+    fprintf(stderr, "\n");
+    board_close(&m->board);
+}

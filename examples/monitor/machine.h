@@ -1,0 +1,122 @@
+/* machine.h: all of a PC that stands beside the board and its processor: the guest's memory, what a board finds set when
+ * the power comes, time, a terminal on COM1. A processor (kvm.c, unicorn.c, bochs/processor.cc) runs the guest over it. */
+#ifndef MACHINE_H
+#define MACHINE_H
+#include "board.h"
+#include "explain.h"
+#include "options.h"
+#include "record.h"
+#include <stdbool.h>
+#include <stddef.h>
+#include <stdint.h>
+#ifdef __cplusplus
+extern "C" {
+#endif
+
+enum {
+    GUEST_PAGE = 4096,
+    MOST_SLOTS = BOARD_MOST_RANGES
+};
+
+#define NANOSECONDS 1000000000ull
+
+/* Addresses, the first and the last, behind which plain memory of the host lies: the guest reads and fetches there, and
+ * writes unless read_only, without an exit. All other addresses are the board's to answer. */
+typedef struct memory_slot {
+    uint32_t first;
+    uint32_t last;
+    uint8_t *host;
+    bool read_only;
+} memory_slot;
+
+typedef struct machine_counts {
+    uint64_t steps;         /* events that the board did */
+    uint64_t step_time;     /* in these, nanoseconds; measured where options.timing is set */
+    uint64_t ports, memory; /* exits for a port and for memory; each may take several steps */
+    uint64_t disk_words;
+    uint64_t interrupts;    /* acknowledged by the processor */
+    uint64_t maps;          /* how often the slots were made anew */
+    uint64_t resets[BOARD_HARD_RESET + 1];
+} machine_counts;
+
+typedef struct machine {
+    board board;
+    options options;
+    uint8_t *memory; /* the guest's main memory, of options.mib MiB */
+    uint8_t *rom;
+    size_t rom_bytes;
+    memory_slot slots[MOST_SLOTS];
+    size_t slot_count;
+    bool slots_moved;     /* the processor takes the slots anew, and clears this */
+    uint32_t map_version; /* of the map that the slots were made of */
+    bool interrupt;       /* INT after the last step: the processor acknowledges it when it can take it */
+    uint32_t reset;       /* board_reset that a step made and the processor has not done yet */
+    bool serial_room;     /* COM1 can receive a byte */
+    uint64_t time;        /* nanoseconds since the power came, as the processor said last */
+    uint64_t pulses;      /* of the 8254's clock until then */
+    uint64_t wake;        /* when the clock must run next: line 0 rises, or a second begins */
+    int64_t date_at_start;
+    int64_t date; /* that the MC146818 was given last */
+    bool console_closed;
+    machine_counts counts;
+    record record;
+    explain explain;
+} machine;
+
+/* ---- machine.c */
+
+/* Fits the board with the ROM and the disk of the options, and brings it up to the reset vector. Ends the process where a
+ * file cannot be read or the board is refused. */
+void machine_open(machine *m, const options *wanted);
+/* Keeps the disk where that was asked, closes log and board, and tells the figures. */
+void machine_close(machine *m, const char *why);
+/* Does one event on the board: every step goes through here. */
+void machine_step(machine *m, const board_event *event, board_reply *reply);
+/* Gives COM1 a byte from outside. */
+void machine_receive(machine *m, uint8_t byte);
+/* What the processor does after the instruction that made a reset: board_reset. After a hard one the board stands as at
+ * power-on again. */
+uint32_t machine_take_reset(machine *m);
+/* The vector of the interrupt that the processor takes now. */
+uint8_t machine_acknowledge(machine *m);
+
+/* ---- the processor's: nanoseconds of the guest's time since the power came */
+
+uint64_t processor_time(void);
+
+/* ---- exits.c */
+
+uint32_t machine_in(machine *m, uint16_t port, unsigned bytes);
+void machine_out(machine *m, uint16_t port, unsigned bytes, uint32_t value);
+/* An access outside the slots, kind BOARD_READ or BOARD_WRITE, of any number of bytes. */
+void machine_memory(machine *m, uint8_t kind, uint32_t addr, size_t bytes, uint8_t *data);
+
+/* ---- slots.c */
+
+/* Makes the slots anew where the map has changed. */
+void slots_follow_map(machine *m);
+/* The host's bytes behind an address that a kind of access reaches without an exit, or none. */
+uint8_t *slots_find(machine *m, uint32_t addr, bool write);
+
+/* ---- clock.c */
+
+/* So many nanoseconds have passed since the power came: gives the 8254 its pulses and the MC146818 its date. */
+void clock_runs_to(machine *m, uint64_t nanoseconds);
+/* Sets m->wake after a write to the 8254 or a reset. */
+void clock_plan(machine *m);
+
+/* ---- console.c */
+
+/* Puts a byte of COM1 or of SeaBIOS's debug port on the terminal. */
+void console_put(uint8_t byte);
+/* Gives COM1 what was typed, while it has room. */
+void console_listen(machine *m);
+/* Takes the terminal byte by byte from now on, and gives it back as it was at the end of the process. */
+void console_open(void);
+/* Whether Ctrl-A and x were typed, or the process was asked to end. */
+bool console_ended(void);
+
+#ifdef __cplusplus
+}
+#endif
+#endif

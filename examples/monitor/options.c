@@ -1,0 +1,67 @@
+#include "options.h"
+#include <errno.h>
+#include <stdio.h>
+#include <stdlib.h>
+#include <string.h>
+
+enum { MOST_MIB = 512, MOST_SCRIPT_MIB = 64, MOST_SECONDS = 1000000, MOST_SPEED = 1000 };
+
+static const char usage[] =
+    "usage: monitor-PROCESSOR [OPTION VALUE | FLAG]..\n"
+    "  --rom FILE        the BIOS (/usr/share/seabios/bios.bin)\n"
+    "  --disk FILE       the disk as it begins; none without this\n"
+    "  --keep-disk FILE  writes the disk as it ends\n"
+    "  --memory MIB      1 to 512 (8); 1 to 64 with --log\n"
+    "  --seconds N       ends after N seconds\n"
+    "  --log NAME        writes NAME.script and NAME.log, for `board check`, with NAME.rom and NAME.disk\n"
+    "  --explain         says of each access that nobody answered or that a register denied which register it was\n"
+    "  --quiet           leaves out what the firmware says on port 402h\n"
+    "  --timing          measures the board's steps\n"
+    "  --speed N         Bochs: instructions a microsecond (50)\n"
+    "  --nothing         answers every exit with nothing, to see what the board's answers cost\n"
+    "Ctrl-A x ends it.\n";
+
+static _Noreturn void refuse(const char *word) {
+    fprintf(stderr, "monitor: %s\n%s", word, usage);
+    exit(2);
+}
+
+static uint32_t number(const char *word, uint32_t most) {
+    char *end;
+    errno = 0;
+    unsigned long value = strtoul(word, &end, 10);
+    if (errno || end == word || *end || value < 1 || value > most) refuse(word);
+    return (uint32_t)value;
+}
+
+/* A flag of one word. */
+static bool take_flag(options *o, const char *word) {
+    if (!strcmp(word, "--explain")) o->explain = true;
+    else if (!strcmp(word, "--quiet")) o->quiet = true;
+    else if (!strcmp(word, "--timing")) o->timing = true;
+    else if (!strcmp(word, "--nothing")) o->nothing = true;
+    else return false;
+    return true;
+}
+
+static bool take_option(options *o, const char *word, const char *value) {
+    if (!strcmp(word, "--rom")) o->rom = value;
+    else if (!strcmp(word, "--disk")) o->disk = value;
+    else if (!strcmp(word, "--keep-disk")) o->keep_disk = value;
+    else if (!strcmp(word, "--log")) o->log = value;
+    else if (!strcmp(word, "--memory")) o->mib = number(value, MOST_MIB);
+    else if (!strcmp(word, "--seconds")) o->seconds = number(value, MOST_SECONDS);
+    else if (!strcmp(word, "--speed")) o->speed = number(value, MOST_SPEED);
+    else return false;
+    return true;
+}
+
+void options_read(options *o, int count, char **words) {
+    *o = (options){.rom = "/usr/share/seabios/bios.bin", .mib = 8, .speed = 50};
+    for (int k = 1; k < count; k++) {
+        if (take_flag(o, words[k])) continue;
+        if (k + 1 == count || !take_option(o, words[k], words[k + 1])) refuse(words[k]);
+        k++;
+    }
+    if (o->log && o->mib > MOST_SCRIPT_MIB) refuse("--log: a script has at most 64 MiB");
+}

@@ -1,0 +1,30 @@
+/* options.h: the words of a monitor's command line. */
+#ifndef OPTIONS_H
+#define OPTIONS_H
+#include <stdbool.h>
+#include <stdint.h>
+#ifdef __cplusplus
+extern "C" {
+#endif
+
+typedef struct options {
+    const char *rom;
+    const char *disk;      /* NULL: none */
+    const char *keep_disk; /* where the disk is written at the end, or NULL */
+    const char *log;       /* the front of the names of script and log, or NULL */
+    uint32_t mib;
+    uint32_t seconds; /* of the host's time after which the monitor ends; 0: none */
+    uint32_t speed;   /* instructions a microsecond, where the processor's own pace is the time (Bochs) */
+    bool explain;
+    bool quiet;  /* what the firmware says on port 402h is not shown */
+    bool timing; /* the steps' time is measured */
+    bool nothing; /* once the guest runs, all exits are answered by nothing: what the board's answers cost */
+} options;
+
+/* Ends the process with the usage text where a word is none. */
+void options_read(options *o, int count, char **words);
+
+#ifdef __cplusplus
+}
+#endif
+#endif
