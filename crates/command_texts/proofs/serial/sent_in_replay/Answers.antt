@@ -27,5 +27,5 @@ returns c =
           c.in_ok-serial.ensures.entries c.in_ok-serial.ensures.com1
           (subst (λ (sent : List ℕ). WentOn (record { serial = c.in_ok-serial.serial; input = c.args.input.now; sent = sent })
           (statements_in (said_of c.args.script.now)) last) c.new-sent.ensures.items went)
-          (rw c.board.ensures.board at c.history.ensures.legal) is);
+          (rw c.board.ensures.board at c.history-legal.ensures.legal) is);
     }
