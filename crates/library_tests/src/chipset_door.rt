@@ -206,7 +206,7 @@ fn setups_are_tested(rt: HostRuntime) -> Result<(), Fail> {
         (1, 0x1_0000, 512, None),
         (0, 0x1_0000, 512, Some(SetupFault::Memory)),
         (64, 0x8_0000, 1024, None),
-        (65, 0x1_0001, 0, Some(SetupFault::Memory)),
+        (513, 0x1_0001, 0, Some(SetupFault::Memory)),
         (1, 0x1_0001, 0, Some(SetupFault::Rom)),
         (1, 0x3_0000, 512, Some(SetupFault::Rom)),
         (1, 0x2_0000, 0, Some(SetupFault::Disk)),
