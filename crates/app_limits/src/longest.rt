@@ -13,9 +13,11 @@ const STATEMENTS: u32 = 250;
 const CPUS: u32 = 8;
 /// The most bytes of a script.
 const SCRIPT_SIZE: usize = 0x100_0000;
-/// A line that says nothing.
+/// A line that says nothing, of 80 bytes.
 const COMMENT: &str =
-    "# 345678901234567890123456789012345678901234567890123456789012345678901234567890\n";
+    "# 12345678901234567890123456789012345678901234567890123456789012345678901234567\n";
+
+const COMMENT_SIZE: usize = 80;
 
 /// The script: in each phase one processor reads, and comments fill up what a script may have.
 pub fn longest_script(alloc: Global) -> Result<Vec<u8>, NoMemory> {
@@ -26,7 +28,7 @@ pub fn longest_script(alloc: Global) -> Result<Vec<u8>, NoMemory> {
             write!(script, "{} r q 00001001\n", phase % CPUS)?;
         }
     }
-    while script.len() + COMMENT.len() <= SCRIPT_SIZE {
+    for _ in 0..SCRIPT_SIZE.saturating_sub(script.len()) / COMMENT_SIZE {
         script.push_str(COMMENT)?;
     }
     let mut bytes = script.as_bytes().to_vec(alloc)?;
