@@ -67,7 +67,8 @@ static void add(record *r, const board_event *event, const board_reply *reply) {
 }
 
 void record_step(record *r, const board_event *event, const board_reply *reply) {
-    if (reply->part[0].target == BOARD_IS_DEVICE && reply->part[0].unit == BOARD_UART) return;
+    bool is_com1 = reply->part[0].target == BOARD_IS_DEVICE && reply->part[0].unit == BOARD_UART;
+    if (is_com1 || event->what == BOARD_SERIAL) return;
     add(r, event, reply);
 }
 

@@ -11,7 +11,6 @@
 static machine m;
 static options wanted;
 static int timer = BX_NULL_TIMER_HANDLE;
-static const char *why;
 static Bit64u host_start, listened;
 
 enum { LISTEN = 1000000 }; // nanoseconds of the guest's time between two looks at the terminal
@@ -29,7 +28,6 @@ uint64_t processor_time(void) {
 }
 
 static void end(const char *reason) {
-  why = reason;
   double seconds = (double)(host_time() - host_start) / NANOSECONDS;
   machine_close(&m, reason);
   fprintf(stderr, "bochs: at %04X:%llX; %.1f million ticks in %.2f s\n", BX_CPU(0)->sregs[BX_SEG_REG_CS].selector.value,
@@ -157,6 +155,10 @@ void board_processor_reset(unsigned) {
   bx_devices.pluginPicDevice = &pic;
   BX_CPU(0)->msr.apicbase = 0;
   BX_CPU(0)->lapic->set_base(0);
+}
+
+void board_processor_halted(void) {
+  if (!BX_CPU(0)->get_IF()) end("halted with interrupts off");
 }
 
 // The words are the monitor's. Bochs gets its own: a processor, and the files without which it does not begin.
