@@ -140,10 +140,12 @@ void board_port_out(Bit16u port, Bit32u value, unsigned bytes) {
 
 // ---- from the first instruction on
 
-static int terminal; // standard error, while Bochs talks of its configuration
+static int output, errors; // where the monitor's go, while Bochs talks of itself
 
 void board_processor_start(void) {
-  dup2(terminal, STDERR_FILENO);
+  fflush(stdout);
+  dup2(output, STDOUT_FILENO);
+  dup2(errors, STDERR_FILENO);
   machine_open(&m, &wanted);
   host_start = host_time();
   BX_MEM(0)->registerMemoryHandlers(NULL, read_memory, write_memory, direct_memory, 0, 0xFFFFFFFF);
@@ -174,7 +176,8 @@ extern "C" int __wrap_main(int count, char **words) {
     "info: action=ignore", "debug: action=ignore"};
   count = sizeof own / sizeof *own;
   for (int k = 0; k < count; k++) copies[k] = strdup(own[k]); // Bochs writes into its words
-  terminal = dup(STDERR_FILENO);
-  if (!freopen("/dev/null", "w", stderr)) return 1;
+  output = dup(STDOUT_FILENO);
+  errors = dup(STDERR_FILENO);
+  if (!freopen("/dev/null", "w", stdout) || !freopen("/dev/null", "w", stderr)) return 1;
   return __real_main(count, copies);
 }
