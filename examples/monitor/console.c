@@ -65,5 +65,6 @@ static int typed(machine *m) {
 void console_listen(machine *m) {
     fflush(stdout);
     int byte;
-    while (m->serial_room && (byte = typed(m)) >= 0) machine_receive(m, (uint8_t)byte);
+    board_reply reply;
+    while (m->serial_room && (byte = typed(m)) >= 0) machine_step(m, &(board_event){.what = BOARD_SERIAL, .value = (uint64_t)byte}, &reply);
 }

@@ -74,6 +74,7 @@ static void note(explain *x, const board_event *event, const board_part *p, uint
     e->part = *p;
     e->what = event->what;
     e->kind = event->kind;
+    fflush(stdout); /* so that it stands where the guest was */
     fprintf(stderr, "[explain] ");
     print_access(e);
 }

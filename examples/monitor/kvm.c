@@ -123,6 +123,7 @@ static void reset_processor(void) {
     memset(&none, 0, sizeof none);
     s.cs.selector = RESET_CS;
     s.cs.base = RESET_BASE;
+    s.apic_base = 0; /* disabled: else KVM tells of an APIC in CPUID */
     if (ioctl(cpu, KVM_SET_SREGS, &s) || ioctl(cpu, KVM_SET_REGS, &r) || ioctl(cpu, KVM_SET_VCPU_EVENTS, &none)) fail("KVM_SET_REGS");
 }
 

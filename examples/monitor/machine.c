@@ -139,11 +139,6 @@ void machine_step(machine *m, const board_event *event, board_reply *reply) {
     see(m, reply);
 }
 
-void machine_receive(machine *m, uint8_t byte) {
-    board_reply reply;
-    if (board_receive(&m->board, byte, &reply) == BOARD_OK) see(m, &reply);
-}
-
 uint32_t machine_take_reset(machine *m) {
     uint32_t reset = m->reset;
     m->reset = BOARD_NO_RESET;

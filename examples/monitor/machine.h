@@ -72,8 +72,6 @@ void machine_open(machine *m, const options *wanted);
 void machine_close(machine *m, const char *why);
 /* Does one event on the board: every step goes through here. */
 void machine_step(machine *m, const board_event *event, board_reply *reply);
-/* Gives COM1 a byte from outside. */
-void machine_receive(machine *m, uint8_t byte);
 /* What the processor does after the instruction that made a reset: board_reset. After a hard one the board stands as at
  * power-on again. */
 uint32_t machine_take_reset(machine *m);

@@ -3,7 +3,7 @@
 #include <stdlib.h>
 #include <string.h>
 
-enum { MOST_STATEMENTS = 250000, MOST_PULSES = 100000000, MOST_LINE = 200, MOST_NAME = 4096, COM1_LINE = 4 };
+enum { MOST_STATEMENTS = 250000, MOST_PULSES = 100000000, MOST_NAME = 4096, COM1_LINE = 4 };
 
 static FILE *create(const char *front, const char *end) {
     char name[MOST_NAME];
@@ -47,7 +47,7 @@ static bool is_full(record *r, const board_event *event) {
 
 /* A line of the log is `NUMBER 0.STATEMENT-NUMBER STATEMENT = ...`. */
 static void add(record *r, const board_event *event, const board_reply *reply) {
-    char line[MOST_LINE + 1];
+    char line[BOARD_LONGEST_LINE + 1];
     size_t bytes = 0;
     if (!r->script) return;
     if (is_full(r, event)) {
@@ -56,7 +56,7 @@ static void add(record *r, const board_event *event, const board_reply *reply) {
         return;
     }
     r->statements++;
-    if (board_text(event, reply, r->statements, 0, r->statements, (uint8_t *)line, MOST_LINE, &bytes) != BOARD_OK) {
+    if (board_text(event, reply, r->statements, 0, r->statements, (uint8_t *)line, BOARD_LONGEST_LINE, &bytes) != BOARD_OK) {
         fprintf(stderr, "monitor: no line of a log for statement %u\n", r->statements);
         exit(1);
     }
@@ -67,7 +67,8 @@ static void add(record *r, const board_event *event, const board_reply *reply) {
 }
 
 void record_step(record *r, const board_event *event, const board_reply *reply) {
-    if (reply->part[0].target == BOARD_IS_DEVICE && reply->part[0].unit == BOARD_UART) return;
+    bool is_com1 = reply->part[0].target == BOARD_IS_DEVICE && reply->part[0].unit == BOARD_UART;
+    if (is_com1 || event->what == BOARD_SERIAL) return;
     add(r, event, reply);
 }
 

@@ -17,7 +17,7 @@ typedef struct record {
 } record;
 
 void record_open(record *r, const options *o, const uint8_t *rom, size_t rom_bytes, const uint8_t *disk, size_t disk_bytes);
-/* A step of the board. An access to COM1 is no statement of a script, and is left out. */
+/* A step of the board. What COM1 does and receives is no statement of a script, and is left out. */
 void record_step(record *r, const board_event *event, const board_reply *reply);
 /* The level of line 4, which COM1 moves: where it is another one, the script moves it by `irq`. */
 void record_line_4(record *r, bool level);

@@ -8,6 +8,7 @@ Bit32u board_port_in(Bit16u port, unsigned bytes);
 void board_port_out(Bit16u port, Bit32u value, unsigned bytes);
 void board_processor_start(void);
 void board_processor_reset(unsigned type);
+void board_processor_halted(void);
 
 /* bochs.h has sent these to Bochs's own devices. */
 #undef BX_INP
@@ -17,5 +18,7 @@ void board_processor_reset(unsigned type);
 
 #undef BX_INSTR_INITIALIZE
 #undef BX_INSTR_RESET
+#undef BX_INSTR_HLT
 #define BX_INSTR_INITIALIZE(cpu_id) board_processor_start()
 #define BX_INSTR_RESET(cpu_id, type) board_processor_reset(type)
+#define BX_INSTR_HLT(cpu_id) board_processor_halted()

@@ -11,7 +11,6 @@
 static machine m;
 static options wanted;
 static int timer = BX_NULL_TIMER_HANDLE;
-static const char *why;
 static Bit64u host_start, listened;
 
 enum { LISTEN = 1000000 }; // nanoseconds of the guest's time between two looks at the terminal
@@ -29,7 +28,6 @@ uint64_t processor_time(void) {
 }
 
 static void end(const char *reason) {
-  why = reason;
   double seconds = (double)(host_time() - host_start) / NANOSECONDS;
   machine_close(&m, reason);
   fprintf(stderr, "bochs: at %04X:%llX; %.1f million ticks in %.2f s\n", BX_CPU(0)->sregs[BX_SEG_REG_CS].selector.value,
@@ -142,10 +140,12 @@ void board_port_out(Bit16u port, Bit32u value, unsigned bytes) {
 
 // ---- from the first instruction on
 
-static int terminal; // standard error, while Bochs talks of its configuration
+static int output, errors; // where the monitor's go, while Bochs talks of itself
 
 void board_processor_start(void) {
-  dup2(terminal, STDERR_FILENO);
+  fflush(stdout);
+  dup2(output, STDOUT_FILENO);
+  dup2(errors, STDERR_FILENO);
   machine_open(&m, &wanted);
   host_start = host_time();
   BX_MEM(0)->registerMemoryHandlers(NULL, read_memory, write_memory, direct_memory, 0, 0xFFFFFFFF);
@@ -157,6 +157,10 @@ void board_processor_reset(unsigned) {
   bx_devices.pluginPicDevice = &pic;
   BX_CPU(0)->msr.apicbase = 0;
   BX_CPU(0)->lapic->set_base(0);
+}
+
+void board_processor_halted(void) {
+  if (!BX_CPU(0)->get_IF()) end("halted with interrupts off");
 }
 
 // The words are the monitor's. Bochs gets its own: a processor, and the files without which it does not begin.
@@ -172,7 +176,8 @@ extern "C" int __wrap_main(int count, char **words) {
     "info: action=ignore", "debug: action=ignore"};
   count = sizeof own / sizeof *own;
   for (int k = 0; k < count; k++) copies[k] = strdup(own[k]); // Bochs writes into its words
-  terminal = dup(STDERR_FILENO);
-  if (!freopen("/dev/null", "w", stderr)) return 1;
+  output = dup(STDOUT_FILENO);
+  errors = dup(STDERR_FILENO);
+  if (!freopen("/dev/null", "w", stdout) || !freopen("/dev/null", "w", stderr)) return 1;
   return __real_main(count, copies);
 }

@@ -41,6 +41,9 @@ start:
     jne say
     mov si, kept
     call print
+    mov ax, 0F000h         ; a write into the BIOS, which SeaBIOS has shut: --explain says by which register
+    mov es, ax
+    mov byte [es:0], 0
     mov ah, 0              ; ticks of IRQ 0 since midnight
     int 1Ah
     mov bp, dx
