@@ -48,6 +48,9 @@ enum board_status {
     BOARD_PAST_END = 19,  /* the bytes do not all lie in the installed memory */
     BOARD_NO_BYTE = 20,   /* the clock has 128 bytes */
     BOARD_BAD_LENGTH = 21, /* a sector has 512 bytes */
+    BOARD_BAD_LENGTH = 21, /* a sector has 512 bytes */
+    BOARD_NO_REPLY = 22,  /* the record is that of no reply */
+    BOARD_NO_ROOM = 23,   /* the text does not fit */
     BOARD_SERIAL_FULL = 24 /* COM1 can receive no byte: its queue is full, or loopback is on */
 };
 
@@ -333,6 +336,17 @@ static inline uint32_t board_receive(board *handle, uint8_t byte, board_reply *r
 static inline uint32_t board_wire(board *handle, uint8_t device, bool level, board_reply *reply) {
     return board_ask(handle, BOARD_WIRE, 0, device, 0, 0, level, reply);
 }
+
+/* ---- texts */
+
+/* Room that is enough for every line of a log. */
+enum { BOARD_LONGEST_LINE = 256 };
+
+/* Writes line `number` of a log, from 1 on, with its line feed and no zero after it: statement `statement`, from 1 on, of a
+ * processor, the event and what board_step replied to it. bytes is how long the line is, also at BOARD_NO_ROOM; then, as
+ * where the event is none (BOARD_NO_EVENT) or the reply (BOARD_NO_REPLY), nothing is written. The same statement in a
+ * script is the processor, a space, and what stands between the line's second space and its ` = `. */
+uint32_t board_text(const board_event *event, const board_reply *reply, uint64_t number, uint8_t processor, uint32_t statement, uint8_t *into, size_t room, size_t *bytes);
 
 #ifdef __cplusplus
 }
