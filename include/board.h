@@ -48,7 +48,6 @@ enum board_status {
     BOARD_PAST_END = 19,  /* the bytes do not all lie in the installed memory */
     BOARD_NO_BYTE = 20,   /* the clock has 128 bytes */
     BOARD_BAD_LENGTH = 21, /* a sector has 512 bytes */
-    BOARD_BAD_LENGTH = 21, /* a sector has 512 bytes */
     BOARD_NO_REPLY = 22,  /* the record is that of no reply */
     BOARD_NO_ROOM = 23,   /* the text does not fit */
     BOARD_SERIAL_FULL = 24 /* COM1 can receive no byte: its queue is full, or loopback is on */

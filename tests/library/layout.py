@@ -54,10 +54,12 @@ class Layout:
         return -(-at // widest) * widest, widest, fields
 
 
-def in_c(constant):
+def in_c(constant, is_status):
     """The name in board.h of a number of the Rattle side."""
     if constant in NUMBERS:
         return NUMBERS[constant]
+    if is_status:
+        return "BOARD_" + constant
     if constant.endswith("_DENIAL"):
         return "BOARD_BY_" + constant.removesuffix("_DENIAL")
     return "BOARD_" + re.sub(r"_(EVENT|KIND|TARGET|DEVICE)$", "", constant)
@@ -83,7 +85,7 @@ def main():
     for name in ("numbers", "status"):
         text = (root / f"crates/board_records/src/{name}.rt").read_text()
         for constant, value in re.findall(r"^pub const (\w+): u\d+ = (\d+);", text, re.M):
-            print(f'_Static_assert({in_c(constant)} == {value}, "{constant}");')
+            print(f'_Static_assert({in_c(constant, name == 'status')} == {value}, "{constant}");')
             count += 1
     if count < 60:
         sys.exit(f"layout: only {count} numbers were found")
