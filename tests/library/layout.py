@@ -85,7 +85,8 @@ def main():
     for name in ("numbers", "status"):
         text = (root / f"crates/board_records/src/{name}.rt").read_text()
         for constant, value in re.findall(r"^pub const (\w+): u\d+ = (\d+);", text, re.M):
-            print(f'_Static_assert({in_c(constant, name == 'status')} == {value}, "{constant}");')
+            c = in_c(constant, name == "status")
+            print(f'_Static_assert({c} == {value}, "{constant}");')
             count += 1
     if count < 60:
         sys.exit(f"layout: only {count} numbers were found")

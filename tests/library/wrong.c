@@ -12,9 +12,11 @@ static void expect(const char *what, uint32_t got, uint32_t status) {
     failed = 1;
 }
 
-static const struct { const char *name; board_event event; uint32_t status; } rows[] = {
+static const struct { const char *name; board_event event; uint32_t status; } events[] = {
     {"zeros", {0}, BOARD_NO_EVENT},
-    {"no such event", {.what = 10}, BOARD_NO_EVENT},
+    {"no such event", {.what = 11}, BOARD_NO_EVENT},
+    {"a byte of 9 bits", {.what = BOARD_SERIAL, .value = 256}, BOARD_NO_EVENT},
+    {"an unaligned port of 4 bytes past the end", {.what = BOARD_PORT, .kind = BOARD_READ, .bytes = 4, .addr = 0xFFFD}, BOARD_ALIGNMENT},
     {"reserved", {.what = BOARD_ACK, .reserved = 1}, BOARD_NO_EVENT},
     {"a flag of 2", {.what = BOARD_ACK, .smm = 2}, BOARD_NO_EVENT},
     {"no kind", {.what = BOARD_MEMORY, .bytes = 1}, BOARD_NO_EVENT},
@@ -91,7 +93,8 @@ static void asked(board *b, board *closed) {
         {"DRAM", {.what = BOARD_MEMORY, .kind = BOARD_READ, .bytes = 4, .addr = 0x1000}, BOARD_OK, BOARD_DRAM, BOARD_NOT_DENIED},
         {"a write to the ROM", {.what = BOARD_MEMORY, .kind = BOARD_WRITE, .bytes = 1, .addr = 0xFFFFFFF0, .value = 1}, BOARD_OK, BOARD_ROM, BOARD_BY_REGISTER},
         {"the 8254", {.what = BOARD_PORT, .kind = BOARD_READ, .bytes = 1, .addr = 0x40}, BOARD_OK, BOARD_IS_DEVICE, BOARD_NOT_DENIED},
-        {"nobody", {.what = BOARD_PORT, .kind = BOARD_READ, .bytes = 1, .addr = 0x3F8}, BOARD_OK, BOARD_ABORT, BOARD_BY_NO_REGISTER},
+        {"nobody", {.what = BOARD_PORT, .kind = BOARD_READ, .bytes = 1, .addr = 0x2F8}, BOARD_OK, BOARD_ABORT, BOARD_BY_NO_REGISTER},
+        {"the serial port", {.what = BOARD_PORT, .kind = BOARD_READ, .bytes = 1, .addr = 0x3F8}, BOARD_OK, BOARD_IS_DEVICE, BOARD_NOT_DENIED},
         {"no event", {0}, BOARD_NO_EVENT, 0, 0},
         {"an acknowledge", {.what = BOARD_ACK}, BOARD_NO_CYCLE, 0, 0},
         {"8 bytes", {.what = BOARD_MEMORY, .kind = BOARD_READ, .bytes = 8, .addr = 0x1000}, BOARD_NO_CYCLE, 0, 0},
@@ -201,36 +204,135 @@ static void text(board *b) {
     must("the longest text", bytes <= BOARD_LONGEST_LINE);
 }
 
-int main(void) {
+/* ---- opening */
+
+static const uint8_t *rom_bytes;
+static const board_card no_card;
+
+/* a board with one card, and how it is refused */
+static void open_with(const char *what, board_card card, size_t count, uint32_t status) {
+    board b = {0};
+    board_card cards[2] = {card, card};
+    expect(what, board_open(&b, 8, cards, count, rom_bytes, 65536, rom_bytes, 0), status);
+    must("a refused open made a board", b.open == (status == BOARD_OK));
+    board_close(&b);
+}
+
+static void cards(void) {
+    const board_card good = {.device = 2, .vga = 1, .rom = 16, .bases = 2, .base = {{BOARD_MEMORY_BASE, 20}, {BOARD_IO_BASE, 8}}};
+    board_card c;
+    open_with("a card", good, 1, BOARD_OK);
+    open_with("no card", (board_card){0}, 1, BOARD_BAD_CARDS);
+    open_with("twice the same device", good, 2, BOARD_BAD_CARDS);
+    c = good, c.reserved = 1, open_with("a reserved byte of a card", c, 1, BOARD_BAD_CARDS);
+    c = good, c.vga = 2, open_with("a flag of 2", c, 1, BOARD_BAD_CARDS);
+    c = good, c.device = 1, open_with("device 1", c, 1, BOARD_BAD_CARDS);
+    c = good, c.device = 10, open_with("device 10", c, 1, BOARD_BAD_CARDS);
+    c = good, c.rom = 10, open_with("an expansion ROM of 1 KiB", c, 1, BOARD_BAD_CARDS);
+    c = good, c.rom = 25, open_with("an expansion ROM of 32 MiB", c, 1, BOARD_BAD_CARDS);
+    c = good, c.bases = 7, open_with("seven bases", c, 1, BOARD_BAD_CARDS);
+    c = good, c.bases = 3, open_with("a base of no kind", c, 1, BOARD_BAD_CARDS);
+    c = good, c.base[0].kind = 3, open_with("a base of kind 3", c, 1, BOARD_BAD_CARDS);
+    c = good, c.base[0].bits = 3, open_with("8 bytes of memory", c, 1, BOARD_BAD_CARDS);
+    c = good, c.base[0].bits = 25, open_with("32 MiB of memory", c, 1, BOARD_BAD_CARDS);
+    c = good, c.base[1].bits = 1, open_with("two ports", c, 1, BOARD_BAD_CARDS);
+    c = good, c.base[1].bits = 9, open_with("512 ports", c, 1, BOARD_BAD_CARDS);
+    c = good, c.bases = 5;
+    for (int k = 0; k < 5; k++) c.base[k] = (board_base){BOARD_MEMORY_BASE, 24};
+    open_with("80 MiB of memory", c, 1, BOARD_BAD_CARDS);
+    c.bases = 4, c.base[5].kind = 255, open_with("64 MiB, and a base that is not read", c, 1, BOARD_OK);
+}
+
+static void opening(board *b) {
     size_t bytes = 65536;
-    uint8_t *rom = calloc(bytes, 1);
+    const uint8_t *rom = rom_bytes;
+    expect("no memory", board_open(b, 0, &no_card, 0, rom, bytes, rom, 0), BOARD_BAD_SIZE);
+    expect("513 MiB", board_open(b, 513, &no_card, 0, rom, bytes, rom, 0), BOARD_BAD_SIZE);
+    expect("a short ROM", board_open(b, 8, &no_card, 0, rom, bytes - 1, rom, 0), BOARD_BAD_ROM);
+    expect("no ROM", board_open(b, 8, &no_card, 0, rom, 0, rom, 0), BOARD_BAD_ROM);
+    expect("half a sector", board_open(b, 8, &no_card, 0, rom, bytes, rom, 256), BOARD_BAD_DISK);
+    must("a refused open made a board", !b->open);
+    expect("open", board_open(b, 8, &no_card, 0, rom, bytes, rom, 512), BOARD_OK);
+    expect("open twice", board_open(b, 8, &no_card, 0, rom, bytes, rom, 0), BOARD_CLOSED);
+}
+
+/* ---- bytes in, and the serial port */
+
+static void written(board *b, board *closed) {
+    const uint8_t four[4] = {1, 2, 3, 4};
+    uint8_t bytes[4] = {0}, byte = 0;
+    board_reply r;
+    expect("DRAM of a closed handle", board_dram_write(closed, 0, four, 4), BOARD_CLOSED);
+    expect("a byte of a closed handle", board_cmos_write(closed, 0x20, 7), BOARD_CLOSED);
+    expect("past the memory", board_dram_write(b, 0x7FFFFE, four, 4), BOARD_PAST_END);
+    expect("past the last address", board_dram_write(b, 0xFFFFFFFE, four, 4), BOARD_PAST_END);
+    expect("byte 128", board_cmos_write(b, 128, 7), BOARD_NO_BYTE);
+    expect("DRAM", board_dram_read(b, 0x7FFFFC, bytes, 4), BOARD_OK);
+    must("a refused write wrote", !bytes[0] && !bytes[1] && !bytes[2] && !bytes[3]);
+    expect("the last bytes", board_dram_write(b, 0x7FFFFC, four, 4), BOARD_OK);
+    expect("DRAM", board_dram_read(b, 0x7FFFFC, bytes, 4), BOARD_OK);
+    must("the last bytes", !memcmp(bytes, four, 4));
+    expect("a read", board_read(b, 0x7FFFFC, 4, false, &r), BOARD_OK);
+    must("what a read finds", r.value == 0x04030201);
+    expect("a byte of the clock", board_cmos_write(b, 0x20, 7), BOARD_OK);
+    expect("a byte of the clock", board_cmos_read(b, 0x20, &byte), BOARD_OK);
+    must("a byte of the clock", byte == 7);
+}
+
+static void serial(board *b, board *closed) {
+    board_reply r;
+    expect("a byte for a closed handle", board_receive(closed, 'a', &r), BOARD_CLOSED);
+    expect("a byte sent", board_out(b, 0x3F8, 1, 'x', &r), BOARD_OK);
+    must("a byte sent", r.has_sent == 1 && r.sent == 'x' && r.part[0].target == BOARD_IS_DEVICE && r.part[0].unit == BOARD_UART);
+    expect("no byte sent", board_in(b, 0x3FD, 1, &r), BOARD_OK);
+    must("no byte sent", !r.has_sent && !r.sent);
+    for (int k = 0; k < 100; k++) {
+        memset(&r, 0xA5, sizeof r);
+        uint32_t status = board_receive(b, (uint8_t)k, &r);
+        if (status == BOARD_OK) continue;
+        expect("a byte too many", status, BOARD_SERIAL_FULL);
+        must("a refused byte told a reply", is_untouched(&r, 0, sizeof r));
+        must("no byte fitted", k > 0);
+        break;
+    }
+    expect("the first byte", board_in(b, 0x3F8, 1, &r), BOARD_OK);
+    must("the first byte", r.value == 0 && r.serial_room == 1);
+    board_event event = {.what = BOARD_SERIAL, .value = 1};
+    uint8_t line[BOARD_LONGEST_LINE];
+    size_t bytes = 77;
+    expect("a line of a byte received", board_text(&event, &r, 1, 0, 1, line, sizeof line, &bytes), BOARD_NO_EVENT);
+    event = (board_event){.what = BOARD_PORT, .kind = BOARD_READ, .bytes = 1, .addr = 0x3F8};
+    expect("a line of the serial port", board_text(&event, &r, 1, 0, 1, line, sizeof line, &bytes), BOARD_NO_REPLY);
+    must("a refused text", bytes == 77);
+}
+
+int main(void) {
+    uint8_t *rom = calloc(65536, 1);
     board b = {0};
     board closed = {0};
     board_reply before, reply;
+    rom_bytes = rom;
     board_close(&b);
     expect("step of a closed handle", board_step(&b, &(board_event){.what = BOARD_ACK}, &reply), BOARD_CLOSED);
-    expect("no memory", board_open(&b, 0, rom, bytes, rom, 0), BOARD_BAD_SIZE);
-    expect("65 MiB", board_open(&b, 65, rom, bytes, rom, 0), BOARD_BAD_SIZE);
-    expect("a short ROM", board_open(&b, 8, rom, bytes - 1, rom, 0), BOARD_BAD_ROM);
-    expect("no ROM", board_open(&b, 8, rom, 0, rom, 0), BOARD_BAD_ROM);
-    expect("half a sector", board_open(&b, 8, rom, bytes, rom, 256), BOARD_BAD_DISK);
-    expect("open", board_open(&b, 8, rom, bytes, rom, 512), BOARD_OK);
-    expect("open twice", board_open(&b, 8, rom, bytes, rom, 0), BOARD_CLOSED);
+    opening(&b);
+    cards();
     free(rom);
     expect("look", board_look(&b, BOARD_READ, 0, false, &before), BOARD_OK);
-    for (size_t i = 0; i < sizeof rows / sizeof *rows; i++) {
+    for (size_t i = 0; i < sizeof events / sizeof *events; i++) {
         memset(&reply, 0xA5, sizeof reply);
-        expect(rows[i].name, board_step(&b, &rows[i].event, &reply), rows[i].status);
-        for (size_t k = 0; k < sizeof reply; k++) if (((uint8_t *)&reply)[k] != 0xA5) failed = 1;
+        expect(events[i].name, board_step(&b, &events[i].event, &reply), events[i].status);
+        must("a refused step told a reply", is_untouched(&reply, 0, sizeof reply));
     }
     expect("look", board_look(&b, BOARD_READ, 0, false, &reply), BOARD_OK);
-    if (memcmp(&before, &reply, sizeof reply)) { printf("a refused call changed the board\n"); failed = 1; }
+    must("a refused call changed the board", !memcmp(&before, &reply, sizeof reply));
     expect("a leap day", board_time(&b, 2028, 2, 29, 12, 0, 0, &reply), BOARD_OK);
     expect("a wide read", board_read(&b, 0x1001, 4, false, &reply), BOARD_OK);
-    if (reply.parts != 3 || reply.form != BOARD_PARTS_REPLY) { printf("parts: %u\n", reply.parts); failed = 1; }
+    must("a wide read", reply.parts == 3 && reply.form == BOARD_PARTS_REPLY);
     ranges(&b, &closed);
     asked(&b, &closed);
     text(&b);
+    written(&b, &closed);
+    serial(&b, &closed);
     board_close(&b);
     board_close(&b);
     return failed;
