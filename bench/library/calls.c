@@ -50,7 +50,7 @@ static void decode(void) {
 static const struct { const char *name; void (*call)(void); } rows[] = {
     {"closed handle", closed}, {"no event", nothing}, {"DRAM read", dram_read}, {"DRAM write", dram_write}, {"ROM fetch", rom_fetch},
     {"wide read", wide_read}, {"port 61h", port_61}, {"UART read", uart_read}, {"UART write", uart_write}, {"configuration read", config_read}, {"PAM write", pam_write}, {"look", look},
-    {"decode", decode}, {"acknowledge", ack}, {"100 pulses", pulse}, {"pulses to rise", rise}, {"ranges", all_ranges},
+    {"decode", decode}, {"acknowledge", ack}, {"line of a log", line}, {"100 pulses", pulse}, {"pulses to rise", rise}, {"ranges", all_ranges},
 };
 
 static double now(void) {
