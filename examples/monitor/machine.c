@@ -20,6 +20,7 @@ enum {
     XBCS_BIOS = 0xC3, /* the clock, the keyboard controller, and the BIOS from FFF80000h and from E0000h on */
     CMOS_INDEX = 0x70,
     CMOS_DATA = 0x71,
+    CMOS_MOST_MIB = 64, /* what the clock's bytes of KiB can say */
     SECTOR = 512
 };
 #define CONFIG_ENABLE 0x80000000u
@@ -63,16 +64,17 @@ static void write_config(machine *m, uint32_t device, uint32_t offset, uint8_t v
     out(m, CONFIG_DATA + (offset & 3), 1, value);
 }
 
-/* What firmware finds set by the board's maker, and a reset takes back: the whole ROM answers, all memory is decoded. */
+/* What firmware finds set by the board's maker, and a reset takes back: the whole ROM answers, all memory is decoded, in
+ * rows of 8 MiB and the rest in the last. */
 static void prepare_registers(machine *m) {
-    uint32_t rows = (m->options.mib + ROW_MIB - 1) / ROW_MIB;
+    uint32_t end = (m->options.mib + ROW_MIB - 1) / ROW_MIB;
     write_config(m, SOUTH_BRIDGE, XBCS, XBCS_BIOS);
-    for (uint32_t row = 0; row < ROWS; row++) write_config(m, 0, DRB0 + row, (uint8_t)(row < rows ? row + 1 : rows));
+    for (uint32_t row = 0; row < ROWS; row++) write_config(m, 0, DRB0 + row, (uint8_t)(row + 1 < ROWS && row + 1 < end ? row + 1 : end));
 }
 
 /* What the battery keeps: how much memory there is, in KiB from 1 MiB on and in 64 KiB from 16 MiB on. */
 static void prepare_cmos(machine *m) {
-    uint32_t above_1 = (m->options.mib - 1) * 1024, above_16 = m->options.mib > 16 ? (m->options.mib - 16) * 16 : 0;
+    uint32_t above_1 = m->options.mib > CMOS_MOST_MIB ? UINT16_MAX : (m->options.mib - 1) * 1024, above_16 = m->options.mib > 16 ? (m->options.mib - 16) * 16 : 0;
     const struct {
         uint8_t address, value;
     } bytes[] = {
