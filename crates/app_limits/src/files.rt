@@ -4,7 +4,7 @@ use crate::longest::{longest_log, longest_script};
 use board_base::NoMemory;
 use std::alloc::Global;
 
-/// The largest board: 64 MiB of DRAM, 64 MiB behind four bases of a card, a ROM of 512 KiB and a disk of 32 MiB.
+/// The largest board of a script: 64 MiB of DRAM, 64 MiB behind four bases of a card, a ROM of 512 KiB and a disk of 32 MiB.
 pub const LARGEST: &str = "\
 board 2
 cpus 8
