@@ -1,9 +1,8 @@
--- The lines at power-on, and those that nothing drives.
+-- The lines at power-on.
 use Rattle.std.proofs.Common.{◌≡◌, ℕ, Bool, true, false, ◌||◌, List, [], ◌∷◌, ◌++◌, Option, Some, None, refl, ap}
 use Rattle.std.specs.Prelude.{option_map, replicate}
 use Rattle.std.specs.Option.{option_map_or}
 use Rattle.device_spec.specs.Routing.{is_line_driven}
-use Rattle.device_spec.specs.RoutingLaws.{ReservedLinesRest}
 use Rattle.device_spec.specs.Pit.{reset as timer_at_reset, out_of, programmed}
 use Rattle.device_spec.specs.Clock.{power_on as clock_at_power_on}
 use Rattle.device_spec.specs.Ata.State.{is_interrupt}
@@ -11,17 +10,8 @@ use Rattle.board_spec.specs.Setup.{Setup}
 use Rattle.board_spec.specs.RegisterTable.{isa_bridge, reset_byte}
 use Rattle.board_spec.specs.Registers.{byte_of}
 use Rattle.board_spec.specs.Devices.{wire_of, irq_of, timer_of, clock_of, disk_with, disk_of}
-use Rattle.board_spec.specs.Interrupts.{levels_with, routes_of, pirq_levels}
-use Rattle.board_spec.specs.DeviceLaws.{FirstLevels, UndrivenLines}
-
--- no route reaches the lines 2 and 13, and no device drives them
-pub undriven_lines : ReservedLinesRest → UndrivenLines
-unfolding levels_with
-undriven_lines rest setup history = (
-  rest (routes_of setup history) (pirq_levels history) 2 refl,
-  rest (routes_of setup history)
-      (pirq_levels history) 13 refl,
-)
+use Rattle.board_spec.specs.Interrupts.{levels_with}
+use Rattle.board_spec.specs.DeviceLaws.{FirstLevels}
 
 -- a disk at power-on asks for no interrupt
 no_interrupt :

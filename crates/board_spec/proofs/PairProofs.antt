@@ -1,5 +1,5 @@
 -- The pair has seen the lines as they stand.
-use Rattle.std.proofs.Common.{◌≡◌, ℕ, zero, suc, ◌+◌, ◌*◌, Bool, false, List, [], ◌∷◌, refl, sym, ◌∙◌, ap, add-zero, add-suc, inr}
+use Rattle.std.proofs.Common.{◌≡◌, ℕ, zero, suc, ◌+◌, ◌*◌, Bool, false, List, [], ◌∷◌, refl, ◌∙◌, ap, inr}
 use Rattle.std.specs.Prelude.{if◌then◌else◌, unwrap_or, map}
 use Rattle.std.proofs.lemmas.Bool.{cond-false}
 use Rattle.device_spec.specs.Elcr.{Triggers}
@@ -7,7 +7,6 @@ use Rattle.device_spec.specs.Pit.{PitState, pulses, reset as timer_at_reset}
 use Rattle.device_spec.specs.Pair.{Pair, pair_at_reset, pair_after_lines, levels_at_power_on}
 use Rattle.device_spec.specs.Levels.{levels_where}
 use Rattle.device_spec.specs.PicLaws.{SameLevelsAgain}
-use Rattle.device_spec.specs.PitLaws.{PulsesAddUp}
 use Rattle.board_spec.specs.declared.event.Event.{Event}
 use Rattle.board_spec.specs.declared.event.Event.TheVariants.{Port, Pulses}
 use Rattle.board_spec.specs.declared.event.Reply.{Reply}
@@ -20,14 +19,14 @@ use Rattle.device_spec.specs.Elcr.{triggers_at_reset}
 use Rattle.device_spec.specs.Clock.{after_reset as clock_after_reset}
 use Rattle.device_spec.specs.Ata.Steps.{after_reset as disk_after_reset}
 use Rattle.board_spec.specs.Interrupts.{routes_of, levels_with, levels_of, elcr_of, pair_pulsed, pair_stepped, pair_reset_or_after, pair_of}
-use Rattle.board_spec.specs.DeviceLaws.{ActsOnPair, PairHasSeen, PairStays, PulsesAdd}
+use Rattle.board_spec.specs.DeviceLaws.{ActsOnPair, PairHasSeen, PairStays}
 use Rattle.board_spec.proofs.DeviceAlone.{triggers-alone, pair-alone, SameDrivers, levels-same}
 use Rattle.board_spec.proofs.LineProofs.{first_levels}
 
 -- ---- pulses
 
 -- what pulses leave
-timer-pulsed :
+pub timer-pulsed :
     (before : List Entry) (entry : Entry) (count : ℕ) → entry.event ≡ Pulses count →
     timer_of (entry ∷ before) ≡ pulses count (timer_of before)
 unfolding timer_of
@@ -35,7 +34,7 @@ timer-pulsed before entry count is =
     ap (λ (event : Event). if is_hard_reset before event then timer_at_reset
     else timer_after event entry.reply (timer_of before)) is
 
-triggers-pulsed :
+pub triggers-pulsed :
     (before : List Entry) (entry : Entry) (count : ℕ) → entry.event ≡ Pulses count →
     triggers_of (entry ∷ before) ≡ triggers_of before
 unfolding triggers_of
@@ -69,7 +68,7 @@ drivers-pulsed setup before entry count timer is = record {
   routes = routes-pulsed setup before entry count is;
 }
 
-levels-pulsed :
+pub levels-pulsed :
     (setup : Setup) (before : List Entry) (entry : Entry) (count : ℕ) (timer : PitState) → entry.event ≡ Pulses count →
     levels_with setup (entry ∷ before) timer ≡ levels_with setup before timer
 levels-pulsed setup before entry count timer is =
@@ -83,63 +82,15 @@ levels-after setup before entry count is =
     ap (levels_with setup (entry ∷ before)) (timer-pulsed before entry count is)
     ∙ levels-pulsed setup before entry count (pulses count (timer_of before)) is
 
-elcr-same : (history other : List Entry) → triggers_of history ≡ triggers_of other → elcr_of history ≡ elcr_of other
+pub elcr-same : (history other : List Entry) → triggers_of history ≡ triggers_of other → elcr_of history ≡ elcr_of other
 elcr-same history other same = ap (λ (triggers : Triggers). triggers.low + 0x100 * triggers.high) same
 
-pair-pulsed :
+pub pair-pulsed :
     (setup : Setup) (before : List Entry) (entry : Entry) (count : ℕ) → entry.event ≡ Pulses count →
     pair_of setup (entry ∷ before) ≡ pair_pulsed setup before count (pair_of setup before)
 unfolding pair_of
 pair-pulsed setup before entry count is =
     ap (λ (event : Event). pair_stepped setup entry before event (pair_of setup before)) is
-
-pulsed-on :
-    (add : PulsesAddUp) (setup : Setup) (before : List Entry) (first : Entry) (n m : ℕ) (pair : Pair) → first.event
-    ≡ Pulses n →
-    pair_pulsed setup (first ∷ before) m (pair_pulsed setup before n pair) ≡ pair_pulsed setup before (n + m) pair
-unfolding pair_pulsed
-pulsed-on add setup before first n zero pair is = rw (add-zero n) refl
-pulsed-on add setup before first n (suc m) pair is =
-    let timer : pulses (suc m) (timer_of (first ∷ before)) ≡ pulses (n + suc m) (timer_of before) =
-    ap (pulses (suc m)) (timer-pulsed before first n is) ∙ sym (add n (suc m) (timer_of before)).0 in
-    let levels : levels_with setup (first ∷ before) (pulses (suc m) (timer_of (first ∷ before)))
-    ≡ levels_with setup before (pulses (n + suc m) (timer_of before)) =
-    ap (levels_with setup (first ∷ before)) timer
-    ∙ levels-pulsed setup before first n (pulses (n + suc m) (timer_of before)) is in
-    let elcr : elcr_of (first ∷ before) ≡ elcr_of before =
-    elcr-same (first ∷ before) before (triggers-pulsed before first n is) in
-    let count : n + suc m ≡ suc (n + m) = add-suc n m in
-    ap (λ (p : Pair). pair_after_lines p
-    (levels_with setup (first ∷ before) (pulses (suc m) (timer_of (first ∷ before)))) (elcr_of (first ∷ before)))
-    (pulsed-on add setup before first n m pair is)
-    ∙ ap (λ (l : List Bool). pair_after_lines (pair_pulsed setup before (n + m) pair) l
-    (elcr_of (first ∷ before))) levels
-    ∙ ap (pair_after_lines (pair_pulsed setup before (n + m) pair)
-    (levels_with setup before (pulses (n + suc m) (timer_of before)))) elcr
-    ∙ ap (λ (k : ℕ). pair_after_lines (pair_pulsed setup before (n + m) pair)
-    (levels_with setup before (pulses k (timer_of before))) (elcr_of before)) count
-    ∙ sym (ap (λ (k : ℕ). pair_pulsed setup before k pair) count)
-
-pub pulses_add : PulsesAddUp → PulsesAdd
-pulses_add add setup before n m first second whole is_first is_second is_whole =
-    let timer : timer_of (second ∷ first ∷ before) ≡ timer_of (whole ∷ before) =
-    timer-pulsed (first ∷ before) second m is_second
-    ∙ ap (pulses m) (timer-pulsed before first n is_first)
-    ∙ sym (add n m (timer_of before)).0
-    ∙ sym (timer-pulsed before whole (n + m) is_whole) in
-    record {
-      timer = timer;
-      levels =
-          ap (levels_with setup (second ∷ first ∷ before)) timer
-          ∙ levels-pulsed setup (first ∷ before) second m (timer_of (whole ∷ before)) is_second
-          ∙ levels-pulsed setup before first n (timer_of (whole ∷ before)) is_first
-          ∙ sym (levels-pulsed setup before whole (n + m) (timer_of (whole ∷ before)) is_whole);
-      pair =
-          pair-pulsed setup (first ∷ before) second m is_second
-          ∙ ap (pair_pulsed setup (first ∷ before) m) (pair-pulsed setup before first n is_first)
-          ∙ pulsed-on add setup before first n m (pair_of setup before) is_first
-          ∙ sym (pair-pulsed setup before whole (n + m) is_whole);
-    }
 
 -- ---- what the pair has seen
 

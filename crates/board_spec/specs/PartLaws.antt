@@ -1,15 +1,11 @@
--- The parts of a wide access: how they cut it, and that nothing shows where it was cut.
-use Rattle.std.specs.Prelude.{ℕ, zero, suc, ◌≡◌, ◌+◌, ◌*◌, ◌≤◌, false, List, [], ◌∷◌, length, All, Some}
+-- The parts of a wide access: how they cut it.
+use Rattle.std.specs.Prelude.{ℕ, ◌≡◌, ◌+◌, ◌≤◌, List, [], ◌∷◌, length, All}
 use Rattle.board_base.specs.declared.access.Access.{Access}
 use Rattle.board_base.specs.declared.access.WideAccess.{WideAccess}
 use Rattle.board_base.specs.Access.{bytes_of}
-use Rattle.board_spec.specs.declared.event.Entry.{Entry}
-use Rattle.board_spec.specs.Setup.{Setup}
 use Rattle.board_spec.specs.InRange.{IsBusAccess, IsWideAccess}
 use Rattle.board_spec.specs.WideParts.{parts_of, joined}
-use Rattle.board_spec.specs.Stored.{is_write, dram_byte}
-use Rattle.board_spec.specs.StoreLaws.{LandsInDram}
-use Rattle.board_spec.specs.Answer.{wide_value}
+use Rattle.board_spec.specs.Stored.{is_write}
 
 -- the parts follow one another without gap or overlap, from an address up to another
 abbrev pub Covers : (from end : ℕ) → List Access → Type 0
@@ -32,15 +28,3 @@ pub record AreParts (access : WideAccess) (parts : List Access) : Type 0 where
 
 abbrev pub CutIntoParts : Type 0
 CutIntoParts = (access : WideAccess) → IsWideAccess access → AreParts access (parts_of access)
-
--- the number that this many bytes make, the first of them in the low bits
-abbrev pub low_first : (ℕ → ℕ) → (from count : ℕ) → ℕ
-low_first byte_at from zero = 0
-low_first byte_at from (suc count) = byte_at from + 0x100 * low_first byte_at (from + 1) count
-
--- a wide read of DRAM gives the bytes from its address on
-abbrev pub WideReads : Type 0
-WideReads =
-    (setup : Setup) (before : List Entry) (access : WideAccess) → IsWideAccess access → is_write access.kind ≡ false →
-    LandsInDram setup before access →
-    wide_value setup before access ≡ Some (low_first (dram_byte setup before) access.addr access.bytes)

@@ -1,49 +1,18 @@
 //! Laws of the definitions. Each function does nothing: its clause is the law.
 
-ghost use Rattle.board_spec.specs.Laws.{LegalKeepsLock, MapBytesDecide, MapWritesDecide, OneAnswer, OneFlatMap, OneReplay, OneSpan, SomeAnswer, SomeReplay, SomeSpan};
-ghost use Rattle.board_spec.specs.AreaLaws.{RowBelowTop, WhoAnswers};
-ghost use Rattle.board_spec.specs.DenialLaws.{DeniedInParts, DeniedOnBus};
-ghost use Rattle.board_spec.specs.MapLaws.{MapWritesDecideMap};
-ghost use Rattle.board_spec.specs.MergedBits.{MergedBits};
-ghost use Rattle.board_spec.specs.PartLaws.{CutIntoParts, WideReads};
-ghost use Rattle.board_spec.specs.RegisterLaws.{RegistersStay};
-ghost use Rattle.board_spec.specs.SmramLaw.{SmramByBits};
-ghost use Rattle.board_spec.specs.StoreLaws.{LastStays, NothingStored, WideStored};
-ghost use Rattle.board_spec.specs.WideStores.{ByteByByte};
+ghost use Rattle.board_spec.specs.Laws.{LegalKeepsLock, OneFlatMap, OneReplay, SomeReplay};
+ghost use Rattle.board_spec.specs.PartLaws.{CutIntoParts};
 
 pub mod devices;
-pub mod orders;
-
-/// The registers that the address map depends on are those after the map writes alone.
-pub fn law_map_registers()
-    ensures decided { MapWritesDecide }
-{}
-
-/// Areas and denials depend on the map bytes alone.
-pub fn law_map_bytes()
-    ensures decided { MapBytesDecide }
-{}
 
 /// Two flat maps of the same registers are one list of ranges.
 pub fn law_one_flat_map()
     ensures one { OneFlatMap }
 {}
 
-/// Every address lies in exactly one span of each column of the map.
-pub fn law_one_span()
-    ensures some { SomeSpan }
-    ensures one { OneSpan }
-{}
-
 /// Once DLCK is set, nothing outside SMM reaches SMRAM until a hard reset, in every legal history.
 pub fn law_lock()
     ensures kept { LegalKeepsLock }
-{}
-
-/// Every event has an answer after every history, and only one.
-pub fn law_one_answer()
-    ensures some { SomeAnswer }
-    ensures one { OneAnswer }
 {}
 
 /// Every list of statements has a replay, and only one.
@@ -52,56 +21,7 @@ pub fn law_one_replay()
     ensures one { OneReplay }
 {}
 
-/// A byte merged under a mask has the written bits where the mask has ones, and the old bits elsewhere.
-pub fn law_merged()
-    ensures bits { MergedBits }
-{}
-
-/// A store of several bytes is the stores of its bytes, one after the other in rising offset.
-pub fn law_wide_store()
-    ensures bytes { ByteByByte }
-{}
-
-/// A cell holds the byte of the last entry that put one there, and 0 where none did.
-pub fn law_stored()
-    ensures last { LastStays }
-    ensures none { NothingStored }
-{}
-
-/// The SMRAM register after a write, bit by bit.
-pub fn law_smram()
-    ensures bits { SmramByBits }
-{}
-
 /// A wide access is cut into two to four aligned accesses that follow one another and make up its value.
 pub fn law_parts()
     ensures cut { CutIntoParts }
-{}
-
-/// Of DRAM a wide read gives, and a wide write stores, the bytes from its address on.
-pub fn law_wide_dram()
-    ensures reads { WideReads }
-    ensures writes { WideStored }
-{}
-
-/// Two histories with the same map writes have the same map bytes, spans and flat map.
-pub fn law_map_writes()
-    ensures decided { MapWritesDecideMap }
-{}
-
-/// Who answers at an address of memory, line by line of the memory map.
-pub fn law_areas()
-    ensures row { RowBelowTop }
-    ensures answers { WhoAnswers }
-{}
-
-/// Without a hard reset only an entry whose reply names a register changes registers, and only near it.
-pub fn law_registers_stay()
-    ensures stay { RegistersStay }
-{}
-
-/// An access is denied exactly where nobody answers it, or where it writes to the ROM.
-pub fn law_denials()
-    ensures bus { DeniedOnBus }
-    ensures parts { DeniedInParts }
 {}

@@ -1,11 +1,10 @@
 //! What the board's answers mean: the events of a history and their replies as plain types, and in
-//! `specs/` the definitions that every contract above cites. `laws` proves what one may expect of them.
+//! `specs/` the definitions that every contract above cites. `laws` proves of them what code above stands on.
 #![tactic(auto)]
 
 pub mod bits;
 pub mod command;
 mod event;
-pub mod examples;
 pub mod laws;
 pub mod limits;
 mod map_change;

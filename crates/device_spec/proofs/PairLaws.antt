@@ -1,10 +1,10 @@
--- The pair: levels that are given again, and a read of one chip.
-use Rattle.std.proofs.Common.{◌≡◌, ℕ, Bool, true, false, not, cond, eqb, ◌||◌, ◌&&◌, Option, Some, None, List, [], ◌∷◌, ◌++◌, refl, sym, ap, ◌∙◌, inl, inr, is_some}
+-- The pair: levels that are given again.
+use Rattle.std.proofs.Common.{◌≡◌, ℕ, Bool, true, false, not, cond, eqb, ◌||◌, ◌&&◌, refl, sym, ap, ◌∙◌, inl, inr, is_some}
 use Rattle.std.proofs.lemmas.Bool.{cases_Bool}
 use Rattle.device_spec.specs.Levels.{Levels, has, levels_where, with_level}
-use Rattle.device_spec.specs.Pic.{Chip, pending, first_selectable, request, interrupt, chip_after_inputs, latches_after, acknowledged_if, chip_after_read}
-use Rattle.device_spec.specs.Pair.{Pair, settled, pair_read}
-use Rattle.device_spec.specs.PicLaws.{SameLevelsAgain, ReadsLeaveTheOther}
+use Rattle.device_spec.specs.Pic.{Chip, request, interrupt, chip_after_inputs, latches_after}
+use Rattle.device_spec.specs.Pair.{Pair, settled}
+use Rattle.device_spec.specs.PicLaws.{SameLevelsAgain}
 use Rattle.device_spec.proofs.Levels.{levels_where-same, has-levels_where}
 
 -- ---- the same levels again
@@ -77,50 +77,3 @@ given-again pair low low_triggers high high_triggers =
 
 pub same-levels : SameLevelsAgain
 same-levels pair levels elcr = given-again pair _ _ _ _
-
--- ---- a read of one chip
-
--- polling has no part in what INT stands for
-first-unpolled : (chip : Chip) (higher order : List ℕ) → first_selectable (record chip { polls = false }) higher order ≡ first_selectable chip higher order
-unfolding first_selectable pending
-first-unpolled chip higher [] = refl
-first-unpolled chip higher (level ∷ lower) = rw (first-unpolled chip (higher ++ level ∷ []) lower) refl
-
-interrupt-unpolled : (chip : Chip) → interrupt (record chip { polls = false }) ≡ interrupt chip
-unfolding request
-interrupt-unpolled chip = rw (first-unpolled chip [] _) refl
-
--- a chip that does not ask does not ask after a read
-still-quiet : (chip : Chip) → interrupt chip ≡ None → interrupt (chip_after_read chip) ≡ None
-unfolding chip_after_read
-still-quiet chip quiet =
-    let after : Bool → Option ℕ → Chip = λ b o. cond b (record (acknowledged_if chip o) { polls = false }) chip in
-    elim (cases_Bool chip.polls) [
-      | inl polls ↦ ap (λ b. interrupt (after b (interrupt chip))) polls ∙ (ap (λ o. interrupt (after true o)) quiet ∙ (interrupt-unpolled chip ∙ quiet))
-      | inr not_polls ↦ ap (λ b. interrupt (after b (interrupt chip))) not_polls ∙ quiet
-    ]
-
-settled-slave-is : (pair : Pair) → (settled pair).slave ≡ pair.slave
-settled-slave-is pair = elim (cases_Bool (is_some (interrupt pair.slave))) [
-  | inl asks ↦ ap (λ p. p.slave) (settled-asks pair asks)
-  | inr quiet ↦ ap (λ p. p.slave) (settled-quiet pair quiet)
-]
-
--- another slave leaves a master alone that has latched the request of the one before, or had none to latch
-other-slave : (pair : Pair) (slave : Chip) (o : Option ℕ) → interrupt pair.slave ≡ o → settled pair ≡ pair → (interrupt pair.slave ≡ None → interrupt slave ≡ None) → (settled (record pair { slave = slave })).master ≡ pair.master
-other-slave pair slave None e is quiet =
-    ap (λ p. p.master) (settled-quiet (record pair { slave = slave }) (ap is_some (quiet e)))
-other-slave pair slave (Some level) e is quiet =
-    let held : (latched pair).master ≡ pair.master = ap (λ p. p.master) (sym (settled-asks pair (ap is_some e)) ∙ is) in
-    elim (cases_Bool (is_some (interrupt slave))) [
-      | inl asks ↦ ap (λ p. p.master) (settled-asks (record pair { slave = slave }) asks) ∙ held
-      | inr none ↦ ap (λ p. p.master) (settled-quiet (record pair { slave = slave }) none)
-    ]
-
-pub reads-leave : ReadsLeaveTheOther
-reads-leave pair port = record {
-  slave = λ e. settled-slave-is (pair_read pair port) ∙ ap (λ b. (cond b (record pair { slave = chip_after_read pair.slave }) (record pair { master = chip_after_read pair.master })).slave) e;
-  master = λ e is.
-      ap (λ b. (settled (cond b (record pair { slave = chip_after_read pair.slave }) (record pair { master = chip_after_read pair.master }))).master) e
-      ∙ other-slave pair (chip_after_read pair.slave) (interrupt pair.slave) refl is (still-quiet pair.slave);
-}

@@ -1,14 +1,7 @@
 pub mod Ata
 pub mod Bits
 pub mod Clock
-pub mod ClockLaws
 pub mod Elcr
-pub mod ExampleClock
-pub mod ExampleDisk
-pub mod ExamplePair
-pub mod ExampleRouting
-pub mod ExampleTimer
-pub mod ExampleWords
 pub mod Levels
 pub mod Pair
 pub mod Pic

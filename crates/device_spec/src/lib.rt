@@ -1,8 +1,7 @@
 //! What the devices of the board do: `specs/` has a machine for each, after its datasheet, and the crates of the
-//! devices prove that their code does what the machine does. `laws` proves what one may expect of the machines.
+//! devices prove that their code does what the machine does. `laws` proves of the machines what code above stands on.
 #![tactic(auto)]
 
-pub mod examples;
 pub mod laws;
 
 /// How many interrupt lines the two 8259As have.

@@ -17,4 +17,3 @@ pub mod ReplyReading
 pub mod LogLaws
 mod ExampleRuns
 mod ExampleScriptRuns
-mod ExampleLogRuns

@@ -2,12 +2,12 @@
 use Rattle.std.specs.Prelude.{ℕ, false, true, List, [], ◌∷◌, ◌++◌, Some, None, replicate, codes}
 use Rattle.board_base.specs.declared.access.Kind.{Kind}
 use Rattle.board_base.specs.declared.access.Kind.TheVariants.{Fetch, Read, Write}
-use Rattle.board_base.specs.declared.access.Width.TheVariants.{One}
-use Rattle.board_spec.specs.declared.event.Event.TheVariants.{Memory, Wide, Wire, Line}
+use Rattle.board_base.specs.declared.access.Width.{Width}
+use Rattle.board_base.specs.declared.access.Width.TheVariants.{One, Four}
+use Rattle.board_spec.specs.declared.event.Event.TheVariants.{Memory, Wide, Port, Look as LookAt, Wire, Line}
 use Rattle.board_spec.specs.declared.event.Event.{Event}
 use Rattle.board_spec.specs.declared.event.Statement.{Statement}
 use Rattle.board_spec.specs.Setup.{MemoryBase, IoBase}
-use Rattle.board_spec.specs.ExampleOrders.{phases}
 use Rattle.script_spec.specs.Lines.{text_of_lines}
 use Rattle.script_spec.specs.ScriptText.{IsScriptText, IsScriptBad}
 
@@ -129,7 +129,10 @@ TwoProcessors = IsScriptText
           ∷ [];
     })
 
--- the script of the worked orders
+abbrev pub outputs : Width → (port value : ℕ) → Event
+outputs width port value = Port (record { write = true; port = port; width = width; value = value })
+
+-- two phases, in the second of which one processor opens a shadow window while the other looks at it
 unfoldable pub TwoOrders : Type 0
 TwoOrders = IsScriptText
     (text_of_lines
@@ -143,7 +146,18 @@ TwoOrders = IsScriptText
     ∷ codes "0 out b 0CFD 10"
     ∷ codes "1 look r 000F0000"
     ∷ []))
-    (record { version = 1; cpus = 2; mib = 8; rom = codes "r64"; disk = None; cards = []; phases = phases })
+    (record {
+      version = 1;
+      cpus = 2;
+      mib = 8;
+      rom = codes "r64";
+      disk = None;
+      cards = [];
+      phases =
+          (states 0 (outputs Four 0xCF8 0x8000_0058) ∷ [])
+          ∷ (states 0 (outputs One 0xCFD 0x10) ∷ states 1 (LookAt Read 0xF_0000 false) ∷ [])
+          ∷ [];
+    })
 
 -- version 2: an expansion ROM, an access of eight bytes, one that is not aligned, and one that is
 unfoldable pub WideScript : Type 0

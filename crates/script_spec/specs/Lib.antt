@@ -7,5 +7,4 @@ pub mod WellFormed
 pub mod Checks
 pub mod Laws
 pub mod ExampleScripts
-pub mod ExampleLogs
 pub mod Phases

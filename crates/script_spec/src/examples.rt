@@ -1,9 +1,6 @@
 //! Worked examples of the definitions: texts of scripts and of logs, and what they say.
 
 ghost use Rattle.script_spec.specs.ExampleScripts.{EmptyFile, CommentFirst, LongComment, PhaseTooEarly, RepeatedCpus, EndTooEarly, SevenDigits, SetupAfterPhase, NoSuchDay, OddAddress, SecondProcessor, TwoReasons, HighLevel, EightBytesInVersion1, PastTheEnd, RomInVersion1, SmallRom, NoName, TwoProcessors, TwoOrders, WideScript};
-ghost use Rattle.script_spec.specs.ExampleLogs.{NoEntries, NoSuchVersion, EmptyLog, EmptyLogDiffers, CutLogDiffers, OpenLogDiffers, LongLogDiffers};
-
-use board_spec::examples::look_last;
 
 /// There is no line 1.
 #[tactic(auto, using(crate::proofs::ExampleRuns::empty_file))]
@@ -130,31 +127,3 @@ pub fn two_orders()
 pub fn wide_script()
     ensures says { WideScript }
 {}
-
-/// A log of no entries in version 2.
-#[tactic(auto, using(crate::proofs::ExampleLogRuns::no_entries))]
-pub fn no_entries()
-    ensures says { NoEntries }
-{}
-
-/// There is no version 3.
-#[tactic(auto, using(crate::proofs::ExampleLogRuns::no_such_version))]
-pub fn no_such_version()
-    ensures refused { NoSuchVersion }
-{}
-
-/// The empty file is no log.
-#[tactic(auto, using(crate::proofs::ExampleLogRuns::empty_log))]
-pub fn empty_log()
-    ensures refused { EmptyLog }
-{}
-
-/// Logs that are too short for the script of the worked orders, and one that is too long.
-pub fn logs_that_differ()
-    ensures empty { EmptyLogDiffers }
-    ensures cut { CutLogDiffers }
-    ensures open_line { OpenLogDiffers }
-    ensures long { LongLogDiffers }
-{
-    look_last();
-}

@@ -1,30 +1,8 @@
 //! Laws of the devices, the interrupt lines and the 8259A pair after a history.
 
-ghost use Rattle.board_spec.specs.DeviceLaws.{FirstLevels, LineHasDriver, LinesStay, MemoryLeavesDevices, OthersStay, PairHasSeen, PairStays, PulsesAdd, UndrivenLines, WireReachesLine};
-ghost use Rattle.board_spec.specs.ResetLaws.{HardResetKeeps, HardResetResets};
-ghost use Rattle.board_spec.specs.SystemPortLaw.{SystemPortByBits};
+ghost use Rattle.board_spec.specs.DeviceLaws.{MemoryLeavesDevices, PairHasSeen, PairStays};
 
-use device_spec::laws::{pulses_add_up, reserved_lines_rest, same_levels_again};
-
-/// Without a hard reset an entry changes only the device that its reply names.
-pub fn law_others_stay()
-    ensures stay { OthersStay }
-{}
-
-/// The interrupt lines: which stay, which are never driven, and how a board begins.
-pub fn law_lines()
-    ensures stay { LinesStay }
-    ensures undriven { UndrivenLines }
-    ensures first { FirstLevels }
-{
-    reserved_lines_rest();
-}
-
-/// A line is at 1 where a card's INTA# is that is routed to it, and else only by the device of the line.
-pub fn law_wires()
-    ensures reaches { WireReachesLine }
-    ensures driver { LineHasDriver }
-{}
+use device_spec::laws::same_levels_again;
 
 /// The 8259A pair has always seen the lines as they stand, so what moves no line leaves it.
 pub fn law_pair()
@@ -40,22 +18,3 @@ pub fn law_memory_leaves_devices()
 {
     same_levels_again();
 }
-
-/// What a read of port 61h gives, bit by bit.
-pub fn law_system_port()
-    ensures bits { SystemPortByBits }
-{}
-
-/// Pulses add up.
-pub fn law_pulses()
-    ensures add { PulsesAdd }
-{
-    pulses_add_up();
-}
-
-/// A hard reset puts every register and device in its reset state, and keeps DRAM, the cards' bytes and the
-/// levels from outside.
-pub fn law_hard_reset()
-    ensures resets { HardResetResets }
-    ensures keeps { HardResetKeeps }
-{}

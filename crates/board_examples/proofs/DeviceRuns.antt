@@ -1,0 +1,104 @@
+-- The examples of the devices and of the interrupt lines are computed from the definitions, line by line.
+use Rattle.std.specs.Prelude.{refl}
+use Rattle.device_spec.specs.Levels.{levels_where, byte_of_levels}
+use Rattle.device_spec.specs.Pic.{pending, first_selectable, request as pic_request, first_blocking, chip_after_write, byte_read, chip_after_read}
+use Rattle.device_spec.specs.Pair.{answer_of, pair_after_acknowledge}
+use Rattle.device_spec.specs.Routing.{is_line_driven}
+use Rattle.device_spec.specs.Pit.{low_byte, high_byte, count_of_number, mode_numbered, access_numbered, programmed, element_bytes, status_byte, latch_count, latch_status, control as counter_control, read_back, read_live, read as counter_read, asks_for_load, complete as count_complete, take_low, take_byte, write as counter_write, gate_rises, gate_falls, load as counter_load, count_down, count_to_end, count_to_reload, count_half, count_to_strobe, pulse_by_mode, pulse as counter_pulse, reset as timer_reset, port_read, read_back_chosen, write_control, port_write, set_gate2, out_of, pulse_all, pulses as timer_pulses, rises}
+use Rattle.device_spec.specs.Clock.{power_on as clock_power_on}
+use Rattle.device_spec.specs.Ata.Commands.{begin_read, sector_read as sector_was_read, begin_write, sector_written, verified, obeyed, commanded}
+use Rattle.device_spec.specs.Ata.Steps.{after_word, word_written, register_written, control_written as disk_control_written}
+use Rattle.board_spec.specs.RegisterTable.{reset_byte, writable_bits, isa_bridge, ide_function}
+use Rattle.board_spec.specs.Registers.{byte_of, config_address, reset_control}
+use Rattle.board_spec.specs.Ports.{port_target_of}
+use Rattle.board_spec.specs.Answer.{port_answer}
+use Rattle.board_spec.specs.Devices.{wire_of, irq_of, triggers_of, system_of, timer_of, clock_of, disk_with}
+use Rattle.board_spec.specs.Interrupts.{levels_with, pair_pulsed, pair_of, device_value}
+use Rattle.board_examples.specs.Words.{from_reset}
+use Rattle.board_examples.specs.Basics.{small_board}
+use Rattle.board_examples.specs.Devices.{plain_card_board, timer_latched, system_port, fallen_line, nested_interrupts, polled, routed_wire, clock_told, TimerLatched, SystemPort, FallenLine, NestedInterrupts, Polled, RoutedWire, ClockTold}
+use Rattle.board_examples.specs.Interrupts.{sector_board, wired_board, each_pulse, gated_counter, clock_interrupts, disk_interrupts, shared_wires, free_lines, devices_over_reset, disk_over_reset, EachPulse, GatedCounter, ClockInterrupts, DiskInterrupts, SharedWires, FreeLines, DevicesOverReset, DiskOverReset}
+use Rattle.board_examples.proofs.Lines.{legal}
+
+-- the examples, all computed with the same definitions open
+record AllRun : Type 0 where
+  pub timer_runs : TimerLatched
+  pub system_port_runs : SystemPort
+  pub fallen_line_runs : FallenLine
+  pub nested_runs : NestedInterrupts
+  pub polled_runs : Polled
+  pub routed_wire_runs : RoutedWire
+  pub clock_runs : ClockTold
+  pub each_pulse_runs : EachPulse
+  pub gated_counter_runs : GatedCounter
+  pub clock_interrupts_runs : ClockInterrupts
+  pub disk_interrupts_runs : DiskInterrupts
+  pub shared_wires_runs : SharedWires
+  pub free_lines_runs : FreeLines
+  pub devices_over_reset_runs : DevicesOverReset
+  pub disk_over_reset_runs : DiskOverReset
+
+all_run : AllRun
+unfolding TimerLatched SystemPort FallenLine NestedInterrupts Polled RoutedWire ClockTold EachPulse GatedCounter ClockInterrupts DiskInterrupts SharedWires FreeLines DevicesOverReset DiskOverReset reset_byte writable_bits isa_bridge byte_of config_address reset_control port_target_of port_answer wire_of irq_of triggers_of system_of timer_of clock_of levels_with pair_pulsed pair_of device_value levels_where byte_of_levels pending first_selectable pic_request first_blocking chip_after_write byte_read chip_after_read answer_of pair_after_acknowledge is_line_driven low_byte high_byte count_of_number mode_numbered access_numbered programmed element_bytes status_byte latch_count latch_status counter_control read_back read_live counter_read asks_for_load count_complete take_low take_byte counter_write gate_rises gate_falls counter_load count_down count_to_end count_to_reload count_half count_to_strobe pulse_by_mode counter_pulse timer_reset port_read read_back_chosen write_control port_write set_gate2 out_of pulse_all timer_pulses rises clock_power_on ide_function disk_with begin_read sector_was_read begin_write sector_written verified obeyed commanded after_word word_written register_written disk_control_written
+all_run = record {
+  timer_runs = legal small_board (from_reset timer_latched) refl;
+  system_port_runs = legal small_board (from_reset system_port) refl;
+  fallen_line_runs = legal small_board (from_reset fallen_line) refl;
+  nested_runs = legal small_board (from_reset nested_interrupts) refl;
+  polled_runs = legal small_board (from_reset polled) refl;
+  routed_wire_runs = legal plain_card_board (from_reset routed_wire) refl;
+  clock_runs = legal small_board (from_reset clock_told) refl;
+  each_pulse_runs = legal small_board (from_reset each_pulse) refl;
+  gated_counter_runs = legal small_board (from_reset gated_counter) refl;
+  clock_interrupts_runs = legal small_board (from_reset clock_interrupts) refl;
+  disk_interrupts_runs = legal sector_board (from_reset disk_interrupts) refl;
+  shared_wires_runs = legal wired_board (from_reset shared_wires) refl;
+  free_lines_runs = legal small_board (from_reset free_lines) refl;
+  devices_over_reset_runs = legal small_board (from_reset devices_over_reset) refl;
+  disk_over_reset_runs = legal sector_board (from_reset disk_over_reset) refl;
+}
+
+pub timer_runs : TimerLatched
+timer_runs = all_run.timer_runs
+
+pub system_port_runs : SystemPort
+system_port_runs = all_run.system_port_runs
+
+pub fallen_line_runs : FallenLine
+fallen_line_runs = all_run.fallen_line_runs
+
+pub nested_runs : NestedInterrupts
+nested_runs = all_run.nested_runs
+
+pub polled_runs : Polled
+polled_runs = all_run.polled_runs
+
+pub routed_wire_runs : RoutedWire
+routed_wire_runs = all_run.routed_wire_runs
+
+pub clock_runs : ClockTold
+clock_runs = all_run.clock_runs
+
+pub each_pulse_runs : EachPulse
+each_pulse_runs = all_run.each_pulse_runs
+
+pub gated_counter_runs : GatedCounter
+gated_counter_runs = all_run.gated_counter_runs
+
+pub clock_interrupts_runs : ClockInterrupts
+clock_interrupts_runs = all_run.clock_interrupts_runs
+
+pub disk_interrupts_runs : DiskInterrupts
+disk_interrupts_runs = all_run.disk_interrupts_runs
+
+pub shared_wires_runs : SharedWires
+shared_wires_runs = all_run.shared_wires_runs
+
+pub free_lines_runs : FreeLines
+free_lines_runs = all_run.free_lines_runs
+
+pub devices_over_reset_runs : DevicesOverReset
+devices_over_reset_runs = all_run.devices_over_reset_runs
+
+pub disk_over_reset_runs : DiskOverReset
+disk_over_reset_runs = all_run.disk_over_reset_runs

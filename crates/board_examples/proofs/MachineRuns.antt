@@ -1,0 +1,5 @@
+pub mod Pair
+pub mod Timer
+pub mod Clock
+pub mod Routing
+pub mod Disk

@@ -1,0 +1,87 @@
+-- The stories are computed from the definitions.
+use Rattle.std.specs.Prelude.{ℕ, [], ◌∷◌, ◌≡◌, ◌/◌, ◌<◌, length, slice_index, take, refl}
+use Rattle.std.proofs.Common.{arith}
+use Rattle.std.proofs.lemmas.List.FromFn.{length-map-range_with_len, get_or-map-range_with_len}
+use Rattle.device_spec.specs.Pit.{reset as timer_reset, programmed, out_of}
+use Rattle.device_spec.specs.Clock.{power_on as clock_power_on}
+use Rattle.board_spec.specs.RegisterTable.{reset_byte, writable_bits, host_bridge, isa_bridge, card_function}
+use Rattle.board_spec.specs.Registers.{byte_of, config_address, reset_control}
+use Rattle.board_spec.specs.Decode.{row_of, area_of, denial_of, memory_claim, memory_shut, rom_unselected, io_claim, io_shut}
+use Rattle.board_spec.specs.Ports.{port_target_of}
+use Rattle.board_spec.specs.Stored.{stored_of}
+use Rattle.board_spec.specs.Answer.{port_answer, memory_answer}
+use Rattle.board_spec.specs.Devices.{system_of, timer_of, clock_of}
+use Rattle.board_spec.specs.Interrupts.{device_value}
+use Rattle.board_examples.specs.Words.{from_reset}
+use Rattle.board_examples.specs.Basics.{board_of, small_board, vga_card}
+use Rattle.board_examples.specs.Stories.{large_rom, large_rom_board, port_card_board, two_bases, extended_bios, lower_bios, hole_borders, row_borders, open_and_closed, reset_control_written, address_in_words, card_ports, ports_under_xbcs, bases_in_order, ExtendedBios, LowerBios, HoleBorders, RowBorders, OpenAndClosed, ResetControlWritten, AddressInWords, CardPorts, PortsUnderXbcs, BasesInOrder}
+use Rattle.board_examples.proofs.Lines.{legal}
+
+rom_size : length large_rom ≡ 0x4_0000
+unfolding large_rom
+rom_size = length-map-range_with_len (λ off. off / 0x400) 0 0x4_0000
+
+rom_byte : (off : ℕ) → off < 0x4_0000 → slice_index large_rom off ≡ off / 0x400
+unfolding large_rom
+rom_byte off inside = get_or-map-range_with_len (λ off. off / 0x400) 0 0x4_0000 off off 0 inside (omega arith)
+
+pub extended_bios_runs : ExtendedBios
+unfolding ExtendedBios byte_of config_address reset_control reset_byte writable_bits host_bridge isa_bridge card_function row_of area_of denial_of memory_claim memory_shut rom_unselected stored_of memory_answer port_answer port_target_of
+extended_bios_runs = (
+  record { number = refl; answer = rw (rom_size, rom_byte 0x3_0000 (omega arith)) refl },
+  (
+    record { number = refl; answer = rw (rom_size, rom_byte 0x1_FFFF (omega arith)) refl },
+    (
+      record { number = refl; answer = rw (rom_size, rom_byte 0x0 (omega arith)) refl },
+      legal large_rom_board (from_reset (take 6 extended_bios)) refl,
+    ),
+  ),
+)
+
+pub lower_bios_runs : LowerBios
+unfolding LowerBios byte_of config_address reset_control reset_byte writable_bits host_bridge isa_bridge card_function row_of area_of denial_of memory_claim memory_shut rom_unselected stored_of memory_answer port_answer port_target_of
+lower_bios_runs = (
+  record { number = refl; answer = rw (rom_size, rom_byte 0x3_FFFF (omega arith)) refl },
+  (
+    record { number = refl; answer = rw (rom_size, rom_byte 0x2_FFFF (omega arith)) refl },
+    (
+      record { number = refl; answer = rw (rom_size, rom_byte 0x2_0000 (omega arith)) refl },
+      (
+        record { number = refl; answer = rw (rom_size, rom_byte 0x2_0000 (omega arith)) refl },
+        legal large_rom_board (from_reset (take 5 lower_bios)) refl,
+      ),
+    ),
+  ),
+)
+
+pub hole_borders_runs : HoleBorders
+unfolding HoleBorders byte_of config_address reset_control reset_byte writable_bits host_bridge isa_bridge card_function row_of area_of denial_of memory_claim memory_shut rom_unselected stored_of memory_answer port_answer port_target_of
+hole_borders_runs = legal (board_of 24 []) (from_reset hole_borders) refl
+
+pub row_borders_runs : RowBorders
+unfolding RowBorders byte_of config_address reset_control reset_byte writable_bits host_bridge isa_bridge card_function row_of area_of denial_of memory_claim memory_shut rom_unselected stored_of memory_answer port_answer port_target_of
+row_borders_runs = legal (board_of 24 []) (from_reset row_borders) refl
+
+pub open_and_closed_runs : OpenAndClosed
+unfolding OpenAndClosed byte_of config_address reset_control reset_byte writable_bits host_bridge isa_bridge card_function row_of area_of denial_of memory_claim memory_shut rom_unselected stored_of memory_answer port_answer port_target_of
+open_and_closed_runs = legal (board_of 8 (vga_card ∷ [])) (from_reset open_and_closed) refl
+
+pub reset_control_runs : ResetControlWritten
+unfolding ResetControlWritten config_address reset_control port_answer port_target_of
+reset_control_runs = legal small_board (from_reset reset_control_written) refl
+
+pub address_in_words_runs : AddressInWords
+unfolding AddressInWords byte_of config_address reset_control port_answer port_target_of io_claim io_shut
+address_in_words_runs = legal small_board (from_reset address_in_words) refl
+
+pub card_ports_runs : CardPorts
+unfolding CardPorts byte_of config_address reset_control reset_byte writable_bits isa_bridge card_function io_claim io_shut stored_of port_answer port_target_of
+card_ports_runs = legal port_card_board (from_reset card_ports) refl
+
+pub ports_under_xbcs_runs : PortsUnderXbcs
+unfolding PortsUnderXbcs byte_of config_address reset_control reset_byte writable_bits isa_bridge card_function io_claim io_shut stored_of port_answer port_target_of device_value system_of timer_of clock_of timer_reset programmed out_of clock_power_on
+ports_under_xbcs_runs = legal port_card_board (from_reset ports_under_xbcs) refl
+
+pub bases_in_order_runs : BasesInOrder
+unfolding BasesInOrder byte_of config_address reset_control reset_byte writable_bits host_bridge isa_bridge card_function row_of area_of denial_of memory_claim memory_shut rom_unselected stored_of memory_answer port_answer port_target_of
+bases_in_order_runs = legal (board_of 8 (two_bases ∷ [])) (from_reset bases_in_order) refl

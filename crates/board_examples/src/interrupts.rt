@@ -1,0 +1,51 @@
+//! The interrupt lines, and what a hard reset leaves of the devices.
+
+ghost use Rattle.board_examples.specs.Interrupts.{EachPulse, GatedCounter, ClockInterrupts, DiskInterrupts, SharedWires, FreeLines, DevicesOverReset, DiskOverReset};
+
+/// The levels after each single pulse reach the pair.
+#[tactic(auto, using(crate::proofs::DeviceRuns::each_pulse_runs))]
+pub fn each_pulse()
+    ensures history { EachPulse }
+{}
+
+/// Counter 2 counts while its gate is open.
+#[tactic(auto, using(crate::proofs::DeviceRuns::gated_counter_runs))]
+pub fn gated_counter()
+    ensures history { GatedCounter }
+{}
+
+/// Updates of the clock.
+#[tactic(auto, using(crate::proofs::DeviceRuns::clock_interrupts_runs))]
+pub fn clock_interrupts()
+    ensures history { ClockInterrupts }
+{}
+
+/// A command of the disk.
+#[tactic(auto, using(crate::proofs::DeviceRuns::disk_interrupts_runs))]
+pub fn disk_interrupts()
+    ensures history { DiskInterrupts }
+{}
+
+/// Wires that share a route.
+#[tactic(auto, using(crate::proofs::DeviceRuns::shared_wires_runs))]
+pub fn shared_wires()
+    ensures history { SharedWires }
+{}
+
+/// Each line that `irq` sets.
+#[tactic(auto, using(crate::proofs::DeviceRuns::free_lines_runs))]
+pub fn free_lines()
+    ensures history { FreeLines }
+{}
+
+/// A hard reset of the devices.
+#[tactic(auto, using(crate::proofs::DeviceRuns::devices_over_reset_runs))]
+pub fn devices_over_reset()
+    ensures history { DevicesOverReset }
+{}
+
+/// A hard reset of the disk.
+#[tactic(auto, using(crate::proofs::DeviceRuns::disk_over_reset_runs))]
+pub fn disk_over_reset()
+    ensures history { DiskOverReset }
+{}

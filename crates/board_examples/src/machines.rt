@@ -1,0 +1,324 @@
+//! Worked examples of the machines, each computed from the definitions alone. Each function does nothing:
+//! its clause is the example.
+
+ghost use Rattle.board_examples.specs.Machines.Pair.{NobodyIsReady, SpuriousAnswers, ALevelStays, AnEdgeIsKept, TheHigherEndsFirst, ANewBeginning, AShortSequence, SpecialMask, ChosenRegisters, Polls, PollsOfOne, ResetAtLevels, EachCommand, AutomaticEnd, ModesEnd, FullyNested, Cascaded};
+ghost use Rattle.board_examples.specs.Machines.Timer.{Ports, AfterReset, ReadBackOf0, Counters1And2, OnePeriod, EachMode, EachCount, EachGate, BytesAndLatches};
+ghost use Rattle.board_examples.specs.Machines.Clock.{AnAlarmStays, AHardReset, AMoment, HourForms, Alarms, Interrupts, EachByte};
+ghost use Rattle.board_examples.specs.Machines.Routing.{RouteBytes, LinesDriven, TriggerBytes};
+ghost use Rattle.board_examples.specs.Machines.Disk.{PastTheEnd, BadInTheMiddle, ReadToItsEnd, BadIsWritten, WrittenIsGood, WordsOfSector3, LowByteFirst, CommandEnds, Writes, Resets, Commands, Addresses, Identify, Lengths, DiskPorts};
+
+// The 8259A pair
+
+/// A chip that was never initialised holds INT at 0.
+#[tactic(auto, using(crate::proofs::MachineRuns::Pair::nobody_is_ready))]
+pub fn nobody_is_ready()
+    ensures example { NobodyIsReady }
+{}
+
+/// Spurious answers come from both chips, and leave alone the chip that gives them.
+#[tactic(auto, using(crate::proofs::MachineRuns::Pair::spurious_answers))]
+pub fn spurious_answers()
+    ensures example { SpuriousAnswers }
+{}
+
+/// A level triggered line of the slave is pending until it falls.
+#[tactic(auto, using(crate::proofs::MachineRuns::Pair::a_level_stays))]
+pub fn a_level_stays()
+    ensures example { ALevelStays }
+{}
+
+/// A rise is latched whatever ELCR says.
+#[tactic(auto, using(crate::proofs::MachineRuns::Pair::an_edge_is_kept))]
+pub fn an_edge_is_kept()
+    ensures example { AnEdgeIsKept }
+{}
+
+/// A higher level interrupts a lower one, and is the first to end.
+#[tactic(auto, using(crate::proofs::MachineRuns::Pair::the_higher_ends_first))]
+pub fn the_higher_ends_first()
+    ensures example { TheHigherEndsFirst }
+{}
+
+/// What ICW1 clears.
+#[tactic(auto, using(crate::proofs::MachineRuns::Pair::a_new_beginning))]
+pub fn a_new_beginning()
+    ensures example { ANewBeginning }
+{}
+
+/// A sequence without ICW3.
+#[tactic(auto, using(crate::proofs::MachineRuns::Pair::a_short_sequence))]
+pub fn a_short_sequence()
+    ensures example { AShortSequence }
+{}
+
+/// Special mask mode.
+#[tactic(auto, using(crate::proofs::MachineRuns::Pair::special_mask))]
+pub fn special_mask()
+    ensures example { SpecialMask }
+{}
+
+/// Reads of the pending levels, of those in service and of the mask.
+#[tactic(auto, using(crate::proofs::MachineRuns::Pair::chosen_registers))]
+pub fn chosen_registers()
+    ensures example { ChosenRegisters }
+{}
+
+/// A poll of the master.
+#[tactic(auto, using(crate::proofs::MachineRuns::Pair::polls))]
+pub fn polls()
+    ensures example { Polls }
+{}
+
+/// A poll of one chip, and what the other still has.
+#[tactic(auto, using(crate::proofs::MachineRuns::Pair::polls_of_one))]
+pub fn polls_of_one()
+    ensures example { PollsOfOne }
+{}
+
+/// A reset with lines at 1.
+#[tactic(auto, using(crate::proofs::MachineRuns::Pair::reset_at_levels))]
+pub fn reset_at_levels()
+    ensures example { ResetAtLevels }
+{}
+
+/// The eight commands of OCW2.
+#[tactic(auto, using(crate::proofs::MachineRuns::Pair::each_command))]
+pub fn each_command()
+    ensures example { EachCommand }
+{}
+
+/// Automatic end of interrupt.
+#[tactic(auto, using(crate::proofs::MachineRuns::Pair::automatic_end))]
+pub fn automatic_end()
+    ensures example { AutomaticEnd }
+{}
+
+/// Special fully nested mode.
+#[tactic(auto, using(crate::proofs::MachineRuns::Pair::fully_nested))]
+pub fn fully_nested()
+    ensures example { FullyNested }
+{}
+
+/// The slave's lines, and line 2.
+#[tactic(auto, using(crate::proofs::MachineRuns::Pair::cascaded))]
+pub fn cascaded()
+    ensures example { Cascaded }
+{}
+
+/// ICW1 ends each mode.
+#[tactic(auto, using(crate::proofs::MachineRuns::Pair::modes_end))]
+pub fn modes_end()
+    ensures example { ModesEnd }
+{}
+
+// The 8254
+
+/// The ports of the timer.
+#[tactic(auto, using(crate::proofs::MachineRuns::Timer::ports))]
+pub fn ports()
+    ensures example { Ports }
+{}
+
+/// The outputs and the status of each counter after a reset.
+#[tactic(auto, using(crate::proofs::MachineRuns::Timer::after_reset))]
+pub fn after_reset()
+    ensures example { AfterReset }
+{}
+
+/// A square wave of five, read back.
+#[tactic(auto, using(crate::proofs::MachineRuns::Timer::read_back_of_0))]
+pub fn read_back_of_0()
+    ensures example { ReadBackOf0 }
+{}
+
+/// Ports, outputs and control words of the other counters.
+#[tactic(auto, using(crate::proofs::MachineRuns::Timer::counters_1_and_2))]
+pub fn counters_1_and_2()
+    ensures example { Counters1And2 }
+{}
+
+/// One period of a square wave of five, and the rises of OUT 0.
+#[tactic(auto, using(crate::proofs::MachineRuns::Timer::one_period))]
+pub fn one_period()
+    ensures example { OnePeriod }
+{}
+
+/// The counting element and OUT in each mode.
+#[tactic(auto, using(crate::proofs::MachineRuns::Timer::each_mode))]
+pub fn each_mode()
+    ensures example { EachMode }
+{}
+
+/// The least counts, the greatest, and decimal ones.
+#[tactic(auto, using(crate::proofs::MachineRuns::Timer::each_count))]
+pub fn each_count()
+    ensures example { EachCount }
+{}
+
+/// What the gate does in each mode.
+#[tactic(auto, using(crate::proofs::MachineRuns::Timer::each_gate))]
+pub fn each_gate()
+    ensures example { EachGate }
+{}
+
+/// The bytes of counts and latches, in their order.
+#[tactic(auto, using(crate::proofs::MachineRuns::Timer::bytes_and_latches))]
+pub fn bytes_and_latches()
+    ensures example { BytesAndLatches }
+{}
+
+// The clock
+
+/// An alarm that rang, until register C is read.
+#[tactic(auto, using(crate::proofs::MachineRuns::Clock::an_alarm_stays))]
+pub fn an_alarm_stays()
+    ensures example { AnAlarmStays }
+{}
+
+/// A hard reset clears the index, the flags and the interrupts.
+#[tactic(auto, using(crate::proofs::MachineRuns::Clock::a_hard_reset))]
+pub fn a_hard_reset()
+    ensures example { AHardReset }
+{}
+
+/// The bytes of a moment.
+#[tactic(auto, using(crate::proofs::MachineRuns::Clock::a_moment))]
+pub fn a_moment()
+    ensures example { AMoment }
+{}
+
+/// Hours in the four forms.
+#[tactic(auto, using(crate::proofs::MachineRuns::Clock::hour_forms))]
+pub fn hour_forms()
+    ensures example { HourForms }
+{}
+
+/// When an alarm rings.
+#[tactic(auto, using(crate::proofs::MachineRuns::Clock::alarms))]
+pub fn alarms()
+    ensures example { Alarms }
+{}
+
+/// What raises the interrupt line.
+#[tactic(auto, using(crate::proofs::MachineRuns::Clock::interrupts))]
+pub fn interrupts()
+    ensures example { Interrupts }
+{}
+
+/// What a write and a hard reset leave of each byte.
+#[tactic(auto, using(crate::proofs::MachineRuns::Clock::each_byte))]
+pub fn each_byte()
+    ensures example { EachByte }
+{}
+
+// The routing
+
+/// The bytes of the route control registers.
+#[tactic(auto, using(crate::proofs::MachineRuns::Routing::route_bytes))]
+pub fn route_bytes()
+    ensures example { RouteBytes }
+{}
+
+/// The lines that routed pins hold at 1.
+#[tactic(auto, using(crate::proofs::MachineRuns::Routing::lines_driven))]
+pub fn lines_driven()
+    ensures example { LinesDriven }
+{}
+
+/// The bytes of the edge/level control registers.
+#[tactic(auto, using(crate::proofs::MachineRuns::Routing::trigger_bytes))]
+pub fn trigger_bytes()
+    ensures example { TriggerBytes }
+{}
+
+// The disk
+
+/// A read past the end of the disk.
+#[tactic(auto, using(crate::proofs::MachineRuns::Disk::past_the_end))]
+pub fn past_the_end()
+    ensures example { PastTheEnd }
+{}
+
+/// A read that meets a bad sector.
+#[tactic(auto, using(crate::proofs::MachineRuns::Disk::bad_in_the_middle))]
+pub fn bad_in_the_middle()
+    ensures example { BadInTheMiddle }
+{}
+
+/// A read of two sectors.
+#[tactic(auto, using(crate::proofs::MachineRuns::Disk::read_to_its_end))]
+pub fn read_to_its_end()
+    ensures example { ReadToItsEnd }
+{}
+
+/// A write over a bad sector begins.
+#[tactic(auto, using(crate::proofs::MachineRuns::Disk::bad_is_written))]
+pub fn bad_is_written()
+    ensures example { BadIsWritten }
+{}
+
+/// A bad sector that was written is read back.
+#[tactic(auto, using(crate::proofs::MachineRuns::Disk::written_is_good))]
+pub fn written_is_good()
+    ensures example { WrittenIsGood }
+{}
+
+/// The words of a sector.
+#[tactic(auto, using(crate::proofs::MachineRuns::Disk::words_of_sector_3))]
+pub fn words_of_sector_3()
+    ensures example { WordsOfSector3 }
+{}
+
+/// The order of bytes and words.
+#[tactic(auto, using(crate::proofs::MachineRuns::Disk::low_byte_first))]
+pub fn low_byte_first()
+    ensures example { LowByteFirst }
+{}
+
+/// A command that ends a transfer.
+#[tactic(auto, using(crate::proofs::MachineRuns::Disk::command_ends))]
+pub fn command_ends()
+    ensures example { CommandEnds }
+{}
+
+/// Writes past the end and to their end.
+#[tactic(auto, using(crate::proofs::MachineRuns::Disk::writes))]
+pub fn writes()
+    ensures example { Writes }
+{}
+
+/// SRST, and drive 1.
+#[tactic(auto, using(crate::proofs::MachineRuns::Disk::resets))]
+pub fn resets()
+    ensures example { Resets }
+{}
+
+/// The other commands, the registers and a hard reset.
+#[tactic(auto, using(crate::proofs::MachineRuns::Disk::commands))]
+pub fn commands()
+    ensures example { Commands }
+{}
+
+/// Cylinders, heads and sectors.
+#[tactic(auto, using(crate::proofs::MachineRuns::Disk::addresses))]
+pub fn addresses()
+    ensures example { Addresses }
+{}
+
+/// The words of IDENTIFY DEVICE.
+#[tactic(auto, using(crate::proofs::MachineRuns::Disk::identify))]
+pub fn identify()
+    ensures example { Identify }
+{}
+
+/// Which disks there are.
+#[tactic(auto, using(crate::proofs::MachineRuns::Disk::lengths))]
+pub fn lengths()
+    ensures example { Lengths }
+{}
+
+/// The ports of the disk, by width.
+#[tactic(auto, using(crate::proofs::MachineRuns::Disk::disk_ports))]
+pub fn disk_ports()
+    ensures example { DiskPorts }
+{}

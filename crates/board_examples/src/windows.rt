@@ -1,0 +1,15 @@
+//! Shadow windows by the kind of access, and looks in SMM.
+
+ghost use Rattle.board_examples.specs.Windows.{WindowsByKind, LookInSmm};
+
+/// Windows that are open for some kinds of access.
+#[tactic(auto, using(crate::proofs::WindowRuns::windows_by_kind_runs))]
+pub fn windows_by_kind()
+    ensures history { WindowsByKind }
+{}
+
+/// A look at SMRAM in SMM.
+#[tactic(auto, using(crate::proofs::WindowRuns::look_in_smm_runs))]
+pub fn look_in_smm()
+    ensures history { LookInSmm }
+{}

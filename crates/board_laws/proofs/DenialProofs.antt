@@ -1,0 +1,239 @@
+-- A denial is given exactly where nobody answers, and where the ROM is written.
+use Rattle.std.proofs.Common.{◌≡◌, ℕ, zero, suc, ◌+◌, ◌-◌, Bool, true, false, not, ◌||◌, ◌&&◌, List, [], ◌∷◌, Option, Some, None, is_some, refl, sym, subst, inl, inr}
+use Rattle.std.specs.Prelude.{◌==◌, if◌then◌else◌, map, option_map, unwrap_or, All}
+use Rattle.std.proofs.lemmas.Bool.{cases_Bool, cond-false, false≢true}
+use Rattle.std.proofs.lemmas.List.Elements.{All-nil, All-cons}
+use Rattle.board_base.specs.declared.access.Width.{Width}
+use Rattle.board_base.specs.declared.access.Kind.{Kind}
+use Rattle.board_base.specs.declared.access.Kind.TheVariants.{Fetch, Read, Write}
+use Rattle.board_base.specs.declared.access.Access.{Access}
+use Rattle.board_base.specs.declared.access.WideAccess.{WideAccess}
+use Rattle.board_base.specs.declared.target.Reg.{Reg}
+use Rattle.board_base.specs.declared.target.Area.{Area}
+use Rattle.board_base.specs.declared.target.Area.TheVariants.{Dram as DramArea, Shadow as ShadowArea, Smram as SmramArea, Rom as RomArea, Card as CardArea, Abort as AbortArea}
+use Rattle.board_base.specs.declared.target.Dev.{Dev}
+use Rattle.board_base.specs.declared.target.Dev.TheVariants.{Confadd, Keyboard, Clock, Ata}
+use Rattle.board_base.specs.declared.target.Target.{Target}
+use Rattle.board_base.specs.declared.target.Target.TheVariants.{Device}
+use Rattle.board_base.specs.declared.target.Denial.{Denial}
+use Rattle.board_base.specs.declared.target.Denial.TheVariants.{Register, NoRegister}
+use Rattle.board_base.specs.Access.{bytes_of}
+use Rattle.board_spec.specs.declared.event.Event.TheVariants.{Memory, Wide, Port, Look as LookAt, Ack, Pulses, Time, Wire, Line, BadSector}
+use Rattle.board_spec.specs.declared.event.Part.{Part}
+use Rattle.board_spec.specs.declared.event.Reply.{Reply}
+use Rattle.board_spec.specs.declared.event.Reply.TheVariants.{Bus}
+use Rattle.board_spec.specs.declared.event.Entry.{Entry}
+use Rattle.board_spec.specs.Setup.{Setup}
+use Rattle.board_spec.specs.Bits.{is_bit}
+use Rattle.board_spec.specs.Ranges.{lies_in}
+use Rattle.board_spec.specs.PortNames.{config_address_port, keyboard_data_port, keyboard_command_port, clock_ports}
+use Rattle.board_spec.specs.RegisterNames.{xbcs, ide_command, idetim, idetim_high}
+use Rattle.board_spec.specs.Registers.{is_config_port, config_address, config_register, byte_of}
+use Rattle.board_spec.specs.Decode.{Bytes, Window, first_of, line_where, denial_in, denial_of, io_claim, io_shut, command_of}
+use Rattle.board_spec.specs.Ports.{Decoded, is_ata_port, device, nobody, card_port, config_port, byte_device, selected_by, disk_port, other_port, port_target_of}
+use Rattle.board_spec.specs.Stored.{is_write}
+use Rattle.board_spec.specs.WideParts.{longest_at, part_at, parts_from}
+use Rattle.board_spec.specs.Answer.{target_at, memory_target, memory_denial, memory_answer, part_answer, port_answer}
+use Rattle.board_laws.specs.DenialLaws.{IsRefused, IsDeniedExactly, DeniedOnBus, DeniedInParts}
+
+-- ---- targets that answer, and those that do not
+
+answered : (writes : Bool) (target : Target) → ¬ IsRefused writes target → IsDeniedExactly writes target None
+answered writes target served =
+    record { wherever = λ refused. absurd (served refused); only = λ denied. absurd (false≢true denied) }
+
+refused :
+    (writes : Bool) (target : Target) (denial : Denial) → IsRefused writes target →
+    IsDeniedExactly writes target (Some denial)
+refused writes target denial is = record { wherever = λ r. refl; only = λ denied. is }
+
+-- ---- memory
+
+denied_area :
+    (setup : Setup) (area : Area) (addr : ℕ) (kind : Kind) (abort rom : Denial) →
+    IsDeniedExactly (is_write kind) (target_at setup area addr) (denial_in area kind abort rom)
+denied_area setup (DramArea row) addr kind abort rom = answered (is_write kind) _ (λ r. r)
+denied_area setup (ShadowArea row) addr kind abort rom = answered (is_write kind) _ (λ r. r)
+denied_area setup SmramArea addr kind abort rom = answered (is_write kind) _ (λ r. r)
+denied_area setup RomArea addr Fetch abort rom = answered false _ (λ r. false≢true r)
+denied_area setup RomArea addr Read abort rom = answered false _ (λ r. false≢true r)
+denied_area setup RomArea addr Write abort rom = refused true _ rom refl
+denied_area setup (CardArea dev base) addr kind abort rom = answered (is_write kind) _ (λ r. r)
+denied_area setup AbortArea addr kind abort rom = refused (is_write kind) _ abort tt
+
+denied_memory :
+    (setup : Setup) (before : List Entry) (access : Access) →
+    IsDeniedExactly (is_write access.kind) (memory_target setup before access) (memory_denial setup before access)
+unfolding denial_of
+denied_memory setup before access = denied_area setup _ access.addr access.kind _ _
+
+-- ---- ports
+
+abbrev IsRight : Decoded → Type 0
+IsRight decoded = IsDeniedExactly false decoded.target decoded.denial
+
+right_device : (dev : Dev) → IsRight (device dev)
+right_device dev = answered false (Device dev) (λ r. r)
+
+right_unclaimed :
+    (port : ℕ) (claim : Option Window) (denial : Denial) →
+    IsRight (unwrap_or (option_map (card_port port) claim) (nobody denial))
+right_unclaimed port None denial = refused false _ denial tt
+right_unclaimed port (Some window) denial = answered false _ (λ r. r)
+
+right_choice : (test : Bool) (a b : Decoded) → IsRight a → IsRight b → IsRight (if test then a else b)
+right_choice true a b is other = is
+right_choice false a b is other = other
+
+right_config : (address : ℕ) (reg : Option Reg) → IsRight (config_port address reg)
+right_config address None = refused false _ _ tt
+right_config address (Some reg) = answered false _ (λ r. r)
+
+right_selected :
+    (select : ℕ) (dev : Dev) (setup : Setup) (bytes : Bytes) (port : ℕ) →
+    IsRight (selected_by select dev setup bytes port)
+right_selected select dev setup bytes port =
+    right_choice (is_bit (bytes xbcs) select) _ _ (right_device dev)
+    (right_unclaimed port (io_claim setup bytes port) _)
+
+right_disk : (setup : Setup) (bytes : Bytes) (disk : Bool) (port : ℕ) → IsRight (disk_port setup bytes disk port)
+right_disk setup bytes false port = right_unclaimed port (io_claim setup bytes port) _
+right_disk setup bytes true port =
+    right_choice (not (is_bit (bytes ide_command) 0)) _ _
+    (right_unclaimed port (io_claim setup bytes port) (Register ide_command))
+    (right_choice (not (is_bit (bytes idetim_high) 7)) _ _
+    (right_unclaimed port (io_claim setup bytes port) (Register idetim)) (right_device Ata))
+
+-- a line of the table that holds gives what is right
+abbrev IsRightLine : Option Decoded → Type 0
+IsRightLine None = Unit {0}
+IsRightLine (Some decoded) = IsRight decoded
+
+right_line : (test : Bool) (decoded : Decoded) → IsRight decoded → IsRightLine (line_where test decoded)
+right_line true decoded is = is
+right_line false decoded is = tt
+
+right_byte : (test : Bool) (dev : Option Dev) → IsRightLine (if test then option_map device dev else None)
+right_byte false dev = tt
+right_byte true None = tt
+right_byte true (Some dev) = right_device dev
+
+right_first :
+    (line : Option Decoded) (later : List (Option Decoded)) (otherwise : Decoded) → IsRightLine line →
+    IsRight (first_of later otherwise) → IsRight (first_of (line ∷ later) otherwise)
+right_first None later otherwise is rest = rest
+right_first (Some decoded) later otherwise is rest = is
+
+right_table :
+    (a b c d e f : Option Decoded) (otherwise : Decoded) →
+    IsRightLine a → IsRightLine b → IsRightLine c → IsRightLine d → IsRightLine e → IsRightLine f → IsRight otherwise →
+    IsRight (first_of (a ∷ b ∷ c ∷ d ∷ e ∷ f ∷ []) otherwise)
+right_table a b c d e f otherwise ra rb rc rd re rf rest =
+    right_first a (b ∷ c ∷ d ∷ e ∷ f ∷ []) otherwise ra
+    (right_first b (c ∷ d ∷ e ∷ f ∷ []) otherwise rb
+    (right_first c (d ∷ e ∷ f ∷ []) otherwise rc
+    (right_first d (e ∷ f ∷ []) otherwise rd
+    (right_first e (f ∷ []) otherwise re (right_first f [] otherwise rf rest)))))
+
+denied_port :
+    (setup : Setup) (bytes : Bytes) (address : ℕ) (disk : Bool) (port : ℕ) (width : Width) →
+    IsRight (port_target_of setup bytes address disk port width)
+unfolding port_target_of
+denied_port setup bytes address disk port width =
+    let is_address : Bool = port == config_address_port && bytes_of width == 4 in
+    let is_keyboard : Bool = (port == keyboard_data_port || port == keyboard_command_port) && bytes_of width == 1 in
+    let is_clock : Bool = lies_in clock_ports port && bytes_of width == 1 in
+    right_table
+    (line_where is_address (device Confadd))
+    (line_where (is_config_port port) (config_port address (config_register setup address port)))
+    (if bytes_of width == 1 then option_map device (byte_device port) else None)
+    (line_where is_keyboard (selected_by 1 Keyboard setup bytes port))
+    (line_where is_clock (selected_by 0 Clock setup bytes port))
+    (line_where (is_ata_port port (bytes_of width)) (disk_port setup bytes disk port))
+    (other_port setup bytes port)
+    (right_line is_address (device Confadd) (right_device Confadd))
+    (right_line (is_config_port port) _ (right_config address (config_register setup address port)))
+    (right_byte (bytes_of width == 1) (byte_device port))
+    (right_line is_keyboard _ (right_selected 1 Keyboard setup bytes port))
+    (right_line is_clock _ (right_selected 0 Clock setup bytes port))
+    (right_line (is_ata_port port (bytes_of width)) _ (right_disk setup bytes disk port))
+    (right_unclaimed port (io_claim setup bytes port)
+    (unwrap_or (option_map command_of (io_shut setup bytes port)) NoRegister))
+
+-- ---- replies
+
+abbrev OfBus : (Target → Option Denial → Type 0) → Reply → Type 0
+OfBus P (Bus value target denial) = P target denial
+OfBus P _ = Unit {0}
+
+outside_right :
+    (writes : Bool) (dev : Dev) (reply : Reply) (value : Option ℕ) → reply ≡ Bus value (Device dev) None →
+    OfBus (IsDeniedExactly writes) reply
+outside_right writes dev reply value is =
+    subst (OfBus (IsDeniedExactly writes)) (sym is) (answered writes (Device dev) (λ r. r))
+
+pub denied_on_bus : DeniedOnBus
+unfolding memory_answer port_answer
+denied_on_bus setup before (Memory access) value target denial answer =
+    subst (OfBus (IsDeniedExactly (is_write access.kind))) (sym answer) (denied_memory setup before access)
+denied_on_bus setup before (Wide access) value target denial answer = absurd answer
+denied_on_bus setup before (Port access) value target denial answer =
+    subst (OfBus (IsDeniedExactly false)) (sym answer)
+    (denied_port setup (byte_of setup before) (config_address before) (is_some setup.disk) access.port access.width)
+denied_on_bus setup before (LookAt kind addr smm) value target denial answer = absurd answer
+denied_on_bus setup before Ack value target denial answer = outside_right false _ (Bus value target denial) _ answer
+denied_on_bus setup before (Pulses count) value target denial answer =
+    outside_right false _ (Bus value target denial) _ answer
+denied_on_bus setup before (Time moment) value target denial answer =
+    outside_right false _ (Bus value target denial) _ answer
+denied_on_bus setup before (Wire dev on) value target denial answer =
+    outside_right false _ (Bus value target denial) _ answer
+denied_on_bus setup before (Line irq on) value target denial answer =
+    outside_right false _ (Bus value target denial) _ answer
+denied_on_bus setup before (BadSector sector) value target denial answer =
+    outside_right false _ (Bus value target denial) _ answer
+
+abbrev IsRightPart : Bool → Part → Type 0
+IsRightPart writes part = IsDeniedExactly writes part.target part.denial
+
+denied_part :
+    (setup : Setup) (before : List Entry) (part : Access) →
+    IsRightPart (is_write part.kind) (part_answer setup before part)
+unfolding part_answer
+denied_part setup before part = denied_memory setup before part
+
+denied_from :
+    (setup : Setup) (before : List Entry) (access : WideAccess) (most addr left : ℕ) →
+    All (IsRightPart (is_write access.kind)) (map (part_answer setup before) (parts_from access most addr left))
+unfolding parts_from
+denied_from setup before access zero addr left = All-nil (IsRightPart (is_write access.kind))
+denied_from setup before access (suc most) addr left =
+    let width : Width = longest_at addr left in
+    let part : Access = part_at access addr width in
+    let later : List Access = parts_from access most (addr + bytes_of width) (left - bytes_of width) in
+    elim (cases_Bool (left == 0)) [
+      | inl none ↦ rw none (All-nil (IsRightPart (is_write access.kind)))
+      | inr some ↦
+          subst (λ (parts : List Access). All (IsRightPart (is_write access.kind))
+          (map (part_answer setup before) parts))
+          (sym (cond-false (left == 0) [] (part ∷ later) some))
+          (All-cons (IsRightPart (is_write access.kind)) (part_answer setup before part)
+          (map (part_answer setup before) later)
+          (denied_part setup before part)
+          (denied_from setup before access most (addr + bytes_of width) (left - bytes_of width)))
+    ]
+
+pub denied_in_parts : DeniedInParts
+unfolding memory_answer port_answer
+denied_in_parts setup before (Wide access) value parts answer =
+    subst (All (IsRightPart (is_write access.kind))) (sym answer.each)
+    (denied_from setup before access 4 access.addr access.bytes)
+denied_in_parts setup before (Memory access) value parts answer = cc
+denied_in_parts setup before (Port access) value parts answer = cc
+denied_in_parts setup before (LookAt kind addr smm) value parts answer = absurd answer
+denied_in_parts setup before Ack value parts answer = cc
+denied_in_parts setup before (Pulses count) value parts answer = cc
+denied_in_parts setup before (Time moment) value parts answer = cc
+denied_in_parts setup before (Wire dev on) value parts answer = cc
+denied_in_parts setup before (Line irq on) value parts answer = cc
+denied_in_parts setup before (BadSector sector) value parts answer = cc

@@ -1,0 +1,57 @@
+-- An entry leaves the devices that its reply does not name, and with their drivers the lines.
+use Rattle.std.proofs.Common.{◌≡◌, Bool, false, List, ◌∷◌, Option, ◌∙◌, ap, inl, inr}
+use Rattle.std.specs.Prelude.{unwrap_or}
+use Rattle.std.proofs.lemmas.Bool.{cond-false}
+use Rattle.device_spec.specs.Pit.{out_of}
+use Rattle.board_spec.specs.declared.event.Entry.{Entry}
+use Rattle.board_spec.specs.Registers.{is_hard_reset}
+use Rattle.board_spec.specs.Devices.{wire_of, irq_of, triggers_of, system_of, timer_of, timer_after, clock_of, disk_with}
+use Rattle.board_laws.specs.DeviceLaws.{OthersStay, LinesStay}
+use Rattle.board_spec.proofs.DeviceAlone.{triggers-alone, system-alone, timer-alone, clock-alone, disk-alone, wire-alone, line-alone, out-alone, levels-same}
+
+pub others_stay : OthersStay
+unfolding timer_of system_of triggers_of clock_of disk_with wire_of irq_of
+others_stay setup before entry next soft = record {
+  timer = λ apart no_gate.
+      cond-false (is_hard_reset before entry.event) _ _ soft
+      ∙ timer-alone setup before entry.event entry.reply (timer_of before) next.answer apart no_gate;
+  system = λ apart.
+      cond-false (is_hard_reset before entry.event) _ _ soft
+      ∙ system-alone entry.event entry.reply (system_of before) apart;
+  triggers = λ apart.
+      cond-false (is_hard_reset before entry.event) _ _ soft
+      ∙ triggers-alone entry.event entry.reply (triggers_of before) apart;
+  clock = λ apart.
+      cond-false (is_hard_reset before entry.event) _ _ soft
+      ∙ clock-alone setup before entry.event entry.reply (clock_of before) next.answer apart;
+  disk = λ apart bytes.
+      cond-false (is_hard_reset before entry.event) _ _ soft
+      ∙ disk-alone setup before entry.event entry.reply (disk_with bytes before) next.answer apart;
+  wires = λ apart dev.
+      ap (λ (set : Option Bool). unwrap_or set (wire_of before dev))
+      (wire-alone setup before entry.event entry.reply dev next.answer apart);
+  lines = λ apart line.
+      ap (λ (set : Option Bool). unwrap_or set (irq_of before line))
+      (line-alone setup before entry.event entry.reply line next.answer apart);
+}
+
+out-stays :
+    (before : List Entry) (entry : Entry) → is_hard_reset before entry.event ≡ false →
+    out_of 0 (timer_after entry.event entry.reply (timer_of before)) ≡ out_of 0 (timer_of before) →
+    out_of 0 (timer_of (entry ∷ before)) ≡ out_of 0 (timer_of before)
+unfolding timer_of
+out-stays before entry soft same = ap (out_of 0) (cond-false (is_hard_reset before entry.event) _ _ soft) ∙ same
+
+pub lines_stay : LinesStay
+lines_stay setup before entry next soft apart routes =
+    let others = others_stay setup before entry next soft in
+    levels-same setup (entry ∷ before) before (timer_of (entry ∷ before)) (timer_of before) (record {
+      out =
+          out-stays before entry soft
+          (out-alone setup before entry.event entry.reply (timer_of before) next.answer (λ e. apart (inl e)));
+      clock = others.clock (λ e. apart (inr (inl e)));
+      disk = others.disk (λ e. apart (inr (inr (inl e))));
+      wires = others.wires (λ e. apart (inr (inr (inr e))));
+      lines = others.lines (λ e. apart (inr (inr (inr e))));
+      routes = routes;
+    })

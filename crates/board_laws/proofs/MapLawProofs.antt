@@ -1,0 +1,75 @@
+-- Histories with the same map writes have the same map.
+use Rattle.std.proofs.Common.{◌≡◌, ℕ, ◌+◌, ◌-◌, ◌∙◌, Bool, true, false, List, sym, ap, inl, inr}
+use Rattle.board_base.specs.declared.access.Kind.{Kind}
+use Rattle.board_base.specs.declared.access.Kind.TheVariants.{Fetch, Read, Write}
+use Rattle.board_base.specs.declared.target.Area.{Area}
+use Rattle.board_spec.specs.declared.map_change.MapChange.{MapChange}
+use Rattle.board_spec.specs.Setup.{Setup}
+use Rattle.board_spec.specs.Registers.{byte_of}
+use Rattle.board_spec.specs.MapWrites.{registers_after}
+use Rattle.board_spec.specs.Decode.{Bytes, area_of}
+use Rattle.board_spec.specs.FlatMap.{MapRange, IsFlatMapOf, IsSpan, six_areas}
+use Rattle.board_spec.specs.Laws.{SameMapBytes}
+use Rattle.board_laws.specs.MapLaws.{MapWritesDecideMap}
+use Rattle.board_spec.proofs.MapWriteLaws.{map_writes_decide}
+use Rattle.board_spec.proofs.MapByteLaws.{map_bytes_decide}
+
+-- two states of the registers under which the same areas answer
+abbrev SameAreas : Setup → (bytes other : Bytes) → Type 0
+SameAreas setup bytes other =
+    (addr : ℕ) (kind : Kind) (smm : Bool) → area_of setup bytes addr kind smm ≡ area_of setup other addr kind smm
+
+same_span :
+    (setup : Setup) (bytes other : Bytes) → SameAreas setup bytes other →
+    (addr : ℕ) (kind : Kind) (smm : Bool) (lo hi : ℕ) (area : Area) →
+    IsSpan setup bytes addr kind smm lo hi area → IsSpan setup other addr kind smm lo hi area
+same_span setup bytes other same addr kind smm lo hi area span = record {
+  above = span.above;
+  below = span.below;
+  last = span.last;
+  same = λ x from to. sym (same x kind smm) ∙ span.same x from to;
+  begins = elim span.begins [ inl first ↦ inl first | inr apart ↦ inr (λ e. apart (same (lo - 1) kind smm ∙ e)) ];
+  ends = elim span.ends [ inl last ↦ inl last | inr apart ↦ inr (λ e. apart (same (hi + 1) kind smm ∙ e)) ];
+}
+
+same_six :
+    (setup : Setup) (bytes other : Bytes) → SameAreas setup bytes other → (addr : ℕ) →
+    six_areas setup bytes addr ≡ six_areas setup other addr
+same_six setup bytes other same addr =
+    let a = same addr Fetch false in
+    let b = same addr Read false in
+    let c = same addr Write false in
+    let d = same addr Fetch true in
+    let e = same addr Read true in
+    let f = same addr Write true in
+    cc
+
+same_flat_map :
+    (setup : Setup) (bytes other : Bytes) → SameAreas setup bytes other → (ranges : List MapRange) →
+    IsFlatMapOf setup bytes ranges → IsFlatMapOf setup other ranges
+same_flat_map setup bytes other same ranges map = record {
+  tiles = map.tiles;
+  right = λ k d below.
+      record {
+        at_each = λ addr from to. sym (same_six setup bytes other same addr)
+            ∙ (map.right k d below).at_each addr from to;
+      };
+  least = map.least;
+}
+
+pub map_writes_decide_map : MapWritesDecideMap
+map_writes_decide_map setup history other cards writes =
+    let bytes : SameMapBytes setup (byte_of setup history) (byte_of setup other) =
+    λ reg is.
+    map_writes_decide setup history reg is
+    ∙ ap (λ (changes : List MapChange). registers_after setup changes reg) writes
+    ∙ sym (map_writes_decide setup other reg is) in
+    let areas : SameAreas setup (byte_of setup history) (byte_of setup other) =
+    λ addr kind smm.
+    (map_bytes_decide setup (byte_of setup history) (byte_of setup other) cards bytes addr kind smm).0 in
+    record {
+      map_bytes = bytes;
+      spans = λ addr kind smm lo hi area span.
+          same_span setup (byte_of setup history) (byte_of setup other) areas addr kind smm lo hi area span;
+      flat_map = λ ranges map. same_flat_map setup (byte_of setup history) (byte_of setup other) areas ranges map;
+    }

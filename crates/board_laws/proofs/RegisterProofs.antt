@@ -1,0 +1,119 @@
+-- Only an entry whose reply names a register changes registers in configuration space.
+use Rattle.std.proofs.Common.{◌≡◌, ℕ, ◌≤◌, Bool, true, false, ◌&&◌, List, ◌∷◌, Option, Some, None, is_some, refl, sym, ◌∙◌, ap, subst, inl, inr, arith}
+use Rattle.std.specs.Prelude.{◌==◌, option_map}
+use Rattle.std.proofs.lemmas.Bool.{cases_Bool, cond-true, cond-false, and_parts}
+use Rattle.std.proofs.lemmas.Bool.Decides.{nat_tests}
+use Rattle.board_base.specs.declared.access.Width.{Width}
+use Rattle.board_base.specs.declared.access.Width.TheVariants.{One, Two, Four}
+use Rattle.board_base.specs.declared.access.PortAccess.{PortAccess}
+use Rattle.board_base.specs.declared.target.Reg.{Reg}
+use Rattle.board_base.specs.Access.{bytes_of}
+use Rattle.board_spec.specs.declared.event.Event.{Event}
+use Rattle.board_spec.specs.declared.event.Event.TheVariants.{Port}
+use Rattle.board_spec.specs.declared.event.Reply.{Reply}
+use Rattle.board_spec.specs.declared.event.Entry.{Entry}
+use Rattle.board_spec.specs.declared.map_change.MapChange.{MapChange}
+use Rattle.board_spec.specs.declared.map_change.MapChange.TheVariants.{Store, Reset}
+use Rattle.board_spec.specs.Setup.{Setup}
+use Rattle.board_spec.specs.PortNames.{config_address_port}
+use Rattle.board_spec.specs.Registers.{is_hard_reset, is_config_port, config_register, config_store, config_address, covers, byte_with, byte_of}
+use Rattle.board_spec.specs.Decode.{Bytes, first_of, line_where}
+use Rattle.board_spec.specs.Ports.{Decoded, config_port, port_target_of}
+use Rattle.board_spec.specs.Answer.{port_answer, IsAnswer}
+use Rattle.board_laws.specs.RegisterLaws.{IsNear, TargetReaches, Reaches, RegistersStay}
+
+width_most : (width : Width) → bytes_of width ≤ 4
+width_most One = omega arith
+width_most Two = omega arith
+width_most Four = omega arith
+
+near_of : (named reg : Reg) (width : Width) → covers named width reg ≡ true → IsNear named reg
+near_of named reg width inside =
+    let most : bytes_of width ≤ 4 = width_most width in
+    record {
+      dev = grind (arith, nat_tests);
+      fun = grind (arith, nat_tests);
+      from = grind (arith, nat_tests);
+      below = grind (arith, nat_tests);
+    }
+
+-- what a store does not reach stays
+stored_elsewhere :
+    (setup : Setup) (named reg : Reg) (width : Width) (value old : ℕ) → ¬ IsNear named reg →
+    byte_with setup (Some (Store named width value)) reg old ≡ old
+stored_elsewhere setup named reg width value old far =
+    elim (cases_Bool (covers named width reg)) [
+      | inr outside ↦ cond-false (covers named width reg) _ old outside
+      | inl inside ↦ absurd (far (near_of named reg width inside))
+    ]
+
+-- the second line of the table of ports is the configuration ports'
+second_line :
+    {X : Type 0} (first second : Bool) (x y otherwise : X) (later : List (Option X)) → first ≡ false →
+    second ≡ true → first_of (line_where first x ∷ line_where second y ∷ later) otherwise ≡ y
+second_line first second x y otherwise later no_first is_second = rw (no_first, is_second) refl
+
+not_the_address : (port size : ℕ) → is_config_port port ≡ true → (port == config_address_port && size == 4) ≡ false
+not_the_address port size is = grind (arith, nat_tests)
+
+decoded-config :
+    (setup : Setup) (bytes : Bytes) (address : ℕ) (disk : Bool) (port : ℕ) (width : Width) →
+    is_config_port port ≡ true →
+    port_target_of setup bytes address disk port width ≡ config_port address (config_register setup address port)
+unfolding port_target_of
+decoded-config setup bytes address disk port width is =
+    second_line (port == config_address_port && bytes_of width == 4) (is_config_port port) _ _ _ _
+    (not_the_address port (bytes_of width) is) is
+
+-- an access to a configuration port that names a register
+answer_reaches :
+    (setup : Setup) (before : List Entry) (access : PortAccess) (named reg : Reg) →
+    is_config_port access.port ≡ true → config_register setup (config_address before) access.port ≡ Some named →
+    IsNear named reg → Reaches (port_answer setup before access) reg
+unfolding port_answer
+answer_reaches setup before access named reg is found near =
+    subst (λ (decoded : Decoded). TargetReaches decoded.target reg)
+    (sym (decoded-config setup (byte_of setup before) (config_address before)
+    (is_some setup.disk) access.port access.width is ∙ ap (config_port (config_address before)) found)) near
+
+store_stays :
+    (setup : Setup) (before : List Entry) (access : PortAccess) (reg : Reg) (old : ℕ) (found : Option Reg) →
+    is_config_port access.port ≡ true → config_register setup (config_address before) access.port ≡ found →
+    ¬ Reaches (port_answer setup before access) reg →
+    byte_with setup (option_map (λ at. Store at access.width access.value) found) reg old ≡ old
+store_stays setup before access reg old None is found far = refl
+store_stays setup before access reg old (Some named) is found far =
+    stored_elsewhere setup named reg access.width access.value old
+    (λ near. far (answer_reaches setup before access named reg is found near))
+
+access_stays :
+    (setup : Setup) (before : List Entry) (access : PortAccess) (reg : Reg) (old : ℕ) →
+    ¬ Reaches (port_answer setup before access) reg →
+    byte_with setup (config_store setup (config_address before) (Port access)) reg old ≡ old
+access_stays setup before access reg old far =
+    elim (cases_Bool (access.write && is_config_port access.port)) [
+      | inr not ↦
+          ap (λ (change : Option MapChange). byte_with setup change reg old)
+          (cond-false (access.write && is_config_port access.port) _ None not)
+      | inl is ↦
+          ap (λ (change : Option MapChange). byte_with setup change reg old)
+          (cond-true (access.write && is_config_port access.port) _ None is)
+          ∙ store_stays setup before access reg old (config_register setup (config_address before) access.port)
+          (and_parts access.write (is_config_port access.port) is).1 refl far
+    ]
+
+event_stays :
+    (setup : Setup) (before : List Entry) (event : Event) (reply : Reply) (reg : Reg) (old : ℕ) →
+    IsAnswer setup before event reply → ¬ Reaches reply reg →
+    byte_with setup (config_store setup (config_address before) event) reg old ≡ old
+event_stays setup before (Port access) reply reg old answer far =
+    access_stays setup before access reg old
+    (λ reaches. far (subst (λ (r : Reply). Reaches r reg) (sym answer) reaches))
+event_stays setup before event reply reg old answer far = refl
+
+pub registers_stay : RegistersStay
+unfolding byte_of
+registers_stay setup before entry reg next soft far =
+    ap (λ (change : Option MapChange). byte_with setup change reg (byte_of setup before reg))
+    (cond-false (is_hard_reset before entry.event) (Some Reset) _ soft)
+    ∙ event_stays setup before entry.event entry.reply reg (byte_of setup before reg) next.answer far

@@ -1,0 +1,192 @@
+-- A hard reset puts registers and devices in their reset state, and keeps what is stored.
+use Rattle.std.proofs.Common.{◌≡◌, ℕ, ◌+◌, ◌*◌, Bool, true, false, not, ◌||◌, ◌&&◌, List, ◌∷◌, Option, Some, None, is_some, take, drop, refl, sym, ◌∙◌, ap, inl, inr}
+use Rattle.std.specs.Prelude.{◌==◌, unwrap_or}
+use Rattle.std.proofs.lemmas.Bool.{cases_Bool, cond-true, cond-false, and_parts, eqb-true, false≢true}
+use Rattle.board_base.specs.declared.access.Width.{Width}
+use Rattle.board_base.specs.declared.access.PortAccess.{PortAccess}
+use Rattle.board_base.specs.declared.target.Dev.TheVariants.{Reset as ResetPort}
+use Rattle.board_base.specs.declared.target.Target.{Target}
+use Rattle.board_base.specs.declared.target.Target.TheVariants.{Device}
+use Rattle.board_base.specs.Access.{bytes_of}
+use Rattle.device_spec.specs.Elcr.{Triggers, triggers_at_reset}
+use Rattle.device_spec.specs.Levels.{Levels, has, no_levels, levels_where}
+use Rattle.device_spec.specs.Pic.{Chip, chip_at_reset, chip_after_inputs, latches_after}
+use Rattle.device_spec.specs.Pair.{Pair, pair_at_reset, master_inputs, pair_after_lines}
+use Rattle.device_spec.proofs.Levels.{levels_where-same, has-levels_where}
+use Rattle.board_spec.specs.declared.event.Event.{Event}
+use Rattle.board_spec.specs.declared.event.Event.TheVariants.{Port, Wire, Line, Pulses}
+use Rattle.board_spec.specs.declared.event.Reply.{Reply}
+use Rattle.board_spec.specs.declared.event.Entry.{Entry}
+use Rattle.board_spec.specs.declared.map_change.MapChange.{MapChange}
+use Rattle.board_spec.specs.declared.map_change.MapChange.TheVariants.{Reset}
+use Rattle.board_spec.specs.Setup.{Setup}
+use Rattle.board_spec.specs.PortNames.{reset_control_port}
+use Rattle.board_spec.specs.Registers.{control_written, is_hard_value, resets_hard, control_after, is_hard_reset, reset_control, config_address, byte_with, byte_of}
+use Rattle.board_spec.specs.Stored.{Cell, port_put, entry_put}
+use Rattle.board_spec.specs.Decode.{Bytes}
+use Rattle.board_spec.specs.Ports.{Decoded, device, port_target_of}
+use Rattle.board_spec.specs.Devices.{wire_set, line_set, wire_of, irq_of, triggers_of, system_of, timer_of, clock_of, disk_with}
+use Rattle.board_spec.specs.Interrupts.{levels_of, elcr_of, pair_stepped, pair_reset_or_after, pair_of}
+use Rattle.board_spec.specs.Answer.{port_answer, IsAnswer}
+use Rattle.board_laws.specs.ResetLaws.{HardResetResets, HardResetKeeps}
+use Rattle.board_laws.proofs.StoredLaws.{stored-left}
+
+-- ---- the registers of the ports
+
+reset_value :
+    (control : ℕ) (written : Option ℕ) → resets_hard control written ≡ true → control_after control written ≡ 0
+reset_value control None hard = absurd (false≢true hard)
+reset_value control (Some value) hard = cond-true (is_hard_value control value) 0 _ hard
+
+-- ---- the pair
+
+no_rise : (level : Bool) → ((false || (level && not level)) && not (level && not level)) ≡ false
+no_rise true = refl
+no_rise false = refl
+
+no_latches : (inputs : Levels) → latches_after no_levels inputs inputs ≡ no_levels
+no_latches inputs =
+    levels_where-same _ (λ level. false)
+    (λ level small. rw (has-levels_where (λ l. false) level small) (no_rise (has inputs level)))
+
+chip-reset :
+    (has_slave : Bool) (inputs : Levels) →
+    chip_after_inputs (chip_at_reset has_slave inputs) inputs no_levels ≡ chip_at_reset has_slave inputs
+chip-reset has_slave inputs =
+    ap (λ (l : Levels). record
+    (chip_at_reset has_slave inputs) { latches = l; inputs = inputs; triggers = no_levels }) (no_latches inputs)
+
+pair_made : Chip → Chip → Pair
+pair_made master slave = record { master = master; slave = slave }
+
+-- no chip is ready after a reset, so that the slave's INT is 0
+pair-reset : (levels : List Bool) → pair_after_lines (pair_at_reset levels) levels 0 ≡ pair_at_reset levels
+unfolding levels_where pair_made
+pair-reset levels =
+    ap (λ (master : Chip). pair_made master
+    (chip_after_inputs (chip_at_reset false (drop 8 levels)) (drop 8 levels) no_levels))
+    (chip-reset true (master_inputs (take 8 levels)))
+    ∙ ap (pair_made (chip_at_reset true (master_inputs (take 8 levels)))) (chip-reset false (drop 8 levels))
+
+-- a hard reset is no event of pulses
+stepped-hard :
+    (setup : Setup) (before : List Entry) (entry : Entry) (event : Event) (pair : Pair) →
+    is_hard_reset before event ≡ true →
+    pair_stepped setup entry before event pair
+    ≡ pair_after_lines (pair_reset_or_after setup entry before pair) (levels_of setup (entry ∷ before))
+    (elcr_of (entry ∷ before))
+stepped-hard setup before entry (Pulses count) pair hard = absurd (false≢true hard)
+stepped-hard setup before entry event pair hard = refl
+
+triggers-reset :
+    (before : List Entry) (entry : Entry) → is_hard_reset before entry.event ≡ true →
+    triggers_of (entry ∷ before) ≡ triggers_at_reset
+unfolding triggers_of
+triggers-reset before entry hard = cond-true (is_hard_reset before entry.event) triggers_at_reset _ hard
+
+pair-hard :
+    (setup : Setup) (before : List Entry) (entry : Entry) → is_hard_reset before entry.event ≡ true →
+    pair_of setup (entry ∷ before) ≡ pair_at_reset (levels_of setup (entry ∷ before))
+unfolding pair_of
+pair-hard setup before entry hard =
+    let levels : List Bool = levels_of setup (entry ∷ before) in
+    stepped-hard setup before entry entry.event (pair_of setup before) hard
+    ∙ ap (λ (pair : Pair). pair_after_lines pair levels (elcr_of (entry ∷ before)))
+    (cond-true (is_hard_reset before entry.event) (pair_at_reset levels) _ hard)
+    ∙ ap (λ (triggers : Triggers). pair_after_lines (pair_at_reset levels) levels
+    (triggers.low + 0x100 * triggers.high)) (triggers-reset before entry hard)
+    ∙ pair-reset levels
+
+pub hard_reset_resets : HardResetResets
+unfolding byte_of config_address reset_control system_of timer_of clock_of disk_with
+hard_reset_resets setup before entry hard = record {
+  registers = λ reg.
+      ap (λ (change : Option MapChange). byte_with setup change reg (byte_of setup before reg))
+      (cond-true (is_hard_reset before entry.event) (Some Reset) _ hard);
+  address = cond-true (is_hard_reset before entry.event) 0 _ hard;
+  control = reset_value (reset_control before) (control_written entry.event) hard;
+  triggers = triggers-reset before entry hard;
+  system = cond-true (is_hard_reset before entry.event) _ _ hard;
+  timer = cond-true (is_hard_reset before entry.event) _ _ hard;
+  clock = cond-true (is_hard_reset before entry.event) _ _ hard;
+  disk = λ bytes. cond-true (is_hard_reset before entry.event) _ _ hard;
+  pair = pair-hard setup before entry hard;
+}
+
+-- ---- what stays
+
+-- an event that writes the reset control register
+record WritesControl (access : PortAccess) : Type 0 where
+  pub port : access.port ≡ reset_control_port
+  pub size : bytes_of access.width ≡ 1
+
+writes_control :
+    (before : List Entry) (access : PortAccess) → is_hard_reset before (Port access) ≡ true → WritesControl access
+writes_control before access hard =
+    elim (cases_Bool (access.write && access.port == reset_control_port && bytes_of access.width == 1)) [
+      | inl writes ↦
+          let parts =
+          and_parts (access.write && access.port == reset_control_port) (bytes_of access.width == 1) writes in
+          let first = and_parts access.write (access.port == reset_control_port) parts.0 in
+          record {
+            port = eqb-true access.port reset_control_port first.1;
+            size = eqb-true
+                (bytes_of access.width) 1 parts.1;
+          }
+      | inr not_so ↦
+          absurd (false≢true (sym (ap (resets_hard (reset_control before))
+          (cond-false (access.write && access.port == reset_control_port && bytes_of access.width == 1)
+          (Some access.value) None not_so)) ∙ hard))
+    ]
+
+decoded-reset :
+    (setup : Setup) (bytes : Bytes) (address : ℕ) (disk : Bool) (port : ℕ) (width : Width) →
+    port ≡ reset_control_port → bytes_of width ≡ 1 →
+    port_target_of setup bytes address disk port width ≡ device ResetPort
+unfolding port_target_of
+decoded-reset setup bytes address disk port width is size = rw (is, size) refl
+
+no_put :
+    (access : PortAccess) (target : Target) (cell : Cell) → target ≡ Device ResetPort →
+    port_put access target cell ≡ None
+no_put access target cell is =
+    ap (λ (t : Target). port_put access t cell) is
+    ∙ elim (cases_Bool access.write) [
+      | inl writes ↦ cond-true access.write _ None writes
+      | inr reads ↦ cond-false access.write _ None reads
+    ]
+
+nothing_put :
+    (setup : Setup) (before : List Entry) (event : Event) (reply : Reply) (cell : Cell) →
+    IsAnswer setup before event reply →
+    is_hard_reset before event ≡ true → entry_put event reply cell ≡ None
+unfolding port_answer
+nothing_put setup before (Port access) reply cell answer hard =
+    let is = writes_control before access hard in
+    ap (λ (r : Reply). entry_put (Port access) r cell) answer
+    ∙ no_put access _ cell
+    (ap (λ (decoded : Decoded). decoded.target)
+    (decoded-reset setup (byte_of setup before) (config_address before)
+    (is_some setup.disk) access.port access.width is.port is.size))
+nothing_put setup before event reply cell answer hard = absurd (false≢true hard)
+
+wire-hard :
+    (before : List Entry) (event : Event) (dev : ℕ) → is_hard_reset before event ≡ true → wire_set dev event ≡ None
+wire-hard before (Wire at on) dev hard = absurd (false≢true hard)
+wire-hard before event dev hard = refl
+
+line-hard :
+    (before : List Entry) (event : Event) (line : ℕ) → is_hard_reset before event ≡ true →
+    line_set line event ≡ None
+line-hard before (Line at on) line hard = absurd (false≢true hard)
+line-hard before event line hard = refl
+
+pub hard_reset_keeps : HardResetKeeps
+unfolding wire_of irq_of
+hard_reset_keeps setup before entry next hard = record {
+  cells = λ cell.
+      stored-left entry before cell (nothing_put setup before entry.event entry.reply cell next.answer hard);
+  wires = λ dev. ap (λ (set : Option Bool). unwrap_or set (wire_of before dev)) (wire-hard before entry.event dev hard);
+  lines = λ line.
+      ap (λ (set : Option Bool). unwrap_or set (irq_of before line)) (line-hard before entry.event line hard);
+}

@@ -1,0 +1,73 @@
+-- The bits of the SMRAM register after a write.
+use Rattle.std.proofs.Common.{◌≡◌, ℕ, ◌+◌, ◌-◌, ◌*◌, ◌/◌, ◌%◌, ◌<◌, max, ◌||◌, eqb, cond, inl, inr, arith}
+use Rattle.std.proofs.lemmas.Bool.{cases_eq}
+use Rattle.std.proofs.lemmas.Bool.Decides.{nat_tests}
+use Rattle.board_spec.specs.Bits.{bit}
+use Rattle.board_spec.specs.Registers.{smram_after}
+use Rattle.board_laws.specs.SmramLaw.{SmramByBits}
+
+-- the register made of its four bits
+made : (lock opened closed enabled : ℕ) → ℕ
+made lock opened closed enabled = (1 - lock) * opened * 0x40 + closed * 0x20 + lock * 0x10 + enabled * 0x08 + 0x02
+
+record Made (lock opened closed enabled after : ℕ) : Type 0 where
+  pub reserved : after / 128 % 2 ≡ 0
+  pub locked : after / 16 % 2 ≡ lock
+  pub opened_is : after / 64 % 2 ≡ cond (eqb lock 1) 0 opened
+  pub closed_is : after / 32 % 2 ≡ closed
+  pub enabled_is : after / 8 % 2 ≡ enabled
+  pub base : after % 8 ≡ 2
+
+made-unlocked :
+    (opened closed enabled : ℕ) → opened < 2 → closed < 2 → enabled < 2 →
+    Made 0 opened closed enabled (made 0 opened closed enabled)
+unfolding made
+made-unlocked opened closed enabled o c e = record {
+  reserved = omega arith;
+  locked = omega arith;
+  opened_is = omega arith;
+  closed_is = omega arith;
+  enabled_is = omega arith;
+  base = omega arith;
+}
+
+made-locked :
+    (opened closed enabled : ℕ) → opened < 2 → closed < 2 → enabled < 2 →
+    Made 1 opened closed enabled (made 1 opened closed enabled)
+unfolding made
+made-locked opened closed enabled o c e = record {
+  reserved = omega arith;
+  locked = omega arith;
+  opened_is = omega arith;
+  closed_is = omega arith;
+  enabled_is = omega arith;
+  base = omega arith;
+}
+
+made-bits :
+    (lock opened closed enabled : ℕ) → lock < 2 → opened < 2 → closed < 2 → enabled < 2 →
+    Made lock opened closed enabled (made lock opened closed enabled)
+made-bits lock opened closed enabled l o c e =
+    elim (cases_eq lock 0) [
+      | inl none ↦ rw none (made-unlocked opened closed enabled o c e)
+      | inr some ↦ let one : lock ≡ 1 = omega arith in rw one (made-locked opened closed enabled o c e)
+    ]
+
+one_of : (a b : ℕ) → a < 2 → b < 2 → eqb (max a b) 1 ≡ (eqb a 1 || eqb b 1)
+one_of a b below_a below_b = grind (arith, nat_tests)
+
+pub smram_by_bits : SmramByBits
+unfolding made
+smram_by_bits old written =
+    let lock : ℕ = max (bit old 4) (bit written 4) in
+    let made_of : Made lock (bit written 6) (bit written 5) (bit written 3) (smram_after old written) =
+    made-bits lock (bit written 6) (bit written 5) (bit written 3) (omega arith) (omega arith) (omega arith)
+    (omega arith) in
+    record {
+      reserved = made_of.reserved;
+      opened = rw made_of.locked made_of.opened_is;
+      closed = made_of.closed_is;
+      locked = rw made_of.locked (one_of (bit old 4) (bit written 4) (omega arith) (omega arith));
+      enabled = made_of.enabled_is;
+      base = made_of.base;
+    }

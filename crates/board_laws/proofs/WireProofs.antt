@@ -1,0 +1,132 @@
+-- A card's INTA# and the line to which it is routed.
+use Rattle.std.proofs.Common.{◌≡◌, ℕ, ◌-◌, ◌%◌, ◌≤◌, ◌<◌, inl, inr, Bool, true, false, ◌||◌, ◌&&◌, List, get_or, Option, Some, None, refl, sym, ◌∙◌, ap, subst, arith}
+use Rattle.std.specs.Prelude.{◌==◌}
+use Rattle.std.proofs.lemmas.Bool.{cases_Bool, and_from, and_parts, eq-eqb, eqb-true, false≢true}
+use Rattle.device_spec.specs.Routing.{drives, line_of_route, is_line_driven}
+use Rattle.board_spec.specs.declared.event.Entry.{Entry}
+use Rattle.board_spec.specs.Setup.{Setup}
+use Rattle.board_spec.specs.RegisterNames.{pirq}
+use Rattle.board_spec.specs.Registers.{byte_of}
+use Rattle.board_spec.specs.Devices.{wire_of, timer_of}
+use Rattle.board_spec.specs.Interrupts.{own_level, level_with, levels_with, levels_of, pirq_level, pirq_levels, routes_of}
+use Rattle.board_laws.specs.DeviceLaws.{SomeWire, WireReachesLine, LineHasDriver}
+use Rattle.board_laws.proofs.Numbers.{numbers_from, map-number, any-number, Passes, passing}
+
+-- a line of the sixteen
+level-at :
+    (setup : Setup) (history : List Entry) (line : ℕ) → line < 16 →
+    get_or (levels_of setup history) line false ≡ level_with setup history (timer_of history) line
+unfolding levels_with numbers_from
+level-at setup history line below =
+    map-number (level_with setup history (timer_of history)) 0 16 line line false below (omega arith)
+
+-- ---- a card's wire and its PIRQ
+
+wire-pirq :
+    (history : List Entry) (dev : ℕ) → 2 ≤ dev → dev ≤ 9 → wire_of history dev ≡ true →
+    pirq_level history ((dev - 1) % 4) ≡ true
+unfolding numbers_from
+wire-pirq history dev first last high =
+    any-number (λ d. (d - 1) % 4 == (dev - 1) % 4 && wire_of history d) 2 8 dev first (omega arith)
+    (and_from _ _ (eq-eqb ((dev - 1) % 4) ((dev - 1) % 4) refl) high)
+
+pirq-wire :
+    (history : List Entry) (pin : ℕ) → pirq_level history pin ≡ true →
+    Passes (λ dev. (dev - 1) % 4 == pin && wire_of history dev) 2 8
+unfolding numbers_from
+pirq-wire history pin high = passing (λ dev. (dev - 1) % 4 == pin && wire_of history dev) 2 8 high
+
+-- ---- a PIRQ and its route
+
+abbrev pin_drives : Setup → List Entry → ℕ → ℕ → Bool
+pin_drives setup history line pin =
+    drives (line_of_route (get_or (routes_of setup history) pin 0)) (get_or (pirq_levels history) pin false) line
+
+route-at :
+    (setup : Setup) (history : List Entry) (pin : ℕ) → pin < 4 →
+    get_or (routes_of setup history) pin 0 ≡ byte_of setup history (pirq pin)
+unfolding numbers_from
+route-at setup history pin below = map-number (λ k. byte_of setup history (pirq k)) 0 4 pin pin 0 below (omega arith)
+
+pirq-at : (history : List Entry) (pin : ℕ) → pin < 4 → get_or (pirq_levels history) pin false ≡ pirq_level history pin
+unfolding numbers_from
+pirq-at history pin below = map-number (pirq_level history) 0 4 pin pin false below (omega arith)
+
+pin-is :
+    (setup : Setup) (history : List Entry) (line pin : ℕ) → pin < 4 →
+    pin_drives setup history line pin
+    ≡ drives (line_of_route (byte_of setup history (pirq pin))) (pirq_level history pin) line
+pin-is setup history line pin below =
+    ap (λ (route : ℕ). drives (line_of_route route) (get_or (pirq_levels history) pin false) line)
+    (route-at setup history pin below)
+    ∙ ap (λ (level : Bool). drives (line_of_route (byte_of setup history (pirq pin))) level line)
+    (pirq-at history pin below)
+
+drives-routed :
+    (route : Option ℕ) (level : Bool) (line : ℕ) → route ≡ Some line → level ≡ true → drives route level line ≡ true
+drives-routed route level line routed high =
+    ap (λ (r : Option ℕ). drives r level line) routed ∙ and_from level (line == line) high (eq-eqb line line refl)
+
+record Driven (route : Option ℕ) (level : Bool) (line : ℕ) : Type 0 where
+  pub routed : route ≡ Some line
+  pub high : level ≡ true
+
+driven-by : (route : Option ℕ) (level : Bool) (line : ℕ) → drives route level line ≡ true → Driven route level line
+driven-by None level line is = absurd (false≢true is)
+driven-by (Some routed) level line is =
+    let parts = and_parts level (routed == line) is in
+    record { routed = ap (λ (l : ℕ). Some l) (eqb-true routed line parts.1); high = parts.0 }
+
+-- ---- both ways
+
+driven_or : (own driven : Bool) → driven ≡ true → (own || driven) ≡ true
+driven_or true driven is = refl
+driven_or false driven is = is
+
+pub wire_reaches_line : WireReachesLine
+unfolding is_line_driven numbers_from
+wire_reaches_line setup history line dev below wire =
+    let pin : ℕ = (dev - 1) % 4 in
+    let here : pin_drives setup history line pin ≡ true =
+    pin-is setup history line pin (omega arith)
+    ∙ drives-routed (line_of_route (byte_of setup history (pirq pin))) (pirq_level history pin) line wire.routed
+    (wire-pirq history dev wire.first wire.last wire.high) in
+    let driven : is_line_driven (routes_of setup history) (pirq_levels history) line ≡ true =
+    any-number (pin_drives setup history line) 0 4 pin (omega arith) (omega arith) here in
+    level-at setup history line below ∙ driven_or (own_level setup history (timer_of history) line) _ driven
+
+some_wire :
+    (setup : Setup) (history : List Entry) (line : ℕ) →
+    is_line_driven (routes_of setup history) (pirq_levels history) line ≡ true → SomeWire setup history line
+unfolding is_line_driven numbers_from
+some_wire setup history line driven =
+    let pin = passing (pin_drives setup history line) 0 4 driven in
+    let pin_below : pin.number < 4 = let b = pin.below in omega arith in
+    let by = driven-by (line_of_route (byte_of setup history (pirq pin.number))) (pirq_level history pin.number) line
+    (sym (pin-is setup history line pin.number pin_below) ∙ pin.passes) in
+    let wire = pirq-wire history pin.number by.high in
+    let parts = and_parts ((wire.number - 1) % 4 == pin.number) (wire_of history wire.number) wire.passes in
+    let pirq_is : (wire.number - 1) % 4 ≡ pin.number = eqb-true ((wire.number - 1) % 4) pin.number parts.0 in
+    let last : wire.number < 10 = wire.below in
+    record {
+      dev = wire.number;
+      drives = record {
+        first = wire.above;
+        last = omega arith;
+        high = parts.1;
+        routed = subst (λ (k : ℕ). line_of_route (byte_of setup history (pirq k)) ≡ Some line) (sym pirq_is) by.routed;
+      };
+    }
+
+pub line_has_driver : LineHasDriver
+line_has_driver setup history line below high =
+    let level : (own_level setup history (timer_of history) line || is_line_driven (routes_of setup history)
+    (pirq_levels history) line) ≡ true =
+    sym (level-at setup history line below) ∙ high in
+    elim (cases_Bool (own_level setup history (timer_of history) line)) [
+      | inl own ↦ inl own
+      | inr not_own ↦
+          inr (some_wire setup history line
+          (sym (ap (λ (b : Bool). b || is_line_driven (routes_of setup history) (pirq_levels history) line) not_own)
+          ∙ level))
+    ]

@@ -1,0 +1,5 @@
+use Rattle.board_spec.proofs.MergedLemmas.{merged_bits}
+use Rattle.board_laws.proofs.law_merged.Goals as goal
+
+pub returns : goal.returns
+returns c = record { bits = merged_bits }

@@ -1,0 +1,5 @@
+use Rattle.board_laws.proofs.ClockLaws.{shows_the_moment}
+use Rattle.board_laws.proofs.machines.shows_the_moment.Goals as goal
+
+pub returns : goal.returns
+returns c = record { law = shows_the_moment }

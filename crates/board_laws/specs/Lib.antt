@@ -1,0 +1,14 @@
+pub mod StoreLaws
+pub mod SmramLaw
+pub mod SystemPortLaw
+pub mod MapLaws
+pub mod AreaLaws
+pub mod RegisterLaws
+pub mod DenialLaws
+pub mod DeviceLaws
+pub mod ResetLaws
+pub mod RoutingLaws
+pub mod PicLaws
+pub mod PitLaws
+pub mod PitCounts
+pub mod ClockLaws

@@ -1,6 +1,0 @@
-use Rattle.board_spec.proofs.DeviceProofs.{lines_stay}
-use Rattle.board_spec.proofs.LineProofs.{undriven_lines, first_levels}
-use Rattle.board_spec.proofs.laws.devices.law_lines.Goals as goal
-
-pub returns : goal.returns
-returns c = record { stay = lines_stay; undriven = undriven_lines c.reserved_lines_rest.ensures; first = first_levels }

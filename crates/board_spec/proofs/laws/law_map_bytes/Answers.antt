@@ -1,5 +1,0 @@
-use Rattle.board_spec.proofs.MapByteLaws.{map_bytes_decide}
-use Rattle.board_spec.proofs.laws.law_map_bytes.Goals as goal
-
-pub returns : goal.returns
-returns c = record { decided = map_bytes_decide }

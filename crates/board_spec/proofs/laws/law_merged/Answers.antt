@@ -1,5 +1,0 @@
-use Rattle.board_spec.proofs.MergedLemmas.{merged_bits}
-use Rattle.board_spec.proofs.laws.law_merged.Goals as goal
-
-pub returns : goal.returns
-returns c = record { bits = merged_bits }

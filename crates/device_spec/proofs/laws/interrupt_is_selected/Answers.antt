@@ -1,8 +1,0 @@
-use Rattle.device_spec.proofs.PicPlaces.{interrupt-selected, selected-interrupts}
-use Rattle.device_spec.proofs.laws.interrupt_is_selected.Goals as goal
-
-pub returns-clause-only : goal.returns-clause-only
-returns-clause-only c = interrupt-selected
-
-pub returns-clause-wherever : goal.returns-clause-wherever
-returns-clause-wherever c = selected-interrupts

@@ -1,8 +1,0 @@
-use Rattle.device_spec.proofs.PitLatches.{latched_count_stays, latched_count_is_read}
-use Rattle.device_spec.proofs.laws.latched_count_stays.Goals as goal
-
-pub returns-clause-held : goal.returns-clause-held
-returns-clause-held c = latched_count_stays
-
-pub returns-clause-read : goal.returns-clause-read
-returns-clause-read c = latched_count_is_read
