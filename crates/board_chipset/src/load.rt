@@ -7,7 +7,6 @@ ghost use Rattle.board_chipset.specs.Chipset.{IsLeftBy};
 ghost use Rattle.board_chipset.specs.Loads.{WriteAll, WriteClockByte};
 
 use crate::chipset::Chipset;
-use board_devices::law_left_alone;
 use cmos_clock::CLOCK_BYTES;
 use dram_store::PastTheEnd;
 use thiserror::Error;
@@ -27,7 +26,6 @@ impl Chipset {
         ensures left { OnOk result ((history entries : List Entry) → IsLeftBy self.old history
             → WriteAll addr bytes.now entries → IsLeftBy self.new (entries ++ history)) }
     {
-        law_left_alone();
         self.state.stores.dram.load(addr, bytes)
     }
 

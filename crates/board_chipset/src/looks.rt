@@ -9,7 +9,6 @@ ghost use Rattle.board_chipset.specs.Versions.{IsAnswerModulo};
 
 use crate::state::State;
 use board_base::Kind;
-use board_devices::law_left_alone;
 use board_spec::{Look, Reply};
 
 /// The reply to a look: the version of the map, what this kind of access reaches at an address, and the longest
@@ -20,7 +19,6 @@ pub fn look(state: &State, kind: Kind, addr: u32, smm: bool) -> Reply
     ensures board { (setup : Setup) (history : List Entry) (entry : Entry) → IsStateOf setup history state.now
         → entry.event ≡ LookAt kind addr smm → IsStateOf setup (entry ∷ history) state.now }
 {
-    law_left_alone();
     let map = &state.registers.map;
     let span = map.find(addr, kind, smm);
     Reply::Saw(Look {

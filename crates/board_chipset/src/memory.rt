@@ -11,7 +11,6 @@ ghost use Rattle.board_chipset.specs.Kept.{IsState, IsStateOf};
 
 use crate::state::State;
 use board_base::Access;
-use board_devices::law_left_alone;
 use board_spec::Reply;
 use board_stores::{decoded, read, write};
 
@@ -26,7 +25,6 @@ pub fn access(state: &mut State, rom: &[u8], access: &Access) -> Reply
         → IsStateOf setup history state.old → setup.rom ≡ rom.now
         → entry.event ≡ Memory access.now → entry.reply ≡ result → IsStateOf setup (entry ∷ history) state.new }
 {
-    law_left_alone();
     let answer = decoded(state.registers.regs(), rom, access);
     let (target, denial) = (answer.target, answer.denial);
     if access.kind.is_write() {

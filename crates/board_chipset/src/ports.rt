@@ -13,7 +13,6 @@ ghost use Rattle.board_chipset.specs.Ports.{IsEntryOf, Reaching, reached};
 
 use crate::state::State;
 use board_base::{Dev, PortAccess, Reg, Target};
-use board_devices::law_left_alone;
 use board_spec::Reply;
 use board_spec::offset::SOUTH_BRIDGE;
 
@@ -57,7 +56,6 @@ fn read(state: &mut State, target: Target, access: &PortAccess) -> u32
     ensures board { (setup : Setup) (history : List Entry) (entry : Entry) → IsStateOf setup history state.old
         → IsEntryOf setup history access.now target entry → IsStateOf setup (entry ∷ history) state.new }
 {
-    law_left_alone();
     match target {
         Target::Device(dev) => read_device(state, dev, access),
         Target::Config(reg) => state.registers.read(reg, access.width),
@@ -76,7 +74,6 @@ fn read_device(state: &mut State, dev: Dev, access: &PortAccess) -> u32
     ensures board { (setup : Setup) (history : List Entry) (entry : Entry) → IsStateOf setup history state.old
         → IsEntryOf setup history access.now (Device dev) entry → IsStateOf setup (entry ∷ history) state.new }
 {
-    law_left_alone();
     match dev {
         Dev::Confadd => state.registers.address.read(),
         Dev::Reset => u32::from(state.registers.control.read()),
@@ -94,7 +91,6 @@ fn write(state: &mut State, target: Target, access: &PortAccess)
     ensures board { (setup : Setup) (history : List Entry) (entry : Entry) → IsStateOf setup history state.old
         → IsEntryOf setup history access.now target entry → IsStateOf setup (entry ∷ history) state.new }
 {
-    law_left_alone();
     match target {
         Target::Device(dev) => write_device(state, dev, access),
         Target::Config(reg) => write_register(state, reg, access),
@@ -112,7 +108,6 @@ fn write_register(state: &mut State, reg: Reg, access: &PortAccess)
     ensures board { (setup : Setup) (history : List Entry) (entry : Entry) → IsStateOf setup history state.old
         → IsEntryOf setup history access.now (Config reg) entry → IsStateOf setup (entry ∷ history) state.new }
 {
-    law_left_alone();
     state.registers.store(reg, access.width, access.value);
     if reg.dev == SOUTH_BRIDGE {
         state.devices.reroute(&state.registers.south.routes);
@@ -126,7 +121,6 @@ fn write_device(state: &mut State, dev: Dev, access: &PortAccess)
     ensures board { (setup : Setup) (history : List Entry) (entry : Entry) → IsStateOf setup history state.old
         → IsEntryOf setup history access.now (Device dev) entry → IsStateOf setup (entry ∷ history) state.new }
 {
-    law_left_alone();
     match dev {
         Dev::Confadd => state.registers.write_address(access.value),
         Dev::Reset => write_control(state, access),
@@ -144,7 +138,6 @@ fn write_control(state: &mut State, access: &PortAccess)
     ensures board { (setup : Setup) (history : List Entry) (entry : Entry) → IsStateOf setup history state.old
         → IsEntryOf setup history access.now (Device Reset) entry → IsStateOf setup (entry ∷ history) state.new }
 {
-    law_left_alone();
     if state.registers.write_control(access.value as u8) {
         state.devices.reset(&state.registers.south.routes);
     }

@@ -12,7 +12,6 @@ ghost use Rattle.board_chipset.specs.Kept.{IsState, IsStateOf};
 
 use crate::state::State;
 use board_base::WideAccess;
-use board_devices::law_left_alone;
 use board_spec::laws::law_parts;
 use board_spec::{Parts, Reply};
 use board_stores::{Cycle, cycles_of, read_cycles, write_cycles};
@@ -29,7 +28,6 @@ pub fn access(state: &mut State, rom: &[u8], access: &WideAccess) -> Reply
         → IsStateOf setup history state.old → setup.rom ≡ rom.now
         → entry.event ≡ Wide access.now → entry.reply ≡ result → IsStateOf setup (entry ∷ history) state.new }
 {
-    law_left_alone();
     law_parts();
     let cut = cycles_of(state.registers.regs(), rom, access);
     let cycles = cut.as_slice();

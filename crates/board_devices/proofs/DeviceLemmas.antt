@@ -6,6 +6,8 @@ use Rattle.std.proofs.lemmas.Bool.Decides.{nat_tests}
 use Rattle.std.proofs.lemmas.Bool.{cases_eq, cases_Bool, lt-ltb, le-leb}
 use Rattle.std.proofs.lemmas.List.{get_or-replicate, ext_get_or, length-map, get_or-map}
 use Rattle.board_spec.proofs.TableLemmas.{each_below}
+use Rattle.device_spec.proofs.PairLaws.{same-levels}
+use Rattle.board_spec.proofs.PairProofs.{pair_has_seen}
 use Rattle.board_spec.proofs.DeviceAlone.{levels-same}
 use Rattle.board_spec.specs.DeviceLaws.{PairHasSeen}
 use Rattle.board_devices.specs.Laws.{LeavesDevices}
@@ -689,3 +691,7 @@ left_alone seen setup history entry devices are leaves routes =
 pub some_disk : (bytes : Option (List ℕ)) (history : List Entry) → is_some (option_map (λ bytes. disk_with bytes history) bytes) ≡ is_some bytes
 some_disk None history = refl
 some_disk (Some bytes) history = refl
+
+-- an event that passes the devices by leaves them, whoever asks
+pub leaves_devices : LeavesDevices
+leaves_devices = left_alone (pair_has_seen same-levels)

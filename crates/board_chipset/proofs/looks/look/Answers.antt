@@ -5,6 +5,7 @@ use Rattle.board_spec.specs.declared.event.Reply.{Reply}
 use Rattle.board_spec.specs.declared.event.Reply.TheVariants.{Bus, Parts, Saw}
 use Rattle.board_spec.specs.Stored.{Cell, entry_put}
 use Rattle.board_spec.specs.Registers.{byte_of}
+use Rattle.board_devices.proofs.DeviceLemmas.{leaves_devices}
 use Rattle.board_chipset.proofs.RegisterSteps.{writes_none}
 use Rattle.board_chipset.proofs.StateSteps.{state_stays}
 use Rattle.board_chipset.proofs.looks.look.Goals as goal
@@ -24,6 +25,6 @@ returns-clause-answer c = λ setup history kept. record {
 
 pub returns-clause-board : goal.returns-clause-board
 returns-clause-board c = λ setup history entry kept event.
-    state_stays c.law_left_alone.ensures.left kept
+    state_stays leaves_devices kept
     (writes_none setup history entry.event (λ port is. cc))
     (rw event tt) (λ cell. rw event (puts_nothing c.args.kind c.args.addr c.args.smm entry.reply cell))

@@ -1,6 +1,7 @@
 use Rattle.std.proofs.Common.{◌∙◌, refl}
 use Rattle.board_spec.specs.Registers.{byte_of}
 use Rattle.board_stores.proofs.MemoryLemmas.{part_answered}
+use Rattle.board_devices.proofs.DeviceLemmas.{leaves_devices}
 use Rattle.board_chipset.proofs.RegisterSteps.{writes_none}
 use Rattle.board_chipset.proofs.StateSteps.{state_put, state_stays}
 use Rattle.board_chipset.proofs.HeldTargets.{ready}
@@ -27,7 +28,7 @@ returns-then-is_write-clause-answer c = λ setup history kept image.
 
 pub returns-then-is_write-clause-board : goal.returns-then-is_write-clause-board
 returns-then-is_write-clause-board c = λ setup history entry kept image event replied.
-    state_put c.law_left_alone.ensures.left kept
+    state_put leaves_devices kept
     (writes_none setup history entry.event (λ port is. cc))
     (rw event tt) (λ cell. rw (event, replied) refl) c.write.ensures.put
 
@@ -53,6 +54,6 @@ returns-clause-answer c = λ setup history kept image.
 pub returns-clause-board : goal.returns-clause-board
 returns-clause-board c = λ setup history entry kept image event replied.
     let reads = writes_when c.args.access.now.kind c.is_write.result c.is_write.ensures.write ∙ c.if-is_write.false in
-    state_stays c.law_left_alone.ensures.left kept
+    state_stays leaves_devices kept
     (writes_none setup history entry.event (λ port is. cc))
     (rw event tt) (λ cell. rw (event, replied, reads) refl)

@@ -3,6 +3,7 @@ use Rattle.board_base.specs.declared.target.Target.{Target}
 use Rattle.board_spec.specs.Registers.{config_address}
 use Rattle.board_spec.specs.Answer.{value_at}
 use Rattle.board_chipset.specs.Ports.{IsEntryOf}
+use Rattle.board_devices.proofs.DeviceLemmas.{leaves_devices}
 use Rattle.board_chipset.proofs.Effects.{Reached, target_reached, reached_in, named, within_function}
 use Rattle.board_chipset.proofs.HeldTargets.{stored_target}
 use Rattle.board_chipset.proofs.PortSteps.{no_chip, read_stays}
@@ -46,7 +47,7 @@ returns-in-Config-clause-value c = λ setup history kept is.
 
 pub returns-in-Config-clause-board : goal.returns-in-Config-clause-board
 returns-in-Config-clause-board c = λ setup history entry kept is.
-    read_stays c.law_left_alone.ensures.left c.requires.reads (rw c.in-Config.is refl) kept is
+    read_stays leaves_devices c.requires.reads (rw c.in-Config.is refl) kept is
 
 pub returns-in_default : goal.returns-in_default
 returns-in_default c = record {
@@ -54,5 +55,5 @@ returns-in_default c = record {
       c.read-in_default.ensures.value setup history kept.stores
       ∙ ap (λ (place : ℕ). value_at setup history c.args.target place c.args.access.now.width) c.from.ensures;
   board = λ setup history entry kept is.
-      read_stays c.law_left_alone.ensures.left c.requires.reads (no_chip c.args.target c.in_default.not-Device) kept is;
+      read_stays leaves_devices c.requires.reads (no_chip c.args.target c.in_default.not-Device) kept is;
 }

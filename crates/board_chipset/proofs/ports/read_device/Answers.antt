@@ -1,4 +1,5 @@
 use Rattle.std.proofs.Common.{◌∙◌, refl}
+use Rattle.board_devices.proofs.DeviceLemmas.{leaves_devices}
 use Rattle.board_chipset.proofs.Effects.{reached_in, entry_reached}
 use Rattle.board_chipset.proofs.PortSteps.{chip_at, chip_value, read_stays, chip_changed}
 use Rattle.board_chipset.proofs.ports.read_device.Goals as goal
@@ -14,15 +15,15 @@ read-requires-in_default c =
 
 pub returns-in-Confadd-clause-board : goal.returns-in-Confadd-clause-board
 returns-in-Confadd-clause-board c = λ setup history entry kept is.
-    read_stays c.law_left_alone.ensures.left c.requires.reads (rw c.in-Confadd.is refl) kept is
+    read_stays leaves_devices c.requires.reads (rw c.in-Confadd.is refl) kept is
 
 pub returns-in-Reset-clause-board : goal.returns-in-Reset-clause-board
 returns-in-Reset-clause-board c = λ setup history entry kept is.
-    read_stays c.law_left_alone.ensures.left c.requires.reads (rw c.in-Reset.is refl) kept is
+    read_stays leaves_devices c.requires.reads (rw c.in-Reset.is refl) kept is
 
 pub returns-in-Keyboard-clause-board : goal.returns-in-Keyboard-clause-board
 returns-in-Keyboard-clause-board c = λ setup history entry kept is.
-    read_stays c.law_left_alone.ensures.left c.requires.reads (rw c.in-Keyboard.is refl) kept is
+    read_stays leaves_devices c.requires.reads (rw c.in-Keyboard.is refl) kept is
 
 pub returns-in_default : goal.returns-in_default
 returns-in_default c =

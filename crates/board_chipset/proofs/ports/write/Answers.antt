@@ -1,6 +1,7 @@
 use Rattle.std.proofs.Common.{subst}
 use Rattle.board_base.specs.declared.target.Target.{Target}
 use Rattle.board_chipset.specs.Ports.{IsEntryOf}
+use Rattle.board_devices.proofs.DeviceLemmas.{leaves_devices}
 use Rattle.board_chipset.proofs.Effects.{reached_in}
 use Rattle.board_chipset.proofs.HeldTargets.{stored_target}
 use Rattle.board_chipset.proofs.PortSteps.{write_stored}
@@ -35,6 +36,6 @@ returns-in-Config c = record {
 pub returns-in_default : goal.returns-in_default
 returns-in_default c = record {
   board = λ setup history entry kept is.
-      write_stored c.law_left_alone.ensures.left c.requires.writes c.in_default.not-Device c.in_default.not-Config
+      write_stored leaves_devices c.requires.writes c.in_default.not-Device c.in_default.not-Config
       (rw c.from.ensures at c.write.ensures.put) kept is;
 }

@@ -1,6 +1,7 @@
 use Rattle.std.proofs.Common.{◌≡◌, ◌≤◌, ◌∷◌, ◌∙◌, true, refl, sym, arith}
 use Rattle.board_spec.specs.Registers.{is_hard_reset}
 use Rattle.board_chipset.specs.Kept.{HasRegisters}
+use Rattle.board_devices.proofs.DeviceLemmas.{leaves_devices}
 use Rattle.board_chipset.proofs.Effects.{reached_in, entry_writes, fits_byte}
 use Rattle.board_chipset.proofs.StoreSteps.{stores_stay}
 use Rattle.board_chipset.proofs.PortSteps.{puts_none, registers_move}
@@ -36,7 +37,7 @@ returns-else-write_control c = record {
   board = λ setup history entry kept is.
       let writes = entry_writes refl c.requires.writes is in
       let soft = sym c.write_control.ensures.hard ∙ c.if-write_control.false in
-      registers_move c.law_left_alone.ensures.left kept is refl (λ cell. refl)
+      registers_move leaves_devices kept is refl (λ cell. refl)
       (c.write_control.ensures.registers setup history entry writes kept.registers) (c.write_control.ensures.south soft)
       (rw (writes.control_is, ← kept.registers.control) soft);
 }

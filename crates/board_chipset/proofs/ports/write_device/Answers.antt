@@ -2,6 +2,7 @@ use Rattle.std.proofs.Common.{refl, ap, subst}
 use Rattle.board_base.specs.declared.target.Dev.{Dev}
 use Rattle.board_base.specs.declared.target.Target.TheVariants.{Device}
 use Rattle.board_chipset.specs.Ports.{IsEntryOf}
+use Rattle.board_devices.proofs.DeviceLemmas.{leaves_devices}
 use Rattle.board_chipset.proofs.Effects.{reached_in, entry_reached, entry_writes}
 use Rattle.board_chipset.proofs.StateSteps.{soft, state_stays}
 use Rattle.board_chipset.proofs.PortSteps.{chip_at, passes, puts_none, registers_move, chip_changed}
@@ -22,7 +23,7 @@ pub returns-in-Confadd : goal.returns-in-Confadd
 returns-in-Confadd c = record {
   board = λ setup history entry kept is.
       let writes = entry_writes (ap (λ (dev : Dev). Device dev) c.in-Confadd.is) c.requires.writes is in
-      registers_move c.law_left_alone.ensures.left kept is (rw c.in-Confadd.is refl) (λ cell. refl)
+      registers_move leaves_devices kept is (rw c.in-Confadd.is refl) (λ cell. refl)
       (c.write_address.ensures.registers setup history entry kept.registers writes) c.write_address.ensures.south
       (soft writes);
 }
@@ -37,7 +38,7 @@ returns-in-Reset c = record {
 pub returns-in-Keyboard : goal.returns-in-Keyboard
 returns-in-Keyboard c = record {
   board = λ setup history entry kept is.
-      state_stays c.law_left_alone.ensures.left kept
+      state_stays leaves_devices kept
       (entry_writes (ap (λ (dev : Dev). Device dev) c.in-Keyboard.is) c.requires.writes is)
       (passes is (rw c.in-Keyboard.is refl)) (puts_none is (λ cell. refl));
 }

@@ -1,5 +1,6 @@
 use Rattle.std.proofs.Common.{◌∷◌, refl, arith}
 use Rattle.board_chipset.specs.Kept.{HasRegisters}
+use Rattle.board_devices.proofs.DeviceLemmas.{leaves_devices}
 use Rattle.board_chipset.proofs.Effects.{reached_in, within_function, entry_writes}
 use Rattle.board_chipset.proofs.StoreSteps.{stores_stay}
 use Rattle.board_chipset.proofs.StateSteps.{soft}
@@ -35,7 +36,7 @@ pub returns-else-reg-eq-SOUTH_BRIDGE : goal.returns-else-reg-eq-SOUTH_BRIDGE
 returns-else-reg-eq-SOUTH_BRIDGE c = record {
   board = λ setup history entry kept is.
       let writes = entry_writes refl c.requires.writes is in
-      registers_move c.law_left_alone.ensures.left kept is refl (λ cell. refl)
+      registers_move leaves_devices kept is refl (λ cell. refl)
       (c.store.ensures.registers setup history entry kept.registers writes) (c.store.ensures.south (omega arith))
       (soft writes);
 }

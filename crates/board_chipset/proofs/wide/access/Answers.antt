@@ -3,6 +3,7 @@ use Rattle.board_spec.specs.Stored.{is_write}
 use Rattle.board_spec.specs.WideParts.{parts_of, parts_list}
 use Rattle.board_spec.specs.Registers.{byte_of}
 use Rattle.board_stores.proofs.MemoryLemmas.{parts_answered}
+use Rattle.board_devices.proofs.DeviceLemmas.{leaves_devices}
 use Rattle.board_chipset.proofs.RegisterSteps.{writes_none}
 use Rattle.board_chipset.proofs.StateSteps.{state_put, state_stays}
 use Rattle.board_chipset.proofs.MemorySteps.{writes_when}
@@ -43,7 +44,7 @@ returns-then-is_write-clause-answer c = λ setup history kept image.
 pub returns-then-is_write-clause-board : goal.returns-then-is_write-clause-board
 returns-then-is_write-clause-board c = λ setup history entry kept image event replied.
     let parts = rw (← c.as_slice-cycles.ensures.value) at c.cycles_of-cut.ensures.parts in
-    state_put c.law_left_alone.ensures.left kept
+    state_put leaves_devices kept
     (writes_none setup history entry.event (λ port is. cc))
     (rw event tt) (λ cell. rw (event, replied, c.parts_of-parts.ensures.answers, ← parts) refl)
     c.write_cycles.ensures.put
@@ -75,7 +76,7 @@ returns-clause-answer c = λ setup history kept image.
 pub returns-clause-board : goal.returns-clause-board
 returns-clause-board c = λ setup history entry kept image event replied.
     let access = c.args.access.now in
-    state_stays c.law_left_alone.ensures.left kept
+    state_stays leaves_devices kept
     (writes_none setup history entry.event (λ port is. cc))
     (rw event tt)
     (λ cell. rw (event, replied)

@@ -1,5 +1,6 @@
 use Rattle.std.proofs.Common.{◌+◌, length, arith}
 use Rattle.board_spec.specs.Setup.{installed}
+use Rattle.board_devices.proofs.DeviceLemmas.{leaves_devices}
 use Rattle.board_chipset.proofs.Lefts.{left_by, state_of}
 use Rattle.board_chipset.proofs.LoadSteps.{load_left, load_kept, load_refused}
 use Rattle.board_chipset.specs.Chipset.{IsLeftBy}
@@ -9,7 +10,7 @@ pub invariant_of-self : goal.invariant_of-self
 invariant_of-self c =
     let (history, left) = rw c.self.view_is at c.self.invariant in
     let kept = load_kept c.self.inside.setup c.self.inside.state c.load.new.self c.args.addr c.args.bytes.now
-    c.load.result c.law_left_alone.ensures.left c.load.ensures.fits c.load.ensures.bytes
+    c.load.result leaves_devices c.load.ensures.fits c.load.ensures.bytes
     c.load.ensures.size (λ k. omega (arith, c.type_inv.bytes k)) c.load.ensures.same history
     (state_of c.self.view_is left) in
     (kept.0, left_by kept.1)
@@ -27,5 +28,5 @@ unfolding IsLeftBy
 returns-clause-left c =
     rw (← c.self.view_is)
     (load_left c.self.inside.setup c.self.inside.state c.load.new.self c.args.addr c.args.bytes.now c.load.result
-    c.law_left_alone.ensures.left c.load.ensures.fits c.load.ensures.bytes
+    leaves_devices c.load.ensures.fits c.load.ensures.bytes
     c.load.ensures.size (λ k. omega (arith, c.type_inv.bytes k)))
