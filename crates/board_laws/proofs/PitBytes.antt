@@ -1,14 +1,20 @@
 -- The bytes of a count.
 use Rattle.std.proofs.Common.{◌≡◌, ℕ, ◌+◌, ◌*◌, ◌/◌, ◌%◌, ◌<◌, ◌==◌, ◌⊎◌, inl, inr, false, refl, arith}
 use Rattle.std.proofs.lemmas.Bool.{cases_Bool, eqb-true}
-use Rattle.device_spec.specs.Pit.{Mode, Notation, Binary, Decimal, is_periodic, modulus, count_of_number, low_byte, high_byte}
-use Rattle.board_laws.specs.PitLaws.{CountReadsAsWritten}
+use Rattle.device_spec.specs.Pit.{Mode, Notation, Binary, Decimal, byte_value, byte_values, byte_of_value, is_periodic, modulus, count_of_number, low_byte, high_byte}
+use Rattle.board_laws.specs.PitLaws.{IsByteOf, CountReadsAsWritten}
 
-binary : (n low high : ℕ) → low < 256 → high < 256 → n ≡ low + 256 * high → (n % 256 ≡ low) × (n / 256 % 256 ≡ high)
-binary n low high a b e = (omega arith, omega arith)
+-- the bytes of a number that was made of two bytes
+pub record IsMadeOf (notation : Notation) (n low high : ℕ) : Type 0 where
+  pub first : byte_of_value notation (n % byte_values notation) ≡ low
+  pub second : byte_of_value notation (n / byte_values notation % byte_values notation) ≡ high
 
-decimal : (n low high : ℕ) → low / 16 < 10 → low % 16 < 10 → high / 16 < 10 → high % 16 < 10 → n ≡ 10 * (low / 16 % 10) + low % 16 % 10 + 100 * (10 * (high / 16 % 10) + high % 16 % 10) → (16 * (n % 100 / 10) + n % 100 % 10 ≡ low) × (16 * (n / 100 % 100 / 10) + n / 100 % 100 % 10 ≡ high)
-decimal n low high a b c d e = (omega arith, omega arith)
+abbrev number : Notation → (low high : ℕ) → ℕ
+number notation low high = byte_value notation low + byte_values notation * byte_value notation high
+
+made_of : (notation : Notation) (low high : ℕ) → IsByteOf notation low → IsByteOf notation high → IsMadeOf notation (number notation low high) low high
+made_of Binary low high l h = record { first = omega arith; second = omega arith }
+made_of Decimal low high l h = record { first = omega (arith, l.0, l.1, h.0, h.1); second = omega (arith, l.0, l.1, h.0, h.1) }
 
 -- a count is the number written, or M for 0
 count_is : (mode : Mode) (notation : Notation) (n : ℕ) → is_periodic mode ≡ false → ((n ≡ 0) × (count_of_number mode notation n ≡ modulus notation)) ⊎ (count_of_number mode notation n ≡ n)
@@ -21,16 +27,14 @@ count_is mode notation n p = elim (cases_Bool (n == 0)) [
 pub count_reads_as_written : CountReadsAsWritten
 unfolding low_byte high_byte
 count_reads_as_written mode Binary low high p l h =
-    let n = low + 256 * high in
-    let both = binary n low high l h refl in
-    elim (count_is mode Binary n p) [
+    let both = made_of Binary low high l h in
+    elim (count_is mode Binary (number Binary low high) p) [
       | inl z ↦ rw (z.1) (omega (arith, z.0), omega (arith, z.0))
-      | inr e ↦ rw e both
+      | inr e ↦ rw e (both.first, both.second)
     ]
 count_reads_as_written mode Decimal low high p l h =
-    let n = 10 * (low / 16 % 10) + low % 16 % 10 + 100 * (10 * (high / 16 % 10) + high % 16 % 10) in
-    let both = decimal n low high l.0 l.1 h.0 h.1 refl in
-    elim (count_is mode Decimal n p) [
-      | inl z ↦ rw (z.1) (omega (arith, z.0), omega (arith, z.0))
-      | inr e ↦ rw e both
+    let both = made_of Decimal low high l h in
+    elim (count_is mode Decimal (number Decimal low high) p) [
+      | inl z ↦ rw (z.1) (omega (arith, z.0, l.0, l.1, h.0, h.1), omega (arith, z.0, l.0, l.1, h.0, h.1))
+      | inr e ↦ rw e (both.first, both.second)
     ]

@@ -8,7 +8,7 @@ use Rattle.board_spec.specs.Setup.{Setup}
 use Rattle.board_spec.specs.RegisterNames.{pirq}
 use Rattle.board_spec.specs.Registers.{byte_of}
 use Rattle.board_spec.specs.Devices.{wire_of, timer_of}
-use Rattle.board_spec.specs.Interrupts.{own_level, level_with, levels_with, levels_of, pirq_level, pirq_levels, routes_of}
+use Rattle.board_spec.specs.Interrupts.{pirq_of_card, own_level, level_with, levels_with, levels_of, pirq_level, pirq_levels, routes_of}
 use Rattle.board_laws.specs.DeviceLaws.{SomeWire, WireReachesLine, LineHasDriver}
 use Rattle.board_laws.proofs.Numbers.{numbers_from, map-number, any-number, Passes, passing}
 
@@ -24,17 +24,17 @@ level-at setup history line below =
 
 wire-pirq :
     (history : List Entry) (dev : ℕ) → 2 ≤ dev → dev ≤ 9 → wire_of history dev ≡ true →
-    pirq_level history ((dev - 1) % 4) ≡ true
+    pirq_level history (pirq_of_card dev) ≡ true
 unfolding numbers_from
 wire-pirq history dev first last high =
-    any-number (λ d. (d - 1) % 4 == (dev - 1) % 4 && wire_of history d) 2 8 dev first (omega arith)
-    (and_from _ _ (eq-eqb ((dev - 1) % 4) ((dev - 1) % 4) refl) high)
+    any-number (λ d. pirq_of_card d == pirq_of_card dev && wire_of history d) 2 8 dev first (omega arith)
+    (and_from _ _ (eq-eqb (pirq_of_card dev) (pirq_of_card dev) refl) high)
 
 pirq-wire :
     (history : List Entry) (pin : ℕ) → pirq_level history pin ≡ true →
-    Passes (λ dev. (dev - 1) % 4 == pin && wire_of history dev) 2 8
+    Passes (λ dev. pirq_of_card dev == pin && wire_of history dev) 2 8
 unfolding numbers_from
-pirq-wire history pin high = passing (λ dev. (dev - 1) % 4 == pin && wire_of history dev) 2 8 high
+pirq-wire history pin high = passing (λ dev. pirq_of_card dev == pin && wire_of history dev) 2 8 high
 
 -- ---- a PIRQ and its route
 
@@ -86,7 +86,7 @@ driven_or false driven is = is
 pub wire_reaches_line : WireReachesLine
 unfolding is_line_driven numbers_from
 wire_reaches_line setup history line dev below wire =
-    let pin : ℕ = (dev - 1) % 4 in
+    let pin : ℕ = pirq_of_card dev in
     let here : pin_drives setup history line pin ≡ true =
     pin-is setup history line pin (omega arith)
     ∙ drives-routed (line_of_route (byte_of setup history (pirq pin))) (pirq_level history pin) line wire.routed
@@ -105,8 +105,8 @@ some_wire setup history line driven =
     let by = driven-by (line_of_route (byte_of setup history (pirq pin.number))) (pirq_level history pin.number) line
     (sym (pin-is setup history line pin.number pin_below) ∙ pin.passes) in
     let wire = pirq-wire history pin.number by.high in
-    let parts = and_parts ((wire.number - 1) % 4 == pin.number) (wire_of history wire.number) wire.passes in
-    let pirq_is : (wire.number - 1) % 4 ≡ pin.number = eqb-true ((wire.number - 1) % 4) pin.number parts.0 in
+    let parts = and_parts (pirq_of_card wire.number == pin.number) (wire_of history wire.number) wire.passes in
+    let pirq_is : pirq_of_card wire.number ≡ pin.number = eqb-true (pirq_of_card wire.number) pin.number parts.0 in
     let last : wire.number < 10 = wire.below in
     record {
       dev = wire.number;

@@ -20,7 +20,7 @@ use Rattle.board_spec.specs.declared.event.Entry.{Entry}
 use Rattle.board_spec.specs.Setup.{Setup}
 use Rattle.board_spec.specs.InRange.{is_free_line}
 use Rattle.board_spec.specs.Devices.{device_reached, wire_set, line_set, wire_of, irq_of, triggers_accessed, triggers_after, SystemPort, system_accessed, system_after, timer_accessed, timer_after, clock_accessed, clock_after, clock_of, disk_accessed, disk_after, disk_with, disk_of}
-use Rattle.board_spec.specs.Interrupts.{pirq_level, pirqs, routes_of, pirq_levels, level_with, all_lines, levels_with, pair_accessed, pair_after}
+use Rattle.board_spec.specs.Interrupts.{pirq_of_card, card_devices, pirq_level, pirqs, routes_of, pirq_levels, level_with, all_lines, levels_with, pair_accessed, pair_after}
 use Rattle.board_spec.specs.Answer.{IsAnswer}
 use Rattle.board_spec.specs.DeviceLaws.{Names, ActsOnPair}
 
@@ -178,18 +178,12 @@ pirqs-same :
     pirq_levels history ≡ pirq_levels other
 pirqs-same history other wires =
     map-same (pirq_level history) (pirq_level other) pirqs
-    (λ k. any-same _ _ (2 ∷ 3 ∷ 4 ∷ 5 ∷ 6 ∷ 7 ∷ 8 ∷ 9 ∷ [])
-    (λ dev. ap (λ (b : Bool). (dev - 1) % 4 == k && b) (wires dev)))
-
-level_made : (timer clock disk free driven : Bool) → ℕ → Bool
-level_made timer clock disk free driven line =
-    (if line == 0 then timer else if line == 8 then clock else if line == 14 then disk else free) || driven
+    (λ k. any-same _ _ card_devices (λ dev. ap (λ (b : Bool). pirq_of_card dev == k && b) (wires dev)))
 
 level-same :
     (setup : Setup) (history other : List Entry) (timer timer' : PitState) →
     SameDrivers setup history other timer timer' →
     (line : ℕ) → level_with setup history timer line ≡ level_with setup other timer' line
-unfolding level_made
 level-same setup history other timer timer' same line =
     let out : out_of 0 timer ≡ out_of 0 timer' = same.out in
     let clock : interrupt_line (clock_of history) ≡ interrupt_line (clock_of other) = ap interrupt_line same.clock in
@@ -204,16 +198,7 @@ level-same setup history other timer timer' same line =
     ap (λ (routes : List ℕ). is_line_driven routes (pirq_levels history) line) same.routes
     ∙ ap (λ (levels : List Bool). is_line_driven (routes_of setup other) levels line)
     (pirqs-same history other same.wires) in
-    let whole :
-    level_made (out_of 0 timer) (interrupt_line (clock_of history))
-    (option_map_or (λ disk. is_interrupt disk.drive) (disk_of setup history) false)
-    (is_free_line line && irq_of history line)
-    (is_line_driven (routes_of setup history) (pirq_levels history) line) line
-    ≡ level_made (out_of 0 timer') (interrupt_line (clock_of other))
-    (option_map_or (λ disk. is_interrupt disk.drive) (disk_of setup other) false)
-    (is_free_line line && irq_of other line)
-    (is_line_driven (routes_of setup other) (pirq_levels other) line) line = cc in
-    whole
+    rw (out, clock, disk, free, driven) refl
 
 pub levels-same :
     (setup : Setup) (history other : List Entry) (timer timer' : PitState) →

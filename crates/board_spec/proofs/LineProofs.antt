@@ -24,11 +24,7 @@ no_interrupt (Some bytes) = refl
 first_disk : (setup : Setup) → option_map_or (λ disk. is_interrupt disk.drive) (disk_of setup []) false ≡ false
 first_disk setup = no_interrupt setup.disk
 
--- the sixteen lines, where the disk's stands so
-with_disk : Bool → List Bool
-with_disk disk = true ∷ replicate 13 false ++ (disk || false) ∷ false ∷ []
-
 pub first_levels : FirstLevels
 unfolding levels_with timer_of clock_of wire_of irq_of byte_of reset_byte isa_bridge timer_at_reset out_of
-    clock_at_power_on is_line_driven programmed with_disk
-first_levels setup = ap with_disk (first_disk setup)
+    clock_at_power_on is_line_driven programmed
+first_levels setup = rw (first_disk setup) refl

@@ -23,11 +23,12 @@ use Rattle.board_spec.specs.declared.event.Entry.{Entry}
 use Rattle.board_spec.specs.declared.map_change.MapChange.{MapChange}
 use Rattle.board_spec.specs.declared.map_change.MapChange.TheVariants.{Store, Reset}
 use Rattle.board_spec.specs.Setup.{Setup}
-use Rattle.board_spec.specs.Bits.{bit, is_bit, byte, is_within}
+use Rattle.board_spec.specs.Bits.{bit, is_bit, byte}
 use Rattle.board_spec.specs.RegisterTable.{reset_byte, host_bridge}
 use Rattle.board_spec.specs.Registers.{is_hard_reset, config_address, config_register, config_store, register_change, covers, smram_after, byte_with, byte_of, is_config_port}
 use Rattle.board_spec.specs.Decode.{Bytes, Window, first_of, line_where, card_area, row_of, hole_of, is_in, is_shadowed, is_rom_selected, memory_claim, reaches_smram, smram_answers, is_smram_range, area_under, area_of}
-use Rattle.board_spec.specs.RegisterNames.{bridge, isa, smram}
+use Rattle.board_spec.specs.RegisterNames.{fdhc, smram, xbcs}
+use Rattle.board_spec.specs.Ranges.{lies_in, upper_memory}
 use Rattle.board_spec.specs.Answer.{target_at, memory_answer, part_answer, IsAnswer}
 use Rattle.board_spec.specs.Legal.{IsNext, IsLegal}
 use Rattle.board_spec.specs.LockLaw.{SetsLock, NoHardReset, IsOutsideSmm, HasSmram, NamesSmram}
@@ -76,8 +77,8 @@ changed_kept : (setup : Setup) (change : Option MapChange) (old : ℕ) → Kept 
 changed_kept setup None old kept = kept
 changed_kept setup (Some Reset) old kept = reset_kept setup
 changed_kept setup (Some (Store at width value)) old kept =
-    elim (cases_Bool (covers at width (bridge 0x72))) [
-      | inl inside ↦ rw inside (shut_after old (byte value (0x72 - at.off)))
+    elim (cases_Bool (covers at width smram)) [
+      | inl inside ↦ rw inside (shut_after old (byte value (smram.off - at.off)))
       | inr outside ↦ rw outside kept
     ]
 
@@ -96,10 +97,10 @@ stored_stays : (setup : Setup) (change : Option MapChange) (old : ℕ) → chang
 stored_stays setup None old other locked = locked
 stored_stays setup (Some Reset) old other locked = absurd (other refl)
 stored_stays setup (Some (Store at width value)) old other locked =
-    elim (cases_Bool (covers at width (bridge 0x72))) [
+    elim (cases_Bool (covers at width smram)) [
       | inl inside ↦
-          let w : bit (byte value (0x72 - at.off)) 4 < 2 = bit_below (byte value (0x72 - at.off)) 4 in
-          rw inside (locked_after old (byte value (0x72 - at.off)) ∙ omega (arith, locked))
+          let w : bit (byte value (smram.off - at.off)) 4 < 2 = bit_below (byte value (smram.off - at.off)) 4 in
+          rw inside (locked_after old (byte value (smram.off - at.off)) ∙ omega (arith, locked))
       | inr outside ↦ rw outside locked
     ]
 
@@ -138,7 +139,7 @@ set_locks setup None old sets = absurd sets
 set_locks setup (Some Reset) old sets = absurd sets
 set_locks setup (Some (Store at width value)) old sets =
     let o : bit old 4 < 2 = bit_below old 4 in
-    rw (sets.0) (locked_after old (byte value (0x72 - at.off)) ∙ omega (arith, sets.1))
+    rw (sets.0) (locked_after old (byte value (smram.off - at.off)) ∙ omega (arith, sets.1))
 
 is_locked_by : (setup : Setup) (before : List Entry) (lock : Entry) → SetsLock (register_change setup before lock.event) → IsLocked setup (lock ∷ before)
 unfolding byte_of IsLocked
@@ -195,7 +196,7 @@ no_smram_under row shadowed hole rom claim addr =
     five_hold IsNotSmram _ _ _ _ _ AbortArea
     (never_line IsNotSmram (is_smram_range addr) (is_some row) SmramArea)
     (where_holds IsNotSmram (is_some row && shadowed) (ShadowArea (unwrap_or row 0)) (λ e. cc))
-    (where_holds IsNotSmram (not (is_within 0xA_0000 0xF_FFFF addr) && is_some row && not hole) (DramArea (unwrap_or row 0)) (λ e. cc))
+    (where_holds IsNotSmram (not (lies_in upper_memory addr) && is_some row && not hole) (DramArea (unwrap_or row 0)) (λ e. cc))
     (where_holds IsNotSmram rom RomArea (λ e. cc))
     (claim_holds claim)
     (λ e. cc)
@@ -208,11 +209,11 @@ shut_answers true true kind = grind arith
 no_smram : (setup : Setup) (bytes : Bytes) (addr : ℕ) (kind : Kind) → bit (bytes smram) 6 ≡ 0 → area_of setup bytes addr kind false ≢ SmramArea
 unfolding area_of IsNotSmram
 no_smram setup bytes addr kind shut =
-    let answers : smram_answers (bytes (bridge 0x72)) kind false ≡ false =
-    rw shut (shut_answers (is_bit (bytes (bridge 0x72)) 3) (is_bit (bytes (bridge 0x72)) 5) kind) in
+    let answers : smram_answers (bytes smram) kind false ≡ false =
+    rw shut (shut_answers (is_bit (bytes smram) 3) (is_bit (bytes smram) 5) kind) in
     rw answers
-    (no_smram_under (row_of bytes addr) (is_shadowed bytes addr kind) (is_in (hole_of (bytes (bridge 0x68))) addr)
-    (is_rom_selected (bytes (isa 0x4E)) addr) (memory_claim setup bytes addr) addr)
+    (no_smram_under (row_of bytes addr) (is_shadowed bytes addr kind) (is_in (hole_of (bytes fdhc)) addr)
+    (is_rom_selected (bytes xbcs) addr) (memory_claim setup bytes addr) addr)
 
 -- ---- replies
 

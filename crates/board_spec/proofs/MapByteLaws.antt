@@ -6,11 +6,13 @@ use Rattle.std.proofs.lemmas.Bool.{cases_Bool, eq-eqb}
 use Rattle.std.proofs.lemmas.Bool.Decides.{nat_tests}
 use Rattle.std.proofs.lemmas.List.Elements.{All-nil, All-cons, All-append, recursion_from_All}
 use Rattle.board_base.specs.declared.access.Kind.{Kind}
-use Rattle.board_spec.specs.Setup.{Base, MemoryBase, IoBase, FittedCard, Setup, IsCard, IsCardList, Rises, card_at}
+use Rattle.board_base.specs.declared.target.Reg.{Reg}
+use Rattle.board_spec.specs.Setup.{Base, MemoryBase, IoBase, FittedCard, Setup, IsCard, IsCardList, Rises, card_at, rom_base, vga_base, vga_bits}
 use Rattle.board_spec.specs.MapWrites.{has_rom}
 use Rattle.board_spec.specs.Bits.{is_bit, is_within}
 use Rattle.board_spec.specs.Decode.{Bytes, boundary, row_of, is_high_window, is_open, nibble, is_shadow_range, is_shadowed, Window, is_covered, base_value, memory_window, vga_window, memory_windows, rom_value, rom_window, rom_window_of, is_rom_on, unselected_windows, rom_unselected, pam_register, is_enabled_for, first_window, memory_claim, memory_shut, area_of, denial_of}
-use Rattle.board_spec.specs.RegisterNames.{bridge, isa, card_register}
+use Rattle.board_spec.specs.RegisterNames.{bridge, pam, fdhc, smram, xbcs, card_register, card_command, base_register, expansion_rom, is_same}
+use Rattle.board_spec.specs.Ranges.{smram_range, system_bios, boundary_unit}
 use Rattle.board_spec.specs.Laws.{SameMapBytes, MapBytesDecide}
 
 -- ---- searches in lists
@@ -66,11 +68,11 @@ found_rom (card ∷ later) rises (suc k) d below =
 module _ (setup : Setup) (bytes other : Bytes) (same : SameMapBytes setup bytes other) where
   -- ---- rows and windows of the host bridge
 
-  bridge_same : (off : ℕ) → is_within 0x59 0x68 off ≡ true → bytes (bridge off) ≡ other (bridge off)
+  bridge_same : (off : ℕ) → is_within (pam 0).off fdhc.off off ≡ true → bytes (bridge off) ≡ other (bridge off)
   bridge_same off within = same (bridge off) (rw within refl)
 
   boundary_same : (row : ℕ) → row < 8 → boundary bytes row ≡ boundary other row
-  boundary_same row below = ap (λ byte. byte * 0x80_0000) (bridge_same (0x60 + row) (grind (arith, nat_tests)))
+  boundary_same row below = ap (λ byte. byte * boundary_unit) (bridge_same _ (grind (arith, nat_tests)))
 
   row_same : (addr : ℕ) → row_of bytes addr ≡ row_of other addr
   unfolding row_of
@@ -81,9 +83,9 @@ module _ (setup : Setup) (bytes other : Bytes) (same : SameMapBytes setup bytes 
 
   pam_same : (addr : ℕ) → is_shadow_range addr ≡ true → bytes (pam_register addr) ≡ other (pam_register addr)
   pam_same addr within =
-      elim (cases_Bool (nat_le 0xF_0000 addr)) [
-        | inl high ↦ rw high (bridge_same 0x59 refl)
-        | inr low ↦ rw low (bridge_same (0x5A + (addr - 0xC_0000) / 0x8000) (grind (arith, nat_tests)))
+      elim (cases_Bool (nat_le system_bios.0 addr)) [
+        | inl high ↦ rw high (bridge_same (pam 0).off refl)
+        | inr low ↦ rw low (bridge_same _ (grind (arith, nat_tests)))
       ]
 
   shadow_same : (addr : ℕ) (kind : Kind) → is_shadowed bytes addr kind ≡ is_shadowed other addr kind
@@ -98,22 +100,33 @@ module _ (setup : Setup) (bytes other : Bytes) (same : SameMapBytes setup bytes 
   abbrev IsFitted : ℕ → Type 0
   IsFitted dev = is_some (card_at setup dev) ≡ true
 
-  card_same : (dev off : ℕ) → IsFitted dev → (off == 0x04 || is_within 0x10 0x27 off) ≡ true → bytes (card_register dev off) ≡ other (card_register dev off)
+  -- the command of a card and its bases
+  abbrev is_command_or_base : (dev off : ℕ) → Bool
+  is_command_or_base dev off = off == (card_command dev).off || is_within (base_register dev 0).off ((base_register dev 5).off + 3) off
+
+  abbrev is_in_rom : (dev off : ℕ) → Bool
+  is_in_rom dev off = is_within (expansion_rom dev).off ((expansion_rom dev).off + 3) off
+
+  -- the registers of the map that are no card's
+  abbrev is_of_bridge : Reg → Bool
+  is_of_bridge reg = reg.dev == 0 && reg.fun == 0 && (is_within (pam 0).off fdhc.off reg.off || reg.off == smram.off)
+
+  card_same : (dev off : ℕ) → IsFitted dev → is_command_or_base dev off ≡ true → bytes (card_register dev off) ≡ other (card_register dev off)
   card_same dev off fitted is =
       same (card_register dev off)
-      (third (dev == 0 && 0 == 0 && (is_within 0x59 0x68 off || off == 0x72)) (dev == 1 && 0 == 0 && off == 0x4E)
-      (is_some (card_at setup dev)) (off == 0x04 || is_within 0x10 0x27 off) _ fitted is)
+      (third (is_of_bridge (card_register dev off)) (is_same (card_register dev off) xbcs)
+      (is_some (card_at setup dev)) (is_command_or_base dev off) _ fitted is)
 
   -- the register of an expansion ROM
   abbrev HasRom : ℕ → Type 0
   HasRom dev = has_rom (card_at setup dev) ≡ true
 
-  rom_same : (dev off : ℕ) → HasRom dev → is_within 0x30 0x33 off ≡ true → bytes (card_register dev off) ≡ other (card_register dev off)
+  rom_same : (dev off : ℕ) → HasRom dev → is_in_rom dev off ≡ true → bytes (card_register dev off) ≡ other (card_register dev off)
   rom_same dev off fitted is =
       same (card_register dev off)
-      (fourth (dev == 0 && 0 == 0 && (is_within 0x59 0x68 off || off == 0x72)) (dev == 1 && 0 == 0 && off == 0x4E)
-      (is_some (card_at setup dev) && true && (off == 0x04 || is_within 0x10 0x27 off))
-      (has_rom (card_at setup dev)) (is_within 0x30 0x33 off) fitted is)
+      (fourth (is_of_bridge (card_register dev off)) (is_same (card_register dev off) xbcs)
+      (is_some (card_at setup dev) && true && is_command_or_base dev off)
+      (has_rom (card_at setup dev)) (is_in_rom dev off) fitted is)
 
   -- the windows of an expansion ROM, selected or not
   record SameRom (card : FittedCard) : Type 0 where
@@ -129,16 +142,18 @@ module _ (setup : Setup) (bytes other : Bytes) (same : SameMapBytes setup bytes 
   }
   rom_windows_with card (Some bits) is has =
       let fitted : HasRom card.dev = has refl in
+      let first : ℕ = (expansion_rom card.dev).off in
       record {
-        selected = rw (is, rom_same card.dev 0x30 fitted refl, rom_same card.dev 0x31 fitted refl, rom_same card.dev 0x32 fitted refl, rom_same card.dev 0x33 fitted refl) refl;
-        unselected = rw (is, rom_same card.dev 0x30 fitted refl, rom_same card.dev 0x31 fitted refl, rom_same card.dev 0x32 fitted refl, rom_same card.dev 0x33 fitted refl) refl;
+        selected = rw (is, rom_same card.dev first fitted refl, rom_same card.dev (first + 1) fitted refl, rom_same card.dev (first + 2) fitted refl, rom_same card.dev (first + 3) fitted refl) refl;
+        unselected = rw (is, rom_same card.dev first fitted refl, rom_same card.dev (first + 1) fitted refl, rom_same card.dev (first + 2) fitted refl, rom_same card.dev (first + 3) fitted refl) refl;
       }
 
   base_same : (dev k : ℕ) → IsFitted dev → k < 6 → base_value bytes dev k ≡ base_value other dev k
   base_same dev k fitted below =
-      let byte : (off : ℕ) → is_within 0x10 0x27 off ≡ true → bytes (card_register dev off) ≡ other (card_register dev off) =
-      λ off within. card_same dev off fitted (or_right (off == 0x04) (is_within 0x10 0x27 off) within) in
-      rw (byte (0x10 + 4 * k) (grind (arith, nat_tests)), byte (0x10 + 4 * k + 1) (grind (arith, nat_tests)), byte (0x10 + 4 * k + 2) (grind (arith, nat_tests)), byte (0x10 + 4 * k + 3) (grind (arith, nat_tests))) refl
+      let first : ℕ = (base_register dev k).off in
+      let byte : (off : ℕ) → is_within (base_register dev 0).off ((base_register dev 5).off + 3) off ≡ true → bytes (card_register dev off) ≡ other (card_register dev off) =
+      λ off within. card_same dev off fitted (or_right (off == (card_command dev).off) _ within) in
+      rw (byte first (grind (arith, nat_tests)), byte (first + 1) (grind (arith, nat_tests)), byte (first + 2) (grind (arith, nat_tests)), byte (first + 3) (grind (arith, nat_tests))) refl
 
   window_same : (dev k : ℕ) (base : Base) → IsFitted dev → k < 6 → memory_window bytes dev k base ≡ memory_window other dev k base
   window_same dev k (MemoryBase bits) fitted below =
@@ -187,14 +202,14 @@ module _ (setup : Setup) (bytes other : Bytes) (same : SameMapBytes setup bytes 
   of_vga : (card : FittedCard) → IsFitted card.dev → All IsOfCard (vga_window card)
   of_vga card fitted =
       elim (cases_Bool card.vga) [
-        | inl vga ↦ rw vga (All-cons IsOfCard (record { dev = card.dev; base = 7; inside = 0xA_0000; bits = 17 }) [] fitted (All-nil IsOfCard))
+        | inl vga ↦ rw vga (All-cons IsOfCard (record { dev = card.dev; base = vga_base; inside = smram_range.0; bits = vga_bits }) [] fitted (All-nil IsOfCard))
         | inr plain ↦ rw plain (All-nil IsOfCard)
       ]
 
   of_rom : (dev : ℕ) (rom : Option ℕ) → IsFitted dev → All IsOfCard (rom_window_of other dev rom)
   of_rom dev None fitted = All-nil IsOfCard
   of_rom dev (Some bits) fitted =
-      All-cons IsOfCard (record { dev = dev; base = 6; inside = rom_value other dev; bits = bits }) [] fitted (All-nil IsOfCard)
+      All-cons IsOfCard (record { dev = dev; base = rom_base; inside = rom_value other dev; bits = bits }) [] fitted (All-nil IsOfCard)
 
   of_choice : (on : Bool) (left right : List Window) → All IsOfCard left → All IsOfCard right → All IsOfCard (if on then left else right)
   of_choice true left right l r = l
@@ -220,7 +235,7 @@ module _ (setup : Setup) (bytes other : Bytes) (same : SameMapBytes setup bytes 
       All-append IsOfCard (windows card) (flat_map windows later) (each card fitted.0) (of_all windows each later fitted.1)
 
   enabled_same : (dev : ℕ) → IsFitted dev → is_enabled_for 1 bytes dev ≡ is_enabled_for 1 other dev
-  enabled_same dev fitted = ap (λ command. is_bit command 1) (card_same dev 0x04 fitted refl)
+  enabled_same dev fitted = ap (λ command. is_bit command 1) (card_same dev (card_command dev).off fitted refl)
 
   -- ---- which card answers, and which would
 
@@ -275,12 +290,12 @@ module _ (setup : Setup) (bytes other : Bytes) (same : SameMapBytes setup bytes 
   area_same : (addr : ℕ) (kind : Kind) (smm : Bool) → IsCardList setup.cards → area_of setup bytes addr kind smm ≡ area_of setup other addr kind smm
   unfolding area_of
   area_same addr kind smm list =
-      rw (row_same addr, same (bridge 0x72) refl, shadow_same addr kind, same (bridge 0x68) refl, same (isa 0x4E) refl, claim_same addr list) refl
+      rw (row_same addr, same smram refl, shadow_same addr kind, same fdhc refl, same xbcs refl, claim_same addr list) refl
 
   denial_same : (addr : ℕ) (kind : Kind) (smm : Bool) → IsCardList setup.cards → denial_of setup bytes addr kind smm ≡ denial_of setup other addr kind smm
   unfolding denial_of
   denial_same addr kind smm list =
-      rw (area_same addr kind smm list, boundary_same 7 (lit< tt), shut_same addr list, not_selected_same addr list, same (isa 0x4E) refl) refl
+      rw (area_same addr kind smm list, boundary_same 7 (lit< tt), shut_same addr list, not_selected_same addr list, same xbcs refl) refl
 
 pub map_bytes_decide : MapBytesDecide
 map_bytes_decide setup bytes other list same addr kind smm =

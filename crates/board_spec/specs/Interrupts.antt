@@ -27,10 +27,17 @@ use Rattle.board_spec.specs.Devices.{device_reached, wire_of, irq_of, triggers_o
 
 -- ---- the lines
 
--- INTA# of the card at device d goes to PIRQ (d - 1) mod 4, where 0 is A. A PIRQ is the or of its wires
+-- INTA# of the card at device d goes to PIRQ (d - 1) mod 4, where 0 is A
+abbrev pub pirq_of_card : ℕ → ℕ
+pirq_of_card dev = (dev - 1) % 4
+
+-- the devices that cards can be
+abbrev pub card_devices : List ℕ
+card_devices = 2 ∷ 3 ∷ 4 ∷ 5 ∷ 6 ∷ 7 ∷ 8 ∷ 9 ∷ []
+
+-- a PIRQ is the or of its wires
 abbrev pub pirq_level : List Entry → ℕ → Bool
-pirq_level history k =
-    list_any (λ dev. (dev - 1) % 4 == k && wire_of history dev) (2 ∷ 3 ∷ 4 ∷ 5 ∷ 6 ∷ 7 ∷ 8 ∷ 9 ∷ [])
+pirq_level history k = list_any (λ dev. pirq_of_card dev == k && wire_of history dev) card_devices
 
 -- PIRQA to PIRQD
 abbrev pub pirqs : List ℕ

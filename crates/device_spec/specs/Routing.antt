@@ -35,11 +35,17 @@ routes_after_write routes offset byte =
 abbrev pub is_reserved_line : ℕ → Bool
 is_reserved_line line = line == 0 || line == 1 || line == 2 || line == 8 || line == 13
 
--- The line that a route control byte routes its pin to: the one in bits 3 to 0, where bit 7 is 0 and
--- that line is not reserved.
+-- bit 7 of a route control byte at 0 enables the routing
+abbrev pub is_routed : ℕ → Bool
+is_routed byte = nat_lt byte 0x80
+
+-- the line in its bits 3 to 0
+abbrev pub line_in : ℕ → ℕ
+line_in byte = byte % 16
+
+-- The line that a route control byte routes its pin to, where that line is not reserved.
 abbrev pub line_of_route : ℕ → Option ℕ
-line_of_route byte =
-    if nat_lt byte 0x80 && not (is_reserved_line (byte % 16)) then Some (byte % 16) else None
+line_of_route byte = if is_routed byte && not (is_reserved_line (line_in byte)) then Some (line_in byte) else None
 
 -- whether a pin at this level, with this route, holds the line at 1
 abbrev pub drives : Option ℕ → Bool → ℕ → Bool
