@@ -1,7 +1,7 @@
 -- What is under way stays one of the disk's sectors.
 use Rattle.std.proofs.Common.{◌≡◌, ℕ, zero, suc, ◌+◌, ◌<◌, Bool, true, false, cond, ltb, eqb, ◌||◌, ◌&&◌, ◌==◌, Option, Some, None, Result, Ok, Err, refl, sym, subst}
 use Rattle.std.proofs.lemmas.Bool.{cond_both, ltb-true}
-use Rattle.device_spec.specs.Bits.{is_bit}
+use Rattle.board_base.specs.Bits.{is_bit}
 use Rattle.device_spec.specs.Ata.State.{Medium, Activity, Ready, Failed, Reading, Writing, Identifying, Drive, sectors_of, is_bad, is_drq}
 use Rattle.device_spec.specs.Ata.Address.{named, head_of, left_of}
 use Rattle.device_spec.specs.Ata.Commands.{found, readable, counted_down, moved_to, reads_found, writes_found, begin_read, begin_write, sector_read, sector_written, verified, is_feature, obeyed, begun, is_ignored, commanded}

@@ -3,7 +3,7 @@ use Rattle.std.specs.Prelude.{ℕ, ◌+◌, ◌*◌, ◌/◌, ◌%◌, ◌^◌, 
 use Rattle.board_base.specs.declared.access.Width.{Width}
 use Rattle.board_base.specs.declared.access.Width.TheVariants.{One, Two, Four}
 -- a register byte after a write under a mask (`law_merged` says bit by bit what it is)
-pub use Rattle.device_spec.specs.Bits.{merged}
+pub use Rattle.board_base.specs.Bits.{merged}
 
 -- bit k of a number, 0 or 1
 abbrev pub bit : ℕ → ℕ → ℕ

@@ -1,6 +1,6 @@
 //! Register B: what the clock does and how it writes its time.
 ghost use Rattle.std.specs.Prelude.{◌≡◌, ◌<◌};
-ghost use Rattle.device_spec.specs.Bits.{is_bit};
+ghost use Rattle.board_base.specs.Bits.{is_bit};
 ghost use Rattle.device_spec.specs.Clock.{alarm_interrupts, bcd, control_reset, control_written, hour_byte, is_set, number_byte, update_interrupts};
 
 // The numbers of its bits.

@@ -4,7 +4,7 @@ use Rattle.std.proofs.lemmas.Bool.{cases_Bool, cases_eq, eq-eqb, ne_eqb}
 use Rattle.std.proofs.lemmas.Bool.Decides.{nat_tests}
 use Rattle.std.proofs.lemmas.Grind.{get_or-set_at}
 use Rattle.std.proofs.lemmas.List.{length-set}
-use Rattle.device_spec.specs.Bits.{is_bit}
+use Rattle.board_base.specs.Bits.{is_bit}
 use Rattle.device_spec.specs.Clock.{CivilTime, Clock, bcd, number_byte, hour_byte, control_of, is_set, is_binary, is_24_hour, time_bytes, put, tell, byte_at, alarm_fits, alarm_rings, control_reset, written, data_byte, control_written, update_interrupts, power_on, after_write, after_reset, after_moment, register_c, after_read}
 use Rattle.device_spec.specs.ClockLaws.{number_read, hour_read, Shows, IsShowable, ShowsTheMoment, HasAlarm, same_time_of_day, RingsAtItsTime, ReadingQuiets, ResetKeepsTheTime, MemoryKeeps, IsSound, StaysSound}
 

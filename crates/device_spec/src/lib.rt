@@ -4,6 +4,7 @@
 
 pub mod examples;
 pub mod laws;
+pub mod port;
 
 /// How many interrupt lines the two 8259As have.
 pub const LINE_COUNT: usize = 16;

@@ -1,6 +1,6 @@
 //! One 8259A interrupt controller.
 ghost use Rattle.std.specs.Prelude.{◌≡◌, ◌+◌, ◌++◌, ◌<◌, ◌&&◌, ◌||◌, not, IfSome, EachIndex, slice_index, false};
-ghost use Rattle.device_spec.specs.Bits.{is_bit};
+ghost use Rattle.board_base.specs.Bits.{is_bit};
 ghost use Rattle.device_spec.specs.Levels.{with_level};
 ghost use Rattle.pic_pair.specs.View.{awaited_words, cascade_words, mode_words};
 ghost use Rattle.device_spec.specs.Pic.{acknowledged_if, byte_polled, is_complete, chip_at_reset, chip_after_inputs, pending, priority_order, is_blocking, blocks_itself, is_requested, request, interrupt, acknowledged, chip_after_icw1, first_blocking, ended, chip_after_ocw2, chip_after_ocw3, chip_after_odd_write, chip_after_write, byte_read, chip_after_read};
