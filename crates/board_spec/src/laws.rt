@@ -4,7 +4,7 @@ ghost use Rattle.board_spec.specs.Laws.{LegalKeepsLock, MapBytesDecide, MapWrite
 ghost use Rattle.board_spec.specs.AreaLaws.{RowBelowTop, WhoAnswers};
 ghost use Rattle.board_spec.specs.DenialLaws.{DeniedInParts, DeniedOnBus};
 ghost use Rattle.board_spec.specs.MapLaws.{MapWritesDecideMap};
-ghost use Rattle.board_spec.specs.MergedBits.{MergedBits};
+ghost use Rattle.board_base.specs.Bits.{MergedBits};
 ghost use Rattle.board_spec.specs.PartLaws.{CutIntoParts, WideReads};
 ghost use Rattle.board_spec.specs.RegisterLaws.{RegistersStay};
 ghost use Rattle.board_spec.specs.SmramLaw.{SmramByBits};

@@ -1,5 +1,5 @@
 -- The ports of the devices, one line a device. A port that no line lists is a card's, or nobody's.
-use Rattle.std.specs.Prelude.{ℕ, ◌==◌, Bool, true, false, ◌&&◌, ◌||◌, if◌then◌else◌, List, [], ◌∷◌, Option, Some, None}
+use Rattle.std.specs.Prelude.{ℕ, ◌==◌, Bool, false, ◌&&◌, ◌||◌, if◌then◌else◌, List, [], ◌∷◌, Option, Some, None}
 use Rattle.board_base.specs.declared.target.Dev.{Dev}
 use Rattle.board_base.specs.declared.target.Dev.TheVariants.{Confadd, Reset, Pic0, Pic1, Pit, System, Keyboard, Clock, Elcr, Ata}
 use Rattle.board_base.specs.Bits.{is_within}
@@ -68,7 +68,7 @@ abbrev pub first_with : List Dev → (port size : ℕ) → Option Dev
 first_with [] port size = None
 first_with (dev ∷ others) port size = if is_port_of dev port size then Some dev else first_with others port size
 
-unfoldable pub device_at : (port size : ℕ) → Option Dev
+abbrev pub device_at : (port size : ℕ) → Option Dev
 device_at port size = first_with port_devices port size
 
 -- what selects a device

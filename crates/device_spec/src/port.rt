@@ -92,7 +92,6 @@ pub fn device_at(port: u16, width: Width) -> Option<Dev>
 }
 
 /// The device with a register of one byte at a port.
-#[tactic(auto, unfolding(crate::specs::PortTable::device_at))]
 fn device_of_byte(port: u16) -> Option<Dev>
     ensures device { result ≡ device_at port 1 }
 {
@@ -111,7 +110,6 @@ fn device_of_byte(port: u16) -> Option<Dev>
 }
 
 /// The device with a register of two bytes at a port.
-#[tactic(auto, unfolding(crate::specs::PortTable::device_at))]
 fn device_of_word(port: u16) -> Option<Dev>
     ensures device { result ≡ device_at port 2 }
 {
@@ -122,7 +120,6 @@ fn device_of_word(port: u16) -> Option<Dev>
 }
 
 /// The device with a register of four bytes at a port.
-#[tactic(auto, unfolding(crate::specs::PortTable::device_at))]
 fn device_of_long(port: u16) -> Option<Dev>
     ensures device { result ≡ device_at port 4 }
 {
