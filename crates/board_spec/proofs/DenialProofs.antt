@@ -1,5 +1,5 @@
 -- A denial is given exactly where nobody answers, and where the ROM is written.
-use Rattle.std.proofs.Common.{◌≡◌, ℕ, zero, suc, ◌+◌, ◌-◌, Bool, true, false, not, ◌||◌, ◌&&◌, List, [], ◌∷◌, Option, Some, None, is_some, refl, sym, subst, inl, inr}
+use Rattle.std.proofs.Common.{◌≡◌, ℕ, zero, suc, ◌+◌, ◌-◌, Bool, true, false, not, List, [], ◌∷◌, Option, Some, None, is_some, refl, sym, subst, inl, inr}
 use Rattle.std.specs.Prelude.{◌==◌, if◌then◌else◌, map, option_map, unwrap_or, All}
 use Rattle.std.proofs.lemmas.Bool.{cases_Bool, cond-false, false≢true}
 use Rattle.std.proofs.lemmas.List.Elements.{All-nil, All-cons}

@@ -80,8 +80,8 @@ abbrev pub control_of : Clock → ℕ
 control_of clock = byte_at clock register_b
 
 -- SET: the time stands still
-abbrev pub is_set : ℕ → Bool
-is_set control = is_bit control 7
+abbrev pub holds_time : ℕ → Bool
+holds_time control = is_bit control 7
 
 -- AIE and UIE: the flag of the alarm, or of the update, raises the interrupt line
 abbrev pub alarm_interrupts : ℕ → Bool
@@ -185,7 +185,7 @@ after_read clock port =
 
 -- register B as written: with SET, no update can raise the interrupt line
 abbrev pub control_written : ℕ → ℕ
-control_written byte = if is_set byte && update_interrupts byte then byte - 0x10 else byte
+control_written byte = if holds_time byte && update_interrupts byte then byte - 0x10 else byte
 
 -- what a write leaves at an address: bit 7 of register A stays 0, and C and D ignore writes
 abbrev pub written : (address old byte : ℕ) → ℕ
@@ -217,12 +217,12 @@ tell clock bytes =
 -- after a moment: nothing happens while SET is 1
 abbrev pub after_moment : Clock → CivilTime → Clock
 after_moment clock time =
-    if is_set (control_of clock) then clock
+    if holds_time (control_of clock) then clock
     else tell clock (put (time_bytes (control_of clock) time) clock.bytes)
 
 -- register B after a hard reset: SET and bits 2 to 0 stay, and PIE, AIE, UIE and SQWE are cleared
 abbrev pub control_reset : ℕ → ℕ
-control_reset control = worth (is_set control) 0x80 + control % 8
+control_reset control = worth (holds_time control) 0x80 + control % 8
 
 -- after a hard reset: the index is 0, no interrupt is on and no flag set; all other bytes stay
 abbrev pub after_reset : Clock → Clock
