@@ -1,10 +1,10 @@
 -- What is under way stays one of the disk's sectors.
 use Rattle.std.proofs.Common.{◌≡◌, ℕ, zero, suc, ◌+◌, ◌<◌, Bool, true, false, cond, ltb, eqb, ◌||◌, ◌&&◌, ◌==◌, Option, Some, None, Result, Ok, Err, refl, sym, subst}
 use Rattle.std.proofs.lemmas.Bool.{cond_both, ltb-true}
-use Rattle.device_spec.specs.Bits.{is_bit}
+use Rattle.board_base.specs.Bits.{is_bit}
 use Rattle.device_spec.specs.Ata.State.{Medium, Activity, Ready, Failed, Reading, Writing, Identifying, Drive, sectors_of, is_bad, is_drq}
 use Rattle.device_spec.specs.Ata.Address.{named, head_of, left_of}
-use Rattle.device_spec.specs.Ata.Commands.{found, readable, counted_down, moved_to, reads_found, writes_found, begin_read, begin_write, sector_read, sector_written, verified, is_feature, obeyed, begun, is_ignored, commanded}
+use Rattle.device_spec.specs.Ata.Commands.{found, readable, counted_down, moved_to, reads_found, writes_found, begin_read, begin_write, sector_read, sector_written, verified, is_feature, obeyed, begun, is_ignored, commanded, read_sectors, read_verify_sectors}
 use Rattle.device_spec.specs.Ata.Steps.{after_activity_word, after_word, register_written, control_written}
 use Rattle.ata_pio.specs.Ata.Laws.{IsUnderWay}
 use Rattle.ata_pio.proofs.Verifies.{verified-fails, verified-end, verified-next}
@@ -88,9 +88,9 @@ obeyed-under_way : (m : Medium) (code : ℕ) (d : Drive) → IsUnderWay (sectors
 unfolding obeyed
 obeyed-under_way m code d =
     let n = sectors_of m in
-    either n (eqb code 0x20) _ _ (begin_read-under_way m d)
+    either n (eqb code read_sectors) _ _ (begin_read-under_way m d)
     (either n (eqb code 0x30) _ _ (begin_write-under_way m false d)
-    (either n (eqb code 0x40) _ _ (over-under_way n (verified m (left_of d.registers) d).activity (verified-over m (left_of d.registers) d))
+    (either n (eqb code read_verify_sectors) _ _ (over-under_way n (verified m (left_of d.registers) d).activity (verified-over m (left_of d.registers) d))
     (either n (eqb code 0x90) _ _ tt
     (either n (eqb code 0x91) _ _ (either n ((d.registers.count == 63) && (head_of d.registers == 15)) _ _ tt tt)
     (either n (eqb code 0xE7) _ _ tt

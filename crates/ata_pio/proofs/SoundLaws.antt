@@ -6,6 +6,7 @@ use Rattle.board_base.specs.declared.access.Width.TheVariants.{One, Two, Four}
 use Rattle.device_spec.specs.Ata.State.{power_on, Activity, Ready, Failed, Reading, Writing, Identifying, Drive, Disk, sectors_of, sector_bytes, stored, is_drq}
 use Rattle.device_spec.specs.Ata.Commands.{ended, sector_written, commanded}
 use Rattle.device_spec.specs.Ata.Steps.{bytes_written, activity_written, word_written, word_read, with_drive, after_word, byte_written, control_written, register_written}
+use Rattle.device_spec.specs.PortNames.{disk_status_port, disk_control_port}
 use Rattle.ata_pio.specs.Ata.Laws.{PowerOnIsSound, IsUnderWay, IsSound, Access, Read, Write, Spoil, Restart, stepped, activity_stores, word_stores, stores, StaysSound, OnlyStoresChange, after_all, NoneStores}
 use Rattle.ata_pio.proofs.StoreLaws.{stored-whole, stored-other}
 use Rattle.ata_pio.proofs.DriveLaws.{sector_written-under_way, commanded-under_way, register_written-under_way, control_written-under_way, after_word-under_way}
@@ -57,15 +58,15 @@ word_read-keeps disk h = same_medium disk (after_word disk.medium disk.drive) h 
 byte_written-keeps : (port byte : ℕ) (disk : Disk) → IsSound disk → Keeps disk (byte_written port byte disk)
 byte_written-keeps port byte disk h =
     let n = sectors_of disk.medium in
-    either_keeps disk (eqb port 0x1F7) _ _ (same_medium disk (commanded disk.medium byte disk.drive) h (commanded-under_way disk.medium byte disk.drive h.under_way))
-    (either_keeps disk (eqb port 0x3F6) _ _ (same_medium disk (control_written byte disk.drive) h (control_written-under_way n byte disk.drive h.under_way))
+    either_keeps disk (eqb port disk_status_port) _ _ (same_medium disk (commanded disk.medium byte disk.drive) h (commanded-under_way disk.medium byte disk.drive h.under_way))
+    (either_keeps disk (eqb port disk_control_port) _ _ (same_medium disk (control_written byte disk.drive) h (control_written-under_way n byte disk.drive h.under_way))
     (same_medium disk (register_written port byte disk.drive) h (register_written-under_way n port byte disk.drive h.under_way)))
 
 then_keeps : (a b c : Disk) → Keeps a b → Keeps b c → Keeps a c
 then_keeps a b c p q = (q.0, q.1 ∙ p.1)
 
 step_keeps : (access : Access) (disk : Disk) → IsSound disk → Keeps disk (stepped access disk)
-step_keeps (Read port One) disk h = either_keeps disk (eqb port 0x1F7) _ _ (same_medium disk (record disk.drive { request = false }) h h.under_way) (h, refl)
+step_keeps (Read port One) disk h = either_keeps disk (eqb port disk_status_port) _ _ (same_medium disk (record disk.drive { request = false }) h h.under_way) (h, refl)
 step_keeps (Read port Two) disk h = word_read-keeps disk h
 step_keeps (Read port Four) disk h =
     let first = word_read-keeps disk h in
@@ -131,10 +132,10 @@ word_written-same t word disk h n = elim (cases_Bool (is_drq disk.drive)) [
 ]
 
 step_same : (access : Access) (disk : Disk) (t : ℕ) → IsSound disk → stores access disk t ≡ false → SameBytes t disk (stepped access disk)
-step_same (Read port One) disk t h n = either_same t disk (eqb port 0x1F7) _ _ refl refl
+step_same (Read port One) disk t h n = either_same t disk (eqb port disk_status_port) _ _ refl refl
 step_same (Read port Two) disk t h n = refl
 step_same (Read port Four) disk t h n = refl
-step_same (Write port One value) disk t h n = either_same t disk (eqb port 0x1F7) _ _ refl (either_same t disk (eqb port 0x3F6) _ _ refl refl)
+step_same (Write port One value) disk t h n = either_same t disk (eqb port disk_status_port) _ _ refl (either_same t disk (eqb port disk_control_port) _ _ refl refl)
 step_same (Write port Two value) disk t h n = word_written-same t (value % 65536) disk h n
 step_same (Write port Four value) disk t h n =
     let parts = or_parts (word_stores disk t) _ n in

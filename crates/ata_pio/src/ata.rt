@@ -6,9 +6,9 @@ ghost use Rattle.ata_pio.specs.Words.{is_readable, with_word, with_bytes};
 ghost use Rattle.device_spec.specs.Ata.Steps.{is_ata_port, read_of, after_read, after_write, after_reset, after_bad, word_of, word_read, word_written, register_of, register_read, byte_written};
 
 use crate::controller::Controller;
-use crate::port;
 use crate::sectors::{SECTOR_BYTES, Sectors};
 use board_base::Width;
+use device_spec::port::{DISK_CONTROL, DISK_STATUS};
 use std::alloc::Global;
 use std::marker::Model;
 use thiserror::Error;
@@ -209,7 +209,7 @@ impl Ata {
         ensures after { self.new ≡ register_read port self.old }
     {
         let value = self.controller.read_register(port);
-        if port == port::STATUS {
+        if port == DISK_STATUS {
             self.controller.request = false;
         }
         value
@@ -220,8 +220,8 @@ impl Ata {
         ensures after { self.new ≡ byte_written port byte self.old }
     {
         match port {
-            port::COMMAND => self.controller.command(byte, &self.sectors),
-            port::CONTROL => self.controller.write_control(byte),
+            DISK_STATUS => self.controller.command(byte, &self.sectors),
+            DISK_CONTROL => self.controller.write_control(byte),
             _ => self.controller.write_register(port, byte),
         }
     }

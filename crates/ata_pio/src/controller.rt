@@ -11,8 +11,9 @@ use crate::fault::Fault;
 use crate::identify::identify_word;
 use crate::sectors::{SECTOR_BYTES, Sectors};
 use crate::task_file::{HEADS, TRACK_SECTORS, TaskFile};
-use crate::{command, port};
+use crate::{command, feature};
 use byteorder::{ByteOrder, LittleEndian};
+use device_spec::port::{DISK_COUNT, DISK_DEVICE, DISK_ERROR, DISK_HIGH, DISK_LOW, DISK_MID};
 
 /// What is under way: nothing; nothing, since the last command ended with an error; a sector that is
 /// read or written, or the words of IDENTIFY DEVICE, each with the word that comes next.
@@ -227,7 +228,13 @@ impl Controller {
         ensures within { (count : ℕ) → IsWithin count self.new.progress }
     {
         match self.task.features {
-            0x02 | 0x03 | 0x55 | 0x66 | 0x82 | 0xAA | 0xCC => self.finish(),
+            feature::WRITE_CACHE
+            | feature::TRANSFER_MODE
+            | feature::NO_LOOK_AHEAD
+            | feature::KEEP_OVER_RESET
+            | feature::NO_WRITE_CACHE
+            | feature::LOOK_AHEAD
+            | feature::POWER_ON_AT_RESET => self.finish(),
             _ => self.fail(Fault::Aborted),
         }
     }
@@ -326,12 +333,12 @@ impl Controller {
         ensures register { result ≡ register_of port (drive_of self.now) }
     {
         match port {
-            port::ERROR => self.task.error,
-            port::COUNT => self.task.count,
-            port::LOW => self.task.low,
-            port::MID => self.task.mid,
-            port::HIGH => self.task.high,
-            port::DEVICE => self.task.device,
+            DISK_ERROR => self.task.error,
+            DISK_COUNT => self.task.count,
+            DISK_LOW => self.task.low,
+            DISK_MID => self.task.mid,
+            DISK_HIGH => self.task.high,
+            DISK_DEVICE => self.task.device,
             _ => self.status(),
         }
     }

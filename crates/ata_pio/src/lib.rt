@@ -6,9 +6,9 @@ mod ata;
 mod command;
 mod controller;
 mod fault;
+mod feature;
 mod identify;
 pub mod laws;
-mod port;
 mod sectors;
 mod task_file;
 

@@ -6,21 +6,22 @@ ghost use Rattle.device_spec.specs.Ata.Address.{lba_of, chs_of, named, naming, h
 ghost use Rattle.device_spec.specs.Ata.Steps.{with_register, with_control};
 ghost use Rattle.ata_pio.specs.View.{registers_of};
 
-use crate::port;
+use board_base::bits::is_set;
+use device_spec::port::{DISK_COUNT, DISK_ERROR, DISK_HIGH, DISK_LOW, DISK_MID};
 
-/// Bits of the device register: the two that read as 1, LBA, the drive, and the head.
+/// The device register: the bits that read as 1, and those of the head.
 const ALWAYS_ONE: u8 = 0xA0;
 
-const LBA: u8 = 0x40;
-
-const DRIVE_ONE: u8 = 0x10;
-
 const HEAD_BITS: u8 = 0x0F;
+/// The device register: the number of the bit that says LBA, and of that of the drive.
+const LBA: u32 = 6;
 
-/// Bits of device control.
-const SRST: u8 = 0x04;
+const DRIVE_ONE: u32 = 4;
 
-const NIEN: u8 = 0x02;
+/// Device control: the numbers of its bits.
+const SRST: u32 = 2;
+
+const NIEN: u32 = 1;
 
 /// The geometry of every disk: heads, sectors of a track, and sectors of a cylinder.
 pub const HEADS: u8 = 16;
@@ -77,14 +78,14 @@ impl TaskFile {
     pub fn is_lba(&self) -> bool
         ensures is_lba { result ≡ is_lba (registers_of self.now) }
     {
-        self.device & LBA != 0
+        is_set(self.device.into(), LBA)
     }
 
     /// Whether drive 1 is chosen, which is not there.
     pub fn is_drive_one(&self) -> bool
         ensures is_drive_one { result ≡ is_drive_one (registers_of self.now) }
     {
-        self.device & DRIVE_ONE != 0
+        is_set(self.device.into(), DRIVE_ONE)
     }
 
     /// The head, 0 to 15.
@@ -165,11 +166,11 @@ impl TaskFile {
         ensures written { registers_of self.new ≡ with_register port byte (registers_of self.old) }
     {
         match port {
-            port::FEATURES => self.features = byte,
-            port::COUNT => self.count = byte,
-            port::LOW => self.low = byte,
-            port::MID => self.mid = byte,
-            port::HIGH => self.high = byte,
+            DISK_ERROR => self.features = byte,
+            DISK_COUNT => self.count = byte,
+            DISK_LOW => self.low = byte,
+            DISK_MID => self.mid = byte,
+            DISK_HIGH => self.high = byte,
             _ => self.device = byte | ALWAYS_ONE,
         }
     }
@@ -178,7 +179,7 @@ impl TaskFile {
     pub fn write_control(&mut self, byte: u8)
         ensures written { registers_of self.new ≡ with_control byte (registers_of self.old) }
     {
-        self.srst = byte & SRST != 0;
-        self.nien = byte & NIEN != 0;
+        self.srst = is_set(byte.into(), SRST);
+        self.nien = is_set(byte.into(), NIEN);
     }
 }

@@ -1,5 +1,5 @@
 -- How many bytes an access can move.
-use Rattle.std.proofs.Common.{◌≤◌, ◌<◌, ℕ, arith}
+use Rattle.std.proofs.Common.{◌≤◌, ◌<◌, arith}
 use Rattle.board_base.specs.Access.{bytes_of}
 use Rattle.board_base.specs.declared.access.Width.{Width}
 use Rattle.board_base.specs.declared.access.Width.TheVariants.{One, Two, Four}

@@ -1,4 +1,5 @@
 pub mod Access
+pub mod Bits
 pub mod Calendar
 pub mod Counts
 pub mod Files

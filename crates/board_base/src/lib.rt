@@ -2,6 +2,7 @@
 #![tactic(auto)]
 
 mod access;
+pub mod bits;
 mod fault;
 mod memory_shelf;
 mod memory_sink;

@@ -8,7 +8,7 @@ use Rattle.board_base.specs.declared.access.Width.TheVariants.{One}
 use Rattle.board_base.specs.declared.target.Target.{Target}
 use Rattle.board_base.specs.declared.target.Target.TheVariants.{Dram, Shadow, Smram, Rom, Card, Device, Config, Abort}
 use Rattle.board_base.specs.declared.target.Dev.TheVariants.{Clock as ClockChip}
-use Rattle.device_spec.specs.Clock.{index_port, data_port}
+use Rattle.device_spec.specs.PortNames.{clock_index_port, clock_data_port}
 use Rattle.board_spec.specs.declared.event.Event.TheVariants.{Memory, Port}
 use Rattle.board_spec.specs.declared.event.Reply.TheVariants.{Bus, Parts, Saw}
 use Rattle.board_spec.specs.declared.event.Reply.{Reply}
@@ -235,7 +235,7 @@ load_refused (Err fault) size installed end is fits past = (λ err. omega (arith
 -- ---- a byte of the clock
 
 clock_writes : {port byte : ℕ} {entry : Entry} (setup : Setup) (history : List Entry) →
-    (port ≡ index_port) ⊎ (port ≡ data_port) → IsClockWrite port byte entry →
+    (port ≡ clock_index_port) ⊎ (port ≡ clock_data_port) → IsClockWrite port byte entry →
     Writes setup history entry.event None None None
 clock_writes setup history (inl first) is =
     rw (is.event, first) (record { control_is = refl; address_is = refl; store_is = refl })
@@ -312,11 +312,11 @@ pub some_clock_entries : (history : List Entry) (address byte : ℕ) →
     (later : List Entry) × WriteClockByte history address byte later
 unfolding clock_entry
 some_clock_entries history address byte = (
-  clock_entry index_port (clock_of history).index ∷ clock_entry data_port byte ∷ clock_entry index_port address ∷ history,
+  clock_entry clock_index_port (clock_of history).index ∷ clock_entry clock_data_port byte ∷ clock_entry clock_index_port address ∷ history,
   record {
-    to_address = clock_entry index_port address;
-    to_byte = clock_entry data_port byte;
-    back = clock_entry index_port (clock_of history).index;
+    to_address = clock_entry clock_index_port address;
+    to_byte = clock_entry clock_data_port byte;
+    back = clock_entry clock_index_port (clock_of history).index;
     are_last = refl;
     first = record { event = refl; reached = refl };
     second = record { event = refl; reached = refl };

@@ -5,7 +5,7 @@ use Rattle.board_base.specs.declared.access.Width.TheVariants.{One}
 use Rattle.board_base.specs.declared.target.Target.{Target}
 use Rattle.board_base.specs.declared.target.Denial.{Denial}
 use Rattle.board_base.specs.declared.target.Dev.TheVariants.{Clock as ClockChip}
-use Rattle.device_spec.specs.Clock.{index_port, data_port}
+use Rattle.device_spec.specs.PortNames.{clock_index_port, clock_data_port}
 use Rattle.board_spec.specs.declared.event.Event.TheVariants.{Memory, Port}
 use Rattle.board_spec.specs.declared.event.Reply.TheVariants.{Bus}
 use Rattle.board_spec.specs.declared.event.Entry.{Entry}
@@ -46,6 +46,6 @@ pub record WriteClockByte (history : List Entry) (address byte : ℕ) (later : L
   pub to_byte : Entry
   pub back : Entry
   pub are_last : later ≡ back ∷ to_byte ∷ to_address ∷ history
-  pub first : IsClockWrite index_port address to_address
-  pub second : IsClockWrite data_port byte to_byte
-  pub third : IsClockWrite index_port (clock_of history).index back
+  pub first : IsClockWrite clock_index_port address to_address
+  pub second : IsClockWrite clock_data_port byte to_byte
+  pub third : IsClockWrite clock_index_port (clock_of history).index back

@@ -3,7 +3,7 @@ use Rattle.std.proofs.Common.{◌≡◌, ℕ, zero, suc, ◌+◌, ◌*◌, ◌/�
 use Rattle.std.proofs.lemmas.Bool.{cases_Bool, or_parts, true≢false}
 use Rattle.std.proofs.lemmas.Bool.Decides.{nat_tests}
 use Rattle.std.specs.Prelude.{slice_set}
-use Rattle.device_spec.specs.Bits.{is_bit}
+use Rattle.board_base.specs.Bits.{is_bit}
 use Rattle.device_spec.specs.Levels.{Levels, has, levels_where, no_levels, with_level, levels_of_byte}
 use Rattle.device_spec.specs.Pic.{Chip, Word, Icw2, Icw3, Icw4, interrupt, latches_after, chip_after_inputs, acknowledged, acknowledged_if, first_blocking, ended, chip_after_word, chip_after_odd_write, is_complete, chip_after_ocw2, chip_after_even_write, chip_after_write, chip_after_read}
 use Rattle.device_spec.specs.Pair.{Pair, settled, master_inputs, pair_at_reset, levels_at_power_on, pair_after_lines, pair_after_write, pair_after_read, pair_acknowledged, pair_acknowledged_at, pair_after_acknowledge, is_slave_port, is_odd_port}

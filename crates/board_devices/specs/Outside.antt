@@ -4,7 +4,7 @@ use Rattle.board_base.specs.declared.access.PortAccess.{PortAccess}
 use Rattle.board_base.specs.declared.access.Width.TheVariants.{One}
 use Rattle.board_base.specs.declared.target.Dev.TheVariants.{Clock as ClockChip}
 use Rattle.device_spec.specs.Pic.{interrupt}
-use Rattle.device_spec.specs.Clock.{index_port, data_port}
+use Rattle.device_spec.specs.PortNames.{clock_index_port, clock_data_port}
 use Rattle.board_spec.specs.declared.event.Entry.{Entry}
 use Rattle.board_spec.specs.Setup.{Setup}
 use Rattle.board_spec.specs.Devices.{clock_of}
@@ -32,6 +32,6 @@ pub record PutsClockByte (setup : Setup) (routes : List ℕ) (history : List Ent
   pub to_byte : Entry
   pub back : Entry
   pub are_last : later ≡ back ∷ to_byte ∷ to_address ∷ history
-  pub first : WritesClock setup routes history to_address index_port address
-  pub second : WritesClock setup routes (to_address ∷ history) to_byte data_port byte
-  pub third : WritesClock setup routes (to_byte ∷ to_address ∷ history) back index_port (clock_of history).index
+  pub first : WritesClock setup routes history to_address clock_index_port address
+  pub second : WritesClock setup routes (to_address ∷ history) to_byte clock_data_port byte
+  pub third : WritesClock setup routes (to_byte ∷ to_address ∷ history) back clock_index_port (clock_of history).index

@@ -4,8 +4,8 @@ use Rattle.std.proofs.lemmas.Bool.{cases_Bool, cases_eq, eq-eqb, ne_eqb}
 use Rattle.std.proofs.lemmas.Bool.Decides.{nat_tests}
 use Rattle.std.proofs.lemmas.Grind.{get_or-set_at}
 use Rattle.std.proofs.lemmas.List.{length-set}
-use Rattle.device_spec.specs.Bits.{is_bit}
-use Rattle.device_spec.specs.Clock.{CivilTime, Clock, bcd, number_byte, hour_byte, control_of, is_set, is_binary, is_24_hour, time_bytes, put, tell, byte_at, alarm_fits, alarm_rings, control_reset, written, data_byte, control_written, update_interrupts, power_on, after_write, after_reset, after_moment, register_c, after_read}
+use Rattle.board_base.specs.Bits.{is_bit}
+use Rattle.device_spec.specs.Clock.{CivilTime, Clock, bcd, number_byte, hour_byte, control_of, holds_time, is_binary, is_24_hour, time_bytes, put, tell, byte_at, alarm_fits, alarm_rings, control_reset, written, data_byte, control_written, update_interrupts, power_on, after_write, after_reset, after_moment, register_c, after_read}
 use Rattle.board_laws.specs.ClockLaws.{number_read, hour_read, Shows, IsShowable, ShowsTheMoment, HasAlarm, same_time_of_day, RingsAtItsTime, ReadingQuiets, ResetKeepsTheTime, MemoryKeeps, IsSound, StaysSound}
 
 -- two digits are read as they were written
@@ -181,7 +181,7 @@ memory_keeps clock address byte size past_registers within =
       others = λ other apart. get_or-set_other clock.bytes address other _ 0 apart;
     })
 
-written_stopped : (byte : ℕ) → is_set (control_written byte) ≡ true → update_interrupts (control_written byte) ≡ false
+written_stopped : (byte : ℕ) → holds_time (control_written byte) ≡ true → update_interrupts (control_written byte) ≡ false
 written_stopped byte set_now = grind (arith, nat_tests)
 
 size_kept : (bytes : List ℕ) (k byte : ℕ) → length bytes ≡ 128 → length (set bytes k byte) ≡ 128
@@ -203,7 +203,7 @@ written_no_update bytes k byte size was =
     ]
 
 abbrev stops : ℕ → Type 0
-stops control = is_set control ≡ true → update_interrupts control ≡ false
+stops control = holds_time control ≡ true → update_interrupts control ≡ false
 
 written_stops : (bytes : List ℕ) (k byte : ℕ) → length bytes ≡ 128 → stops (get_or bytes 11 0) → stops (get_or (set bytes k (written k (get_or bytes k 0) byte)) 11 0)
 written_stops bytes k byte size was =
@@ -247,7 +247,7 @@ sound_moment clock time was =
     let y = number_byte c (time.year % 100) in
     let a_same = timed-other b s m h w d n y 10 was.size (omega arith) (omega arith) (omega arith) (omega arith) (omega arith) (omega arith) (omega arith) in
     let b_same = timed-other b s m h w d n y 11 was.size (omega arith) (omega arith) (omega arith) (omega arith) (omega arith) (omega arith) (omega arith) in
-    elim (cases_Bool (is_set c)) [
+    elim (cases_Bool (holds_time c)) [
       | inl e ↦ rw e was
       | inr e ↦ rw e (record {
         size = timed-size b s m h w d n y was.size;

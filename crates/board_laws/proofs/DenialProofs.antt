@@ -1,5 +1,5 @@
 -- A denial is given exactly where nobody answers, and where the ROM is written.
-use Rattle.std.proofs.Common.{◌≡◌, ℕ, zero, suc, ◌+◌, ◌-◌, Bool, true, false, not, ◌||◌, ◌&&◌, List, [], ◌∷◌, Option, Some, None, is_some, refl, sym, subst, inl, inr}
+use Rattle.std.proofs.Common.{◌≡◌, ℕ, zero, suc, ◌+◌, ◌-◌, Bool, true, false, not, List, [], ◌∷◌, Option, Some, None, is_some, refl, sym, subst, inl, inr}
 use Rattle.std.specs.Prelude.{◌==◌, if◌then◌else◌, map, option_map, unwrap_or, All}
 use Rattle.std.proofs.lemmas.Bool.{cases_Bool, cond-false, false≢true}
 use Rattle.std.proofs.lemmas.List.Elements.{All-nil, All-cons}
@@ -12,12 +12,14 @@ use Rattle.board_base.specs.declared.target.Reg.{Reg}
 use Rattle.board_base.specs.declared.target.Area.{Area}
 use Rattle.board_base.specs.declared.target.Area.TheVariants.{Dram as DramArea, Shadow as ShadowArea, Smram as SmramArea, Rom as RomArea, Card as CardArea, Abort as AbortArea}
 use Rattle.board_base.specs.declared.target.Dev.{Dev}
-use Rattle.board_base.specs.declared.target.Dev.TheVariants.{Confadd, Keyboard, Clock, Ata}
 use Rattle.board_base.specs.declared.target.Target.{Target}
 use Rattle.board_base.specs.declared.target.Target.TheVariants.{Device}
 use Rattle.board_base.specs.declared.target.Denial.{Denial}
 use Rattle.board_base.specs.declared.target.Denial.TheVariants.{Register, NoRegister}
 use Rattle.board_base.specs.Access.{bytes_of}
+use Rattle.device_spec.specs.declared.port.Select.{Select}
+use Rattle.device_spec.specs.declared.port.Select.TheVariants.{Always, XbcsBit0, XbcsBit1, IdeChannel}
+use Rattle.device_spec.specs.PortTable.{device_at, select_of}
 use Rattle.board_spec.specs.declared.event.Event.TheVariants.{Memory, Wide, Port, Look as LookAt, Ack, Pulses, Time, Wire, Line, BadSector}
 use Rattle.board_spec.specs.declared.event.Part.{Part}
 use Rattle.board_spec.specs.declared.event.Reply.{Reply}
@@ -25,12 +27,10 @@ use Rattle.board_spec.specs.declared.event.Reply.TheVariants.{Bus}
 use Rattle.board_spec.specs.declared.event.Entry.{Entry}
 use Rattle.board_spec.specs.Setup.{Setup}
 use Rattle.board_spec.specs.Bits.{is_bit}
-use Rattle.board_spec.specs.Ranges.{lies_in}
-use Rattle.board_spec.specs.PortNames.{config_address_port, keyboard_data_port, keyboard_command_port, clock_ports}
 use Rattle.board_spec.specs.RegisterNames.{xbcs, ide_command, idetim, idetim_high}
 use Rattle.board_spec.specs.Registers.{is_config_port, config_address, config_register, byte_of}
-use Rattle.board_spec.specs.Decode.{Bytes, Window, first_of, line_where, denial_in, denial_of, io_claim, io_shut, command_of}
-use Rattle.board_spec.specs.Ports.{Decoded, is_ata_port, device, nobody, card_port, config_port, byte_device, selected_by, disk_port, other_port, port_target_of}
+use Rattle.board_spec.specs.Decode.{Bytes, Window, denial_in, denial_of, io_claim, io_shut, command_of}
+use Rattle.board_spec.specs.Ports.{Decoded, device, nobody, card_port, config_port, by_xbcs, by_channel, selected_by, device_port, port_target_of}
 use Rattle.board_spec.specs.Stored.{is_write}
 use Rattle.board_spec.specs.WideParts.{longest_at, part_at, parts_from}
 use Rattle.board_spec.specs.Answer.{target_at, memory_target, memory_denial, memory_answer, part_answer, port_answer}
@@ -89,76 +89,45 @@ right_config : (address : ℕ) (reg : Option Reg) → IsRight (config_port addre
 right_config address None = refused false _ _ tt
 right_config address (Some reg) = answered false _ (λ r. r)
 
-right_selected :
-    (select : ℕ) (dev : Dev) (setup : Setup) (bytes : Bytes) (port : ℕ) →
-    IsRight (selected_by select dev setup bytes port)
-right_selected select dev setup bytes port =
-    right_choice (is_bit (bytes xbcs) select) _ _ (right_device dev)
+right_xbcs :
+    (bit : ℕ) (dev : Dev) (setup : Setup) (bytes : Bytes) (port : ℕ) → IsRight (by_xbcs bit dev setup bytes port)
+right_xbcs bit dev setup bytes port =
+    right_choice (is_bit (bytes xbcs) bit) _ _ (right_device dev)
     (right_unclaimed port (io_claim setup bytes port) _)
 
-right_disk : (setup : Setup) (bytes : Bytes) (disk : Bool) (port : ℕ) → IsRight (disk_port setup bytes disk port)
-right_disk setup bytes false port = right_unclaimed port (io_claim setup bytes port) _
-right_disk setup bytes true port =
+right_channel :
+    (disk : Bool) (dev : Dev) (setup : Setup) (bytes : Bytes) (port : ℕ) →
+    IsRight (by_channel disk dev setup bytes port)
+right_channel false dev setup bytes port = right_unclaimed port (io_claim setup bytes port) _
+right_channel true dev setup bytes port =
     right_choice (not (is_bit (bytes ide_command) 0)) _ _
     (right_unclaimed port (io_claim setup bytes port) (Register ide_command))
     (right_choice (not (is_bit (bytes idetim_high) 7)) _ _
-    (right_unclaimed port (io_claim setup bytes port) (Register idetim)) (right_device Ata))
+    (right_unclaimed port (io_claim setup bytes port) (Register idetim)) (right_device dev))
 
--- a line of the table that holds gives what is right
-abbrev IsRightLine : Option Decoded → Type 0
-IsRightLine None = Unit {0}
-IsRightLine (Some decoded) = IsRight decoded
+right_selected :
+    (select : Select) (disk : Bool) (dev : Dev) (setup : Setup) (bytes : Bytes) (port : ℕ) →
+    IsRight (selected_by select disk dev setup bytes port)
+right_selected Always disk dev setup bytes port = right_device dev
+right_selected XbcsBit0 disk dev setup bytes port = right_xbcs 0 dev setup bytes port
+right_selected XbcsBit1 disk dev setup bytes port = right_xbcs 1 dev setup bytes port
+right_selected IdeChannel disk dev setup bytes port = right_channel disk dev setup bytes port
 
-right_line : (test : Bool) (decoded : Decoded) → IsRight decoded → IsRightLine (line_where test decoded)
-right_line true decoded is = is
-right_line false decoded is = tt
-
-right_byte : (test : Bool) (dev : Option Dev) → IsRightLine (if test then option_map device dev else None)
-right_byte false dev = tt
-right_byte true None = tt
-right_byte true (Some dev) = right_device dev
-
-right_first :
-    (line : Option Decoded) (later : List (Option Decoded)) (otherwise : Decoded) → IsRightLine line →
-    IsRight (first_of later otherwise) → IsRight (first_of (line ∷ later) otherwise)
-right_first None later otherwise is rest = rest
-right_first (Some decoded) later otherwise is rest = is
-
-right_table :
-    (a b c d e f : Option Decoded) (otherwise : Decoded) →
-    IsRightLine a → IsRightLine b → IsRightLine c → IsRightLine d → IsRightLine e → IsRightLine f → IsRight otherwise →
-    IsRight (first_of (a ∷ b ∷ c ∷ d ∷ e ∷ f ∷ []) otherwise)
-right_table a b c d e f otherwise ra rb rc rd re rf rest =
-    right_first a (b ∷ c ∷ d ∷ e ∷ f ∷ []) otherwise ra
-    (right_first b (c ∷ d ∷ e ∷ f ∷ []) otherwise rb
-    (right_first c (d ∷ e ∷ f ∷ []) otherwise rc
-    (right_first d (e ∷ f ∷ []) otherwise rd
-    (right_first e (f ∷ []) otherwise re (right_first f [] otherwise rf rest)))))
+right_port :
+    (found : Option Dev) (disk : Bool) (setup : Setup) (bytes : Bytes) (port : ℕ) →
+    IsRight (device_port found disk setup bytes port)
+right_port None disk setup bytes port =
+    right_unclaimed port (io_claim setup bytes port)
+    (unwrap_or (option_map command_of (io_shut setup bytes port)) NoRegister)
+right_port (Some dev) disk setup bytes port = right_selected (select_of dev) disk dev setup bytes port
 
 denied_port :
     (setup : Setup) (bytes : Bytes) (address : ℕ) (disk : Bool) (port : ℕ) (width : Width) →
     IsRight (port_target_of setup bytes address disk port width)
 unfolding port_target_of
 denied_port setup bytes address disk port width =
-    let is_address : Bool = port == config_address_port && bytes_of width == 4 in
-    let is_keyboard : Bool = (port == keyboard_data_port || port == keyboard_command_port) && bytes_of width == 1 in
-    let is_clock : Bool = lies_in clock_ports port && bytes_of width == 1 in
-    right_table
-    (line_where is_address (device Confadd))
-    (line_where (is_config_port port) (config_port address (config_register setup address port)))
-    (if bytes_of width == 1 then option_map device (byte_device port) else None)
-    (line_where is_keyboard (selected_by 1 Keyboard setup bytes port))
-    (line_where is_clock (selected_by 0 Clock setup bytes port))
-    (line_where (is_ata_port port (bytes_of width)) (disk_port setup bytes disk port))
-    (other_port setup bytes port)
-    (right_line is_address (device Confadd) (right_device Confadd))
-    (right_line (is_config_port port) _ (right_config address (config_register setup address port)))
-    (right_byte (bytes_of width == 1) (byte_device port))
-    (right_line is_keyboard _ (right_selected 1 Keyboard setup bytes port))
-    (right_line is_clock _ (right_selected 0 Clock setup bytes port))
-    (right_line (is_ata_port port (bytes_of width)) _ (right_disk setup bytes disk port))
-    (right_unclaimed port (io_claim setup bytes port)
-    (unwrap_or (option_map command_of (io_shut setup bytes port)) NoRegister))
+    right_choice (is_config_port port) _ _ (right_config address (config_register setup address port))
+    (right_port (device_at port (bytes_of width)) disk setup bytes port)
 
 -- ---- replies
 

@@ -5,7 +5,7 @@ use Rattle.std.proofs.lemmas.Bool.{cases_Bool, cases_lt, cases_eq, agree_below_a
 use Rattle.std.proofs.Math.ListN.{drop_of_length-le}
 use Rattle.std.proofs.Math.Seq.{get_or-append_seam}
 use Rattle.std.proofs.lemmas.List.{get_or_append_left}
-use Rattle.device_spec.specs.Bits.{is_bit}
+use Rattle.board_base.specs.Bits.{is_bit}
 use Rattle.device_spec.specs.Levels.{has, without_level}
 use Rattle.device_spec.specs.Pic.{Chip, pending, priority_order, is_blocking, blocks_itself, is_requested, request, interrupt, first_blocking, ended, chip_after_write}
 use Rattle.board_laws.specs.PicLaws.{place_of, CanBeSelected, InterruptIsSelected, SelectedInterrupts, IsServedFirst, NonSpecificEndEndsFirst, NonSpecificEndOfNone, IsFirstInOrder}

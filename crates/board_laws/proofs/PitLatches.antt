@@ -1,6 +1,6 @@
 -- A latched count stays until it is read.
 use Rattle.std.proofs.Common.{◌≡◌, ℕ, Bool, true, false, cond, List, [], ◌∷◌, length, Option, Some, None, refl, ap, sym, ◌∙◌}
-use Rattle.device_spec.specs.Bits.{is_bit}
+use Rattle.board_base.specs.Bits.{is_bit}
 use Rattle.device_spec.specs.Pit.{Mode, TerminalCount, OneShot, RateGenerator, SquareWave, SoftwareStrobe, HardwareStrobe, Access, LowByte, HighByte, LowThenHigh, CounterState, low_byte, high_byte, element_bytes, latch_count, latch_status, read_back, read, complete, take_low, take_byte, write, gate_rises, gate_falls, load, count_down, count_to_end, count_to_reload, count_half, count_to_strobe, pulse_by_mode, pulse}
 use Rattle.board_laws.specs.PitLaws.{Write, GateRises, GateFalls, Pulse, Latch, ReadBack, after, Step, step_of, bytes_read, LatchedCountStays, LatchedCountIsRead}
 

@@ -1,6 +1,6 @@
 -- Only an entry whose reply names a register changes registers in configuration space.
-use Rattle.std.proofs.Common.{◌≡◌, ℕ, ◌≤◌, Bool, true, false, ◌&&◌, List, ◌∷◌, Option, Some, None, is_some, refl, sym, ◌∙◌, ap, subst, inl, inr, arith}
-use Rattle.std.specs.Prelude.{◌==◌, option_map}
+use Rattle.std.proofs.Common.{◌≡◌, ℕ, ◌≤◌, Bool, true, ◌&&◌, List, Option, Some, None, is_some, refl, sym, ◌∙◌, ap, subst, inl, inr, arith}
+use Rattle.std.specs.Prelude.{option_map}
 use Rattle.std.proofs.lemmas.Bool.{cases_Bool, cond-true, cond-false, and_parts}
 use Rattle.std.proofs.lemmas.Bool.Decides.{nat_tests}
 use Rattle.board_base.specs.declared.access.Width.{Width}
@@ -15,9 +15,8 @@ use Rattle.board_spec.specs.declared.event.Entry.{Entry}
 use Rattle.board_spec.specs.declared.map_change.MapChange.{MapChange}
 use Rattle.board_spec.specs.declared.map_change.MapChange.TheVariants.{Store, Reset}
 use Rattle.board_spec.specs.Setup.{Setup}
-use Rattle.board_spec.specs.PortNames.{config_address_port}
 use Rattle.board_spec.specs.Registers.{is_hard_reset, is_config_port, config_register, config_store, config_address, covers, byte_with, byte_of}
-use Rattle.board_spec.specs.Decode.{Bytes, first_of, line_where}
+use Rattle.board_spec.specs.Decode.{Bytes}
 use Rattle.board_spec.specs.Ports.{Decoded, config_port, port_target_of}
 use Rattle.board_spec.specs.Answer.{port_answer, IsAnswer}
 use Rattle.board_laws.specs.RegisterLaws.{IsNear, TargetReaches, Reaches, RegistersStay}
@@ -47,23 +46,13 @@ stored_elsewhere setup named reg width value old far =
       | inl inside ↦ absurd (far (near_of named reg width inside))
     ]
 
--- the second line of the table of ports is the configuration ports'
-second_line :
-    {X : Type 0} (first second : Bool) (x y otherwise : X) (later : List (Option X)) → first ≡ false →
-    second ≡ true → first_of (line_where first x ∷ line_where second y ∷ later) otherwise ≡ y
-second_line first second x y otherwise later no_first is_second = rw (no_first, is_second) refl
-
-not_the_address : (port size : ℕ) → is_config_port port ≡ true → (port == config_address_port && size == 4) ≡ false
-not_the_address port size is = grind (arith, nat_tests)
-
 decoded-config :
     (setup : Setup) (bytes : Bytes) (address : ℕ) (disk : Bool) (port : ℕ) (width : Width) →
     is_config_port port ≡ true →
     port_target_of setup bytes address disk port width ≡ config_port address (config_register setup address port)
 unfolding port_target_of
 decoded-config setup bytes address disk port width is =
-    second_line (port == config_address_port && bytes_of width == 4) (is_config_port port) _ _ _ _
-    (not_the_address port (bytes_of width) is) is
+    cond-true (is_config_port port) _ _ is
 
 -- an access to a configuration port that names a register
 answer_reaches :

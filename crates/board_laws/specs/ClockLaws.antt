@@ -1,7 +1,8 @@
 -- Laws of the clock's machine, in the words of someone who uses the clock.
 use Rattle.std.specs.Prelude.{◌≡◌, ◌≢◌, ℕ, ◌+◌, ◌*◌, ◌/◌, ◌%◌, ◌<◌, Bool, true, false, ◌&&◌, ◌||◌, ◌==◌, nat_le, if◌then◌else◌, length}
-use Rattle.device_spec.specs.Bits.{is_bit}
-use Rattle.device_spec.specs.Clock.{CivilTime, Clock, worth, index_port, data_port, byte_at, control_of, is_set, is_binary, is_24_hour, number_byte, hour_byte, interrupt_line, read_value, after_read, after_write, after_moment, after_reset, second_at, second_alarm_at, minute_at, minute_alarm_at, hour_at, hour_alarm_at, weekday_at, day_at, month_at, year_at, register_a, register_b, register_c, register_d, update_interrupts, power_on}
+use Rattle.board_base.specs.Bits.{is_bit}
+use Rattle.device_spec.specs.Clock.{CivilTime, Clock, worth, byte_at, control_of, holds_time, is_binary, is_24_hour, number_byte, hour_byte, interrupt_line, read_value, after_read, after_write, after_moment, after_reset, second_at, second_alarm_at, minute_at, minute_alarm_at, hour_at, hour_alarm_at, weekday_at, day_at, month_at, year_at, register_a, register_b, register_c, register_d, update_interrupts, power_on}
+use Rattle.device_spec.specs.PortNames.{clock_index_port, clock_data_port}
 
 -- The time is shown
 
@@ -38,7 +39,7 @@ pub record IsShowable (time : CivilTime) : Type 0 where
 abbrev pub ShowsTheMoment : Type 0
 ShowsTheMoment =
     (clock : Clock) (time : CivilTime) →
-    length clock.bytes ≡ 128 → is_set (control_of clock) ≡ false → IsShowable time →
+    length clock.bytes ≡ 128 → holds_time (control_of clock) ≡ false → IsShowable time →
     Shows (after_moment clock time) time
 
 -- The alarm rings
@@ -58,7 +59,7 @@ same_time_of_day time other =
 abbrev pub RingsAtItsTime : Type 0
 RingsAtItsTime =
     (clock : Clock) (time alarm : CivilTime) →
-    length clock.bytes ≡ 128 → is_set (control_of clock) ≡ false →
+    length clock.bytes ≡ 128 → holds_time (control_of clock) ≡ false →
     IsShowable time → IsShowable alarm → HasAlarm clock alarm →
     (after_moment clock time).alarm_flag ≡ (clock.alarm_flag || same_time_of_day alarm time)
 
@@ -66,11 +67,11 @@ RingsAtItsTime =
 
 -- a read of register C leaves no flag to be read, and no interrupt
 pub record IsQuiet (clock : Clock) : Type 0 where
-  pub flags : read_value clock data_port ≡ 0
+  pub flags : read_value clock clock_data_port ≡ 0
   pub line : interrupt_line clock ≡ false
 
 abbrev pub ReadingQuiets : Type 0
-ReadingQuiets = (clock : Clock) → clock.index ≡ register_c → IsQuiet (after_read clock data_port)
+ReadingQuiets = (clock : Clock) → clock.index ≡ register_c → IsQuiet (after_read clock clock_data_port)
 
 -- A hard reset
 
@@ -91,14 +92,14 @@ ResetKeepsTheTime =
 
 -- a byte written at an address past the registers is read there, and all other bytes stay
 pub record Keeps (before after : Clock) (address byte : ℕ) : Type 0 where
-  pub read : read_value after data_port ≡ byte
+  pub read : read_value after clock_data_port ≡ byte
   pub others : (other : ℕ) → other ≢ address → byte_at after other ≡ byte_at before other
 
 abbrev pub MemoryKeeps : Type 0
 MemoryKeeps =
     (clock : Clock) (address byte : ℕ) →
     length clock.bytes ≡ 128 → register_d < address → address < 128 →
-    Keeps clock (after_write (after_write clock index_port address) data_port byte) address byte
+    Keeps clock (after_write (after_write clock clock_index_port address) clock_data_port byte) address byte
 
 -- What always holds
 
@@ -109,7 +110,7 @@ pub record IsSound (clock : Clock) : Type 0 where
   pub within : clock.index < 128
   pub no_update : byte_at clock register_a < 128
   pub stopped :
-      is_set (control_of clock) ≡ true → update_interrupts (control_of clock) ≡ false
+      holds_time (control_of clock) ≡ true → update_interrupts (control_of clock) ≡ false
 
 pub record StaysSound : Type 0 where
   pub at_power_on : IsSound power_on

@@ -1,4 +1,3 @@
-pub mod MergedLemmas
 pub mod StoreLemmas
 pub mod TableLemmas
 mod WideLemmas

@@ -1,16 +1,8 @@
--- Bits and bytes of numbers. Bit 0 is the lowest, and so is byte 0.
-use Rattle.std.specs.Prelude.{ℕ, ◌+◌, ◌*◌, ◌/◌, ◌%◌, ◌^◌, ◌==◌, Bool, ◌&&◌, nat_le, List, [], ◌∷◌}
+-- Bytes of numbers, byte 0 the lowest, beside the bits.
+use Rattle.std.specs.Prelude.{ℕ, ◌+◌, ◌*◌, ◌/◌, ◌%◌, ◌^◌, List, [], ◌∷◌}
 use Rattle.board_base.specs.declared.access.Width.{Width}
 use Rattle.board_base.specs.declared.access.Width.TheVariants.{One, Two, Four}
--- a register byte after a write under a mask (`law_merged` says bit by bit what it is)
-pub use Rattle.device_spec.specs.Bits.{merged}
-
--- bit k of a number, 0 or 1
-abbrev pub bit : ℕ → ℕ → ℕ
-bit n k = n / 2 ^ k % 2
-
-abbrev pub is_bit : ℕ → ℕ → Bool
-is_bit n k = bit n k == 1
+pub use Rattle.board_base.specs.Bits.{bit, is_bit, is_within, merged}
 
 -- byte k of a number
 abbrev pub byte : ℕ → ℕ → ℕ
@@ -26,7 +18,3 @@ wide byte_at from One = byte_at from
 wide byte_at from Two = byte_at from + 0x100 * byte_at (from + 1)
 wide byte_at from Four =
     byte_at from + 0x100 * byte_at (from + 1) + 0x1_0000 * byte_at (from + 2) + 0x100_0000 * byte_at (from + 3)
-
--- a number lies in an interval, both ends included
-abbrev pub is_within : ℕ → ℕ → ℕ → Bool
-is_within first last n = nat_le first n && nat_le n last

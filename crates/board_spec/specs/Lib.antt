@@ -7,7 +7,6 @@ pub mod RegisterNames
 pub mod RegisterTable
 pub mod Registers
 pub mod MapWrites
-pub mod MergedBits
 pub mod WideStores
 pub mod Decode
 pub mod Ports

@@ -2,16 +2,16 @@
 //! `specs/` the definitions that every contract above cites. `laws` proves of them what code above stands on.
 #![tactic(auto)]
 
-pub mod bits;
 pub mod command;
 mod event;
 pub mod laws;
 pub mod limits;
 mod map_change;
 pub mod offset;
-pub mod port;
 pub mod range;
 pub mod wide;
 
+pub use board_base::bits;
+pub use device_spec::port;
 pub use event::{Entry, Event, Look, Part, Parts, Reply, Statement};
 pub use map_change::MapChange;

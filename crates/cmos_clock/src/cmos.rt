@@ -7,10 +7,11 @@ ghost use Rattle.cmos_clock.specs.Outside.{with_byte};
 
 use crate::control::Control;
 use crate::register::{
-    DATA_PORT, DAY, HOUR, HOUR_ALARM, INDEX_PORT, MINUTE, MINUTE_ALARM, MONTH, REGISTER_A,
-    REGISTER_B, REGISTER_C, REGISTER_D, SECOND, SECOND_ALARM, WEEKDAY, YEAR,
+    DAY, HOUR, HOUR_ALARM, MINUTE, MINUTE_ALARM, MONTH, REGISTER_A, REGISTER_B, REGISTER_C,
+    REGISTER_D, SECOND, SECOND_ALARM, WEEKDAY, YEAR,
 };
 use board_base::Moment;
+use device_spec::port::{CLOCK_DATA, CLOCK_INDEX};
 use std::marker::Model;
 
 /// How many bytes the clock has: its time, its registers and its memory.
@@ -92,7 +93,7 @@ impl Cmos {
         ensures value { result ≡ read_value self.old port }
         ensures state { self.new ≡ after_read self.old port }
     {
-        if port != DATA_PORT {
+        if port != CLOCK_DATA {
             return NOTHING;
         }
         let byte = self.data();
@@ -107,8 +108,8 @@ impl Cmos {
         ensures state { self.new ≡ after_write self.old port byte }
     {
         match port {
-            INDEX_PORT => self.index = byte & INDEX_BITS,
-            DATA_PORT => self.write_data(byte),
+            CLOCK_INDEX => self.index = byte & INDEX_BITS,
+            CLOCK_DATA => self.write_data(byte),
             _ => {}
         }
     }

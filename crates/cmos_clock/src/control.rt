@@ -1,7 +1,8 @@
 //! Register B: what the clock does and how it writes its time.
 ghost use Rattle.std.specs.Prelude.{◌≡◌, ◌<◌};
-ghost use Rattle.device_spec.specs.Bits.{is_bit};
-ghost use Rattle.device_spec.specs.Clock.{alarm_interrupts, bcd, control_reset, control_written, hour_byte, is_set, number_byte, update_interrupts};
+ghost use Rattle.device_spec.specs.Clock.{alarm_interrupts, bcd, control_reset, control_written, hour_byte, holds_time, number_byte, update_interrupts};
+
+use board_base::bits::is_set;
 
 // The numbers of its bits.
 const SET: u32 = 7;
@@ -52,23 +53,23 @@ impl Control {
 
     /// Whether the time stands still.
     pub fn holds_time(self) -> bool
-        ensures value { result ≡ is_set self.byte }
+        ensures value { result ≡ holds_time self.byte }
     {
-        is_bit(self.byte, SET)
+        is_set(self.byte.into(), SET)
     }
 
     /// Whether the alarm's flag raises the interrupt line.
     pub fn alarm_interrupts(self) -> bool
         ensures value { result ≡ alarm_interrupts self.byte }
     {
-        is_bit(self.byte, ALARM_INTERRUPT)
+        is_set(self.byte.into(), ALARM_INTERRUPT)
     }
 
     /// Whether the update's flag raises the interrupt line.
     pub fn update_interrupts(self) -> bool
         ensures value { result ≡ update_interrupts self.byte }
     {
-        is_bit(self.byte, UPDATE_INTERRUPT)
+        is_set(self.byte.into(), UPDATE_INTERRUPT)
     }
 
     /// A number of at most two digits as the clock writes it.
@@ -76,7 +77,7 @@ impl Control {
         requires { number < 100 }
         ensures value { result ≡ number_byte self.byte number }
     {
-        if is_bit(self.byte, BINARY) {
+        if is_set(self.byte.into(), BINARY) {
             number
         } else {
             bcd(number)
@@ -88,7 +89,7 @@ impl Control {
         requires { hour < 24 }
         ensures value { result ≡ hour_byte self.byte hour }
     {
-        if is_bit(self.byte, HOURS_24) {
+        if is_set(self.byte.into(), HOURS_24) {
             return self.number(hour);
         }
         let face = match hour % 12 {
@@ -101,14 +102,6 @@ impl Control {
             self.number(face) + AFTERNOON
         }
     }
-}
-
-/// Whether a bit of a byte is 1.
-fn is_bit(byte: u8, place: u32) -> bool
-    requires { place < 8 }
-    ensures value { result ≡ is_bit byte place }
-{
-    byte >> place & 1 == 1
 }
 
 /// Two decimal digits, the tens in the high four bits.

@@ -1,8 +1,4 @@
-//! The ports, and what stands at which address (MC146818 datasheet, "Address Map").
-
-pub const INDEX_PORT: u16 = 0x70;
-
-pub const DATA_PORT: u16 = 0x71;
+//! What stands at which address (MC146818 datasheet, "Address Map").
 
 pub const SECOND: usize = 0x00;
 

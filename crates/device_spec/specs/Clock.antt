@@ -1,7 +1,8 @@
 -- The MC146818 real time clock (Motorola MC146818 datasheet, "Address Map", "Time, Calendar and Alarm
 -- Locations" and "Registers"), as a machine: what a read gives, and the state after each step.
 use Rattle.std.specs.Prelude.{ℕ, ◌+◌, ◌-◌, ◌*◌, ◌/◌, ◌%◌, Bool, true, false, ◌&&◌, ◌||◌, ◌==◌, nat_le, if◌then◌else◌, List, [], ◌∷◌, replicate, slice_index, slice_set}
-use Rattle.device_spec.specs.Bits.{is_bit}
+use Rattle.board_base.specs.Bits.{is_bit}
+use Rattle.device_spec.specs.PortNames.{clock_index_port, clock_data_port}
 
 -- a moment that the clock is told: the weekday 1 is Sunday
 pub record CivilTime : Type 0 where
@@ -24,13 +25,7 @@ pub record Clock : Type 0 where
 abbrev pub worth : Bool → ℕ → ℕ
 worth set value = if set then value else 0
 
--- Ports and addresses
-
-abbrev pub index_port : ℕ
-index_port = 0x70
-
-abbrev pub data_port : ℕ
-data_port = 0x71
+-- Addresses
 
 abbrev pub second_at : ℕ
 second_at = 0
@@ -85,8 +80,8 @@ abbrev pub control_of : Clock → ℕ
 control_of clock = byte_at clock register_b
 
 -- SET: the time stands still
-abbrev pub is_set : ℕ → Bool
-is_set control = is_bit control 7
+abbrev pub holds_time : ℕ → Bool
+holds_time control = is_bit control 7
 
 -- AIE and UIE: the flag of the alarm, or of the update, raises the interrupt line
 abbrev pub alarm_interrupts : ℕ → Bool
@@ -175,7 +170,7 @@ data_byte clock =
 
 -- what a read of a port gives: port 70h cannot be read
 abbrev pub read_value : Clock → (port : ℕ) → ℕ
-read_value clock port = if port == data_port then data_byte clock else 0xFF
+read_value clock port = if port == clock_data_port then data_byte clock else 0xFF
 
 -- The steps
 
@@ -186,11 +181,11 @@ without_flags clock = record clock { alarm_flag = false; update_flag = false }
 -- after a read: one of register C clears its flags
 abbrev pub after_read : Clock → (port : ℕ) → Clock
 after_read clock port =
-    if (port == data_port) && (clock.index == register_c) then without_flags clock else clock
+    if (port == clock_data_port) && (clock.index == register_c) then without_flags clock else clock
 
 -- register B as written: with SET, no update can raise the interrupt line
 abbrev pub control_written : ℕ → ℕ
-control_written byte = if is_set byte && update_interrupts byte then byte - 0x10 else byte
+control_written byte = if holds_time byte && update_interrupts byte then byte - 0x10 else byte
 
 -- what a write leaves at an address: bit 7 of register A stays 0, and C and D ignore writes
 abbrev pub written : (address old byte : ℕ) → ℕ
@@ -209,8 +204,8 @@ store clock byte =
 -- after a write: port 70h takes the index from bits 6:0, and port 71h stores the byte
 abbrev pub after_write : Clock → (port byte : ℕ) → Clock
 after_write clock port byte =
-    if port == index_port then record clock { index = byte % 128 }
-    else if port == data_port then store clock byte
+    if port == clock_index_port then record clock { index = byte % 128 }
+    else if port == clock_data_port then store clock byte
     else clock
 
 -- a moment: the time is stored, the update's flag set, and the alarm's where the alarm rings
@@ -222,12 +217,12 @@ tell clock bytes =
 -- after a moment: nothing happens while SET is 1
 abbrev pub after_moment : Clock → CivilTime → Clock
 after_moment clock time =
-    if is_set (control_of clock) then clock
+    if holds_time (control_of clock) then clock
     else tell clock (put (time_bytes (control_of clock) time) clock.bytes)
 
 -- register B after a hard reset: SET and bits 2 to 0 stay, and PIE, AIE, UIE and SQWE are cleared
 abbrev pub control_reset : ℕ → ℕ
-control_reset control = worth (is_set control) 0x80 + control % 8
+control_reset control = worth (holds_time control) 0x80 + control % 8
 
 -- after a hard reset: the index is 0, no interrupt is on and no flag set; all other bytes stay
 abbrev pub after_reset : Clock → Clock

@@ -1,7 +1,7 @@
 -- The edge/level control registers of the PIIX3: ELCR1 at port 4D0h for lines 0 to 7 and ELCR2 at port
 -- 4D1h for lines 8 to 15. A bit at 1 says that its line is level triggered.
 use Rattle.std.specs.Prelude.{ℕ, Bool, if◌then◌else◌}
-use Rattle.device_spec.specs.Bits.{merged}
+use Rattle.board_base.specs.Bits.{merged}
 
 -- the two bytes
 pub record Triggers : Type 0 where

@@ -1,6 +1,6 @@
 -- Sets of the eight levels of an interrupt controller, IR0 to IR7.
 use Rattle.std.specs.Prelude.{ℕ, Bool, false, List, [], ◌∷◌, ◌+◌, ◌*◌, ◌==◌, ◌&&◌, ◌||◌, not, map, if◌then◌else◌, slice_index_or}
-use Rattle.device_spec.specs.Bits.{is_bit}
+use Rattle.board_base.specs.Bits.{is_bit}
 
 -- a set is the list of eight Booleans that say which levels it has
 abbrev pub Levels : Type 0

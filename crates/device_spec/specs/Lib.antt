@@ -1,5 +1,4 @@
 pub mod Ata
-pub mod Bits
 pub mod Clock
 pub mod Elcr
 pub mod Levels
@@ -7,6 +6,8 @@ pub mod Pair
 pub mod Pic
 pub mod PicLaws
 pub mod Pit
+pub mod PortNames
+pub mod PortTable
 pub mod PitLaws
 pub mod PitPeriods
 pub mod Routing

@@ -2,7 +2,8 @@
 -- Each step gives the state after it from the state before; a read gives the byte that it answers beside it.
 -- This board's own choices are marked (choice).
 use Rattle.std.specs.Prelude.{ℕ, zero, suc, ◌+◌, ◌-◌, ◌*◌, ◌/◌, ◌%◌, ◌≤◌, ◌==◌, Bool, true, false, not, ◌&&◌, ◌||◌, if◌then◌else◌, List, [], ◌∷◌, Option, Some, None, is_some}
-use Rattle.device_spec.specs.Bits.{is_bit}
+use Rattle.board_base.specs.Bits.{is_bit}
+use Rattle.device_spec.specs.PortNames.{counter0_port, counter1_port, counter2_port, timer_ports}
 
 -- ONE COUNTER
 
@@ -409,20 +410,8 @@ unfoldable pub reset : PitState
 reset = record { counter0 = reset_counter; counter1 = reset_counter; counter2 = reset_counter; gate2 = false }
 
 -- the ports: the three counters and the control word register
-abbrev pub counter0_port : ℕ
-counter0_port = 0x40
-
-abbrev pub counter1_port : ℕ
-counter1_port = 0x41
-
-abbrev pub counter2_port : ℕ
-counter2_port = 0x42
-
-abbrev pub control_port : ℕ
-control_port = 0x43
-
 abbrev pub IsTimerPort : ℕ → Type 0
-IsTimerPort port = (counter0_port ≤ port) × (port ≤ control_port)
+IsTimerPort port = (timer_ports.0 ≤ port) × (port ≤ timer_ports.1)
 
 -- a read of a port: the byte and the state after; the control word register reads FFh
 unfoldable pub port_read : ℕ → PitState → ℕ × PitState

@@ -3,6 +3,7 @@
 #![tactic(auto)]
 
 pub mod laws;
+pub mod port;
 
 /// How many interrupt lines the two 8259As have.
 pub const LINE_COUNT: usize = 16;

@@ -18,7 +18,7 @@ use Rattle.board_spec.specs.Decode.{Bytes, top_of}
 use Rattle.board_spec.specs.RegisterNames.{bridge}
 use Rattle.board_spec.specs.MapWrites.{reg_after}
 use Rattle.board_spec.specs.FlatMap.{address_count, six_areas}
-use Rattle.board_spec.proofs.MergedLemmas.{merged-all}
+use Rattle.board_base.proofs.MergedLemmas.{merged-all}
 use Rattle.map_builder.specs.declared.range.Changed.{Changed}
 use Rattle.map_builder.specs.Changed.{windows_of, windows_covered, after, changed_windows, IsOutside}
 use Rattle.map_builder.specs.Laws.{WindowsHoldChanges, BoundsHoldChanges}

@@ -1,11 +1,11 @@
 -- Sets of levels and the bits of their bytes.
-use Rattle.std.proofs.Common.{◌≡◌, ℕ, zero, suc, ◌+◌, ◌-◌, ◌*◌, ◌/◌, ◌%◌, ◌^◌, ◌<◌, ◌≤◌, min, max, Bool, true, false, not, eqb, ltb, ◌||◌, ◌&&◌, length, refl, ap, ◌∙◌, inl, inr, arith}
+use Rattle.std.proofs.Common.{◌≡◌, ℕ, zero, suc, ◌+◌, ◌-◌, ◌*◌, ◌%◌, ◌^◌, ◌<◌, ◌≤◌, min, max, Bool, true, false, not, eqb, ltb, ◌||◌, ◌&&◌, length, refl, ap, ◌∙◌, inl, inr, arith}
 use Rattle.std.specs.Prelude.{bit_or, bit_and}
 use Rattle.std.specs.Int.{bit_at}
 use mir.Syntax.{w8}
 use Rattle.std.proofs.lemmas.Bool.{cases_eq, cases_order, eq-eqb, ne_eqb, lt-ltb, le-ltb, agree_below_at, eqb-true}
-use Rattle.std.proofs.lemmas.Nat.Bits.{bit_at-lt, bit_at_or, bit_at_and, bit_at_not, bit_at_set_same, bit_at_set_other, bit_at_clear_same, bit_at_clear_other, shr_and_one}
-use Rattle.device_spec.specs.Bits.{is_bit}
+use Rattle.std.proofs.lemmas.Nat.Bits.{bit_at-lt, bit_at_or, bit_at_and, bit_at_not, bit_at_set_same, bit_at_set_other, bit_at_clear_same, bit_at_clear_other}
+use Rattle.board_base.specs.Bits.{is_bit}
 use Rattle.device_spec.proofs.Levels.{levels_where-same, has-levels_where, levels_where-has}
 use Rattle.device_spec.specs.Levels.{Levels, has, levels_where, no_levels, with_level, without_level, levels_of_byte, byte_of_levels}
 
@@ -78,10 +78,6 @@ pub levels-cleared : (n k : ℕ) → k < 8 → levels_of_byte (bit_and n (255 - 
 levels-cleared n k hk =
     levels_where-same _ (λ l. not (eqb l k) && has (levels_of_byte n) l) (λ l h. rw (has-levels_where (is_bit n) l h) (is_bit-clear n k l hk h))
 
--- a bit tested by a shift and a mask
-pub has-shifted : (n k : ℕ) → k < 8 → eqb (bit_and (n / 2 ^ k) 1) 1 ≡ has (levels_of_byte n) k
-has-shifted n k hk = rw (has-levels_where (is_bit n) k hk) (ap (λ x. eqb x 1) (shr_and_one n k))
-
 -- the byte of a byte's set
 is_own_byte : ℕ → Bool
 is_own_byte n = eqb n (byte_of_levels (levels_of_byte n))
@@ -137,7 +133,3 @@ pub front_levels-none : (levels : Levels) → no_levels ≡ front_levels levels 
 unfolding front_levels
 front_levels-none levels =
     levels_where-same (λ _. false) (λ k. ltb k 0 && has levels k) (λ k small. rw (le-ltb k 0 (omega arith)) refl)
-
--- a bit of a byte, tested by a shift and a mask
-pub is_bit-shifted : (n k : ℕ) → eqb (bit_and (n / 2 ^ k) 1) 1 ≡ is_bit n k
-is_bit-shifted n k = ap (λ x. eqb x 1) (shr_and_one n k)

@@ -1,11 +1,11 @@
 //! One 8259A interrupt controller.
 ghost use Rattle.std.specs.Prelude.{◌≡◌, ◌+◌, ◌++◌, ◌<◌, ◌&&◌, ◌||◌, not, IfSome, EachIndex, slice_index, false};
-ghost use Rattle.device_spec.specs.Bits.{is_bit};
 ghost use Rattle.device_spec.specs.Levels.{with_level};
 ghost use Rattle.pic_pair.specs.View.{awaited_words, cascade_words, mode_words};
 ghost use Rattle.device_spec.specs.Pic.{acknowledged_if, byte_polled, is_complete, chip_at_reset, chip_after_inputs, pending, priority_order, is_blocking, blocks_itself, is_requested, request, interrupt, acknowledged, chip_after_icw1, first_blocking, ended, chip_after_ocw2, chip_after_ocw3, chip_after_odd_write, chip_after_write, byte_read, chip_after_read};
 
 use crate::level_set::LevelSet;
+use board_base::bits::is_set;
 use std::marker::Model;
 
 /// The input of the master to which the slave is wired.
@@ -16,17 +16,17 @@ const LAST_LEVEL: u8 = 7;
 const LEVELS: [u8; 8] = [0, 1, 2, 3, 4, 5, 6, 7];
 
 /// ICW1: the bit that marks it among the words of the even port.
-const ICW1: u8 = 4;
+const ICW1: u32 = 4;
 /// ICW1: the chip is alone, so that ICW3 does not come.
-const SINGLE: u8 = 1;
+const SINGLE: u32 = 1;
 /// ICW1: ICW4 is to come.
-const NEEDS_ICW4: u8 = 0;
+const NEEDS_ICW4: u32 = 0;
 /// ICW2: the bits that give the base of the vectors.
 const VECTOR_BASE: u8 = 0xF8;
 /// ICW4: automatic end of interrupt.
-const AUTO_EOI: u8 = 1;
+const AUTO_EOI: u32 = 1;
 /// ICW4: special fully nested mode.
-const FULLY_NESTED: u8 = 4;
+const FULLY_NESTED: u32 = 4;
 
 /// OCW2: the bits that name a level.
 const LEVEL_BITS: u8 = 7;
@@ -48,17 +48,17 @@ const CLEAR_ROTATE_IN_AUTO_EOI: u8 = 0b000;
 const SET_PRIORITY: u8 = 0b110;
 
 /// OCW3: the bit that marks it, where that of ICW1 is 0.
-const OCW3: u8 = 3;
+const OCW3: u32 = 3;
 /// OCW3: special mask mode is to be taken from `SPECIAL_MASK`.
-const ENABLE_SPECIAL_MASK: u8 = 6;
+const ENABLE_SPECIAL_MASK: u32 = 6;
 /// OCW3: special mask mode.
-const SPECIAL_MASK: u8 = 5;
+const SPECIAL_MASK: u32 = 5;
 /// OCW3: the next read polls.
-const POLL: u8 = 2;
+const POLL: u32 = 2;
 /// OCW3: what a read gives is to be taken from `READ_IN_SERVICE`.
-const READ_REGISTER: u8 = 1;
+const READ_REGISTER: u32 = 1;
 /// OCW3: a read gives the levels in service.
-const READ_IN_SERVICE: u8 = 0;
+const READ_IN_SERVICE: u32 = 0;
 
 /// What a poll adds to the level that it found.
 const POLLED: u8 = 0x80;
@@ -224,9 +224,9 @@ impl Pic {
     {
         if is_odd {
             self.write_odd(byte);
-        } else if is_bit(byte, ICW1) {
+        } else if is_set(byte.into(), ICW1) {
             self.initialise(byte);
-        } else if is_bit(byte, OCW3) {
+        } else if is_set(byte.into(), OCW3) {
             self.operate_modes(byte);
         } else {
             self.operate(byte >> COMMAND, byte & LEVEL_BITS);
@@ -331,8 +331,8 @@ impl Pic {
         self.in_service = LevelSet::empty();
         self.latches = LevelSet::empty();
         self.awaited = Awaited::Vector {
-            single: is_bit(byte, SINGLE),
-            mode: is_bit(byte, NEEDS_ICW4),
+            single: is_set(byte.into(), SINGLE),
+            mode: is_set(byte.into(), NEEDS_ICW4),
         };
         self.auto_eoi = false;
         self.fully_nested = false;
@@ -377,12 +377,12 @@ impl Pic {
     fn operate_modes(&mut self, byte: u8)
         ensures operated { self.new ≡ chip_after_ocw3 self.old byte }
     {
-        self.polls = is_bit(byte, POLL) || self.polls;
-        if is_bit(byte, ENABLE_SPECIAL_MASK) {
-            self.special_mask = is_bit(byte, SPECIAL_MASK);
+        self.polls = is_set(byte.into(), POLL) || self.polls;
+        if is_set(byte.into(), ENABLE_SPECIAL_MASK) {
+            self.special_mask = is_set(byte.into(), SPECIAL_MASK);
         }
-        if is_bit(byte, READ_REGISTER) {
-            self.reads_in_service = is_bit(byte, READ_IN_SERVICE);
+        if is_set(byte.into(), READ_REGISTER) {
+            self.reads_in_service = is_set(byte.into(), READ_IN_SERVICE);
         }
     }
 
@@ -398,8 +398,8 @@ impl Pic {
             }
             Awaited::Cascade { mode } => self.await_words(Awaited::after_cascade(mode)),
             Awaited::Mode => {
-                self.auto_eoi = is_bit(byte, AUTO_EOI);
-                self.fully_nested = is_bit(byte, FULLY_NESTED);
+                self.auto_eoi = is_set(byte.into(), AUTO_EOI);
+                self.fully_nested = is_set(byte.into(), FULLY_NESTED);
                 self.await_words(Awaited::Nothing);
             }
         }
@@ -441,12 +441,4 @@ impl Awaited {
             Awaited::Nothing
         }
     }
-}
-
-/// Whether a bit of a byte is 1.
-fn is_bit(byte: u8, bit: u8) -> bool
-    requires { bit < 8 }
-    ensures bit { result ≡ is_bit byte bit }
-{
-    byte >> bit & 1 == 1
 }

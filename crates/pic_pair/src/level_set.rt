@@ -2,6 +2,7 @@
 ghost use Rattle.std.specs.Prelude.{◌≡◌, ◌<◌, ◌&&◌, ◌||◌, not, length};
 ghost use Rattle.device_spec.specs.Levels.{has, levels_where, no_levels, with_level, without_level, levels_of_byte, byte_of_levels};
 
+use board_base::bits::is_set;
 use std::marker::Model;
 
 /// A set of levels, IR0 to IR7.
@@ -61,7 +62,7 @@ impl LevelSet {
         requires { level < 8 }
         ensures has { result ≡ has self.now level }
     {
-        self.bits >> level & 1 == 1
+        is_set(self.bits.into(), level.into())
     }
 
     /// Adds a level.

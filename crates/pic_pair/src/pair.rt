@@ -6,6 +6,7 @@ ghost use Rattle.pic_pair.specs.View.{answer_shown};
 
 use crate::chip::{CASCADE, Pic};
 use crate::level_set::LevelSet;
+use board_base::bits::is_set;
 use device_spec::LINE_COUNT;
 use std::marker::Model;
 
@@ -18,9 +19,9 @@ const SLAVE: u8 = 1;
 /// The level of a spurious answer.
 const SPURIOUS: u8 = 7;
 /// The bit of a port that chooses the slave.
-const SLAVE_PORT: u16 = 7;
+const SLAVE_PORT: u32 = 7;
 /// The bit of a port that is the chip's input A0.
-const ODD_PORT: u16 = 0;
+const ODD_PORT: u32 = 0;
 
 /// The answer to an acknowledge: the vector, the chip that gave it, 0 the master and 1 the slave, and
 /// whether it is spurious.
@@ -183,14 +184,14 @@ impl PicPair {
 fn is_slave_port(port: u16) -> bool
     ensures slave { result ≡ is_slave_port port }
 {
-    port >> SLAVE_PORT & 1 == 1
+    is_set(port.into(), SLAVE_PORT)
 }
 
 /// Whether a port is the odd one of its chip.
 fn is_odd_port(port: u16) -> bool
     ensures odd { result ≡ is_odd_port port }
 {
-    port >> ODD_PORT & 1 == 1
+    is_set(port.into(), ODD_PORT)
 }
 
 /// Takes away line 2, which reaches no input.

@@ -2,7 +2,7 @@
 ghost use Rattle.std.specs.Prelude.{◌≡◌};
 ghost use Rattle.device_spec.specs.Elcr.{trigger_byte, triggers_after_write, triggers_at_reset};
 
-use board_spec::bits::merged;
+use board_base::bits::merged;
 use std::marker::Model;
 
 /// The bits of 4D0h that can be written: lines 0, 1 and 2 stay edge triggered.

@@ -10,7 +10,7 @@ ghost use Rattle.board_spec.specs.RegisterNames.{isa, pirq};
 ghost use Rattle.pirq_router.specs.Routes.{AreRoutesIn};
 ghost use Rattle.device_spec.specs.Routing.{route_byte, routes_after_write, route_reset, is_line_driven, is_route_offset, line_of_route};
 
-use board_spec::bits::{is_set, merged};
+use board_base::bits::{is_set, merged};
 use board_spec::offset::{PIRQRCA, PIRQRCD};
 use device_spec::LINE_COUNT;
 use std::marker::Model;

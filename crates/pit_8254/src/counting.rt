@@ -10,7 +10,13 @@ mod running;
 
 use crate::latch::CountLatch;
 use crate::word::{ByteAccess, CountNotation, CountingMode};
+use board_base::bits::is_set;
 use std::marker::Model;
+
+/// The bits of a read-back command that are 1 where the count, or the status, is not latched.
+const NO_COUNT: u32 = 5;
+
+const NO_STATUS: u32 = 4;
 
 /// One counter of the 8254: its counting element, the count written to it, its latches and its OUT.
 #[derive(Drop)]
@@ -136,10 +142,10 @@ impl Counter {
     pub(crate) fn read_back(&mut self, word: u8)
         ensures state { self.new ≡ read_back word self.old }
     {
-        if word / 32 % 2 == 0 {
+        if !is_set(word.into(), NO_COUNT) {
             self.latch_count();
         }
-        if word / 16 % 2 == 0 {
+        if !is_set(word.into(), NO_STATUS) {
             self.latch_status();
         }
     }

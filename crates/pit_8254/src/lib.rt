@@ -13,18 +13,18 @@ mod latch;
 mod word;
 
 use board_base::Steps;
+use board_base::bits::is_set;
 pub use counting::Counter;
+pub use device_spec::port::{CONTROL_WORD, COUNTER_0, COUNTER_1, COUNTER_2};
 use std::marker::{Brand, Model};
 use std::sync::ledger::{Blank, Ledger};
 
-/// The port of counter 0; those of counters 1 and 2 follow.
-pub const COUNTER_0: u16 = 0x40;
-/// The port of counter 1.
-pub const COUNTER_1: u16 = 0x41;
-/// The port of counter 2.
-pub const COUNTER_2: u16 = 0x42;
-/// The port of the control word register, which reads FFh.
-pub const CONTROL_WORD: u16 = 0x43;
+/// The bits of a read-back command that choose counters 0, 1 and 2.
+const CHOOSES_0: u32 = 1;
+
+const CHOOSES_1: u32 = 2;
+
+const CHOOSES_2: u32 = 3;
 
 /// The 8254: three counters, of which contracts see the state of the datasheet's machine.
 ///
@@ -125,13 +125,13 @@ impl Pit {
     fn read_back_chosen(&mut self, word: u8)
         ensures state { self.new ≡ read_back_chosen word self.old }
     {
-        if word / 2 % 2 == 1 {
+        if is_set(word.into(), CHOOSES_0) {
             self.counter0.read_back(word);
         }
-        if word / 4 % 2 == 1 {
+        if is_set(word.into(), CHOOSES_1) {
             self.counter1.read_back(word);
         }
-        if word / 8 % 2 == 1 {
+        if is_set(word.into(), CHOOSES_2) {
             self.counter2.read_back(word);
         }
     }

@@ -3,6 +3,11 @@ ghost use Rattle.std.specs.Prelude.{◌≡◌, ◌<◌, ◌≤◌, ◌%◌, ◌/
 ghost use Rattle.device_spec.specs.Pit.{mode_numbered, mode_number, is_periodic, first_element, is_terminal_count, is_triggered_by_gate, asks_for_load, access_numbered, access_number, notation_of_bit, notation_number, rw_field, mode_field, bcd_bit, byte_values, modulus, byte_value, byte_of_value, low_byte, high_byte};
 ghost use Rattle.pit_8254.specs.View.{mode_view, access_view, notation_view};
 
+use board_base::bits::is_set;
+
+/// The bit of a control word that says BCD.
+const BCD: u32 = 0;
+
 /// How a counter counts: modes 0 to 5 of the 8254 datasheet, in this order.
 #[derive(Clone, Copy)]
 pub enum CountingMode {
@@ -139,7 +144,7 @@ impl CountNotation {
     pub fn of_word(word: u8) -> CountNotation
         ensures notation { notation_view result ≡ notation_of_bit (bcd_bit word) }
     {
-        if word % 2 == 1 {
+        if is_set(word.into(), BCD) {
             CountNotation::Decimal
         } else {
             CountNotation::Binary

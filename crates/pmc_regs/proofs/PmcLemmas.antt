@@ -10,7 +10,7 @@ use Rattle.board_spec.specs.RegisterTable.{reset_byte, writable_bits}
 use Rattle.board_spec.specs.Registers.{changed_byte}
 use Rattle.board_spec.specs.Decode.{Bytes}
 use Rattle.board_spec.specs.RegisterNames.{bridge, fdhc, smram, is_same}
-use Rattle.board_spec.proofs.MergedLemmas.{merged-all, merged-none}
+use Rattle.board_base.proofs.MergedLemmas.{merged-all, merged-none}
 use Rattle.board_spec.proofs.StoreLemmas.{changed_byte-one_same, changed_byte-one_other}
 use Rattle.pmc_regs.specs.Pmc.{PmcBytes, IsFixedOffset, IsRowsOf, IsPmcOf}
 use Rattle.pmc_regs.proofs.TableLemmas.{header_byte, rows_at_reset, hole_at_reset, writable_bits-row, reset_byte-header, reset_byte-blank, writable_bits-fixed}

@@ -12,7 +12,7 @@ use Rattle.board_spec.specs.Bits.{is_within, byte, merged}
 use Rattle.board_spec.specs.RegisterTable.{isa_bridge, ide_function, reset_byte, writable_bits}
 use Rattle.board_spec.specs.RegisterNames.{isa, ide, smram, is_same}
 use Rattle.board_spec.specs.Registers.{covers, byte_after, changed_byte}
-use Rattle.board_spec.proofs.MergedLemmas.{merged-none}
+use Rattle.board_base.proofs.MergedLemmas.{merged-none}
 use Rattle.board_spec.proofs.TableLemmas.{Each, each_below}
 
 -- a register has this byte at all times

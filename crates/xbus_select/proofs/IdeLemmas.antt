@@ -11,7 +11,7 @@ use Rattle.board_spec.specs.RegisterTable.{ide_function, reset_byte, writable_bi
 use Rattle.board_spec.specs.Registers.{changed_byte}
 use Rattle.board_spec.specs.Decode.{Bytes}
 use Rattle.board_spec.specs.RegisterNames.{ide, ide_command, idetim, idetim_high}
-use Rattle.board_spec.proofs.MergedLemmas.{merged-all}
+use Rattle.board_base.proofs.MergedLemmas.{merged-all}
 use Rattle.board_spec.proofs.StoreLemmas.{changed_byte-one_same, changed_byte-one_other}
 use Rattle.xbus_select.specs.Ide.{IdeBytes, IsIdeFixed, IsIdeOf}
 use Rattle.xbus_select.proofs.FixedLemmas.{IsFixedAt, ide_header, ide_fixed, kept_byte, bare}

@@ -6,10 +6,11 @@ use Rattle.device_spec.specs.Ata.State.{power_on, is_disk_length, Medium, Regist
 use Rattle.device_spec.specs.Ata.Address.{named, naming, left_of}
 use Rattle.device_spec.specs.Ata.Commands.{readable, counted_down, moved_to, ended, failed, finished, begin_read, begin_write, verified, sector_read, sector_written}
 use Rattle.device_spec.specs.Ata.Steps.{word_of, word_read, word_written, with_drive, after_read, after_write, after_bad, after_reset}
+use Rattle.device_spec.specs.PortNames.{disk_control_port}
 
 -- A read of the alternate status changes nothing.
 abbrev pub AlternateStatusReads : Type 0
-AlternateStatusReads = (disk : Disk) → after_read 0x3F6 One disk ≡ disk
+AlternateStatusReads = (disk : Disk) → after_read disk_control_port One disk ≡ disk
 
 -- The registers that were written back for a sector name it, in either form.
 abbrev pub WrittenBackNames : Type 0

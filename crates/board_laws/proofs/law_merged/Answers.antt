@@ -1,4 +1,4 @@
-use Rattle.board_spec.proofs.MergedLemmas.{merged_bits}
+use Rattle.board_base.proofs.MergedLemmas.{merged_bits}
 use Rattle.board_laws.proofs.law_merged.Goals as goal
 
 pub returns : goal.returns

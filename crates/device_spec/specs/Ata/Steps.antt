@@ -1,47 +1,20 @@
 -- One access to a port of the disk: what is read, and the disk after it.
-use Rattle.std.specs.Prelude.{ℕ, ◌+◌, ◌*◌, ◌/◌, ◌%◌, ◌==◌, nat_le, Bool, false, ◌&&◌, ◌||◌, if◌then◌else◌, List, [], ◌∷◌, ◌++◌, length}
+use Rattle.std.specs.Prelude.{ℕ, ◌+◌, ◌*◌, ◌/◌, ◌%◌, ◌==◌, Bool, false, ◌||◌, if◌then◌else◌, List, [], ◌∷◌, ◌++◌, length}
 use Rattle.board_base.specs.declared.access.Width.{Width}
 use Rattle.board_base.specs.declared.access.Width.TheVariants.{One, Two, Four}
-use Rattle.device_spec.specs.Bits.{is_bit}
+use Rattle.board_base.specs.Bits.{is_bit}
 use Rattle.device_spec.specs.Ata.State.{Medium, Registers, Activity, Ready, Failed, Reading, Writing, Identifying, Drive, Disk, sectors_of, word_at, stored, marked, device_byte, reset_drive, power_on_drive, status_of, is_drq}
 use Rattle.device_spec.specs.Ata.Identify.{identify_word}
 use Rattle.device_spec.specs.Ata.Commands.{ended, sector_read, sector_written, commanded}
-
--- The ports. A write of the error register's port is one of the features, of the status's a command, and
--- of the alternate status's device control.
-abbrev pub data_port : ℕ
-data_port = 0x1F0
-
-abbrev pub error_port : ℕ
-error_port = 0x1F1
-
-abbrev pub count_port : ℕ
-count_port = 0x1F2
-
-abbrev pub low_port : ℕ
-low_port = 0x1F3
-
-abbrev pub mid_port : ℕ
-mid_port = 0x1F4
-
-abbrev pub high_port : ℕ
-high_port = 0x1F5
-
-abbrev pub device_port : ℕ
-device_port = 0x1F6
-
-abbrev pub status_port : ℕ
-status_port = 0x1F7
-
-abbrev pub control_port : ℕ
-control_port = 0x3F6
+use Rattle.board_base.specs.declared.target.Dev.TheVariants.{Ata}
+use Rattle.board_base.specs.Access.{bytes_of}
+use Rattle.device_spec.specs.PortNames.{disk_error_port, disk_count_port, disk_low_port, disk_mid_port, disk_high_port, disk_device_port, disk_status_port, disk_control_port}
+use Rattle.device_spec.specs.PortTable.{is_port_of}
 
 -- The ports, by width: words at the data port, and bytes at the registers of the task file and at
 -- device control.
 abbrev pub is_ata_port : ℕ → Width → Bool
-is_ata_port port One = (nat_le error_port port && nat_le port status_port) || (port == control_port)
-is_ata_port port Two = port == data_port
-is_ata_port port Four = port == data_port
+is_ata_port port width = is_port_of Ata port (bytes_of width)
 
 -- The word that a read of the data port gives: FFFF where no word is to be read.
 abbrev pub activity_word : Medium → Activity → ℕ
@@ -91,11 +64,11 @@ word_written word disk = if is_drq disk.drive then activity_written disk.drive.a
 -- A byte that is written to a register of the task file: not while words are to move, nor under SRST.
 abbrev pub with_register : ℕ → ℕ → Registers → Registers
 with_register port byte r =
-    if port == error_port then record r { features = byte }
-    else (if port == count_port then record r { count = byte }
-    else (if port == low_port then record r { low = byte }
-    else (if port == mid_port then record r { mid = byte }
-    else (if port == high_port then record r { high = byte }
+    if port == disk_error_port then record r { features = byte }
+    else (if port == disk_count_port then record r { count = byte }
+    else (if port == disk_low_port then record r { low = byte }
+    else (if port == disk_mid_port then record r { mid = byte }
+    else (if port == disk_high_port then record r { high = byte }
     else record r { device = device_byte byte }))))
 
 unfoldable pub register_written : ℕ → ℕ → Drive → Drive
@@ -117,12 +90,12 @@ control_written byte drive =
 -- What a read of a register gives: error, count, address, device, and else the status.
 abbrev pub register_of : ℕ → Drive → ℕ
 register_of port drive =
-    if port == error_port then drive.registers.error
-    else (if port == count_port then drive.registers.count
-    else (if port == low_port then drive.registers.low
-    else (if port == mid_port then drive.registers.mid
-    else (if port == high_port then drive.registers.high
-    else (if port == device_port then drive.registers.device
+    if port == disk_error_port then drive.registers.error
+    else (if port == disk_count_port then drive.registers.count
+    else (if port == disk_low_port then drive.registers.low
+    else (if port == disk_mid_port then drive.registers.mid
+    else (if port == disk_high_port then drive.registers.high
+    else (if port == disk_device_port then drive.registers.device
     else status_of drive)))))
 
 -- The disk with another drive.
@@ -140,7 +113,7 @@ read_of port Four disk = word_of disk + 65536 * word_of (word_read disk)
 
 -- The disk after the read: the status at 1F7 takes the request away, and no other register changes anything.
 abbrev pub register_read : ℕ → Disk → Disk
-register_read port disk = if port == status_port then with_drive disk (record disk.drive { request = false }) else disk
+register_read port disk = if port == disk_status_port then with_drive disk (record disk.drive { request = false }) else disk
 
 abbrev pub after_read : ℕ → Width → Disk → Disk
 after_read port One disk = register_read port disk
@@ -150,8 +123,8 @@ after_read port Four disk = word_read (word_read disk)
 -- The disk after a write to a port.
 abbrev pub byte_written : ℕ → ℕ → Disk → Disk
 byte_written port byte disk =
-    if port == status_port then with_drive disk (commanded disk.medium byte disk.drive)
-    else (if port == control_port then with_drive disk (control_written byte disk.drive)
+    if port == disk_status_port then with_drive disk (commanded disk.medium byte disk.drive)
+    else (if port == disk_control_port then with_drive disk (control_written byte disk.drive)
     else with_drive disk (register_written port byte disk.drive))
 
 abbrev pub after_write : ℕ → Width → ℕ → Disk → Disk

@@ -1,6 +1,7 @@
--- The bit, shifted down.
-use Rattle.pic_pair.proofs.LevelLemmas.{has-shifted}
+use Rattle.std.proofs.Common.{◌∙◌, sym}
+use Rattle.board_base.specs.Bits.{is_bit}
+use Rattle.device_spec.proofs.Levels.{has-levels_where}
 use Rattle.pic_pair.proofs.level_set.LevelSet.contains.Goals as goal
 
 pub returns : goal.returns
-returns c = record { has = rw (← c.self.view_is) (has-shifted c.self.inside.bits c.args.level c.requires) }
+returns c = record { has = rw (← c.self.view_is) (rw (c.into.ensures, c.into-2.ensures) at c.is_set.ensures.set ∙ sym (has-levels_where (is_bit c.self.inside.bits) c.args.level c.requires)) }

@@ -1,7 +1,7 @@
 //! Bits of registers.
 
 ghost use Rattle.std.specs.Prelude.{◌≡◌, ◌<◌, ℕ, if◌then◌else◌};
-ghost use Rattle.board_spec.specs.Bits.{bit as bit_of, is_bit, merged};
+ghost use Rattle.board_base.specs.Bits.{bit as bit_of, is_bit, merged};
 
 /// Whether a bit of a number is set; bit 0 is the lowest, 31 the highest.
 pub fn is_set(value: u32, bit: u32) -> bool

@@ -1,5 +1,5 @@
-use Rattle.board_spec.proofs.MergedLemmas.{merged_bits}
-use Rattle.board_spec.proofs.bits.merged.Goals as goal
+use Rattle.board_base.proofs.MergedLemmas.{merged_bits}
+use Rattle.board_base.proofs.bits.merged.Goals as goal
 
 pub returns-clause-bits : goal.returns-clause-bits
 returns-clause-bits c =
