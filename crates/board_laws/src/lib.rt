@@ -6,7 +6,7 @@ ghost use Rattle.board_spec.specs.Laws.{MapBytesDecide, MapWritesDecide, OneAnsw
 ghost use Rattle.board_laws.specs.AreaLaws.{RowBelowTop, WhoAnswers};
 ghost use Rattle.board_laws.specs.DenialLaws.{DeniedInParts, DeniedOnBus};
 ghost use Rattle.board_laws.specs.MapLaws.{MapWritesDecideMap};
-ghost use Rattle.board_spec.specs.MergedBits.{MergedBits};
+ghost use Rattle.board_base.specs.Bits.{MergedBits};
 ghost use Rattle.board_laws.specs.StoreLaws.{WideReads};
 ghost use Rattle.board_laws.specs.RegisterLaws.{RegistersStay};
 ghost use Rattle.board_laws.specs.SmramLaw.{SmramByBits};
