@@ -17,7 +17,7 @@ use Rattle.board_spec.specs.Interrupts.{levels_with, pair_pulsed, pair_of, devic
 use Rattle.board_examples.specs.Words.{from_reset}
 use Rattle.board_examples.specs.Basics.{small_board}
 use Rattle.board_examples.specs.Devices.{plain_card_board, timer_latched, system_port, fallen_line, nested_interrupts, polled, routed_wire, clock_told, TimerLatched, SystemPort, FallenLine, NestedInterrupts, Polled, RoutedWire, ClockTold}
-use Rattle.board_examples.specs.Interrupts.{sector_board, wired_board, each_pulse, gated_counter, clock_interrupts, disk_interrupts, shared_wires, free_lines, devices_over_reset, disk_over_reset, EachPulse, GatedCounter, ClockInterrupts, DiskInterrupts, SharedWires, FreeLines, DevicesOverReset, DiskOverReset}
+use Rattle.board_examples.specs.Interrupts.{sector_board, wired_board, each_pulse, gated_counter, clock_interrupts, disk_interrupts, shared_wires, free_lines, devices_over_reset, mask_before_icw1, disk_over_reset, EachPulse, GatedCounter, ClockInterrupts, DiskInterrupts, SharedWires, FreeLines, DevicesOverReset, MaskBeforeIcw1, DiskOverReset}
 use Rattle.board_examples.proofs.Lines.{legal}
 
 -- the examples, all computed with the same definitions open
@@ -36,10 +36,11 @@ record AllRun : Type 0 where
   pub shared_wires_runs : SharedWires
   pub free_lines_runs : FreeLines
   pub devices_over_reset_runs : DevicesOverReset
+  pub mask_before_icw1_runs : MaskBeforeIcw1
   pub disk_over_reset_runs : DiskOverReset
 
 all_run : AllRun
-unfolding TimerLatched SystemPort FallenLine NestedInterrupts Polled RoutedWire ClockTold EachPulse GatedCounter ClockInterrupts DiskInterrupts SharedWires FreeLines DevicesOverReset DiskOverReset reset_byte writable_bits isa_bridge byte_of config_address reset_control port_target_of port_answer wire_of irq_of triggers_of system_of timer_of clock_of levels_with pair_pulsed pair_of device_value levels_where byte_of_levels pending first_selectable pic_request first_blocking chip_after_write byte_read chip_after_read answer_of pair_after_acknowledge is_line_driven low_byte high_byte count_of_number mode_numbered access_numbered programmed element_bytes status_byte latch_count latch_status counter_control read_back read_live counter_read asks_for_load count_complete take_low take_byte counter_write gate_rises gate_falls counter_load count_down count_to_end count_to_reload count_half count_to_strobe pulse_by_mode counter_pulse timer_reset port_read read_back_chosen write_control port_write set_gate2 out_of pulse_all timer_pulses rises clock_power_on ide_function disk_with begin_read sector_was_read begin_write sector_written verified obeyed commanded after_word word_written register_written disk_control_written
+unfolding TimerLatched SystemPort FallenLine NestedInterrupts Polled RoutedWire ClockTold EachPulse GatedCounter ClockInterrupts DiskInterrupts SharedWires FreeLines DevicesOverReset MaskBeforeIcw1 DiskOverReset reset_byte writable_bits isa_bridge byte_of config_address reset_control port_target_of port_answer wire_of irq_of triggers_of system_of timer_of clock_of levels_with pair_pulsed pair_of device_value levels_where byte_of_levels pending first_selectable pic_request first_blocking chip_after_write byte_read chip_after_read answer_of pair_after_acknowledge is_line_driven low_byte high_byte count_of_number mode_numbered access_numbered programmed element_bytes status_byte latch_count latch_status counter_control read_back read_live counter_read asks_for_load count_complete take_low take_byte counter_write gate_rises gate_falls counter_load count_down count_to_end count_to_reload count_half count_to_strobe pulse_by_mode counter_pulse timer_reset port_read read_back_chosen write_control port_write set_gate2 out_of pulse_all timer_pulses rises clock_power_on ide_function disk_with begin_read sector_was_read begin_write sector_written verified obeyed commanded after_word word_written register_written disk_control_written
 all_run = record {
   timer_runs = legal small_board (from_reset timer_latched) refl;
   system_port_runs = legal small_board (from_reset system_port) refl;
@@ -55,6 +56,7 @@ all_run = record {
   shared_wires_runs = legal wired_board (from_reset shared_wires) refl;
   free_lines_runs = legal small_board (from_reset free_lines) refl;
   devices_over_reset_runs = legal small_board (from_reset devices_over_reset) refl;
+  mask_before_icw1_runs = legal small_board (from_reset mask_before_icw1) refl;
   disk_over_reset_runs = legal sector_board (from_reset disk_over_reset) refl;
 }
 
@@ -99,6 +101,9 @@ free_lines_runs = all_run.free_lines_runs
 
 pub devices_over_reset_runs : DevicesOverReset
 devices_over_reset_runs = all_run.devices_over_reset_runs
+
+pub mask_before_icw1_runs : MaskBeforeIcw1
+mask_before_icw1_runs = all_run.mask_before_icw1_runs
 
 pub disk_over_reset_runs : DiskOverReset
 disk_over_reset_runs = all_run.disk_over_reset_runs

@@ -9,7 +9,10 @@ mod DiskRuns
 mod WideRuns
 mod RomRuns
 mod StoryRuns
+mod PortRuns
+mod ColumnRuns
 mod MaskRuns
+mod ResetRuns
 mod VersionRuns
 mod WindowRuns
 mod EventRuns

@@ -201,6 +201,27 @@ devices_over_reset =
 unfoldable pub DevicesOverReset : Type 0
 DevicesOverReset = IsLegal small_board (from_reset devices_over_reset)
 
+-- the mask is read and written before ICW1 too: a reset leaves no level masked, and so does ICW1
+abbrev pub mask_before_icw1 : List Said
+mask_before_icw1 =
+    gets Pic0 0x21 0x00
+    ∷ gets Pic1 0xA1 0x00
+    ∷ puts Pic0 0x21 0x5A
+    ∷ puts Pic1 0xA1 0xC3
+    ∷ gets Pic0 0x21 0x5A
+    ∷ gets Pic1 0xA1 0xC3
+    ∷ puts Reset 0xCF9 0x06
+    ∷ gets Pic0 0x21 0x00
+    ∷ gets Pic1 0xA1 0x00
+    ∷ puts Pic0 0x21 0xFF
+    ∷ gets Pic0 0x21 0xFF
+    ∷ puts Pic0 0x20 0x11
+    ∷ gets Pic0 0x21 0x00
+    ∷ []
+
+unfoldable pub MaskBeforeIcw1 : Type 0
+MaskBeforeIcw1 = IsLegal small_board (from_reset mask_before_icw1)
+
 -- the disk's registers and its enables take their reset states, and a bad sector stays bad
 abbrev pub disk_over_reset : List Said
 disk_over_reset =

@@ -8,7 +8,9 @@ pub mod Disk
 pub mod Wide
 pub mod Roms
 pub mod Stories
+pub mod Ports
 pub mod Masks
+pub mod Resets
 pub mod Interrupts
 pub mod Versions
 pub mod Windows

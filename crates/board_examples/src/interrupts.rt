@@ -1,6 +1,6 @@
 //! The interrupt lines, and what a hard reset leaves of the devices.
 
-ghost use Rattle.board_examples.specs.Interrupts.{EachPulse, GatedCounter, ClockInterrupts, DiskInterrupts, SharedWires, FreeLines, DevicesOverReset, DiskOverReset};
+ghost use Rattle.board_examples.specs.Interrupts.{EachPulse, GatedCounter, ClockInterrupts, DiskInterrupts, SharedWires, FreeLines, DevicesOverReset, MaskBeforeIcw1, DiskOverReset};
 
 /// The levels after each single pulse reach the pair.
 #[tactic(auto, using(crate::proofs::DeviceRuns::each_pulse_runs))]
@@ -42,6 +42,12 @@ pub fn free_lines()
 #[tactic(auto, using(crate::proofs::DeviceRuns::devices_over_reset_runs))]
 pub fn devices_over_reset()
     ensures history { DevicesOverReset }
+{}
+
+/// The mask of each chip, read before the chip is initialised.
+#[tactic(auto, using(crate::proofs::DeviceRuns::mask_before_icw1_runs))]
+pub fn mask_before_icw1()
+    ensures history { MaskBeforeIcw1 }
 {}
 
 /// A hard reset of the disk.

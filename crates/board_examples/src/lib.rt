@@ -9,6 +9,8 @@ pub mod events;
 pub mod interrupts;
 pub mod machines;
 pub mod masks;
+pub mod ports;
+pub mod resets;
 pub mod roms;
 pub mod stories;
 pub mod texts;
@@ -18,7 +20,7 @@ pub mod windows;
 
 ghost use Rattle.board_examples.specs.Basics.{ShadowingTheBios, OneWindowForWrites, MemoryAfterReset, ConfigurationPorts, SmramLockedUntilReset, VgaBesideSmram, NoRowOfDram, CardInTheHole, HoleAt512Kib, TwoCardsAtOneAddress, XbcsOverASoftReset, RomAfterReset, CardMovedUnderTheRom};
 ghost use Rattle.board_examples.specs.Logs.{VgaBesideSmramLogged, ConfigurationPortsLogged, TwoCardsLogged, XbcsLogged, OutsideLogged};
-ghost use Rattle.board_examples.specs.Maps.{MapAfterReset, MapAfterResetWritten};
+ghost use Rattle.board_examples.specs.Maps.{MapAfterReset, MapAfterResetWritten, MapOpenAndClosed, MapClosedToData, MapOfSmm};
 ghost use Rattle.board_examples.specs.Orders.{LookLast, LookFirst, LookAlone, LookTooEarly, LookLastLogged, LookFirstLogged};
 
 /// The ROM is copied into the DRAM under it.
@@ -160,4 +162,12 @@ pub fn look_too_early()
 pub fn map_after_reset()
     ensures map { MapAfterReset }
     ensures text { MapAfterResetWritten }
+{}
+
+/// The columns of the map by SMRAME, DCLS and DOPEN.
+#[tactic(auto, using(crate::proofs::ColumnRuns::map_open_and_closed, crate::proofs::ColumnRuns::map_closed_to_data, crate::proofs::ColumnRuns::map_of_smm))]
+pub fn map_columns()
+    ensures both { MapOpenAndClosed }
+    ensures closed { MapClosedToData }
+    ensures smm { MapOfSmm }
 {}

@@ -242,12 +242,40 @@ counts_that_wait =
     Gate true ∷ Out 0x43 0x94 ∷ Out 0x42 4 ∷ Pulses 2 ∷ Out 0x42 9 ∷ Pulses 2 ∷ In 0x42 1 ∷ Pulses 1 ∷ In 0x42 9
     ∷ Out 0x43 0x98 ∷ Out 0x42 4 ∷ Pulses 2 ∷ Out 0x42 9 ∷ Pulses 1 ∷ In 0x42 9 ∷ []
 
+-- a decimal count with digits above 9, of which A is taken as 0, B as 1 and F as 5: nothing is carried
+abbrev pub digits_past_nine : List Line
+digits_past_nine =
+    Gate true ∷ Out 0x43 0xB1 ∷ Out 0x42 0xBF ∷ Out 0x42 0xA2 ∷ Pulses 1 ∷ In 0x42 0x15 ∷ In 0x42 0x02 ∷ []
+
+-- a count of 0 is the greatest, and reads as 0 until the next pulse
+abbrev pub greatest_counts : List Line
+greatest_counts =
+    Gate true ∷ Out 0x43 0xB0 ∷ Out 0x42 0x00 ∷ Out 0x42 0x00 ∷ Pulses 1 ∷ In 0x42 0x00 ∷ In 0x42 0x00
+    ∷ Pulses 1 ∷ In 0x42 0xFF ∷ In 0x42 0xFF
+    ∷ Out 0x43 0xB1 ∷ Out 0x42 0x00 ∷ Out 0x42 0x00 ∷ Pulses 1 ∷ In 0x42 0x00 ∷ In 0x42 0x00
+    ∷ Pulses 1 ∷ In 0x42 0x99 ∷ In 0x42 0x99 ∷ []
+
+-- reads and writes take their bytes in turn each by itself, whichever begins
+abbrev pub written_while_read : List Line
+written_while_read =
+    Gate true ∷ Out 0x43 0xB8 ∷ Out 0x42 0x34 ∷ Out 0x42 0x12 ∷ Pulses 1 ∷ In 0x42 0x34 ∷ Out 0x42 0x78 ∷ In 0x42 0x12
+    ∷ Out 0x42 0x56 ∷ Pulses 1 ∷ In 0x42 0x78 ∷ In 0x42 0x56 ∷ []
+
+abbrev pub read_while_written : List Line
+read_while_written =
+    Gate true ∷ Out 0x43 0xB8 ∷ Out 0x42 0x34 ∷ In 0x42 0x00 ∷ Out 0x42 0x12 ∷ Pulses 1 ∷ In 0x42 0x12 ∷ In 0x42 0x34
+    ∷ []
+
 pub record BytesAndLatches : Type 0 where
   pub in_turn : Answers bytes_in_turn
   pub status_first : Answers status_before_count
   pub status_stays : Answers status_held
   pub high_alone : Answers high_byte_alone
   pub decimal : Answers decimal_digits
+  pub past_nine : Answers digits_past_nine
+  pub greatest : Answers greatest_counts
+  pub while_read : Answers written_while_read
+  pub while_written : Answers read_while_written
   pub in_halves : Answers written_in_halves
   pub dropped : Answers control_drops
   pub waiting : Answers counts_that_wait

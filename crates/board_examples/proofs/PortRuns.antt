@@ -1,0 +1,29 @@
+-- The accesses that reach nobody are computed from the definitions.
+use Rattle.std.specs.Prelude.{refl}
+use Rattle.device_spec.specs.Clock.{power_on as clock_power_on}
+use Rattle.board_spec.specs.RegisterTable.{reset_byte, writable_bits, isa_bridge, ide_function, card_function}
+use Rattle.board_spec.specs.Registers.{byte_of, config_address, reset_control}
+use Rattle.board_spec.specs.Decode.{io_claim, io_shut}
+use Rattle.board_spec.specs.Ports.{port_target_of}
+use Rattle.board_spec.specs.Stored.{stored_of}
+use Rattle.board_spec.specs.Answer.{port_answer}
+use Rattle.board_spec.specs.Devices.{clock_of, disk_with}
+use Rattle.board_spec.specs.Interrupts.{device_value}
+use Rattle.board_examples.specs.Words.{from_reset}
+use Rattle.board_examples.specs.Basics.{small_board}
+use Rattle.board_examples.specs.Disk.{disk_board}
+use Rattle.board_examples.specs.Stories.{port_card_board}
+use Rattle.board_examples.specs.Ports.{nobody_selected, words_at_byte_ports, base_past_the_ports, NobodySelected, WordsAtBytePorts, BasePastThePorts}
+use Rattle.board_examples.proofs.Lines.{legal}
+
+pub nobody_selected_runs : NobodySelected
+unfolding NobodySelected byte_of config_address reset_control reset_byte writable_bits isa_bridge ide_function port_answer port_target_of
+nobody_selected_runs = legal small_board (from_reset nobody_selected) refl
+
+pub words_at_byte_ports_runs : WordsAtBytePorts
+unfolding WordsAtBytePorts byte_of config_address reset_control reset_byte writable_bits isa_bridge ide_function io_claim io_shut port_answer port_target_of device_value clock_of disk_with clock_power_on
+words_at_byte_ports_runs = legal disk_board (from_reset words_at_byte_ports) refl
+
+pub base_past_the_ports_runs : BasePastThePorts
+unfolding BasePastThePorts byte_of config_address reset_control reset_byte writable_bits card_function io_claim io_shut stored_of port_answer port_target_of
+base_past_the_ports_runs = legal port_card_board (from_reset base_past_the_ports) refl

@@ -1,0 +1,10 @@
+//! The registers after a reset.
+
+ghost use Rattle.board_examples.specs.Resets.{BridgesAfterReset, CardsAfterReset};
+
+/// Every writable register of the bridges and of two cards, read before it is written.
+#[tactic(auto, using(crate::proofs::ResetRuns::bridges_read, crate::proofs::ResetRuns::cards_read))]
+pub fn registers_after_reset()
+    ensures bridges { BridgesAfterReset }
+    ensures cards { CardsAfterReset }
+{}
