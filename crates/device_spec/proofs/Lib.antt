@@ -16,4 +16,5 @@ pub mod PitPeriods
 pub mod PitPulses
 mod PitReadBacks
 mod PitWaiting
+mod PortLaws
 pub mod RoutingLaws

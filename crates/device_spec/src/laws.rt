@@ -3,7 +3,16 @@ ghost use Rattle.device_spec.specs.ClockLaws.{MemoryKeeps, ReadingQuiets, ResetK
 ghost use Rattle.device_spec.specs.PicLaws.{PrioritiesGoRound, InterruptIsFirst, MaskedLevelsWait, InterruptIsSelected, SelectedInterrupts, NonSpecificEndEndsFirst, NonSpecificEndOfNone, SameLevelsAgain, ReadsLeaveTheOther, AcknowledgedIsInService, AcknowledgedSlaveIsInService, SpecificEndEndsOne, SpuriousLeavesAlone, StaysLatched};
 ghost use Rattle.device_spec.specs.PitLaws.{LatchedCountStays, LatchedCountIsRead, ReadBackIsOneByOne, ReadBackIsLatch, ReadBackOfBoth, PulsesAddUp, CountersAreApart, CountReadsAsWritten};
 ghost use Rattle.device_spec.specs.PitPeriods.{CountIsTaken, CountWaits, CountsEndOnce, CountsStrobeOnce, PulseLoads, RateRepeats, SquareRepeats};
+ghost use Rattle.device_spec.specs.PortLaws.{PortsApart, ConfigApart};
 ghost use Rattle.device_spec.specs.RoutingLaws.{ReservedLinesRest, RoutesOneLine};
+
+// The ports
+
+/// No two devices take the same access, and none one at the ports of configuration data.
+pub fn ports_are_apart()
+    ensures devices { PortsApart }
+    ensures config { ConfigApart }
+{}
 
 // The routing
 
