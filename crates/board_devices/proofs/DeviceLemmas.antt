@@ -27,6 +27,7 @@ use Rattle.device_spec.specs.Pit.{port_read}
 use Rattle.device_spec.specs.Clock.{read_value}
 use Rattle.device_spec.specs.Elcr.{trigger_byte}
 use Rattle.device_spec.specs.Ata.State.{Disk, is_disk_length, power_on as disk_at_power_on}
+use Rattle.device_spec.specs.PortNames.{elcr_ports}
 use Rattle.board_spec.specs.declared.event.Event.{Event}
 use Rattle.board_spec.specs.declared.event.Event.TheVariants.{Memory, Wide, Port, Look as LookAt, Ack, Pulses, Time, Wire, Line, BadSector}
 use Rattle.board_spec.specs.declared.event.Reply.{Reply}
@@ -37,7 +38,7 @@ use Rattle.board_spec.specs.Registers.{reset_control, control_written, resets_ha
 use Rattle.board_spec.specs.Devices.{SystemPort, system_at_reset, device_reached, wire_set, wire_of, line_set, irq_of, triggers_accessed, triggers_after, triggers_of, system_accessed, system_after, system_of, timer_accessed, timer_after, timer_of, clock_accessed, clock_after, clock_of, disk_accessed, disk_after, disk_with, disk_of}
 use Rattle.board_spec.specs.Interrupts.{routes_of, pirq_levels, pair_pulsed, level_with, all_lines, levels_with, levels_of, elcr_of, device_value, pair_accessed, pair_after, pair_reset_or_after, pair_stepped, pair_of}
 use Rattle.board_devices.specs.Devices.{DevicesValue, AreWiresOf, AreIrqsOf, AreAfter, AreDevicesOf}
-use Rattle.board_devices.specs.Events.{is_port_of, Reaches, Asks, is_chip, PassesBy, Leaves}
+use Rattle.board_devices.specs.Events.{is_chip_port, Reaches, Asks, is_chip, PassesBy, Leaves}
 use Rattle.board_devices.specs.Steps.{value_read, after_read, after_write}
 
 -- ---- each device after an entry that is no hard reset
@@ -192,7 +193,7 @@ same_disk None = refl
 same_disk (Some disk) = refl
 
 -- what holds of each device with ports of its own holds of the device at a port
-at_port : (P : Dev → Type 0) (dev : Dev) (access : PortAccess) → is_port_of dev access.port (bytes_of access.width) ≡ true →
+at_port : (P : Dev → Type 0) (dev : Dev) (access : PortAccess) → is_chip_port dev access.port (bytes_of access.width) ≡ true →
     P Pic0 → P Pic1 → P Pit → P System → P Clock → P Elcr → P Ata → P dev
 at_port P Pic0 access port pic0 pic1 pit system clock elcr ata = pic0
 at_port P Pic1 access port pic0 pic1 pit system clock elcr ata = pic1
@@ -211,7 +212,7 @@ at_port P (Spurious chip) access port pic0 pic1 pit system clock elcr ata = cc
 -- ---- reads
 
 pub read_at : (setup : Setup) (history : List Entry) (entry : Entry) (dev : Dev) (access : PortAccess) (devices : DevicesValue) →
-    is_port_of dev access.port (bytes_of access.width) ≡ true → access.write ≡ false → Reaches history entry dev access →
+    is_chip_port dev access.port (bytes_of access.width) ≡ true → access.write ≡ false → Reaches history entry dev access →
     AreAfter setup history devices → AreAfter setup (entry ∷ history) (after_read dev access devices)
 unfolding after_read
 read_at setup history entry dev access devices port reads reaches are =
@@ -226,7 +227,7 @@ read_at setup history entry dev access devices port reads reaches are =
     reaches
 
 pub read_pair : (dev : Dev) (access : PortAccess) (devices : DevicesValue) → access.write ≡ false →
-    is_port_of dev access.port (bytes_of access.width) ≡ true →
+    is_chip_port dev access.port (bytes_of access.width) ≡ true →
     (after_read dev access devices).pair ≡ pair_accessed (Some dev) access devices.pair
 unfolding after_read
 read_pair dev access devices reads port =
@@ -236,7 +237,7 @@ read_pair dev access devices reads port =
 -- ---- writes
 
 pub write_at : (setup : Setup) (history : List Entry) (entry : Entry) (dev : Dev) (access : PortAccess) (devices : DevicesValue) →
-    is_port_of dev access.port (bytes_of access.width) ≡ true → access.write ≡ true → Reaches history entry dev access →
+    is_chip_port dev access.port (bytes_of access.width) ≡ true → access.write ≡ true → Reaches history entry dev access →
     AreAfter setup history devices → AreAfter setup (entry ∷ history) (after_write dev access devices)
 unfolding after_write
 write_at setup history entry dev access devices port writes reaches are =
@@ -251,7 +252,7 @@ write_at setup history entry dev access devices port writes reaches are =
     reaches
 
 pub write_pair : (dev : Dev) (access : PortAccess) (devices : DevicesValue) → access.write ≡ true →
-    is_port_of dev access.port (bytes_of access.width) ≡ true →
+    is_chip_port dev access.port (bytes_of access.width) ≡ true →
     (after_write dev access devices).pair ≡ pair_accessed (Some dev) access devices.pair
 unfolding after_write
 write_pair dev access devices writes port =
@@ -267,7 +268,7 @@ value_at setup history Pic1 access devices are = ap (λ (p : Pair). port_byte p 
 value_at setup history Pit access devices are = ap (λ t. (port_read access.port t).0) are.others.timer
 value_at setup history System access devices are = rw (are.others.system, are.others.timer) refl
 value_at setup history Clock access devices are = ap (λ t. read_value t access.port) are.others.clock
-value_at setup history Elcr access devices are = ap (λ t. trigger_byte t (access.port == 0x4D1)) are.others.triggers
+value_at setup history Elcr access devices are = ap (λ t. trigger_byte t (access.port == elcr_ports.1)) are.others.triggers
 value_at setup history Ata access devices are = rw are.others.disk refl
 value_at setup history Confadd access devices are = refl
 value_at setup history Reset access devices are = refl

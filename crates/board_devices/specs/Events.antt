@@ -1,27 +1,14 @@
 -- What an entry asks of the devices.
-use Rattle.std.specs.Prelude.{ℕ, ◌≡◌, ◌==◌, ◌&&◌, Bool, true, false, List, Option, Some}
+use Rattle.std.specs.Prelude.{ℕ, ◌≡◌, ◌&&◌, Bool, true, false, List, Option, Some}
 use Rattle.board_base.specs.declared.access.PortAccess.{PortAccess}
 use Rattle.board_base.specs.declared.target.Dev.{Dev}
 use Rattle.board_base.specs.declared.target.Dev.TheVariants.{Pic0, Pic1, Pit, System, Clock, Elcr, Ata}
+use Rattle.device_spec.specs.PortTable.{is_port_of}
 use Rattle.board_spec.specs.declared.event.Event.{Event}
 use Rattle.board_spec.specs.declared.event.Event.TheVariants.{Memory, Wide, Port, Look}
 use Rattle.board_spec.specs.declared.event.Entry.{Entry}
-use Rattle.board_spec.specs.Ranges.{lies_in}
-use Rattle.board_spec.specs.PortNames.{master_ports, slave_ports, elcr_ports, timer_ports, system_port, clock_ports}
-use Rattle.board_spec.specs.Ports.{is_ata_port}
 use Rattle.board_spec.specs.Registers.{is_hard_reset}
 use Rattle.board_spec.specs.Devices.{device_reached}
-
--- the ports of a device, each for accesses of its widths
-abbrev pub is_port_of : Dev → (port bytes : ℕ) → Bool
-is_port_of Pic0 port bytes = lies_in master_ports port && bytes == 1
-is_port_of Pic1 port bytes = lies_in slave_ports port && bytes == 1
-is_port_of Pit port bytes = lies_in timer_ports port && bytes == 1
-is_port_of System port bytes = port == system_port && bytes == 1
-is_port_of Clock port bytes = lies_in clock_ports port && bytes == 1
-is_port_of Elcr port bytes = lies_in elcr_ports port && bytes == 1
-is_port_of Ata port bytes = is_ata_port port bytes
-is_port_of _ port bytes = false
 
 -- an entry is an access that reached this device, and no hard reset
 pub record Reaches (history : List Entry) (entry : Entry) (dev : Dev) (access : PortAccess) : Type 0 where
@@ -44,6 +31,10 @@ is_chip (Some Clock) = true
 is_chip (Some Elcr) = true
 is_chip (Some Ata) = true
 is_chip _ = false
+
+-- such a device, and an access that the table gives to it
+abbrev pub is_chip_port : Dev → (port bytes : ℕ) → Bool
+is_chip_port dev port bytes = is_chip (Some dev) && is_port_of dev port bytes
 
 -- an event asks nothing of the devices: an access to memory, a look, or an access at a port that reached none of them
 abbrev pub PassesBy : Event → Option Dev → Type 0

@@ -11,7 +11,7 @@ use Rattle.device_spec.specs.Clock.{read_value, after_read as clock_after_read, 
 use Rattle.device_spec.specs.Elcr.{trigger_byte, triggers_after_write}
 use Rattle.device_spec.specs.Ata.Steps.{read_of, after_read as disk_after_read, after_write as disk_after_write}
 use Rattle.board_spec.specs.Bits.{is_bit}
-use Rattle.board_spec.specs.PortNames.{elcr_ports}
+use Rattle.device_spec.specs.PortNames.{elcr_ports}
 use Rattle.board_spec.specs.Interrupts.{system_value}
 use Rattle.board_devices.specs.Devices.{DevicesValue}
 

@@ -10,19 +10,18 @@ ghost use Rattle.std.specs.Prelude.{◌%◌, option_map};
 ghost use Rattle.std.specs.Option.{option_map_or};
 ghost use Rattle.device_spec.specs.Pair.{answer_of, pair_after_acknowledge};
 ghost use Rattle.device_spec.specs.Pit.{set_gate2};
-ghost use Rattle.device_spec.specs.Ata.Steps.{read_of, after_read as disk_after_read, after_write as disk_after_write};
+ghost use Rattle.device_spec.specs.Ata.Steps.{is_ata_port, read_of, after_read as disk_after_read, after_write as disk_after_write};
 ghost use Rattle.board_spec.specs.Bits.{is_bit};
-ghost use Rattle.board_spec.specs.Ports.{is_ata_port};
 ghost use Rattle.board_spec.specs.Interrupts.{who_answered};
 ghost use Rattle.pic_pair.specs.View.{answer_shown};
 ghost use Rattle.board_devices.specs.Steps.{value_read, after_read, after_write};
 ghost use Rattle.board_devices.specs.Devices.{AreDevicesOf, AreRoutesOf};
-ghost use Rattle.board_devices.specs.Events.{is_port_of, Reaches, Asks};
+ghost use Rattle.board_devices.specs.Events.{is_chip_port, Reaches, Asks};
 
 use crate::devices::Devices;
+use board_base::bits::is_set;
 use board_base::{Dev, PortAccess};
-use board_spec::bits::is_set;
-use board_spec::port::ELCR_HIGH;
+use device_spec::port::ELCR_HIGH;
 use pic_pair::Ack;
 use pirq_router::Pirq;
 
@@ -33,7 +32,7 @@ impl Devices {
     /// Reads a port of a device, which may change its state, and then the lines reach the pair. Without a disk
     /// its ports read all ones.
     pub fn read(&mut self, routes: &Pirq, dev: Dev, access: &PortAccess) -> u32
-        requires port { is_port_of dev access.now.port (bytes_of access.now.width) ≡ true }
+        requires port { is_chip_port dev access.now.port (bytes_of access.now.width) ≡ true }
         ensures value { (setup : Setup) (history : List Entry) → AreDevicesOf setup history self.old
             → result ≡ device_value setup history dev access.now.port access.now.width }
         ensures devices { (setup : Setup) (history : List Entry) (entry : Entry) → AreDevicesOf setup history self.old
@@ -47,7 +46,7 @@ impl Devices {
 
     /// Writes a port of a device, and then the lines reach the pair.
     pub fn write(&mut self, routes: &Pirq, dev: Dev, access: &PortAccess)
-        requires port { is_port_of dev access.now.port (bytes_of access.now.width) ≡ true }
+        requires port { is_chip_port dev access.now.port (bytes_of access.now.width) ≡ true }
         requires fits { access.now.value ≤ largest_of access.now.width }
         ensures devices { (setup : Setup) (history : List Entry) (entry : Entry) → AreDevicesOf setup history self.old
             → Reaches history entry dev access.now → access.now.write ≡ true
@@ -83,7 +82,7 @@ impl Devices {
     /// Reads a port of a device.
     #[tactic(auto, unfolding(crate::specs::Steps::value_read, crate::specs::Steps::after_read))]
     fn read_port(&mut self, dev: Dev, access: &PortAccess) -> u32
-        requires port { is_port_of dev access.now.port (bytes_of access.now.width) ≡ true }
+        requires port { is_chip_port dev access.now.port (bytes_of access.now.width) ≡ true }
         ensures value { result ≡ value_read dev access.now self.old }
         ensures after { self.new ≡ after_read dev access.now self.old }
     {
@@ -101,7 +100,7 @@ impl Devices {
 
     /// Reads a port of the disk. Without one it reads all ones.
     fn read_disk(&mut self, access: &PortAccess) -> u32
-        requires port { is_ata_port access.now.port (bytes_of access.now.width) ≡ true }
+        requires port { is_ata_port access.now.port access.now.width ≡ true }
         ensures value { result ≡ option_map_or (λ disk. read_of access.now.port access.now.width disk)
             self.old.disk (largest_of access.now.width) }
         ensures after { self.new ≡ record self.old {
@@ -117,7 +116,7 @@ impl Devices {
     /// Writes a port of a device.
     #[tactic(auto, unfolding(crate::specs::Steps::after_write))]
     pub(crate) fn write_port(&mut self, dev: Dev, access: &PortAccess)
-        requires port { is_port_of dev access.now.port (bytes_of access.now.width) ≡ true }
+        requires port { is_chip_port dev access.now.port (bytes_of access.now.width) ≡ true }
         requires fits { access.now.value ≤ largest_of access.now.width }
         ensures after { self.new ≡ after_write dev access.now self.old }
     {
@@ -148,7 +147,7 @@ impl Devices {
 
     /// Writes a port of the disk, where one is fitted.
     fn write_disk(&mut self, access: &PortAccess)
-        requires port { is_ata_port access.now.port (bytes_of access.now.width) ≡ true }
+        requires port { is_ata_port access.now.port access.now.width ≡ true }
         ensures after { self.new ≡ record self.old {
           disk = option_map
               (λ disk. disk_after_write access.now.port access.now.width access.now.value disk) self.old.disk;

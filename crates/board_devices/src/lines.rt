@@ -24,18 +24,39 @@ const CLOCK_LINE: usize = 8;
 
 const DISK_LINE: usize = 14;
 
+/// The first card on each of the pins PIRQA# to PIRQD#, by its device number; the second is as many devices on as
+/// there are pins.
+const FIRST_ON_PIRQA: usize = 5;
+
+const FIRST_ON_PIRQB: usize = 2;
+
+const FIRST_ON_PIRQC: usize = 3;
+
+const FIRST_ON_PIRQD: usize = 4;
+
+/// How many pins PIRQA# to PIRQD# are.
+const PINS: usize = 4;
+
 impl Devices {
     /// PIRQA to PIRQD: INTA# of the card at device d goes to number (d - 1) mod 4, and each is the or of its wires.
     fn pins(&self) -> [bool; 4]
         ensures pins { (history : List Entry) → AreWiresOf history self.now.wires → result ≡ pirq_levels history }
     {
-        let wires = &self.wires;
         [
-            wires[5] | wires[9],
-            wires[2] | wires[6],
-            wires[3] | wires[7],
-            wires[4] | wires[8],
+            self.pin(FIRST_ON_PIRQA),
+            self.pin(FIRST_ON_PIRQB),
+            self.pin(FIRST_ON_PIRQC),
+            self.pin(FIRST_ON_PIRQD),
         ]
+    }
+
+    /// The level of a pin that two cards share, of which this is the first.
+    fn pin(&self, first: usize) -> bool
+        requires first { first < 6 }
+        ensures level { result ≡ (slice_index_or self.now.wires first false
+            || slice_index_or self.now.wires (first + 4) false) }
+    {
+        self.wires[first] | self.wires[first + PINS]
     }
 
     /// The level of a line, where the PCI interrupts hold these at 1.

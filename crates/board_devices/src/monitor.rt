@@ -11,14 +11,14 @@ ghost use Rattle.pit_8254.specs.Quiet.{most_count};
 ghost use Rattle.pit_8254.specs.NextRise.{IsNextRise};
 ghost use Rattle.cmos_clock.specs.Outside.{with_byte};
 ghost use Rattle.board_devices.specs.Devices.{AreDevicesOf};
-ghost use Rattle.board_devices.specs.Events.{is_port_of};
+ghost use Rattle.board_devices.specs.Events.{is_chip_port};
 ghost use Rattle.board_devices.specs.Outside.{is_interrupting, WritesClock, PutsClockByte};
 
 use crate::devices::Devices;
 use ata_pio::Ata;
 use board_base::{Dev, PortAccess, Width};
-use board_spec::port::{CLOCK_DATA, CLOCK_INDEX};
 use cmos_clock::CLOCK_BYTES;
+use device_spec::port::{CLOCK_DATA, CLOCK_INDEX};
 use pirq_router::Pirq;
 
 impl Devices {
@@ -79,7 +79,7 @@ impl Devices {
 
     /// Writes a byte to a port of the clock, and then the lines reach the pair.
     fn write_clock(&mut self, routes: &Pirq, port: u16, byte: u8)
-        requires port { is_port_of ClockChip port 1 ≡ true }
+        requires port { is_chip_port ClockChip port 1 ≡ true }
         ensures clock { self.new.clock ≡ after_write self.old.clock port byte }
         ensures others { self.new ≡ record self.old { clock = self.new.clock; pair = self.new.pair } }
         ensures devices { (setup : Setup) (history : List Entry) (entry : Entry) → AreDevicesOf setup history self.old

@@ -3,4 +3,5 @@ pub mod Priorities
 pub mod PairLaws
 pub mod PitPeriods
 pub mod PitPulses
+mod PortLaws
 pub mod RoutingLaws

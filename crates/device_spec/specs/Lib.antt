@@ -6,6 +6,7 @@ pub mod Pair
 pub mod Pic
 pub mod PicLaws
 pub mod Pit
+pub mod PortLaws
 pub mod PortNames
 pub mod PortTable
 pub mod PitLaws

@@ -1,7 +1,18 @@
 //! Laws of the machines. Each function does nothing: its clauses are the laws.
 ghost use Rattle.device_spec.specs.PicLaws.{SameLevelsAgain};
 ghost use Rattle.device_spec.specs.PitLaws.{PulsesAddUp};
+ghost use Rattle.device_spec.specs.PortLaws.{PortsApart, ConfigApart};
 ghost use Rattle.device_spec.specs.RoutingLaws.{ReservedLinesRest};
+
+// The ports
+
+/// No two devices take the same access, and none one at the ports of configuration data.
+pub fn ports_are_apart()
+    ensures devices { PortsApart }
+    ensures config { ConfigApart }
+{}
+
+// The machines
 
 /// No pin reaches the lines 0, 1, 2, 8 and 13, whatever the registers hold.
 pub fn reserved_lines_rest()

@@ -11,11 +11,13 @@ use Rattle.board_base.specs.declared.target.Target.{Target}
 use Rattle.board_base.specs.declared.target.Target.TheVariants.{Device}
 use Rattle.board_base.specs.declared.target.Denial.{Denial}
 use Rattle.board_base.specs.declared.target.Denial.TheVariants.{Register}
+use Rattle.device_spec.specs.PortNames.{keyboard_data_port, keyboard_command_port, clock_index_port, clock_data_port, disk_data_port, disk_error_port, disk_count_port, disk_low_port, disk_mid_port, disk_high_port, disk_device_port, disk_status_port, disk_control_port}
+use Rattle.device_spec.specs.PortTable.{is_port_of}
 use Rattle.board_spec.specs.Setup.{Setup}
 use Rattle.board_spec.specs.Bits.{is_bit}
 use Rattle.board_spec.specs.Decode.{Bytes, Window, io_claim}
 use Rattle.board_spec.specs.RegisterNames.{xbcs as select_register, ide_command, idetim, idetim_high}
-use Rattle.board_spec.specs.Ports.{device, nobody, card_port, unselected, is_ata_port, port_target_of}
+use Rattle.board_spec.specs.Ports.{device, nobody, card_port, unselected, port_target_of}
 use Rattle.xbus_select.specs.PortSelects.{AnswersAt, KeyboardAnswers, ClockAnswers, DiskAnswers}
 
 -- ---- a device is no card and not nobody
@@ -68,8 +70,8 @@ keyboard_answers setup bytes address disk port is =
     let At : ℕ → Type 0 = AnswersAt setup bytes address disk One Keyboard in
     let selected : Bool = is_bit (bytes select_register) 1 in
     let denial : Denial = Register select_register in
-    at_or_else At 0x60 port (by_bit setup bytes 0x60 denial Keyboard selected)
-    (λ a. at_or_else At 0x64 port (by_bit setup bytes 0x64 denial Keyboard selected)
+    at_or_else At keyboard_data_port port (by_bit setup bytes keyboard_data_port denial Keyboard selected)
+    (λ a. at_or_else At keyboard_command_port port (by_bit setup bytes keyboard_command_port denial Keyboard selected)
     (λ b. absurd (grind (arith, nat_tests))))
 
 pub clock_answers : ClockAnswers
@@ -78,46 +80,46 @@ clock_answers setup bytes address disk port is =
     let At : ℕ → Type 0 = AnswersAt setup bytes address disk One Clock in
     let selected : Bool = is_bit (bytes select_register) 0 in
     let denial : Denial = Register select_register in
-    at_or_else At 0x70 port (by_bit setup bytes 0x70 denial Clock selected)
-    (λ a. at_or_else At 0x71 port (by_bit setup bytes 0x71 denial Clock selected)
+    at_or_else At clock_index_port port (by_bit setup bytes clock_index_port denial Clock selected)
+    (λ a. at_or_else At clock_data_port port (by_bit setup bytes clock_data_port denial Clock selected)
     (λ b. absurd (grind (arith, nat_tests))))
 
 -- the data port, in words and doublewords
 word_answers :
-    (setup : Setup) (bytes : Bytes) (address port : ℕ) → is_ata_port port 2 ≡ true →
+    (setup : Setup) (bytes : Bytes) (address port : ℕ) → is_port_of Ata port 2 ≡ true →
     AnswersAt setup bytes address true Two Ata port
 unfolding port_target_of
 word_answers setup bytes address port is =
-    at_or_else (AnswersAt setup bytes address true Two Ata) 0x1F0 port
-    (by_bits setup bytes 0x1F0 Ata (is_bit (bytes ide_command) 0) (is_bit (bytes idetim_high) 7))
+    at_or_else (AnswersAt setup bytes address true Two Ata) disk_data_port port
+    (by_bits setup bytes disk_data_port Ata (is_bit (bytes ide_command) 0) (is_bit (bytes idetim_high) 7))
     (λ a. absurd (grind (arith, nat_tests)))
 
 long_answers :
-    (setup : Setup) (bytes : Bytes) (address port : ℕ) → is_ata_port port 4 ≡ true →
+    (setup : Setup) (bytes : Bytes) (address port : ℕ) → is_port_of Ata port 4 ≡ true →
     AnswersAt setup bytes address true Four Ata port
 unfolding port_target_of
 long_answers setup bytes address port is =
-    at_or_else (AnswersAt setup bytes address true Four Ata) 0x1F0 port
-    (by_bits setup bytes 0x1F0 Ata (is_bit (bytes ide_command) 0) (is_bit (bytes idetim_high) 7))
+    at_or_else (AnswersAt setup bytes address true Four Ata) disk_data_port port
+    (by_bits setup bytes disk_data_port Ata (is_bit (bytes ide_command) 0) (is_bit (bytes idetim_high) 7))
     (λ a. absurd (grind (arith, nat_tests)))
 
 -- the other registers of the channel, in bytes
 register_answers :
-    (setup : Setup) (bytes : Bytes) (address port : ℕ) → is_ata_port port 1 ≡ true →
+    (setup : Setup) (bytes : Bytes) (address port : ℕ) → is_port_of Ata port 1 ≡ true →
     AnswersAt setup bytes address true One Ata port
 unfolding port_target_of
 register_answers setup bytes address port is =
     let At : ℕ → Type 0 = AnswersAt setup bytes address true One Ata in
     let enabled : Bool = is_bit (bytes ide_command) 0 in
     let decoded : Bool = is_bit (bytes idetim_high) 7 in
-    at_or_else At 0x1F1 port (by_bits setup bytes 0x1F1 Ata enabled decoded)
-    (λ a. at_or_else At 0x1F2 port (by_bits setup bytes 0x1F2 Ata enabled decoded)
-    (λ b. at_or_else At 0x1F3 port (by_bits setup bytes 0x1F3 Ata enabled decoded)
-    (λ c. at_or_else At 0x1F4 port (by_bits setup bytes 0x1F4 Ata enabled decoded)
-    (λ d. at_or_else At 0x1F5 port (by_bits setup bytes 0x1F5 Ata enabled decoded)
-    (λ e. at_or_else At 0x1F6 port (by_bits setup bytes 0x1F6 Ata enabled decoded)
-    (λ f. at_or_else At 0x1F7 port (by_bits setup bytes 0x1F7 Ata enabled decoded)
-    (λ g. at_or_else At 0x3F6 port (by_bits setup bytes 0x3F6 Ata enabled decoded)
+    at_or_else At disk_error_port port (by_bits setup bytes disk_error_port Ata enabled decoded)
+    (λ a. at_or_else At disk_count_port port (by_bits setup bytes disk_count_port Ata enabled decoded)
+    (λ b. at_or_else At disk_low_port port (by_bits setup bytes disk_low_port Ata enabled decoded)
+    (λ c. at_or_else At disk_mid_port port (by_bits setup bytes disk_mid_port Ata enabled decoded)
+    (λ d. at_or_else At disk_high_port port (by_bits setup bytes disk_high_port Ata enabled decoded)
+    (λ e. at_or_else At disk_device_port port (by_bits setup bytes disk_device_port Ata enabled decoded)
+    (λ f. at_or_else At disk_status_port port (by_bits setup bytes disk_status_port Ata enabled decoded)
+    (λ g. at_or_else At disk_control_port port (by_bits setup bytes disk_control_port Ata enabled decoded)
     (λ h. absurd (grind (arith, nat_tests))))))))))
 
 pub disk_answers : DiskAnswers

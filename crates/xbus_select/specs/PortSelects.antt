@@ -6,9 +6,10 @@ use Rattle.board_base.specs.declared.target.Dev.{Dev}
 use Rattle.board_base.specs.declared.target.Dev.TheVariants.{Keyboard, Clock, Ata}
 use Rattle.board_base.specs.declared.target.Target.TheVariants.{Device}
 use Rattle.board_base.specs.Access.{bytes_of}
+use Rattle.device_spec.specs.PortTable.{is_port_of}
 use Rattle.board_spec.specs.Setup.{Setup}
 use Rattle.board_spec.specs.Decode.{Bytes}
-use Rattle.board_spec.specs.Ports.{is_ata_port, port_target_of}
+use Rattle.board_spec.specs.Ports.{port_target_of}
 use Rattle.xbus_select.specs.Piix.{is_keyboard_port, is_clock_port, is_selected}
 
 -- an access of this width reaches the device exactly where the port's device is selected
@@ -30,4 +31,4 @@ ClockAnswers =
 abbrev pub DiskAnswers : Type 0
 DiskAnswers =
     (setup : Setup) (bytes : Bytes) (address : ℕ) (width : Width) (port : ℕ) →
-    is_ata_port port (bytes_of width) ≡ true → AnswersAt setup bytes address true width Ata port
+    is_port_of Ata port (bytes_of width) ≡ true → AnswersAt setup bytes address true width Ata port
