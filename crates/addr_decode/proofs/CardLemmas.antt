@@ -405,3 +405,15 @@ fitted_list cards specs same list = record {
       subst IsCard card_is (list.each k d.card (omega arith));
   rises = subst Rises (sym same) list.rises;
 }
+
+-- nor has one of a list of cards as a board can be fitted with
+no_low_spec :
+    (cards : List FittedCard) (dev : ℕ) → dev < 2 → All IsCard cards → is_some (find (λ card. card.dev == dev) cards) ≡ false
+no_low_spec [] dev low each = refl
+no_low_spec (card ∷ later) dev low each =
+    let here : IsCard card = each 0 card (omega arith) in
+    rw (ne_eqb card.dev dev (omega (arith, here.first)))
+    (no_low_spec later dev low (λ k d within. each (suc k) d (omega arith)))
+
+pub no_low_fitted : (setup : Setup) (dev : ℕ) → dev < 2 → IsCardList setup.cards → is_some (card_at setup dev) ≡ false
+no_low_fitted setup dev low list = no_low_spec setup.cards dev low list.each

@@ -2,7 +2,7 @@ pub mod AreaLemmas
 pub mod MemoryLemmas
 pub mod PortLemmas
 pub mod StoreLemmas
-pub mod TouchLemmas
+pub mod NameLemmas
 pub mod DenialLemmas
 pub mod CardLemmas
 pub mod StandsLemmas

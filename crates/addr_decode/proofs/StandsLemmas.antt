@@ -1,12 +1,15 @@
 -- The registers of the address map among those of a board: after a reset, and where a byte is stored.
-use Rattle.std.proofs.Common.{◌≡◌, ◌≢◌, ℕ, ◌+◌, ◌-◌, ◌<◌, ◌≤◌, ◌⊎◌, inl, inr, Option, List, [], ◌∷◌, length, get_or, set, refl, sym, ◌∙◌, ap, subst, arith, add-one}
+use Rattle.std.proofs.Common.{◌≡◌, ◌≢◌, ℕ, ◌+◌, ◌-◌, ◌<◌, ◌≤◌, ◌⊎◌, inl, inr, Option, Some, None, true, false, List, [], ◌∷◌, length, get_or, set, refl, sym, ◌∙◌, ap, subst, arith, add-one}
+use Rattle.std.specs.Prelude.{◌==◌}
+use Rattle.std.proofs.lemmas.Bool.{cases_Bool, cases_eq, cases_lt, eq-eqb, eqb-false}
+use Rattle.std.proofs.lemmas.Bool.Decides.{nat_tests}
 use Rattle.board_base.specs.declared.access.Width.{Width}
 use Rattle.board_base.specs.Access.{bytes_of}
 use Rattle.board_base.specs.declared.target.Reg.{Reg}
 use Rattle.board_spec.specs.declared.map_change.MapChange.TheVariants.{Store}
-use Rattle.board_spec.specs.Setup.{Setup}
-use Rattle.board_spec.specs.Bits.{merged, byte}
-use Rattle.board_spec.specs.RegisterTable.{isa_bridge, reset_byte, writable_bits}
+use Rattle.board_spec.specs.Setup.{FittedCard, Setup}
+use Rattle.board_spec.specs.Bits.{merged, byte, is_within}
+use Rattle.board_spec.specs.RegisterTable.{reset_byte, writable_bits}
 use Rattle.board_spec.specs.Registers.{changed_byte, smram_after}
 use Rattle.board_spec.specs.Decode.{Bytes}
 use Rattle.board_spec.specs.RegisterNames.{bridge, isa, drb, fdhc, smram, xbcs, card_register}
@@ -14,41 +17,36 @@ use Rattle.board_spec.specs.MapWrites.{reg_after}
 use Rattle.board_spec.specs.WideStores.{after_stores}
 use Rattle.board_spec.proofs.StoreLemmas.{changed_byte-one_same, byte_by_byte}
 use Rattle.pmc_regs.specs.Pmc.{IsRowsOf}
-use Rattle.pmc_regs.proofs.TableLemmas.{rows_at_reset, hole_at_reset}
+use Rattle.pmc_regs.proofs.TableLemmas.{row_bytes, rows_are}
 use Rattle.pmc_regs.proofs.PmcLemmas.{there, rows_after_store}
 use Rattle.pam_windows.specs.Pam.{IsPamOffset, IsPamOf}
-use Rattle.pam_windows.proofs.PamLemmas.{zeros_at_reset}
-use Rattle.smram_ctl.proofs.ControlLemmas.{reset_byte-smram}
+use Rattle.pam_windows.proofs.PamLemmas.{pam_bytes, pam_are}
 use Rattle.pci_bars.specs.Cards.{CardBytes, AreCards, AreCardsOf, AreDecoded, cards_of, AreFitted, AreReset}
-use Rattle.addr_decode.specs.MapRegs.{MapBytes, IsRowOffset, StandsFor, stored}
-use Rattle.addr_decode.proofs.StoreLemmas.{stored-elsewhere}
+use Rattle.addr_decode.specs.declared.register.MapRegister.TheVariants.{Pam, RowBoundary, Hole, Smram, ChipSelects}
+use Rattle.addr_decode.specs.MapRegister.{in_bridge, in_isa_bridge, map_register}
+use Rattle.addr_decode.specs.MapRegs.{MapBytes, StandsFor, stored}
+use Rattle.addr_decode.proofs.StoreLemmas.{stored-elsewhere, in_function_0}
 use Rattle.addr_decode.proofs.CardLemmas.{IsMapOffset, SameCard, decodes-same, cards_agree, reset_decoded}
 
-xbcs_at_reset : (setup : Setup) → 0x03 ≡ reset_byte setup xbcs
-unfolding reset_byte isa_bridge
-xbcs_at_reset setup = refl
-
--- the registers after a reset
-abbrev pub map_at_reset : List CardBytes → MapBytes
-map_at_reset cards = record {
-  drb = 1 ∷ 1 ∷ 1 ∷ 1 ∷ 1 ∷ 1 ∷ 1 ∷ 1 ∷ [];
-  fdhc = 0;
-  pam = 0 ∷ 0 ∷ 0 ∷ 0 ∷ 0 ∷ 0 ∷ 0 ∷ [];
-  smram = 2;
-  xbcs = 3;
-  cards = cards;
-}
+-- the registers of the bridges that a board's registers give
+pub record AreBridgesOf (bytes : Bytes) (regs : MapBytes) : Type 0 where
+  pub rows : regs.drb ≡ row_bytes bytes
+  pub hole : regs.fdhc ≡ bytes fdhc
+  pub windows : regs.pam ≡ pam_bytes bytes
+  pub smram : regs.smram ≡ bytes smram
+  pub xbcs : regs.xbcs ≡ bytes xbcs
 
 pub stands_at_reset :
-    (setup : Setup) (cards : List CardBytes) → AreFitted cards → AreReset cards → setup.cards ≡ cards_of cards →
-    StandsFor setup (reset_byte setup) (map_at_reset cards)
-stands_at_reset setup cards fitted reset same = record {
-  rows = rows_at_reset setup;
-  hole = hole_at_reset setup;
-  windows = zeros_at_reset setup;
-  smram = reset_byte-smram setup;
-  xbcs = xbcs_at_reset setup;
-  cards = reset_decoded setup cards fitted reset same;
+    (setup : Setup) (regs : MapBytes) → AreBridgesOf (reset_byte setup) regs → AreFitted regs.cards →
+    AreReset regs.cards → setup.cards ≡ cards_of regs.cards →
+    StandsFor setup (reset_byte setup) regs
+stands_at_reset setup regs are fitted reset same = record {
+  rows = rows_are (reset_byte setup) regs.drb are.rows;
+  hole = are.hole;
+  windows = pam_are (reset_byte setup) regs.pam are.windows;
+  smram = are.smram;
+  xbcs = are.xbcs;
+  cards = reset_decoded setup regs.cards fitted reset same;
 }
 
 below_256 : (rom : Option ℕ) (at off : ℕ) → 256 ≤ at → IsMapOffset rom off → at ≢ off
@@ -140,29 +138,36 @@ one_stays :
 one_stays setup bytes off written at apart =
     stored-elsewhere setup bytes (bridge off) written (bridge at) (inr (inr apart))
 
-pub rows_stored :
-    (setup : Setup) (bytes : Bytes) (drb : List ℕ) (off row written : ℕ) → length drb ≡ 8 → IsRowOffset off →
-    row ≡ off - 0x60 → written < 256 →
-    IsRowsOf bytes drb → IsRowsOf (stored setup bytes (bridge off) written) (set drb row written)
-rows_stored setup bytes drb off row written eight within at_row below is =
-    let off_is : 0x60 + row ≡ off = omega (arith, within.0) in
-    subst (λ (at : ℕ). IsRowsOf (stored setup bytes (bridge at) written) (set drb row written)) off_is
-    (rows_after_store setup bytes drb row written eight (omega (arith, within.1)) below is)
-
-pub row_stored :
-    (setup : Setup) (bytes : Bytes) (regs : MapBytes) (drb : List ℕ) (off written : ℕ) → AreFitted regs.cards →
-    IsRowOffset off →
-    IsRowsOf (stored setup bytes (bridge off) written) drb → StandsFor setup bytes regs →
-    StandsFor setup (stored setup bytes (bridge off) written) (record regs { drb = drb })
-row_stored setup bytes regs drb off written fitted within is stands =
+pub window_stored :
+    (setup : Setup) (bytes : Bytes) (regs : MapBytes) (pam : List ℕ) (off written : ℕ) → AreFitted regs.cards →
+    IsPamOffset off →
+    IsPamOf (stored setup bytes (bridge off) written) pam → StandsFor setup bytes regs →
+    StandsFor setup (stored setup bytes (bridge off) written) (record regs { pam = pam })
+window_stored setup bytes regs pam off written fitted within is stands =
     let new : Bytes = stored setup bytes (bridge off) written in
     record {
-      rows = is;
+      rows = rows-same bytes new regs.drb (rows_stay setup bytes off written (inl (omega (arith, within.1)))) stands.rows;
       hole = stands.hole ∙ sym (one_stays setup bytes off written 0x68 (omega (arith, within.1)));
-      windows =
-          windows-same bytes new regs.pam (windows_stay setup bytes off written (inr (omega (arith, within.0))))
-          stands.windows;
+      windows = is;
       smram = stands.smram ∙ sym (one_stays setup bytes off written 0x72 (omega (arith, within.1)));
+      xbcs = stands.xbcs ∙ sym (isa_stays setup bytes off written);
+      cards = cards-same setup bytes new regs.cards fitted.each (cards_stay setup bytes off written) stands.cards;
+    }
+
+pub row_stored :
+    (setup : Setup) (bytes : Bytes) (regs : MapBytes) (row written : ℕ) → AreFitted regs.cards →
+    length regs.drb ≡ 8 → row < 8 → written < 256 → StandsFor setup bytes regs →
+    StandsFor setup (stored setup bytes (drb row) written) (record regs { drb = set regs.drb row written })
+row_stored setup bytes regs row written fitted eight within below stands =
+    let off : ℕ = 0x60 + row in
+    let new : Bytes = stored setup bytes (bridge off) written in
+    record {
+      rows = rows_after_store setup bytes regs.drb row written eight within below stands.rows;
+      hole = stands.hole ∙ sym (one_stays setup bytes off written 0x68 (omega arith));
+      windows =
+          windows-same bytes new regs.pam (windows_stay setup bytes off written (inr (omega arith)))
+          stands.windows;
+      smram = stands.smram ∙ sym (one_stays setup bytes off written 0x72 (omega arith));
       xbcs = stands.xbcs ∙ sym (isa_stays setup bytes off written);
       cards = cards-same setup bytes new regs.cards fitted.each (cards_stay setup bytes off written) stands.cards;
     }
@@ -310,6 +315,70 @@ card_stored setup bytes regs cards dev off written not0 not1 are stands =
       xbcs = stands.xbcs ∙ sym (stored-elsewhere setup bytes (card_register dev off) written xbcs (inl not1));
       cards = are;
     }
+
+-- a register without a name is none of those that the address map depends on, where it is none of a card either
+bridge_beside : (off : ℕ) → in_bridge off ≡ None → IsBeside off
+bridge_beside off none =
+    let not_pam : is_within 0x59 0x5F off ≡ false =
+    elim (cases_Bool (is_within 0x59 0x5F off)) [
+      | inr not ↦ not
+      | inl here ↦ let some : Some (Pam (off - 0x59)) ≡ None = rw here at none in absurd (cc)
+    ] in
+    let not_row : is_within 0x60 0x67 off ≡ false =
+    elim (cases_Bool (is_within 0x60 0x67 off)) [
+      | inr not ↦ not
+      | inl here ↦ let some : Some (RowBoundary (off - 0x60)) ≡ None = rw (not_pam, here) at none in absurd (cc)
+    ] in
+    let not_hole : (off == 0x68) ≡ false =
+    elim (cases_Bool (off == 0x68)) [
+      | inr not ↦ not
+      | inl here ↦ let some : Some Hole ≡ None = rw (not_pam, not_row, here) at none in absurd (cc)
+    ] in
+    let not_smram : (off == 0x72) ≡ false =
+    elim (cases_Bool (off == 0x72)) [
+      | inr not ↦ not
+      | inl here ↦ let some : Some Smram ≡ None = rw (not_pam, not_row, not_hole, here) at none in absurd (cc)
+    ] in
+    record {
+      windows = elim (cases_lt off 0x59) [ inl below ↦ inl below | inr from ↦ inr (grind (arith, nat_tests)) ];
+      rows = elim (cases_lt off 0x60) [ inl below ↦ inl below | inr from ↦ inr (grind (arith, nat_tests)) ];
+      hole = eqb-false off 0x68 not_hole;
+      smram = eqb-false off 0x72 not_smram;
+    }
+
+isa_apart : (off : ℕ) → in_isa_bridge off ≡ None → off ≢ 0x4E
+isa_apart off none same =
+    let here : (off == 0x4E) ≡ true = eq-eqb off 0x4E same in
+    let some : Some ChipSelects ≡ None = rw here at none in
+    absurd (cc)
+
+pub nameless_in_bridge : (cards : List FittedCard) (at : Reg) → at.dev ≡ 0 → at.fun ≡ 0 → map_register cards at ≡ None →
+    IsBeside at.off
+unfolding map_register
+nameless_in_bridge cards at first function none = bridge_beside at.off (rw (function, first) at none)
+
+pub nameless_in_isa : (cards : List FittedCard) (at : Reg) → at.dev ≡ 1 → at.fun ≡ 0 → map_register cards at ≡ None →
+    at.off ≢ 0x4E
+unfolding map_register
+nameless_in_isa cards at second function none = isa_apart at.off (rw (function, second) at none)
+
+pub nameless_beside :
+    (setup : Setup) (bytes : Bytes) (cards : List FittedCard) (at : Reg) (written : ℕ) → (at.dev < 2) ⊎ (at.fun ≢ 0) →
+    map_register cards at ≡ None → SameMap bytes (stored setup bytes at written)
+nameless_beside setup bytes cards at written (inr fun) none = function_beside setup bytes at written fun
+nameless_beside setup bytes cards at written (inl low) none =
+    elim (cases_eq at.fun 0) [
+      | inr other ↦ function_beside setup bytes at written other
+      | inl function ↦ elim (cases_eq at.dev 0) [
+        | inl first ↦
+            subst (λ (reg : Reg). SameMap bytes (stored setup bytes reg written)) (in_function_0 at 0 first function)
+            (beside_stored setup bytes at.off written (nameless_in_bridge cards at first function none))
+        | inr not0 ↦
+            let second : at.dev ≡ 1 = omega arith in
+            subst (λ (reg : Reg). SameMap bytes (stored setup bytes reg written)) (in_function_0 at 1 second function)
+            (isa_beside setup bytes at.off written (nameless_in_isa cards at second function none))
+      ]
+    ]
 
 -- nor has a byte past offset FFh
 pub beyond :

@@ -1,5 +1,6 @@
 pub mod Edges
 pub mod EdgeSearch
+pub mod MapRegister
 pub mod MapRegs
 pub mod Memory
 pub mod Onboard

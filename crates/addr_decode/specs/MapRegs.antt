@@ -1,14 +1,12 @@
 -- The registers that the address map depends on.
-use Rattle.std.specs.Prelude.{◌≡◌, ◌≤◌, ℕ, ◌+◌, ◌/◌, nat_le, nat_lt, Bool, ◌&&◌, List}
-use Rattle.board_base.specs.declared.access.Width.{Width}
+use Rattle.std.specs.Prelude.{◌≡◌, ℕ, ◌/◌, List}
 use Rattle.board_base.specs.declared.access.Width.TheVariants.{One}
 use Rattle.board_base.specs.declared.target.Reg.{Reg}
-use Rattle.board_base.specs.Access.{bytes_of}
 use Rattle.board_spec.specs.declared.map_change.MapChange.TheVariants.{Store}
 use Rattle.board_spec.specs.Registers.{changed_byte}
 use Rattle.board_spec.specs.Setup.{Setup}
 use Rattle.board_spec.specs.Decode.{Bytes}
-use Rattle.board_spec.specs.RegisterNames.{drb, fdhc, smram, xbcs, ide_command as command_register, idetim_high}
+use Rattle.board_spec.specs.RegisterNames.{fdhc, smram, xbcs, ide_command as command_register, idetim_high}
 use Rattle.pmc_regs.specs.Pmc.{IsRowsOf}
 use Rattle.pam_windows.specs.Pam.{IsPamOf}
 use Rattle.pci_bars.specs.Cards.{CardBytes, AreDecoded}
@@ -37,14 +35,6 @@ map_bytes regs = record {
 -- the registers of a board after one byte is stored
 abbrev pub stored : Setup → Bytes → (at : Reg) → (written : ℕ) → Bytes
 stored setup bytes at written = λ reg. changed_byte setup (Store at One written) reg (bytes reg)
-
--- the offsets of DRB0 to DRB7
-abbrev pub IsRowOffset : ℕ → Type 0
-IsRowOffset off = ((drb 0).off ≤ off) × (off ≤ (drb 7).off)
-
--- a store from an offset on covers one of the offsets from first to last
-abbrev pub overlaps : (off : ℕ) → Width → (first last : ℕ) → Bool
-overlaps off width first last = nat_le off last && nat_lt first (off + bytes_of width)
 
 -- they agree with the registers of a board in every byte that the address map depends on. The interrupt
 -- line of a card is none of these

@@ -1,23 +1,21 @@
 //! What a change of the configuration space makes of the registers that the address map depends on.
-ghost use Rattle.std.specs.Prelude.{◌≡◌, ◌&&◌, ◌||◌, is_some};
+ghost use Rattle.std.specs.Prelude.{◌≡◌, ◌≢◌, ◌≤◌, ◌<◌, ◌⊎◌, None, true, false};
 ghost use Rattle.board_spec.specs.declared.map_change.MapChange.TheVariants.{Store};
 ghost use Rattle.board_spec.specs.Setup.{Setup};
 ghost use Rattle.board_spec.specs.Registers.{changed_byte};
 ghost use Rattle.board_spec.specs.Decode.{Bytes};
-ghost use Rattle.board_spec.specs.RegisterNames.{bridge, isa, pam, fdhc, smram};
-ghost use Rattle.board_spec.specs.MapWrites.{reg_after, touches_map};
-ghost use Rattle.pci_bars.specs.Cards.{AreCardsOf, AreFitted, cards_of};
-ghost use Rattle.pmc_regs.specs.Pmc.{IsRowsOf};
-ghost use Rattle.addr_decode.specs.MapRegs.{IsRowOffset, StandsFor, map_bytes, stored, overlaps};
+ghost use Rattle.board_spec.specs.RegisterNames.{card_register};
+ghost use Rattle.board_spec.specs.MapWrites.{is_map_byte, reg_after, touches_map};
+ghost use Rattle.pci_bars.specs.Cards.{AreCards, AreCardsOf, AreDecoded, AreFitted, cards_of};
+ghost use Rattle.addr_decode.specs.MapRegister.{IsNumbered, map_register, names_from, names_of, place_of};
+ghost use Rattle.addr_decode.specs.MapRegs.{StandsFor, map_bytes, stored};
 
 use crate::cards::write_card;
+use crate::register::{MapRegister, touch_map};
 use crate::regs::MapRegs;
 use board_base::{Reg, Width};
 use board_spec::MapChange;
-use board_spec::offset::{
-    BASE0, BASE5_END, COMMAND, DRB0, DRB7, EXPANSION_ROM, EXPANSION_ROM_END, FDHC, HOST_BRIDGE,
-    PAM0, PAM6, SMRAM, SOUTH_BRIDGE, XBCS,
-};
+use board_spec::offset::{PAM0, SOUTH_BRIDGE};
 use pam_windows::store_pam;
 use pci_bars::{CardRegs, card_at};
 use pmc_regs::fdhc_after;
@@ -31,41 +29,7 @@ pub fn touches(regs: &MapRegs, reg: Reg, width: Width) -> bool
     ensures touched { (setup : Setup) (bytes : Bytes) → StandsFor setup bytes (map_bytes regs.now)
         → result ≡ touches_map setup (Store reg width 0) }
 {
-    if reg.fun != 0 {
-        return false;
-    }
-    match reg.dev {
-        HOST_BRIDGE => touches_bridge(reg.off, width),
-        SOUTH_BRIDGE => overlaps(reg.off, width, XBCS, XBCS),
-        dev => match card_at(&regs.cards, dev) {
-            Some(card) => touches_card(card, reg.off, width),
-            None => false,
-        },
-    }
-}
-
-/// Whether a store to the host bridge covers PAM, DRB, FDHC or SMRAM.
-fn touches_bridge(off: u8, width: Width) -> bool
-    ensures touched { result ≡ (overlaps off width (pam 0).off fdhc.off || overlaps off width smram.off smram.off) }
-{
-    overlaps(off, width, PAM0, FDHC) || overlaps(off, width, SMRAM, SMRAM)
-}
-
-/// Whether a store to a card covers its command, a base or the register of its expansion ROM.
-fn touches_card(card: &CardRegs, off: u8, width: Width) -> bool
-    ensures touched { result ≡ (overlaps off width 0x04 0x04 || overlaps off width 0x10 0x27
-        || is_some card.now.card.rom && overlaps off width 0x30 0x33) }
-{
-    overlaps(off, width, COMMAND, COMMAND)
-        || overlaps(off, width, BASE0, BASE5_END)
-        || card.spec.rom.is_some() && overlaps(off, width, EXPANSION_ROM, EXPANSION_ROM_END)
-}
-
-/// Whether a store from an offset on covers one of the offsets from `first` to `last`.
-fn overlaps(off: u8, width: Width, first: u8, last: u8) -> bool
-    ensures overlaps { result ≡ overlaps off width first last }
-{
-    off <= last && u32::from(first) < u32::from(off) + width.bytes()
+    touch_map(regs.names_from(reg, width).as_slice())
 }
 
 impl MapRegs {
@@ -80,15 +44,31 @@ impl MapRegs {
         ensures same_cards { cards_of self.new.cards.items ≡ cards_of self.old.cards.items }
         ensures fitted { AreFitted self.new.cards.items }
     {
+        let names = self.names(change);
+        self.apply_named(change, names.as_slice());
+    }
+
+    /// Makes a change as `apply` does, where the names of the registers that it stores to are known.
+    pub fn apply_named(&mut self, change: &MapChange, names: &[Option<MapRegister>])
+        requires cards { AreFitted self.old.cards.items }
+        requires names { names.now ≡ names_of (cards_of self.old.cards.items) change.now }
+        ensures stands { (setup : Setup) (bytes : Bytes) → StandsFor setup bytes (map_bytes self.old)
+            → StandsFor setup (λ reg. changed_byte setup change.now reg (bytes reg)) (map_bytes self.new) }
+        ensures cards { (setup : Setup) (bytes : Bytes) → AreCardsOf setup bytes self.old.cards.items
+            → AreCardsOf setup (λ reg. changed_byte setup change.now reg (bytes reg)) self.new.cards.items }
+        ensures same_cards { cards_of self.new.cards.items ≡ cards_of self.old.cards.items }
+        ensures fitted { AreFitted self.new.cards.items }
+    {
         match change {
-            MapChange::Store { reg, width, value } => self.store(*reg, *width, *value),
+            MapChange::Store { reg, width, value } => self.store(*reg, *width, *value, names),
             MapChange::Reset => self.reset(),
         }
     }
 
-    /// Stores the bytes of a value in rising offset.
-    fn store(&mut self, reg: Reg, width: Width, value: u32)
+    /// Stores the bytes of a value in rising offset, in the registers with these names.
+    fn store(&mut self, reg: Reg, width: Width, value: u32, names: &[Option<MapRegister>])
         requires cards { AreFitted self.old.cards.items }
+        requires names { names.now ≡ names_from (cards_of self.old.cards.items) reg width }
         ensures stands { (setup : Setup) (bytes : Bytes) → StandsFor setup bytes (map_bytes self.old)
             → StandsFor setup (λ r. changed_byte setup (Store reg width value) r (bytes r)) (map_bytes self.new) }
         ensures cards { (setup : Setup) (bytes : Bytes) → AreCardsOf setup bytes self.old.cards.items
@@ -97,78 +77,103 @@ impl MapRegs {
     {
         let bytes = value.to_le_bytes();
         for k in 0..width.bytes() as u8 {
-            self.store_after(reg, k, bytes[usize::from(k)]);
+            let place = usize::from(k);
+            self.store_after(reg, k, names[place], bytes[place]);
         }
     }
 
-    /// Stores a byte in the register `k` offsets after another, unless that is past offset FFh.
-    fn store_after(&mut self, reg: Reg, k: u8, byte: u8)
+    /// Stores a byte in the register `k` offsets after another, by its name.
+    fn store_after(&mut self, reg: Reg, k: u8, name: Option<MapRegister>, byte: u8)
         requires cards { AreFitted self.old.cards.items }
+        requires name { name ≡ map_register (cards_of self.old.cards.items) (reg_after reg k) }
         ensures stands { (setup : Setup) (bytes : Bytes) → StandsFor setup bytes (map_bytes self.old)
             → StandsFor setup (stored setup bytes (reg_after reg k) byte) (map_bytes self.new) }
         ensures cards { (setup : Setup) (bytes : Bytes) → AreCardsOf setup bytes self.old.cards.items
             → AreCardsOf setup (stored setup bytes (reg_after reg k) byte) self.new.cards.items }
         ensures same_cards { cards_of self.new.cards.items ≡ cards_of self.old.cards.items }
     {
+        match name {
+            Some(register) => self.set(register, byte),
+            None => self.store_beside(reg, k, byte),
+        }
+    }
+
+    /// Stores a byte in a register.
+    fn set(&mut self, register: MapRegister, byte: u8)
+        requires cards { AreFitted self.old.cards.items }
+        requires number { IsNumbered register }
+        ensures stands { (setup : Setup) (bytes : Bytes) → StandsFor setup bytes (map_bytes self.old)
+            → StandsFor setup (stored setup bytes (place_of register) byte) (map_bytes self.new) }
+        ensures cards { (setup : Setup) (bytes : Bytes) → AreCardsOf setup bytes self.old.cards.items
+            → AreCardsOf setup (stored setup bytes (place_of register) byte) self.new.cards.items }
+        ensures same_cards { cards_of self.new.cards.items ≡ cards_of self.old.cards.items }
+    {
+        match register {
+            MapRegister::Pam(number) => store_pam(&mut self.pam, PAM0 + number, byte),
+            MapRegister::RowBoundary(row) => self.drb[usize::from(row)] = byte,
+            MapRegister::Hole => self.fdhc = fdhc_after(self.fdhc, byte),
+            MapRegister::Smram => self.smram = smram_after(self.smram, byte),
+            MapRegister::ChipSelects => self.xbcs = xbcs_after(self.xbcs, byte),
+            MapRegister::Card(dev, register) => {
+                write_card(&mut self.cards, dev, register.offset(), byte);
+            }
+        }
+    }
+
+    /// Stores a byte in the register `k` offsets after another, on which the address map does not depend. Of those the
+    /// interrupt lines of the cards alone are kept.
+    fn store_beside(&mut self, reg: Reg, k: u8, byte: u8)
+        requires cards { AreFitted self.old.cards.items }
+        requires beside { map_register (cards_of self.old.cards.items) (reg_after reg k) ≡ None }
+        ensures stands { (setup : Setup) (bytes : Bytes) → StandsFor setup bytes (map_bytes self.old)
+            → StandsFor setup (stored setup bytes (reg_after reg k) byte) (map_bytes self.new) }
+        ensures cards { (setup : Setup) (bytes : Bytes) → AreCardsOf setup bytes self.old.cards.items
+            → AreCardsOf setup (stored setup bytes (reg_after reg k) byte) self.new.cards.items }
+        ensures same_cards { cards_of self.new.cards.items ≡ cards_of self.old.cards.items }
+    {
+        if is_of_bridge(reg) {
+            return;
+        }
         match reg.off.checked_add(k) {
-            Some(off) => self.store_byte(Reg { off, ..reg }, byte),
+            Some(off) => write_card(&mut self.cards, reg.dev, off, byte),
             None => {}
         }
     }
 
-    /// Stores a byte in a register. Only those that the address map depends on are kept.
-    fn store_byte(&mut self, reg: Reg, byte: u8)
-        requires cards { AreFitted self.old.cards.items }
-        ensures stands { (setup : Setup) (bytes : Bytes) → StandsFor setup bytes (map_bytes self.old)
-            → StandsFor setup (stored setup bytes reg byte) (map_bytes self.new) }
-        ensures cards { (setup : Setup) (bytes : Bytes) → AreCardsOf setup bytes self.old.cards.items
-            → AreCardsOf setup (stored setup bytes reg byte) self.new.cards.items }
-        ensures same_cards { cards_of self.new.cards.items ≡ cards_of self.old.cards.items }
+    /// The byte of a register.
+    pub fn byte(&self, register: MapRegister) -> u8
+        requires cards { AreFitted self.now.cards.items }
+        requires number { IsNumbered register }
+        ensures byte { (setup : Setup) (bytes : Bytes) → StandsFor setup bytes (map_bytes self.now)
+            → is_map_byte setup (place_of register) ≡ true → result ≡ bytes (place_of register) }
     {
-        if reg.fun != 0 {
-            return;
-        }
-        match reg.dev {
-            HOST_BRIDGE => self.store_bridge(reg.off, byte),
-            SOUTH_BRIDGE => self.store_isa(reg.off, byte),
-            dev => write_card(&mut self.cards, dev, reg.off, byte),
-        }
-    }
-
-    /// Stores a byte in a register of the host bridge.
-    fn store_bridge(&mut self, off: u8, byte: u8)
-        requires cards { AreFitted self.old.cards.items }
-        ensures stands { (setup : Setup) (bytes : Bytes) → StandsFor setup bytes (map_bytes self.old)
-            → StandsFor setup (stored setup bytes (bridge off) byte) (map_bytes self.new) }
-        ensures same_cards { self.new.cards ≡ self.old.cards }
-    {
-        match off {
-            PAM0..=PAM6 => store_pam(&mut self.pam, off, byte),
-            DRB0..=DRB7 => store_row(&mut self.drb, off, byte),
-            FDHC => self.fdhc = fdhc_after(self.fdhc, byte),
-            SMRAM => self.smram = smram_after(self.smram, byte),
-            _ => {}
-        }
-    }
-
-    /// Stores a byte in a register of the ISA bridge.
-    fn store_isa(&mut self, off: u8, byte: u8)
-        requires cards { AreFitted self.old.cards.items }
-        ensures stands { (setup : Setup) (bytes : Bytes) → StandsFor setup bytes (map_bytes self.old)
-            → StandsFor setup (stored setup bytes (isa off) byte) (map_bytes self.new) }
-        ensures same_cards { self.new.cards ≡ self.old.cards }
-    {
-        if off == XBCS {
-            self.xbcs = xbcs_after(self.xbcs, byte);
+        match register {
+            MapRegister::Pam(number) => self.pam[usize::from(number)],
+            MapRegister::RowBoundary(row) => self.drb[usize::from(row)],
+            MapRegister::Hole => self.fdhc,
+            MapRegister::Smram => self.smram,
+            MapRegister::ChipSelects => self.xbcs,
+            MapRegister::Card(dev, register) => byte_of(&self.cards, dev, register.offset()),
         }
     }
 }
 
-/// Stores a byte in a row boundary register.
-fn store_row(drb: &mut [u8; 8], off: u8, byte: u8)
-    requires offset { IsRowOffset off }
-    ensures stored { (setup : Setup) (bytes : Bytes) → IsRowsOf bytes drb.old
-        → IsRowsOf (stored setup bytes (bridge off) byte) drb.new }
+/// Whether a register is none of a card: of a bridge, or of a function other than 0.
+fn is_of_bridge(reg: Reg) -> bool
+    ensures bridge { result ≡ true → (reg.dev < 2) ⊎ (reg.fun ≢ 0) }
+    ensures card { result ≡ false → (2 ≤ reg.dev) × (reg.fun ≡ 0) }
 {
-    drb[usize::from(off - DRB0)] = byte;
+    reg.fun != 0 || reg.dev <= SOUTH_BRIDGE
+}
+
+/// A register of the card at a device number, and 0 where there is none.
+fn byte_of(cards: &[CardRegs], dev: u8, off: u8) -> u8
+    requires cards { AreCards cards.now }
+    ensures byte { (setup : Setup) (bytes : Bytes) → AreDecoded setup bytes cards.now
+        → is_map_byte setup (card_register dev off) ≡ true → 2 ≤ dev → result ≡ bytes (card_register dev off) }
+{
+    match card_at(cards, dev) {
+        Some(card) => card.read(off),
+        None => 0,
+    }
 }

@@ -1,5 +1,6 @@
-//! Laws of the edges of the memory map. Each function does nothing: its clause is the law.
+//! Laws of the names of the registers, and of the edges of the memory map. Each function does nothing: its clause is the law.
 
+ghost use Rattle.addr_decode.specs.MapRegister.{MapBytesAreNamed, NamesStandForOne};
 ghost use Rattle.addr_decode.specs.Edges.{AreasChangeAtEdges, FewEdges};
 
 /// The areas of an address can change at edges alone.
@@ -10,4 +11,10 @@ pub fn law_areas_change_at_edges()
 /// A board has at most 141 edges, so that its memory map has at most 142 ranges.
 pub fn law_few_edges()
     ensures few { FewEdges }
+{}
+
+/// Exactly the bytes that the address map depends on have a name, and each name stands for one register.
+pub fn law_names()
+    ensures named { MapBytesAreNamed }
+    ensures one { NamesStandForOne }
 {}

@@ -13,6 +13,7 @@ mod master;
 mod memory;
 mod onboard;
 mod ports;
+mod register;
 mod regs;
 
 pub use areas::{SixAreas, row};
@@ -22,4 +23,5 @@ pub use edges::next_edge;
 pub use master::decode_master;
 pub use memory::decode;
 pub use ports::{PortRegs, decode_port};
+pub use register::{CardRegister, MapRegister, Names, touch_map};
 pub use regs::MapRegs;

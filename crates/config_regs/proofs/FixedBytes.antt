@@ -1,5 +1,5 @@
 -- A register that nothing changes holds after every history what a reset leaves.
-use Rattle.std.proofs.Common.{◌≡◌, ◌≢◌, ◌<◌, ℕ, List, [], ◌∷◌, false, Option, Some, None, refl, inl, inr, arith}
+use Rattle.std.proofs.Common.{◌≡◌, ◌≢◌, ◌<◌, ℕ, List, [], ◌∷◌, ◌⊎◌, false, Option, Some, None, refl, inl, inr, arith}
 use Rattle.std.proofs.lemmas.Bool.{cases_lt, ne_eqb}
 use Rattle.board_base.specs.declared.target.Reg.{Reg}
 use Rattle.board_spec.specs.declared.event.Entry.{Entry}
@@ -15,6 +15,7 @@ use Rattle.pmc_regs.proofs.PmcLemmas.{reset_byte-small}
 use Rattle.xbus_select.specs.Piix.{IsIsaFixed}
 use Rattle.xbus_select.proofs.FixedLemmas.{IsFixedAt, kept_byte}
 use Rattle.xbus_select.proofs.PiixLemmas.{fixed_at}
+use Rattle.addr_decode.proofs.StandsLemmas.{IsBeside}
 use Rattle.config_regs.specs.Config.{HasFixed}
 
 -- a register that cannot be written has its byte of a reset at all times
@@ -59,12 +60,11 @@ isa_always setup history off fixed =
 pub has_fixed : (setup : Setup) (history : List Entry) → HasFixed setup (byte_of setup history)
 has_fixed setup history = record { bridge_bytes = bridge_always setup history; isa_bytes = isa_always setup history }
 
-pub fixed_below : (off : ℕ) → off < 0x59 → IsFixedOffset off
-fixed_below off below = ((omega arith, inl below, inl (omega arith)), inl (omega arith))
-
-pub fixed_above : (off : ℕ) → off < 256 → 0x68 < off → off ≢ 0x72 → IsFixedOffset off
-fixed_above off small above apart =
-    elim (cases_lt off 0x72) [
-      | inl low ↦ ((omega arith, inr (omega arith), inl low), inr above)
-      | inr high ↦ ((omega arith, inr (omega arith), inr (omega arith)), inr above)
+pub fixed_beside : (off : ℕ) → off < 256 → IsBeside off → IsFixedOffset off
+fixed_beside off small beside =
+    let around_smram : (off < 0x72) ⊎ (0x72 < off) =
+    elim (cases_lt off 0x72) [ inl low ↦ inl low | inr high ↦ inr (let apart = beside.smram in omega arith) ] in
+    elim beside.rows [
+      | inl below ↦ ((small, beside.windows, around_smram), inl below)
+      | inr above ↦ ((small, beside.windows, around_smram), inr (let apart = beside.hole in omega arith))
     ]

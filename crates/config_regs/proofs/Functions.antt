@@ -46,6 +46,20 @@ card_exists setup dev fun not0 not1 exists' =
           ≡ true = rw (ne_eqb dev 0 not0, ne_eqb dev 1 not1, ne_eqb fun 0 apart) at exists' in absurd (cc)
     ]
 
+-- the only function but 0 is the IDE function
+pub other_function : (setup : Setup) (dev fun : ℕ) → fun ≢ 0 → Exists setup dev fun → (dev ≡ 1) × (fun ≡ 1)
+other_function setup dev fun other exists' =
+    elim (cases_eq dev 0) [
+      | inl first ↦ absurd (other (bridge_exists setup dev fun first exists'))
+      | inr not0 ↦ elim (cases_eq dev 1) [
+        | inr not1 ↦ absurd (other (card_exists setup dev fun not0 not1 exists').0)
+        | inl second ↦ elim (south_function setup dev fun second exists') [
+          | inl isa ↦ absurd (other isa)
+          | inr ide ↦ (second, ide)
+        ]
+      ]
+    ]
+
 -- ---- a card is found by its device
 
 pub no_card :

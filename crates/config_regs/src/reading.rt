@@ -1,23 +1,20 @@
 //! Reads of registers in configuration space, by function and then by offset.
-ghost use Rattle.std.specs.Prelude.{◌≡◌, ◌+◌, ◌≤◌, true, is_some};
+ghost use Rattle.std.specs.Prelude.{◌≡◌, ◌≢◌, ◌+◌, ◌≤◌, None, true, is_some};
 ghost use Rattle.board_base.specs.Access.{bytes_of};
 ghost use Rattle.board_spec.specs.Setup.{Setup, card_at};
 ghost use Rattle.board_spec.specs.Bits.{wide};
-ghost use Rattle.board_spec.specs.RegisterNames.{bridge, isa, card_register};
+ghost use Rattle.board_spec.specs.RegisterNames.{isa, card_register, xbcs};
 ghost use Rattle.board_spec.specs.RegisterTable.{function_exists};
 ghost use Rattle.board_spec.specs.Decode.{Bytes};
-ghost use Rattle.pci_bars.specs.Cards.{AreCards, AreCardsOf, AreFitted};
-ghost use Rattle.xbus_select.specs.Piix.{piix_register};
-ghost use Rattle.addr_decode.specs.MapRegs.{StandsFor, map_bytes};
-ghost use Rattle.config_regs.specs.Config.{AreKeptOf, HasFixed};
+ghost use Rattle.pci_bars.specs.Cards.{AreCards, AreCardsOf, AreFitted, cards_of};
+ghost use Rattle.addr_decode.specs.MapRegister.{map_register};
+ghost use Rattle.addr_decode.specs.MapRegs.{map_bytes};
+ghost use Rattle.config_regs.specs.Config.{AreKeptOf, HasFixed, IsSouthOf};
 
 use crate::south::South;
 use addr_decode::MapRegs;
 use board_base::{Reg, Width};
-use board_spec::offset::{
-    DRB0, DRB7, FDHC, HOST_BRIDGE, ISA_BRIDGE, PAM0, PAM6, PIRQRCA, PIRQRCD, SMRAM, SOUTH_BRIDGE,
-    XBCS,
-};
+use board_spec::offset::{HOST_BRIDGE, PIRQRCA, PIRQRCD, SOUTH_BRIDGE};
 use board_spec::wide::read_at;
 use pci_bars::{CardRegs, card_at};
 
@@ -46,45 +43,37 @@ fn read_byte(regs: &MapRegs, south: &South, reg: Reg) -> u8
     ensures byte { (setup : Setup) (bytes : Bytes) → AreKeptOf setup bytes (map_bytes regs.now) south.now
         → HasFixed setup bytes → function_exists setup 0 reg.dev reg.fun ≡ true → result ≡ bytes reg }
 {
+    match regs.register(reg) {
+        Some(register) => regs.byte(register),
+        None => byte_beside(regs, south, reg),
+    }
+}
+
+/// A register of a function that exists, on which the memory map does not depend. The only function but 0 is the IDE
+/// function.
+fn byte_beside(regs: &MapRegs, south: &South, reg: Reg) -> u8
+    requires cards { AreFitted regs.now.cards.items }
+    requires beside { map_register (cards_of regs.now.cards.items) reg ≡ None }
+    ensures byte { (setup : Setup) (bytes : Bytes) → AreKeptOf setup bytes (map_bytes regs.now) south.now
+        → HasFixed setup bytes → function_exists setup 0 reg.dev reg.fun ≡ true → result ≡ bytes reg }
+{
+    if reg.fun != 0 {
+        return south.ide.read(reg.off);
+    }
     match reg.dev {
-        HOST_BRIDGE => bridge_byte(regs, reg.off),
-        SOUTH_BRIDGE => south_byte(regs, south, reg.fun, reg.off),
+        HOST_BRIDGE => pmc_regs::fixed_byte(reg.off),
+        SOUTH_BRIDGE => isa_byte(south, reg.off),
         dev => card_byte(&regs.cards, dev, reg.off),
     }
 }
 
-/// A register of the host bridge.
-fn bridge_byte(regs: &MapRegs, off: u8) -> u8
-    ensures byte { (setup : Setup) (bytes : Bytes) → StandsFor setup bytes (map_bytes regs.now)
-        → HasFixed setup bytes → result ≡ bytes (bridge off) }
-{
-    match off {
-        PAM0..=PAM6 => regs.pam[usize::from(off - PAM0)],
-        DRB0..=DRB7 => regs.drb[usize::from(off - DRB0)],
-        FDHC => regs.fdhc,
-        SMRAM => regs.smram,
-        _ => pmc_regs::fixed_byte(off),
-    }
-}
-
-/// A register of the 82371SB, of its ISA bridge or else of its IDE function.
-fn south_byte(regs: &MapRegs, south: &South, fun: u8, off: u8) -> u8
-    ensures byte { (setup : Setup) (bytes : Bytes) → AreKeptOf setup bytes (map_bytes regs.now) south.now
-        → HasFixed setup bytes → function_exists setup 0 1 fun ≡ true → result ≡ bytes (piix_register fun off) }
-{
-    match fun {
-        ISA_BRIDGE => isa_byte(regs, south, off),
-        _ => south.ide.read(off),
-    }
-}
-
-/// A register of the ISA bridge.
-fn isa_byte(regs: &MapRegs, south: &South, off: u8) -> u8
-    ensures byte { (setup : Setup) (bytes : Bytes) → AreKeptOf setup bytes (map_bytes regs.now) south.now
+/// A register of the ISA bridge other than XBCS.
+fn isa_byte(south: &South, off: u8) -> u8
+    requires other { off ≢ xbcs.off }
+    ensures byte { (setup : Setup) (bytes : Bytes) → IsSouthOf bytes south.now
         → HasFixed setup bytes → result ≡ bytes (isa off) }
 {
     match off {
-        XBCS => regs.xbcs,
         PIRQRCA..=PIRQRCD => south.routes.read(off),
         _ => xbus_select::isa_fixed_byte(off),
     }

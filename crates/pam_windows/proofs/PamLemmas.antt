@@ -1,14 +1,15 @@
 -- The PAM registers in the table of registers.
 use Rattle.std.proofs.Common.{◌≡◌, ◌≢◌, ℕ, ◌-◌, ◌<◌, List, [], ◌∷◌, length, get_or, set, false, ◌∙◌, sym, refl, ap, subst, arith, inl, inr, get_or-set_other, get_or-set_same}
+use Rattle.std.specs.Prelude.{map}
 use Rattle.std.proofs.lemmas.Bool.{cases_eq}
 use Rattle.board_base.specs.declared.access.Width.TheVariants.{One}
 use Rattle.board_spec.specs.declared.map_change.MapChange.TheVariants.{Store}
 use Rattle.board_spec.specs.Setup.{Setup}
 use Rattle.board_spec.specs.Bits.{merged}
-use Rattle.board_spec.specs.RegisterTable.{host_bridge, reset_byte, writable_bits}
+use Rattle.board_spec.specs.RegisterTable.{writable_bits}
 use Rattle.board_spec.specs.Registers.{changed_byte}
 use Rattle.board_spec.specs.Decode.{Bytes}
-use Rattle.board_spec.specs.RegisterNames.{bridge, smram, is_same}
+use Rattle.board_spec.specs.RegisterNames.{bridge, pam, smram, is_same}
 use Rattle.pam_windows.specs.Pam.{IsPamOffset, IsPamOf, pam_byte}
 use Rattle.board_spec.proofs.TableLemmas.{Each, each_from}
 use Rattle.board_spec.proofs.StoreLemmas.{changed_byte-one_same, changed_byte-one_other}
@@ -17,42 +18,30 @@ use Rattle.board_spec.proofs.StoreLemmas.{changed_byte-one_same, changed_byte-on
 each_offset : (P : ℕ → Type 0) → Each P 0x59 7 → (off : ℕ) → IsPamOffset off → P off
 each_offset P each off h = each_from P 0x59 7 off each h.0 (omega (arith, h.1))
 
-reset_byte-pam : (setup : Setup) (off : ℕ) → IsPamOffset off → reset_byte setup (bridge off) ≡ 0
-unfolding reset_byte host_bridge
-reset_byte-pam setup =
-    each_offset (λ off. reset_byte setup (bridge off) ≡ 0) (refl, (refl, (refl, (refl, (refl, (refl, (refl, tt)))))))
+-- the bytes of PAM0 to PAM6
+abbrev pub pam_bytes : Bytes → List ℕ
+pam_bytes bytes = map (λ k. bytes (pam k)) (0 ∷ 1 ∷ 2 ∷ 3 ∷ 4 ∷ 5 ∷ 6 ∷ [])
 
--- the writable bits of PAM0 to PAM6
-abbrev pub pam_masks : List ℕ
-pam_masks = 0x30 ∷ 0x33 ∷ 0x33 ∷ 0x33 ∷ 0x33 ∷ 0x33 ∷ 0x33 ∷ []
-
-writable_bits-pam :
-    (setup : Setup) (off : ℕ) → IsPamOffset off → pam_byte pam_masks off ≡ writable_bits setup (bridge off)
-unfolding writable_bits host_bridge
-writable_bits-pam setup =
-    each_offset (λ off. pam_byte pam_masks off ≡ writable_bits setup (bridge off))
-    (refl, (refl, (refl, (refl, (refl, (refl, (refl, tt)))))))
+pub pam_are : (bytes : Bytes) (list : List ℕ) → list ≡ pam_bytes bytes → IsPamOf bytes list
+pam_are bytes list are off h =
+    rw are
+    (each_offset (λ off. pam_byte (pam_bytes bytes) off ≡ bytes (bridge off))
+    (refl, (refl, (refl, (refl, (refl, (refl, (refl, tt))))))) off h)
 
 plain_register : (off : ℕ) → IsPamOffset off → is_same (bridge off) smram ≡ false
 plain_register =
     each_offset (λ off. is_same (bridge off) smram ≡ false) (refl, (refl, (refl, (refl, (refl, (refl, (refl, tt)))))))
 
-pub zeros_at_reset : (setup : Setup) → IsPamOf (reset_byte setup) (0 ∷ 0 ∷ 0 ∷ 0 ∷ 0 ∷ 0 ∷ 0 ∷ [])
-zeros_at_reset setup off h =
-    each_offset (λ off. pam_byte (0 ∷ 0 ∷ 0 ∷ 0 ∷ 0 ∷ 0 ∷ 0 ∷ []) off ≡ 0)
-    (refl, (refl, (refl, (refl, (refl, (refl, (refl, tt))))))) off h
-    ∙ sym (reset_byte-pam setup off h)
-
 -- a store of one byte to a PAM register, as the registers keep it
 stored_at :
-    (setup : Setup) (bytes : Bytes) (pam : List ℕ) (off written : ℕ) → length pam ≡ 7 → written < 256 →
-    IsPamOffset off → IsPamOf bytes pam →
-    get_or (set pam (off - 0x59) (merged (pam_byte pam_masks off) (pam_byte pam off) written)) (off - 0x59) 0
+    (setup : Setup) (bytes : Bytes) (masks pam : List ℕ) (off written : ℕ) → length pam ≡ 7 → written < 256 →
+    masks ≡ pam_bytes (writable_bits setup) → IsPamOffset off → IsPamOf bytes pam →
+    get_or (set pam (off - 0x59) (merged (pam_byte masks off) (pam_byte pam off) written)) (off - 0x59) 0
     ≡ changed_byte setup (Store (bridge off) One written) (bridge off) (bytes (bridge off))
-stored_at setup bytes pam off written seven below h is_pam =
+stored_at setup bytes masks pam off written seven below are h is_pam =
     let within : off - 0x59 < length pam = omega arith in
-    get_or-set_same pam (off - 0x59) (merged (pam_byte pam_masks off) (pam_byte pam off) written) 0 within
-    ∙ ap (λ mask. merged mask (pam_byte pam off) written) (writable_bits-pam setup off h)
+    get_or-set_same pam (off - 0x59) (merged (pam_byte masks off) (pam_byte pam off) written) 0 within
+    ∙ ap (λ mask. merged mask (pam_byte pam off) written) (pam_are (writable_bits setup) masks are off h)
     ∙ ap (λ old. merged (writable_bits setup (bridge off)) old written) (is_pam off h)
     ∙ sym (changed_byte-one_same setup (bridge off) (bytes (bridge off)) written below (plain_register off h))
 
@@ -68,17 +57,17 @@ stored_apart setup bytes pam off written byte at h at_h apart is_pam =
     ∙ sym (changed_byte-one_other setup (bridge at) off (bytes (bridge at)) written apart)
 
 pub stored_byte :
-    (setup : Setup) (bytes : Bytes) (pam : List ℕ) (off written : ℕ) → length pam ≡ 7 → written < 256 →
-    IsPamOffset off → IsPamOf bytes pam →
+    (setup : Setup) (bytes : Bytes) (masks pam : List ℕ) (off written : ℕ) → length pam ≡ 7 → written < 256 →
+    masks ≡ pam_bytes (writable_bits setup) → IsPamOffset off → IsPamOf bytes pam →
     IsPamOf (λ reg. changed_byte setup (Store (bridge off) One written) reg (bytes reg))
-    (set pam (off - 0x59) (merged (pam_byte pam_masks off) (pam_byte pam off) written))
-stored_byte setup bytes pam off written seven below h is_pam at at_h =
-    let byte = merged (pam_byte pam_masks off) (pam_byte pam off) written in
+    (set pam (off - 0x59) (merged (pam_byte masks off) (pam_byte pam off) written))
+stored_byte setup bytes masks pam off written seven below are h is_pam at at_h =
+    let byte = merged (pam_byte masks off) (pam_byte pam off) written in
     let IsStored : ℕ → Type 0 =
     λ at.
     get_or (set pam (off - 0x59) byte) (at - 0x59) 0
     ≡ changed_byte setup (Store (bridge off) One written) (bridge at) (bytes (bridge at)) in
     elim (cases_eq at off) [
-      | inl same ↦ subst IsStored (sym same) (stored_at setup bytes pam off written seven below h is_pam)
+      | inl same ↦ subst IsStored (sym same) (stored_at setup bytes masks pam off written seven below are h is_pam)
       | inr apart ↦ stored_apart setup bytes pam off written byte at h at_h apart is_pam
     ]

@@ -17,7 +17,7 @@ use Rattle.board_base.proofs.MergedLemmas.{merged-all, merged-none}
 use Rattle.board_spec.proofs.StoreLemmas.{changed_byte-one_same, changed_byte-one_other}
 use Rattle.pci_bars.specs.Bases.{of_base}
 use Rattle.pci_bars.specs.Cards.{CardBytes, HoldsLong, HoldsRom, DecodesAs, IsCardOf, is_kept_offset, header_of}
-use Rattle.pci_bars.proofs.TableLemmas.{byte_of_zero, kept_nowhere, is_fixed, reset_byte-card, writable_bits-card, reset-base, writable-base, reset-rom, writable-rom, reset-header, reset-pin, reset-line, reset-command, writable-line, writable-command, past_pin}
+use Rattle.pci_bars.proofs.TableLemmas.{byte_of_zero, kept_nowhere, is_fixed, reset_byte-card, writable_bits-card, reset-base, writable-base, reset-rom, writable-rom, reset-header, reset-pin, reset-line, reset-command, writable-line, past_pin, command_writable}
 
 -- ---- four bytes as a number
 
@@ -246,14 +246,13 @@ pub decodes-command :
     (setup : Setup) (bytes : Bytes) (card : CardBytes) (written : ℕ) → IsCard card.card → written < 256 → DecodesAs
     setup bytes card →
     DecodesAs setup (stored setup bytes card.card.dev 0x04 written)
-    (record card { command = merged 0x07 card.command written })
+    (record card { command = merged (command_writable card.card) card.command written })
 decodes-command setup bytes card written fit below is =
     record {
       fitted = is.fitted;
       command =
           stored-same setup bytes card.card 0x04 written fit is.fitted below
-          ∙ ap (λ mask. merged mask (bytes (card_register card.card.dev 0x04)) written) (writable-command card.card)
-          ∙ ap (λ old. merged 0x07 old written) is.command;
+          ∙ ap (λ old. merged (command_writable card.card) old written) is.command;
       bases =
           λ k k_below.
           long-apart setup bytes card.card.dev 0x04 written (0x10 + 4 * k) (slice_index card.bases k)
@@ -506,9 +505,9 @@ pub card-command :
     (setup : Setup) (bytes : Bytes) (card : CardBytes) (written : ℕ) → IsCard card.card → written < 256 → IsCardOf
     setup bytes card →
     IsCardOf setup (stored setup bytes card.card.dev 0x04 written)
-    (record card { command = merged 0x07 card.command written })
+    (record card { command = merged (command_writable card.card) card.command written })
 card-command setup bytes card written fit below is =
-    card-stored setup bytes card (record card { command = merged 0x07 card.command written }) 0x04 written fit below
+    card-stored setup bytes card (record card { command = merged (command_writable card.card) card.command written }) 0x04 written fit below
     is (λ e. grind arith) refl refl is.no_rom
     (decodes-command setup bytes card written fit below is.decodes)
 

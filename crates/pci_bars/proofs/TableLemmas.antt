@@ -104,25 +104,20 @@ rom_entry card = line 0x30 (replicate 4 0x00) (long_bytes (rom_writable card.rom
 abbrev last_entry : Line
 last_entry = line 0x3C (0x00 ∷ 0x01 ∷ []) (0xFF ∷ [])
 
-abbrev ids_entry : FittedCard → Line
-ids_entry card = line 0x00 (0x5A ∷ 0xA5 ∷ card.dev ∷ 0x01 ∷ []) read_only
-
-abbrev command_entry : Line
-command_entry = line 0x04 (0x00 ∷ 0x00 ∷ 0x80 ∷ 0x02 ∷ []) (0x07 ∷ [])
-
-abbrev class_entry : FittedCard → Line
-class_entry card = line 0x08 (0x00 ∷ 0x00 ∷ 0x00 ∷ (if card.vga then 0x03 else 0xFF) ∷ []) read_only
+-- a line of the card by its number
+abbrev entry_at : FittedCard → ℕ → Line
+entry_at card k = get_or (card_function card) k (line 0x00 [] read_only)
 
 past_header :
     (column : Line → List ℕ) (card : FittedCard) (off : ℕ) → 0x10 ≤ off →
     listed column (card_function card) off ≡ listed column (base_entry card ∷ rom_entry card ∷ last_entry ∷ []) off
 unfolding card_function
 past_header column card off above =
-    listed-past column (ids_entry card)
-    (command_entry ∷ class_entry card ∷ base_entry card ∷ rom_entry card ∷ last_entry ∷ []) off (omega arith)
-    ∙ listed-past column command_entry (class_entry card ∷ base_entry card ∷ rom_entry card ∷ last_entry ∷ []) off
+    listed-past column (entry_at card 0)
+    (entry_at card 1 ∷ entry_at card 2 ∷ base_entry card ∷ rom_entry card ∷ last_entry ∷ []) off (omega arith)
+    ∙ listed-past column (entry_at card 1) (entry_at card 2 ∷ base_entry card ∷ rom_entry card ∷ last_entry ∷ []) off
     (omega arith)
-    ∙ listed-past column (class_entry card) (base_entry card ∷ rom_entry card ∷ last_entry ∷ []) off (omega arith)
+    ∙ listed-past column (entry_at card 2) (base_entry card ∷ rom_entry card ∷ last_entry ∷ []) off (omega arith)
 
 before_last : (column : Line → List ℕ) (off : ℕ) → off < 0x3C → listed column (last_entry ∷ []) off ≡ 0
 before_last column off below = listed-before column last_entry [] off below
@@ -305,9 +300,9 @@ pub reset-command : (card : FittedCard) → listed (λ entry. entry.reset) (card
 unfolding card_function
 reset-command card = refl
 
-pub writable-command : (card : FittedCard) → listed (λ entry. entry.writable) (card_function card) 0x04 ≡ 0x07
-unfolding card_function
-writable-command card = refl
+-- the writable bits of the command
+abbrev pub command_writable : FittedCard → ℕ
+command_writable card = listed (λ entry. entry.writable) (card_function card) 0x04
 
 -- an offset is none of an expansion ROM's register
 abbrev pub IsOffRom : FittedCard → ℕ → Type 0

@@ -13,7 +13,7 @@ use Rattle.board_spec.specs.RegisterNames.{bridge, fdhc, smram, is_same}
 use Rattle.board_base.proofs.MergedLemmas.{merged-all, merged-none}
 use Rattle.board_spec.proofs.StoreLemmas.{changed_byte-one_same, changed_byte-one_other}
 use Rattle.pmc_regs.specs.Pmc.{PmcBytes, IsFixedOffset, IsRowsOf, IsPmcOf}
-use Rattle.pmc_regs.proofs.TableLemmas.{header_byte, rows_at_reset, hole_at_reset, writable_bits-row, reset_byte-header, reset_byte-blank, writable_bits-fixed}
+use Rattle.pmc_regs.proofs.TableLemmas.{header_byte, row_bytes, rows_are, writable_bits-row, reset_byte-header, reset_byte-blank, writable_bits-fixed}
 
 -- ---- after a reset
 
@@ -22,11 +22,12 @@ unfolding reset_byte
 reset_byte-same setup other off = refl
 
 pub pmc_at_reset :
-    (setup : Setup) → IsPmcOf (reset_byte setup) (record { drb = 1 ∷ 1 ∷ 1 ∷ 1 ∷ 1 ∷ 1 ∷ 1 ∷ 1 ∷ []; fdhc = 0 })
-pmc_at_reset setup =
+    (setup : Setup) (drb : List ℕ) (hole : ℕ) → drb ≡ row_bytes (reset_byte setup) → hole ≡ reset_byte setup fdhc →
+    IsPmcOf (reset_byte setup) (record { drb = drb; fdhc = hole })
+pmc_at_reset setup drb hole rows is =
     record {
-      rows = rows_at_reset setup;
-      hole = hole_at_reset setup;
+      rows = rows_are (reset_byte setup) drb rows;
+      hole = is;
       fixed = λ other off fixed. reset_byte-same setup other off;
     }
 

@@ -1,36 +1,31 @@
 -- The registers of the host bridge in the table of registers.
 use Rattle.std.proofs.Common.{◌≡◌, ℕ, ◌+◌, ◌<◌, ◌≤◌, ◌⊎◌, List, [], ◌∷◌, length, ◌∙◌, refl, arith, inl, inr, lit<}
-use Rattle.std.specs.Prelude.{slice_index}
+use Rattle.std.specs.Prelude.{map, slice_index}
 use Rattle.std.proofs.lemmas.Bool.{cases_lt}
 use Rattle.board_spec.specs.Setup.{Setup}
 use Rattle.board_spec.specs.RegisterTable.{Line, host_bridge, listed, reset_byte, writable_bits}
-use Rattle.board_spec.specs.RegisterNames.{bridge}
+use Rattle.board_spec.specs.Decode.{Bytes}
+use Rattle.board_spec.specs.RegisterNames.{bridge, drb}
 use Rattle.board_spec.proofs.TableLemmas.{listed-past, listed-before, Each, each_below}
 use Rattle.pmc_regs.specs.Pmc.{IsFixedOffset, IsRowsOf}
 
--- ---- the rows and the hole
+-- ---- the rows
 
-pub rows_at_reset : (setup : Setup) → IsRowsOf (reset_byte setup) (1 ∷ 1 ∷ 1 ∷ 1 ∷ 1 ∷ 1 ∷ 1 ∷ 1 ∷ [])
-unfolding reset_byte host_bridge
-rows_at_reset setup =
-    λ row below.
-    each_below (λ row. slice_index (1 ∷ 1 ∷ 1 ∷ 1 ∷ 1 ∷ 1 ∷ 1 ∷ 1 ∷ []) row ≡ reset_byte setup (bridge (0x60 + row)))
-    8 row
-    (refl, (refl, (refl, (refl, (refl, (refl, (refl, (refl, tt)))))))) below
+-- the bytes of DRB0 to DRB7
+abbrev pub row_bytes : Bytes → List ℕ
+row_bytes bytes = map (λ row. bytes (drb row)) (0 ∷ 1 ∷ 2 ∷ 3 ∷ 4 ∷ 5 ∷ 6 ∷ 7 ∷ [])
+
+pub rows_are : (bytes : Bytes) (ends : List ℕ) → ends ≡ row_bytes bytes → IsRowsOf bytes ends
+rows_are bytes ends are row below =
+    rw are
+    (each_below (λ row. slice_index (row_bytes bytes) row ≡ bytes (drb row)) 8 row
+    (refl, (refl, (refl, (refl, (refl, (refl, (refl, (refl, tt)))))))) below)
 
 pub writable_bits-row : (setup : Setup) (row : ℕ) → row < 8 → writable_bits setup (bridge (0x60 + row)) ≡ 0xFF
 unfolding writable_bits host_bridge
 writable_bits-row setup row below =
     each_below (λ row. writable_bits setup (bridge (0x60 + row)) ≡ 0xFF) 8 row
     (refl, (refl, (refl, (refl, (refl, (refl, (refl, (refl, tt)))))))) below
-
-pub hole_at_reset : (setup : Setup) → 0 ≡ reset_byte setup (bridge 0x68)
-unfolding reset_byte host_bridge
-hole_at_reset setup = refl
-
-pub writable_bits-hole : (setup : Setup) → writable_bits setup (bridge 0x68) ≡ 0xC0
-unfolding writable_bits host_bridge
-writable_bits-hole setup = refl
 
 -- ---- the fixed registers
 

@@ -7,7 +7,7 @@ use Rattle.board_base.specs.declared.target.Reg.{Reg}
 use Rattle.board_spec.specs.declared.map_change.MapChange.TheVariants.{Store}
 use Rattle.board_spec.specs.Setup.{Setup}
 use Rattle.board_spec.specs.Bits.{merged}
-use Rattle.board_spec.specs.RegisterTable.{isa_bridge, reset_byte, writable_bits}
+use Rattle.board_spec.specs.RegisterTable.{reset_byte, writable_bits}
 use Rattle.board_spec.specs.Registers.{changed_byte}
 use Rattle.board_spec.specs.Decode.{Bytes}
 use Rattle.board_spec.specs.RegisterNames.{isa, ide, xbcs as select_register}
@@ -34,21 +34,17 @@ ide_function_alone fun off (inr ide) apart = ide
 -- ---- after a reset
 
 pub registers_at_reset :
-    (setup : Setup) (regs : IdeBytes) → IsIdeOf (reset_byte setup) regs →
-    IsPiixOf (reset_byte setup) (record { xbcs = 3; ide = regs })
-unfolding reset_byte isa_bridge
-registers_at_reset setup regs is_ide =
+    (setup : Setup) (xbcs : ℕ) (regs : IdeBytes) → xbcs ≡ reset_byte setup select_register →
+    IsIdeOf (reset_byte setup) regs →
+    IsPiixOf (reset_byte setup) (record { xbcs = xbcs; ide = regs })
+registers_at_reset setup xbcs regs is_xbcs is_ide =
     record {
-      xbcs = refl;
+      xbcs = is_xbcs;
       ide = is_ide;
       fixed = λ other off is_fixed. sym (fixed_at setup off is_fixed).reset ∙ (fixed_at other off is_fixed).reset;
     }
 
 -- ---- a store of one byte
-
-pub writable_bits-xbcs : (setup : Setup) → writable_bits setup select_register ≡ 0xC7
-unfolding writable_bits isa_bridge
-writable_bits-xbcs setup = refl
 
 fixed_stays : (setup : Setup) (bytes : Bytes) (old : PiixBytes) (at : Reg) (written : ℕ) → IsPiixOf bytes old →
     (other : Setup) (off : ℕ) → IsIsaFixed off → changed_byte setup (Store at One written) (isa off) (bytes (isa off))

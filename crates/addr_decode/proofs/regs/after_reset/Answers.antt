@@ -1,9 +1,14 @@
+use Rattle.std.proofs.Common.{refl}
+use Rattle.board_spec.specs.RegisterTable.{host_bridge, isa_bridge, reset_byte}
 use Rattle.addr_decode.proofs.CardLemmas.{reset_cards}
 use Rattle.addr_decode.proofs.StandsLemmas.{stands_at_reset}
 use Rattle.addr_decode.proofs.regs.after_reset.Goals as goal
 
 pub returns-clause-stands : goal.returns-clause-stands
-returns-clause-stands c = λ setup same. stands_at_reset setup c.args.cards.items c.requires.cards c.requires.reset same
+unfolding reset_byte host_bridge isa_bridge
+returns-clause-stands c = λ setup same.
+    stands_at_reset setup _ (record { rows = refl; hole = refl; windows = refl; smram = refl; xbcs = refl })
+    c.requires.cards c.requires.reset same
 
 pub returns-clause-reset : goal.returns-clause-reset
 returns-clause-reset c = λ setup same. reset_cards setup c.args.cards.items c.requires.cards c.requires.reset same

@@ -1,34 +1,24 @@
-use Rattle.std.proofs.Common.{ℕ, ◌∙◌, sym, ap, subst, refl, arith}
-use Rattle.std.specs.Prelude.{List}
+use Rattle.std.proofs.Common.{◌≡◌, Some, true, sym, ◌∙◌, ap, subst}
+use Rattle.std.specs.Prelude.{is_some, Option}
 use Rattle.board_base.specs.declared.target.Reg.{Reg}
-use Rattle.pci_bars.specs.Cards.{CardBytes, AreCardsOf}
-use Rattle.config_regs.proofs.Functions.{Exists, bridge_exists, card_exists, of_device, of_function}
+use Rattle.board_spec.specs.Setup.{FittedCard}
+use Rattle.board_spec.specs.MapWrites.{is_map_byte}
+use Rattle.pci_bars.specs.Cards.{cards_of}
+use Rattle.addr_decode.specs.declared.register.MapRegister.{MapRegister}
+use Rattle.addr_decode.specs.MapRegister.{map_register, place_of}
+use Rattle.addr_decode.proofs.NameLemmas.{is_name, named_byte}
 use Rattle.config_regs.proofs.reading.read_byte.Goals as goal
 
-pub returns-in-0 : goal.returns-in-0
-returns-in-0 c = record {
-  byte = λ setup bytes is has exists'.
-      let reg = c.args.reg in
-      c.bridge_byte.ensures.byte setup bytes is.map has
-      ∙ ap (λ (r : Reg). bytes r)
-      (of_function reg 0 0 c.in-0.is (bridge_exists setup reg.dev reg.fun c.in-0.is exists'));
-}
+pub byte-requires-clause-number : goal.byte-requires-clause-number
+byte-requires-clause-number c =
+    (is_name (cards_of c.args.regs.now.cards.items) c.args.reg c.in-Some.register (sym c.in-Some.ensures.named)).number
 
-pub returns-in-1 : goal.returns-in-1
-returns-in-1 c = record {
+pub returns-in-Some : goal.returns-in-Some
+returns-in-Some c = record {
   byte = λ setup bytes is has exists'.
-      let reg = c.args.reg in
-      c.south_byte.ensures.byte setup bytes is has (subst (λ (dev : ℕ). Exists setup dev reg.fun) c.in-1.is exists')
-      ∙ ap (λ (r : Reg). bytes r) (of_device reg 1 c.in-1.is);
-}
-
-pub returns-in_default : goal.returns-in_default
-returns-in_default c = record {
-  byte = λ setup bytes is has exists'.
-      let reg = c.args.reg in
-      let it = card_exists setup reg.dev reg.fun (omega arith) (omega arith) exists' in
-      c.card_byte.ensures.byte setup bytes
-      (subst (λ (cards : List CardBytes). AreCardsOf setup bytes cards) (sym c.deref.ensures.0)
-      is.cards) it.1
-      ∙ ap (λ (r : Reg). bytes r) (of_function reg reg.dev 0 refl it.0);
+      let name = is_name (cards_of c.args.regs.now.cards.items) c.args.reg c.in-Some.register (sym c.in-Some.ensures.named) in
+      c.byte.ensures.byte setup bytes is.map
+      (named_byte setup c.args.regs.now.cards.items c.args.reg c.in-Some.register c.requires.cards is.map.cards.0
+      (sym c.in-Some.ensures.named))
+      ∙ ap bytes name.place;
 }

@@ -1,5 +1,6 @@
-use Rattle.xbus_select.proofs.PiixLemmas.{writable_bits-xbcs}
+use Rattle.board_spec.specs.RegisterTable.{isa_bridge, writable_bits}
 use Rattle.xbus_select.proofs.xbcs.xbcs_after.Goals as goal
 
 pub returns : goal.returns
-returns c = record { merged = λ setup. rw (writable_bits-xbcs setup) c.merged.ensures.merged }
+unfolding writable_bits isa_bridge
+returns c = record { merged = λ setup. c.merged.ensures.merged }

@@ -6,6 +6,7 @@ use Rattle.pci_bars.specs.Cards.{AreCardsOf}
 use Rattle.addr_decode.specs.MapRegs.{StandsFor, map_bytes, stored}
 use Rattle.addr_decode.proofs.StoreLemmas.{byte_in_list, few_bytes}
 use Rattle.addr_decode.proofs.CardLemmas.{fitted_same}
+use Rattle.addr_decode.proofs.NameLemmas.{named_so_far}
 use Rattle.addr_decode.proofs.StandsLemmas.{stored_so_far, none_stored, one_more_stored, all_stored, no_cards_stored, more_cards_stored, all_cards_stored}
 use Rattle.addr_decode.proofs.regs.MapRegs.store.Goals as goal
 
@@ -20,12 +21,16 @@ loop-k-init c = record {
 pub store_after-requires : goal.store_after-requires
 store_after-requires c = record {
   cards = fitted_same c.args.self.now.cards.items c.loop-k.self.cards.items c.loop-k.invariant.same c.requires.cards;
+  name =
+      rw (c.from-place.ensures)
+      (named_so_far c.args.self.now.cards.items c.loop-k.self.cards.items c.args.reg c.args.width c.loop-k.k
+      c.args.names.now _ (omega arith) c.loop-k.invariant.same c.requires.names);
 }
 
 this_byte :
-    (c : goal.After-store_after) → slice_index c.to_le_bytes-bytes.result c.from.result ≡ byte c.args.value c.loop-k.k
+    (c : goal.After-store_after) → slice_index c.to_le_bytes-bytes.result c.from-place.result ≡ byte c.args.value c.loop-k.k
 this_byte c =
-    byte_in_list c.args.value c.loop-k.k c.from.result c.to_le_bytes-bytes.result c.from.ensures
+    byte_in_list c.args.value c.loop-k.k c.from-place.result c.to_le_bytes-bytes.result c.from-place.ensures
     (omega (arith, few_bytes c.args.width)) c.to_le_bytes-bytes.ensures
 
 pub loop-k-preserved : goal.loop-k-preserved

@@ -1,16 +1,18 @@
 use Rattle.std.proofs.Common.{◌≡◌, ◌+◌, ◌*◌, ◌<◌, inl, inr, arith, slice_index}
-use Rattle.board_spec.specs.RegisterTable.{base_writable, rom_writable}
+use Rattle.board_spec.specs.RegisterTable.{card_function, base_writable, rom_writable}
 use Rattle.pci_bars.specs.Bases.{of_base}
 use Rattle.pci_bars.proofs.CardLemmas.{IsByteWrite, decodes-command, card-command, decodes-base_stored, card-base_stored, card-apart, card-line_stored, decodes-apart, decodes-rom_stored, card-rom_stored}
 use Rattle.pci_bars.proofs.regs.CardRegs.write.Goals as goal
 
 pub returns-in-4-clause-decodes : goal.returns-in-4-clause-decodes
+unfolding card_function
 returns-in-4-clause-decodes c =
     let fit = rw (← c.self.view_is) at c.requires.card in
     rw (← c.self.view_is, c.in-4.is, c.merged-self-inside.ensures.merged)
     (λ setup bytes is. decodes-command setup bytes _ c.args.byte fit c.ranges.byte.fits is)
 
 pub returns-in-4-clause-written : goal.returns-in-4-clause-written
+unfolding card_function
 returns-in-4-clause-written c =
     let fit = rw (← c.self.view_is) at c.requires.card in
     rw (← c.self.view_is, c.in-4.is, c.merged-self-inside.ensures.merged)

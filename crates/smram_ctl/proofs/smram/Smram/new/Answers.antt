@@ -1,5 +1,7 @@
-use Rattle.smram_ctl.proofs.ControlLemmas.{reset_byte-smram}
+use Rattle.std.proofs.Common.{refl}
+use Rattle.board_spec.specs.RegisterTable.{host_bridge, reset_byte}
 use Rattle.smram_ctl.proofs.smram.Smram.new.Goals as goal
 
 pub returns : goal.returns
-returns c = record { reset = reset_byte-smram }
+unfolding reset_byte host_bridge
+returns c = record { reset = λ setup. refl }

@@ -4,7 +4,7 @@ use Rattle.board_spec.specs.Registers.{changed_byte}
 use Rattle.pci_bars.specs.Cards.{AreCardsOf}
 use Rattle.addr_decode.specs.MapRegs.{StandsFor, map_bytes}
 use Rattle.addr_decode.proofs.CardLemmas.{fitted_same}
-use Rattle.addr_decode.proofs.regs.MapRegs.apply.Goals as goal
+use Rattle.addr_decode.proofs.regs.MapRegs.apply_named.Goals as goal
 
 pub returns-in-Store-clause-stands : goal.returns-in-Store-clause-stands
 returns-in-Store-clause-stands c = λ setup bytes stands.

@@ -1,0 +1,196 @@
+//! The registers that the address map depends on, each named once.
+ghost use Rattle.std.specs.Prelude.{◌≡◌, is_some, option_map};
+ghost use Rattle.std.specs.List.{list_any};
+ghost use Rattle.board_spec.specs.MapWrites.{reg_after};
+ghost use Rattle.pci_bars.specs.Cards.{cards_of};
+ghost use Rattle.addr_decode.specs.declared.register.CardRegister.TheVariants.{ExpansionRom};
+ghost use Rattle.addr_decode.specs.declared.register.MapRegister.TheVariants.{Card};
+ghost use Rattle.addr_decode.specs.MapRegister.{IsCardNumber, offset_of, is_of_card, in_bridge, in_isa_bridge, in_card, in_device, map_register, names_from, names_of};
+
+use crate::regs::MapRegs;
+use arrayvec::ArrayVec;
+use board_base::{Reg, Width};
+use board_spec::MapChange;
+use board_spec::offset::{
+    BASE0, BASE5_END, COMMAND, DRB0, DRB7, EXPANSION_ROM, EXPANSION_ROM_END, FDHC, HOST_BRIDGE,
+    PAM0, PAM6, SMRAM, SOUTH_BRIDGE, XBCS,
+};
+use pci_bars::{CardRegs, card_at};
+
+/// A register byte that the address map depends on.
+#[derive(Clone, Copy, PartialEq, Eq, Debug)]
+pub enum MapRegister {
+    /// PAM0 to PAM6 of the host bridge.
+    Pam(u8),
+    /// DRB0 to DRB7 of the host bridge, the boundary of a row of DRAM.
+    RowBoundary(u8),
+    /// FDHC of the host bridge, the hole in DRAM.
+    Hole,
+    /// SMRAM control of the host bridge.
+    Smram,
+    /// XBCS of the ISA bridge, the chip selects.
+    ChipSelects,
+    /// A register of the card at a device number.
+    Card(u8, CardRegister),
+}
+
+/// A register byte of a card that the address map depends on.
+#[derive(Clone, Copy, PartialEq, Eq, Debug)]
+pub enum CardRegister {
+    /// The low byte of the command.
+    Command,
+    /// One of the 24 bytes of the base address registers.
+    Base(u8),
+    /// One of the four bytes of the expansion ROM base address register.
+    ExpansionRom(u8),
+}
+
+/// The names of the registers that a change stores to, in rising offset: one, two or four, and none for a hard reset.
+/// None stands for a register on which the address map does not depend.
+pub type Names = ArrayVec<Option<MapRegister>, 4>;
+
+impl CardRegister {
+    /// The offset in the card's configuration space.
+    pub fn offset(&self) -> u8
+        requires number { IsCardNumber self.now }
+        ensures offset { result ≡ offset_of self.now }
+    {
+        match self {
+            CardRegister::Command => COMMAND,
+            CardRegister::Base(index) => BASE0 + *index,
+            CardRegister::ExpansionRom(index) => EXPANSION_ROM + *index,
+        }
+    }
+}
+
+impl MapRegister {
+    /// Whether it is a register of a card.
+    pub fn is_of_card(&self) -> bool
+        ensures card { result ≡ is_of_card self.now }
+    {
+        match self {
+            MapRegister::Card(..) => true,
+            _ => false,
+        }
+    }
+}
+
+/// Whether the address map depends on one of the registers with these names.
+pub fn touch_map(names: &[Option<MapRegister>]) -> bool
+    ensures touched { result ≡ list_any is_some names.now }
+{
+    names.iter().any(|name| name.is_some())
+}
+
+impl MapRegs {
+    /// The name of a register. None where the address map does not depend on it.
+    #[tactic(auto, unfolding(crate::specs::MapRegister::map_register))]
+    pub fn register(&self, reg: Reg) -> Option<MapRegister>
+        ensures named { result ≡ map_register (cards_of self.now.cards.items) reg }
+    {
+        if reg.fun != 0 {
+            return None;
+        }
+        match reg.dev {
+            HOST_BRIDGE => in_bridge(reg.off),
+            SOUTH_BRIDGE => in_isa_bridge(reg.off),
+            dev => in_device(&self.cards, dev, reg.off),
+        }
+    }
+
+    /// The names of the registers that a change stores to.
+    pub fn names(&self, change: &MapChange) -> Names
+        ensures named { result.items ≡ names_of (cards_of self.now.cards.items) change.now }
+    {
+        match change {
+            MapChange::Store { reg, width, .. } => self.names_from(*reg, *width),
+            MapChange::Reset => ArrayVec::new(),
+        }
+    }
+
+    /// The names of the registers that a store covers from one on.
+    pub fn names_from(&self, reg: Reg, width: Width) -> Names
+        ensures named { result.items ≡ names_from (cards_of self.now.cards.items) reg width }
+    {
+        let mut names = ArrayVec::new();
+        for k in 0..width.bytes() as u8 {
+            names.push(self.register_after(reg, k));
+        }
+        names
+    }
+
+    /// The name of the register `k` offsets after another. Past offset FFh there is none.
+    fn register_after(&self, reg: Reg, k: u8) -> Option<MapRegister>
+        ensures named { result ≡ map_register (cards_of self.now.cards.items) (reg_after reg k) }
+    {
+        match reg.off.checked_add(k) {
+            Some(off) => self.register(Reg { off, ..reg }),
+            None => None,
+        }
+    }
+}
+
+/// The name of a register of the host bridge.
+fn in_bridge(off: u8) -> Option<MapRegister>
+    ensures named { result ≡ in_bridge off }
+{
+    match off {
+        PAM0..=PAM6 => Some(MapRegister::Pam(off - PAM0)),
+        DRB0..=DRB7 => Some(MapRegister::RowBoundary(off - DRB0)),
+        FDHC => Some(MapRegister::Hole),
+        SMRAM => Some(MapRegister::Smram),
+        _ => None,
+    }
+}
+
+/// The name of a register of the ISA bridge.
+fn in_isa_bridge(off: u8) -> Option<MapRegister>
+    ensures named { result ≡ in_isa_bridge off }
+{
+    match off {
+        XBCS => Some(MapRegister::ChipSelects),
+        _ => None,
+    }
+}
+
+/// The name of a register of the card at a device number. None where there is no card.
+fn in_device(cards: &[CardRegs], dev: u8, off: u8) -> Option<MapRegister>
+    ensures named { result ≡ in_device (cards_of cards.now) dev off }
+{
+    match card_at(cards, dev) {
+        Some(card) => named_in_card(dev, card, off),
+        None => None,
+    }
+}
+
+/// The name of a register of a card, with the card's device number.
+fn named_in_card(dev: u8, card: &CardRegs, off: u8) -> Option<MapRegister>
+    ensures named { result ≡ option_map (Card dev) (in_card off card.now.card) }
+{
+    match in_card(card, off) {
+        Some(register) => Some(MapRegister::Card(dev, register)),
+        None => None,
+    }
+}
+
+/// The name of a register of a card.
+fn in_card(card: &CardRegs, off: u8) -> Option<CardRegister>
+    ensures named { result ≡ in_card off card.now.card }
+{
+    match off {
+        COMMAND => Some(CardRegister::Command),
+        BASE0..=BASE5_END => Some(CardRegister::Base(off - BASE0)),
+        EXPANSION_ROM..=EXPANSION_ROM_END => in_rom(card.spec.rom, off - EXPANSION_ROM),
+        _ => None,
+    }
+}
+
+/// The name of a byte of the expansion ROM's register, where the card has one.
+fn in_rom(rom: Option<u8>, index: u8) -> Option<CardRegister>
+    ensures named { result ≡ option_map (λ bits. ExpansionRom index) rom }
+{
+    match rom {
+        Some(_) => Some(CardRegister::ExpansionRom(index)),
+        None => None,
+    }
+}
