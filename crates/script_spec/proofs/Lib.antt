@@ -1,20 +1,37 @@
 pub mod Digits
 pub mod Fields
-pub mod EventReading
+pub mod Chains
+pub mod NumberTexts
+pub mod Joins
+pub mod EventTexts
+pub mod MomentTexts
+pub mod CardTexts
+pub mod PlainText
+pub mod PlainLines
+pub mod NumberBack
+pub mod FieldTexts
+pub mod Splits
+pub mod ItemTexts
+pub mod EventBack
+pub mod MomentBack
+pub mod CardBack
+pub mod EventForms
+pub mod SetupBack
+pub mod ItemBack
 pub mod LineReading
+pub mod Lists
+pub mod Decision
 pub mod ReadingLaws
 pub mod ScriptLaws
 pub mod CheckLaws
-pub mod Spelling
 pub mod GoodItems
 pub mod EventRange
 pub mod RangeLaws
-pub mod Decisions
 pub mod ReadingExists
-pub mod PlainText
-pub mod PlainLines
-pub mod ReplyReading
+pub mod CutLemmas
+pub mod TargetBack
+pub mod ReplyBack
+pub mod LogReading
 pub mod LogLaws
 mod ExampleRuns
-mod ExampleScriptRuns
 mod ExampleLogRuns
