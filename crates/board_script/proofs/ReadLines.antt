@@ -13,10 +13,10 @@ use Rattle.script_spec.specs.ScriptText.{IsVersion}
 use Rattle.script_spec.specs.WellFormed.{IsWellFormed}
 use Rattle.script_spec.proofs.CheckLaws.{lacks-line}
 use Rattle.script_spec.proofs.LogLaws.{line_whole}
-use Rattle.script_lines.proofs.Chains.{some_is}
-use Rattle.script_lines.proofs.Joins.{word_is}
-use Rattle.log_lines.specs.Cuts.{cut}
-use Rattle.log_lines.proofs.CutLemmas.{cut_field, cut_joined}
+use Rattle.script_spec.proofs.Chains.{some_is}
+use Rattle.script_spec.proofs.Joins.{word_is}
+use Rattle.script_spec.specs.Cuts.{cut}
+use Rattle.script_spec.proofs.CutLemmas.{cut_field, cut_joined}
 use Rattle.board_script.specs.Reading.{heading, version_of, HasEntry, HasNoEntry}
 use Rattle.board_script.proofs.Lines.{lines_text-newest}
 

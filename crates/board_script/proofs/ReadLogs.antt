@@ -16,9 +16,9 @@ use Rattle.script_spec.proofs.Fields.{lacks-append}
 use Rattle.script_spec.proofs.PlainText.{lacks-word, decimal_word}
 use Rattle.script_spec.proofs.CheckLaws.{one_line, compared}
 use Rattle.script_spec.proofs.LogLaws.{log_lines, lines_joined, lines_whole, nothing_more, log_says_all}
-use Rattle.script_lines.proofs.Chains.{some_is}
-use Rattle.log_lines.specs.Cuts.{cut}
-use Rattle.log_lines.proofs.CutLemmas.{cut_field, cut_joined}
+use Rattle.script_spec.proofs.Chains.{some_is}
+use Rattle.script_spec.specs.Cuts.{cut}
+use Rattle.script_spec.proofs.CutLemmas.{cut_field, cut_joined}
 use Rattle.board_script.specs.declared.read.Log.{Log}
 use Rattle.board_script.specs.declared.fault.LogFault.{LogFault}
 use Rattle.board_script.specs.declared.fault.LogFault.TheVariants.{Bad, NoMemory}

@@ -1,7 +1,7 @@
 -- The words of the command line, and the command that they are.
 use Rattle.std.specs.Prelude.{ℕ, ◌≡◌, ◌≤◌, ◌*◌, ◌%◌, ◌==◌, ◌↔◌, Bool, true, false, List, [], ◌∷◌, map, string_bytes, String, Option, Some, None, option_map, codes, decimal, bytes_eq, if◌then◌else◌, ◌&&◌, nat_le}
 use Rattle.std.specs.Global.{Global}
-use Rattle.script_lines.specs.Numbers.{decimal_of, hex_of, ◌>>=◌}
+use Rattle.script_spec.specs.Numbers.{decimal_of, hex_of, ◌>>=◌}
 use Rattle.make_script.specs.Laws.{most_rounds}
 use Rattle.command_words.specs.declared.transfer.Transfer.{Transfer}
 

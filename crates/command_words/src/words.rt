@@ -1,7 +1,7 @@
 //! The words of the command line.
 
 ghost use Rattle.std.specs.Prelude.{◌≡◌, option_map, map, string_bytes, IfSome};
-ghost use Rattle.script_lines.specs.Numbers.{hex_of};
+ghost use Rattle.script_spec.specs.Numbers.{hex_of};
 ghost use Rattle.command_words.specs.Words.{Check, Resume, Serial, asked, usage_text, name_of, names_of, with_names, is_round_count, make_of, is_transfer, dma_with, direction_of, dma_of, IsCommand, WordsDecide, OneCommand};
 ghost use Rattle.command_words.specs.Commands.{said_by};
 

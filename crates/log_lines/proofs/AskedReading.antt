@@ -18,8 +18,9 @@ use Rattle.script_lines.specs.declared.item.Asked.TheVariants.{Event as AnEvent,
 use Rattle.script_lines.specs.declared.item.Item.{Item as Read}
 use Rattle.script_lines.specs.declared.item.Item.TheVariants.{Cpus, Memory as SetMemory, Rom, Disk, Card, Phase, Statement as Asks}
 use Rattle.script_lines.specs.declared.moment.MomentFields.{MomentFields}
-use Rattle.script_lines.specs.Items.{ask, asked_said, moment_said, line_said}
-use Rattle.log_lines.specs.Cuts.{byte_in}
+use Rattle.script_spec.specs.Items.{ask}
+use Rattle.script_lines.specs.Items.{asked_said, moment_said, line_said}
+use Rattle.script_spec.specs.Cuts.{byte_in}
 use Rattle.log_lines.specs.Asked.{level_of, wire_of, line_of, IsPlaced, IsEventOf, IsAsked}
 
 -- ---- what an item asks

@@ -1,5 +1,3 @@
-pub mod CutLemmas
-pub mod TargetBack
+pub mod CutPlaces
 pub mod AskedReading
-pub mod ReplyBack
 pub mod LineBack

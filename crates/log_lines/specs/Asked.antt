@@ -6,9 +6,10 @@ use Rattle.script_spec.specs.Grammar.{HasForm}
 use Rattle.script_spec.specs.Reasons.{is_event_placed}
 use Rattle.script_spec.specs.WellFormed.{IsNamed}
 use Rattle.script_lines.specs.declared.item.Asked.{Asked}
-use Rattle.script_lines.specs.Items.{ask, asked_said}
-use Rattle.script_lines.specs.Numbers.{◌>>=◌}
-use Rattle.log_lines.specs.Cuts.{byte_in}
+use Rattle.script_spec.specs.Items.{ask}
+use Rattle.script_lines.specs.Items.{asked_said}
+use Rattle.script_spec.specs.Numbers.{◌>>=◌}
+use Rattle.script_spec.specs.Cuts.{byte_in}
 
 abbrev pub level_of : ℕ → Option Bool
 level_of level = if level == 0 then Some false else if level == 1 then Some true else None

@@ -1,5 +1,1 @@
-pub mod Cuts
-pub mod Targets
-pub mod Replies
 pub mod Asked
-pub mod Entries

@@ -1,7 +1,7 @@
 //! Texts that are cut at a mark, and small numbers.
 
 ghost use Rattle.std.specs.Prelude.{◌≡◌, ◌<◌, length, IfSome, option_map};
-ghost use Rattle.log_lines.specs.Cuts.{cut, digit_in, byte_in};
+ghost use Rattle.script_spec.specs.Cuts.{cut, digit_in, byte_in};
 
 use script_lines::digit_of;
 
@@ -20,7 +20,7 @@ pub fn cut(mark: u8, text: &[u8]) -> Option<(&[u8], &[u8])>
 }
 
 /// The number of one decimal digit, 0 to 9.
-#[tactic(auto, unfolding(crate::specs::Cuts::digit_in))]
+#[tactic(auto, unfolding(script_spec::specs::Cuts::digit_in))]
 pub(crate) fn digit_in(field: &[u8]) -> Option<u8>
     ensures digit { result ≡ digit_in field.now }
     ensures below { IfSome result (λ digit. digit < 10) }

@@ -4,7 +4,7 @@ ghost use Rattle.std.specs.Prelude.{◌≡◌, ℕ, IfSome, option_map};
 ghost use Rattle.board_spec.specs.declared.event.Entry.{Entry};
 ghost use Rattle.board_spec.specs.LogText.{line_text};
 ghost use Rattle.script_spec.specs.WellFormed.{IsWellFormed};
-ghost use Rattle.log_lines.specs.Entries.{but_last, pieces_of, actor_of};
+ghost use Rattle.script_spec.specs.Entries.{but_last, pieces_of, actor_of};
 
 use crate::asked::asked_of;
 use crate::cuts::{byte_in, cut};
@@ -23,7 +23,7 @@ fn but_last(text: &[u8]) -> &[u8]
 }
 
 /// The processor, the statement with the number before it, and the reply with the space before it.
-#[tactic(auto, unfolding(crate::specs::Entries::pieces_of))]
+#[tactic(auto, unfolding(script_spec::specs::Entries::pieces_of))]
 fn pieces_of(line: &[u8]) -> Option<(&[u8], &[u8], &[u8])>
     ensures pieces { option_map (λ p. record { actor = p.0.now; asked = p.1.now; replied = p.2.now }) result
         ≡ pieces_of line.now }
@@ -35,7 +35,7 @@ fn pieces_of(line: &[u8]) -> Option<(&[u8], &[u8], &[u8])>
 }
 
 /// The processor, 0 to 255.
-#[tactic(auto, unfolding(crate::specs::Entries::actor_of))]
+#[tactic(auto, unfolding(script_spec::specs::Entries::actor_of))]
 fn actor_of(field: &[u8]) -> Option<u8>
     ensures actor { result ≡ actor_of field.now }
 {

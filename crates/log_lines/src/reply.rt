@@ -9,8 +9,8 @@ ghost use Rattle.board_spec.specs.Text.{space};
 ghost use Rattle.board_spec.specs.LogText.{value_bytes, reply_text};
 ghost use Rattle.script_spec.specs.Grammar.{IsDecimal, IsEventForm};
 ghost use Rattle.script_spec.specs.WellFormed.{IsReplyValue, IsBusReply, IsWideReply, IsLookReply, HasShape};
-ghost use Rattle.script_lines.specs.Numbers.{decimal_of};
-ghost use Rattle.log_lines.specs.Replies.{no_value, value_of, bus_of, parts_with, wide_of, look_of, reply_of, reply_in, IsNarrow};
+ghost use Rattle.script_spec.specs.Numbers.{decimal_of};
+ghost use Rattle.script_spec.specs.Replies.{no_value, value_of, bus_of, parts_with, wide_of, look_of, reply_of, reply_in, IsNarrow};
 
 use crate::target::{area_of, denial_of, target_of};
 use crate::wide::{count_of, part_count, parts_in};
@@ -71,7 +71,7 @@ fn narrowed(value: Option<u64>) -> Option<u32>
 // ---- the shapes
 
 /// `VALUE TARGET DENIAL`.
-#[tactic(auto, unfolding(crate::specs::Replies::bus_of))]
+#[tactic(auto, unfolding(script_spec::specs::Replies::bus_of))]
 fn bus_of(writes: bool, bytes: u32, words: Fields<'_>) -> Option<Reply>
     requires few { bytes ≤ 4 }
     ensures reply { result ≡ bus_of writes bytes words.entry }
@@ -105,7 +105,7 @@ fn parts_with(access: &WideAccess, value: Option<u64>, parts: Parts) -> Option<R
 }
 
 /// `VALUE`, and `TARGET DENIAL` for each part.
-#[tactic(auto, unfolding(crate::specs::Replies::wide_of))]
+#[tactic(auto, unfolding(script_spec::specs::Replies::wide_of))]
 fn wide_of(access: &WideAccess, words: Fields<'_>) -> Option<Reply>
     requires bytes { access.now.bytes ≤ 8 }
     ensures reply { result ≡ wide_of access.now words.entry }
@@ -127,7 +127,7 @@ fn version_in(field: &[u8]) -> Option<u32>
 }
 
 /// `VERSION LO HI AREA`.
-#[tactic(auto, unfolding(crate::specs::Replies::look_of))]
+#[tactic(auto, unfolding(script_spec::specs::Replies::look_of))]
 fn look_of(words: Fields<'_>) -> Option<Reply>
     ensures reply { result ≡ look_of words.entry }
     ensures shape { IfSome result IsLookReply }
@@ -161,7 +161,7 @@ fn outside(dev: Dev) -> Reply
 }
 
 /// The reply to an event, by its words.
-#[tactic(auto, unfolding(crate::specs::Replies::reply_of))]
+#[tactic(auto, unfolding(script_spec::specs::Replies::reply_of))]
 fn reply_of(event: &Event, words: Fields<'_>) -> Option<Reply>
     requires bytes { IsNarrow event.now }
     ensures reply { result ≡ reply_of event.now words.entry }
@@ -182,7 +182,7 @@ fn reply_of(event: &Event, words: Fields<'_>) -> Option<Reply>
 }
 
 /// The reply by the fields of the text after `=`, of which the first is empty.
-#[tactic(auto, unfolding(crate::specs::Replies::reply_in))]
+#[tactic(auto, unfolding(script_spec::specs::Replies::reply_in))]
 fn reply_in(event: &Event, fields: Fields<'_>) -> Option<Reply>
     requires bytes { IsNarrow event.now }
     ensures reply { result ≡ reply_in event.now fields.entry }

@@ -2,8 +2,8 @@
 
 ghost use Rattle.std.specs.Prelude.{◌≡◌, ◌<◌, IfSome, option_map};
 ghost use Rattle.script_spec.specs.WellFormed.{FitsReg, FitsArea, FitsDevice, FitsTarget, FitsDenial};
-ghost use Rattle.script_lines.specs.Numbers.{hex_of};
-ghost use Rattle.log_lines.specs.Targets.{register_of, denial_word, denial_of, base_of, area_with, placed_area, area_of, card_of, target_with, placed_target, chip_of, named_device, device_of, other_target, target_of};
+ghost use Rattle.script_spec.specs.Numbers.{hex_of};
+ghost use Rattle.script_spec.specs.Targets.{register_of, denial_word, denial_of, base_of, area_with, placed_area, area_of, card_of, target_with, placed_target, chip_of, named_device, device_of, other_target, target_of};
 
 use crate::cuts::{cut, digit_in};
 use board_base::{Area, Denial, Dev, Reg, Target};
@@ -12,7 +12,7 @@ use script_lines::{hex_of, is_word};
 // ---- registers and denials
 
 /// A register, `DD.F.OO`.
-#[tactic(auto, unfolding(crate::specs::Targets::register_of))]
+#[tactic(auto, unfolding(script_spec::specs::Targets::register_of))]
 fn register_of(field: &[u8]) -> Option<Reg>
     ensures register { result ≡ register_of field.now }
     ensures fits { IfSome result FitsReg }
@@ -47,7 +47,7 @@ fn denial_word(field: &[u8]) -> Option<Option<Denial>>
 }
 
 /// What denied an access: a register, or a word.
-#[tactic(auto, unfolding(crate::specs::Targets::denial_of))]
+#[tactic(auto, unfolding(script_spec::specs::Targets::denial_of))]
 pub(crate) fn denial_of(field: &[u8]) -> Option<Option<Denial>>
     ensures denial { result ≡ denial_of field.now }
     ensures fits { IfSome result FitsDenial }
@@ -61,7 +61,7 @@ pub(crate) fn denial_of(field: &[u8]) -> Option<Option<Denial>>
 // ---- areas
 
 /// A card's device and the number of its base, `D.B`.
-#[tactic(auto, unfolding(crate::specs::Targets::base_of))]
+#[tactic(auto, unfolding(script_spec::specs::Targets::base_of))]
 fn base_of(field: &[u8]) -> Option<(u8, u8)>
     ensures base { result ≡ base_of field.now }
     ensures below { IfSome result (λ p. (p.0 < 10) × (p.1 < 10)) }
@@ -90,7 +90,7 @@ fn area_with(kind: &[u8], place: &[u8]) -> Option<Area>
 }
 
 /// An area that is a word, a colon and a place.
-#[tactic(auto, unfolding(crate::specs::Targets::placed_area))]
+#[tactic(auto, unfolding(script_spec::specs::Targets::placed_area))]
 fn placed_area(field: &[u8]) -> Option<Area>
     ensures area { result ≡ placed_area field.now }
     ensures fits { IfSome result FitsArea }
@@ -100,7 +100,7 @@ fn placed_area(field: &[u8]) -> Option<Area>
 }
 
 /// The area of a look.
-#[tactic(auto, unfolding(crate::specs::Targets::area_of))]
+#[tactic(auto, unfolding(script_spec::specs::Targets::area_of))]
 pub(crate) fn area_of(field: &[u8]) -> Option<Area>
     ensures area { result ≡ area_of field.now }
     ensures fits { IfSome result FitsArea }
@@ -116,7 +116,7 @@ pub(crate) fn area_of(field: &[u8]) -> Option<Area>
 // ---- targets
 
 /// A base of a card and an offset from it, `D.B:OFFSET`.
-#[tactic(auto, unfolding(crate::specs::Targets::card_of))]
+#[tactic(auto, unfolding(script_spec::specs::Targets::card_of))]
 fn card_of(place: &[u8]) -> Option<Target>
     ensures target { result ≡ card_of place.now }
     ensures fits { IfSome result FitsTarget }
@@ -160,7 +160,7 @@ fn target_with(kind: &[u8], place: &[u8]) -> Option<Target>
 }
 
 /// A target that is a word, a colon and a place.
-#[tactic(auto, unfolding(crate::specs::Targets::placed_target))]
+#[tactic(auto, unfolding(script_spec::specs::Targets::placed_target))]
 fn placed_target(field: &[u8]) -> Option<Target>
     ensures target { result ≡ placed_target field.now }
     ensures fits { IfSome result FitsTarget }
@@ -199,7 +199,7 @@ fn named_device(field: &[u8]) -> Option<Dev>
 }
 
 /// A device of the board.
-#[tactic(auto, unfolding(crate::specs::Targets::device_of))]
+#[tactic(auto, unfolding(script_spec::specs::Targets::device_of))]
 fn device_of(field: &[u8]) -> Option<Dev>
     ensures device { result ≡ device_of field.now }
     ensures fits { IfSome result FitsDevice }
@@ -230,7 +230,7 @@ fn other_target(field: &[u8]) -> Option<Target>
 }
 
 /// What answered an access.
-#[tactic(auto, unfolding(crate::specs::Targets::target_of))]
+#[tactic(auto, unfolding(script_spec::specs::Targets::target_of))]
 pub(crate) fn target_of(field: &[u8]) -> Option<Target>
     ensures target { result ≡ target_of field.now }
     ensures fits { IfSome result FitsTarget }

@@ -3,7 +3,7 @@
 ghost use Rattle.std.specs.Prelude.{◌≡◌, ◌≤◌, ◌+◌, ◌^◌, length, IfSome, All, option_map};
 ghost use Rattle.board_spec.specs.WideParts.{longest_at, parts_list};
 ghost use Rattle.script_spec.specs.WellFormed.{FitsPart};
-ghost use Rattle.log_lines.specs.Replies.{part_of, last_parts, more_parts, parts_in, part_count};
+ghost use Rattle.script_spec.specs.Replies.{part_of, last_parts, more_parts, parts_in, part_count};
 
 use crate::target::{denial_of, target_of};
 use board_base::Width;
@@ -11,7 +11,7 @@ use board_spec::{Part, Parts};
 use script_lines::Fields;
 
 /// What answered and denied one part.
-#[tactic(auto, unfolding(crate::specs::Replies::part_of))]
+#[tactic(auto, unfolding(script_spec::specs::Replies::part_of))]
 fn part_of(target: &[u8], denial: &[u8]) -> Option<Part>
     ensures part { result ≡ part_of target.now denial.now }
     ensures fits { IfSome result FitsPart }
@@ -34,7 +34,7 @@ fn four_parts(a: Part, b: Part, c: Part, target: &[u8], denial: &[u8]) -> Option
 }
 
 /// The parts by the words after those of three.
-#[tactic(auto, unfolding(crate::specs::Replies::last_parts))]
+#[tactic(auto, unfolding(script_spec::specs::Replies::last_parts))]
 fn last_parts(a: Part, b: Part, c: Part, words: Fields<'_>) -> Option<Parts>
     requires first { FitsPart a }
     requires second { FitsPart b }
@@ -51,7 +51,7 @@ fn last_parts(a: Part, b: Part, c: Part, words: Fields<'_>) -> Option<Parts>
 }
 
 /// The parts by the words after those of two.
-#[tactic(auto, unfolding(crate::specs::Replies::more_parts))]
+#[tactic(auto, unfolding(script_spec::specs::Replies::more_parts))]
 fn more_parts(a: Part, b: Part, words: Fields<'_>) -> Option<Parts>
     requires first { FitsPart a }
     requires second { FitsPart b }
@@ -67,7 +67,7 @@ fn more_parts(a: Part, b: Part, words: Fields<'_>) -> Option<Parts>
 }
 
 /// What answered two to four parts, in two words each.
-#[tactic(auto, unfolding(crate::specs::Replies::parts_in))]
+#[tactic(auto, unfolding(script_spec::specs::Replies::parts_in))]
 pub(crate) fn parts_in(words: Fields<'_>) -> Option<Parts>
     ensures parts { result ≡ parts_in words.entry }
     ensures fits { IfSome result (λ parts. All FitsPart (parts_list parts)) }
@@ -106,7 +106,7 @@ fn longest_at(addr: u64, left: u64) -> Width
 }
 
 /// How many aligned parts the bytes that are left from an address on make, at most `most`.
-#[tactic(auto, unfolding(crate::specs::Replies::part_count))]
+#[tactic(auto, unfolding(script_spec::specs::Replies::part_count))]
 pub(crate) fn part_count(most: u32, addr: u64, left: u64) -> u32
     requires within { addr + left ≤ 2 ^ 33 }
     ensures count { result ≡ part_count most addr left }

@@ -3,7 +3,7 @@ use Rattle.std.specs.Prelude.{ℕ, ◌≡◌, ◌≢◌, ◌<◌, ◌≤◌, ◌
 use Rattle.board_spec.specs.declared.event.Entry.{Entry}
 use Rattle.board_spec.specs.Text.{line_feed}
 use Rattle.board_spec.specs.LogText.{line_text}
-use Rattle.script_lines.specs.Numbers.{◌>>=◌}
+use Rattle.script_spec.specs.Numbers.{◌>>=◌}
 use Rattle.board_records.specs.declared.event.EventRecord.{EventRecord}
 use Rattle.board_records.specs.declared.reply.ReplyRecord.{ReplyRecord}
 use Rattle.board_records.specs.Events.{event_said}

@@ -9,7 +9,7 @@ use Rattle.board_base.specs.declared.target.Target.TheVariants as targets
 use Rattle.board_base.specs.declared.target.Denial.{Denial}
 use Rattle.board_base.specs.declared.target.Denial.TheVariants.{Register, Confadd, NoRegister}
 use Rattle.board_spec.specs.declared.event.Part.{Part}
-use Rattle.script_lines.specs.Numbers.{◌>>=◌}
+use Rattle.script_spec.specs.Numbers.{◌>>=◌}
 use Rattle.board_records.specs.declared.reply.PartRecord.{PartRecord}
 use Rattle.board_records.specs.Numbers.{dram_target, shadow_target, smram_target, rom_target, card_target, device_target, config_target, abort_target, register_denial, confadd_denial, no_register_denial}
 

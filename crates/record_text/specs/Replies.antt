@@ -5,7 +5,7 @@ use Rattle.board_spec.specs.declared.event.Parts.{Parts}
 use Rattle.board_spec.specs.declared.event.Parts.TheVariants as parts
 use Rattle.board_spec.specs.declared.event.Reply.{Reply}
 use Rattle.board_spec.specs.declared.event.Reply.TheVariants as replies
-use Rattle.script_lines.specs.Numbers.{◌>>=◌}
+use Rattle.script_spec.specs.Numbers.{◌>>=◌}
 use Rattle.board_records.specs.declared.reply.ReplyRecord.{ReplyRecord}
 use Rattle.board_records.specs.Numbers.{bus_reply, parts_reply, look_reply}
 use Rattle.record_text.specs.Parts.{part_of, area_of}

@@ -3,7 +3,7 @@ use Rattle.std.proofs.Common.{◌≡◌, ℕ, ◌<◌, ◌≤◌, cond, ltb, Opt
 use Rattle.std.specs.List.{range_with_len}
 use Rattle.std.proofs.lemmas.Bool.{lt-ltb, le-ltb}
 use Rattle.std.proofs.lemmas.List.FromFn.{get_or-map-range_with_len}
-use Rattle.script_lines.specs.Numbers.{digit_value}
+use Rattle.script_spec.specs.Numbers.{digit_value}
 
 abbrev or_255 : Option ℕ → ℕ
 or_255 (Some digit) = digit

@@ -7,7 +7,7 @@ use Rattle.std.proofs.lemmas.Option.{cond_some}
 use Rattle.std.proofs.lemmas.List.{take_rest}
 use Rattle.std.proofs.lemmas.List.Splits.{slice_split_first, slice_split_none}
 use Rattle.std.proofs.lemmas.List.Sums.{fails_before_first}
-use Rattle.script_lines.specs.Fields.{fields_of}
+use Rattle.script_spec.specs.Fields.{fields_of}
 
 abbrev pub is_space : ℕ → Bool
 is_space byte = eqb byte 32

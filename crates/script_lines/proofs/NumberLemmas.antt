@@ -5,7 +5,7 @@ use Rattle.std.proofs.lemmas.Nat.{mul-add-lt}
 use Rattle.std.proofs.lemmas.Grind.{pow_more}
 use Rattle.std.proofs.Math.Nat.{pow-le-pow_right}
 use Rattle.std.specs.Option.{option_and_then}
-use Rattle.script_lines.specs.Numbers.{digit_of, number_after}
+use Rattle.script_spec.specs.Numbers.{digit_of, number_after}
 
 -- one more digit leaves the number below one more power, and no larger than all digits allow
 pub number_below : (base high digit i : ℕ) → high < base ^ i → digit < base → high * base + digit < base ^ (i + 1)

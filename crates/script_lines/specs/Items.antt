@@ -1,12 +1,12 @@
--- What a line says, by its fields: the reader's way through the forms.
-use Rattle.std.specs.Prelude.{ℕ, ◌==◌, Bool, true, false, ◌&&◌, nat_le, List, [], ◌∷◌, length, if◌then◌else◌, Option, Some, None, option_map, map, codes, bytes_eq}
-use Rattle.std.specs.List.{list_all}
+-- What the reader's values say.
+use Rattle.std.specs.Prelude.{ℕ, List, map}
 use Rattle.board_base.specs.declared.moment.Moment.{Moment}
 use Rattle.board_base.specs.Calendar.{moment_of}
-use Rattle.board_spec.specs.declared.event.Event.{Event}
-use Rattle.board_spec.specs.declared.event.Event.TheVariants.{Time, Wire as SetWire, Line as SetLine}
+use Rattle.board_spec.specs.declared.event.Event.TheVariants.{Time}
 use Rattle.board_spec.specs.Setup.{Base, MemoryBase, IoBase, FittedCard}
-use Rattle.script_spec.specs.Grammar.{Item, SetCpus, SetMemory, SetRom, SetDisk, FitCard, BeginPhase, Ask, AskLevel, HasForm, is_name_start, is_name_byte}
+use Rattle.script_spec.specs.Grammar.{Item, SetCpus, SetMemory, SetRom, SetDisk, FitCard, BeginPhase, HasForm}
+use Rattle.script_spec.specs.Cards.{Tail}
+use Rattle.script_spec.specs.Items.{ask, wire_item, line_item}
 use Rattle.script_lines.specs.declared.item.Item.{Item as Line}
 use Rattle.script_lines.specs.declared.item.Item.TheVariants.{Cpus, Memory, Rom, Disk, Card, Phase, Statement as Asks}
 use Rattle.script_lines.specs.declared.item.Asked.{Asked}
@@ -16,12 +16,6 @@ use Rattle.script_lines.specs.declared.card.BaseField.TheVariants.{Memory as Mem
 use Rattle.script_lines.specs.declared.card.CardFields.{CardFields}
 use Rattle.script_lines.specs.declared.card.Tail.{Tail as TailFields}
 use Rattle.script_lines.specs.declared.moment.MomentFields.{MomentFields}
-use Rattle.script_lines.specs.Numbers.{decimal_of, ◌>>=◌}
-use Rattle.script_lines.specs.Events.{event_of, number_in}
-use Rattle.script_lines.specs.Cards.{Tail, card_of}
-use Rattle.script_lines.specs.Moments.{moment_in}
-
--- ---- what the reader's values say
 
 abbrev pub base_said : BaseField → Base
 base_said (MemoryField bits) = MemoryBase bits
@@ -35,20 +29,6 @@ tail_said tail = record { bases = map base_said tail.bases.items; rom = tail.rom
 
 abbrev pub moment_said : MomentFields → Moment
 moment_said m = moment_of m.year m.month m.day m.hour m.minute m.second
-
-abbrev pub ask : ℕ → Event → Item
-ask actor event = Ask (record { actor = actor; event = event })
-
--- `wire` and `irq` with a level
-abbrev pub wire_item : (actor dev level : ℕ) → Item
-wire_item actor dev level =
-    if level == 0 then ask actor (SetWire dev false) else
-    if level == 1 then ask actor (SetWire dev true) else AskLevel actor (codes "wire") dev level
-
-abbrev pub line_item : (actor irq level : ℕ) → Item
-line_item actor irq level =
-    if level == 0 then ask actor (SetLine irq false) else
-    if level == 1 then ask actor (SetLine irq true) else AskLevel actor (codes "irq") irq level
 
 abbrev pub asked_said : (actor : ℕ) → Asked → Item
 asked_said actor (AnEvent event) = ask actor event
@@ -68,77 +48,3 @@ line_said (Asks actor asked) = asked_said actor asked
 -- a line has no form of the version
 abbrev pub HasNoForm : (version : ℕ) → (line : List ℕ) → Type 0
 HasNoForm version line = (item : Item) → ¬ HasForm version line item
-
--- ---- statements
-
-unfoldable pub two_numbers_in : List (List ℕ) → Option (ℕ × ℕ)
-two_numbers_in [] = None
-two_numbers_in (_ ∷ []) = None
-two_numbers_in (first ∷ second ∷ []) = do
-  first ← decimal_of first
-  second ← decimal_of second
-  Some (first, second)
-two_numbers_in (_ ∷ _ ∷ _ ∷ _) = None
-
-unfoldable pub only_moment : List (List ℕ) → Option Moment
-only_moment [] = None
-only_moment (field ∷ []) = moment_in field
-only_moment (_ ∷ _ ∷ _) = None
-
-unfoldable pub moment_asked : (actor : ℕ) → List (List ℕ) → Option Item
-moment_asked actor words = option_map (λ moment. ask actor (Time moment)) (only_moment words)
-
-unfoldable pub wire_asked : (actor : ℕ) → List (List ℕ) → Option Item
-wire_asked actor words = option_map (λ p. wire_item actor p.0 p.1) (two_numbers_in words)
-
-unfoldable pub line_asked : (actor : ℕ) → List (List ℕ) → Option Item
-line_asked actor words = option_map (λ p. line_item actor p.0 p.1) (two_numbers_in words)
-
-unfoldable pub event_asked : (version actor : ℕ) → (verb : List ℕ) → (words : List (List ℕ)) → Option Item
-event_asked version actor verb words = option_map (ask actor) (event_of version verb words)
-
-unfoldable pub asked_with : (version actor : ℕ) → (verb : List ℕ) → (words : List (List ℕ)) → Option Item
-asked_with version actor verb words =
-    if bytes_eq verb (codes "moment") then moment_asked actor words else
-    if bytes_eq verb (codes "wire") then wire_asked actor words else
-    if bytes_eq verb (codes "irq") then line_asked actor words else event_asked version actor verb words
-
-unfoldable pub asked_of : (version actor : ℕ) → List (List ℕ) → Option Item
-asked_of version actor [] = None
-asked_of version actor (verb ∷ words) = asked_with version actor verb words
-
--- ---- all lines
-
--- 1 to 64 bytes of a name
-unfoldable pub is_name : List ℕ → Bool
-is_name [] = false
-is_name (first ∷ rest) =
-    nat_le (length (first ∷ rest)) 64 && is_name_start first && list_all is_name_byte (first ∷ rest)
-
-unfoldable pub name_in : List (List ℕ) → Option (List ℕ)
-name_in [] = None
-name_in (name ∷ []) = if is_name name then Some name else None
-name_in (_ ∷ _ ∷ _) = None
-
-unfoldable pub phase_of : List (List ℕ) → Option Item
-phase_of [] = Some BeginPhase
-phase_of (_ ∷ _) = None
-
-unfoldable pub statement_of : (version : ℕ) → (actor : List ℕ) → List (List ℕ) → Option Item
-statement_of version actor words = do
-  actor ← decimal_of actor
-  asked_of version actor words
-
-unfoldable pub item_with : (version : ℕ) → (key : List ℕ) → (words : List (List ℕ)) → Option Item
-item_with version key words =
-    if bytes_eq key (codes "phase") then phase_of words else
-    if bytes_eq key (codes "cpus") then option_map SetCpus (number_in words) else
-    if bytes_eq key (codes "memory") then option_map SetMemory (number_in words) else
-    if bytes_eq key (codes "rom") then option_map SetRom (name_in words) else
-    if bytes_eq key (codes "disk") then option_map SetDisk (name_in words) else
-    if bytes_eq key (codes "card") then option_map FitCard (card_of version words) else
-    statement_of version key words
-
-unfoldable pub item_of : (version : ℕ) → List (List ℕ) → Option Item
-item_of version [] = None
-item_of version (key ∷ words) = item_with version key words

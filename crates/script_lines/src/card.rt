@@ -2,7 +2,7 @@
 
 ghost use Rattle.std.specs.Prelude.{◌≡◌, None, option_map};
 ghost use Rattle.script_lines.specs.Items.{base_said, card_said, tail_said};
-ghost use Rattle.script_lines.specs.Cards.{base_of, rom_of, with_base, with_rom, with_field, with_fields, no_tail, vga_of, card_of};
+ghost use Rattle.script_spec.specs.Cards.{base_of, rom_of, with_base, with_rom, with_field, with_fields, no_tail, vga_of, card_of};
 
 use crate::fields::Fields;
 use crate::numbers::decimal_of;
@@ -34,7 +34,7 @@ pub struct CardFields {
 }
 
 /// The base of a field `mK` or `iK`.
-#[tactic(auto, unfolding(crate::specs::Cards::base_of))]
+#[tactic(auto, unfolding(script_spec::specs::Cards::base_of))]
 fn base_of(field: &[u8]) -> Option<BaseField>
     ensures base { option_map base_said result ≡ base_of field.now }
 {
@@ -46,7 +46,7 @@ fn base_of(field: &[u8]) -> Option<BaseField>
 }
 
 /// The power of two of a field `xK`, which version 2 has.
-#[tactic(auto, unfolding(crate::specs::Cards::rom_of))]
+#[tactic(auto, unfolding(script_spec::specs::Cards::rom_of))]
 fn rom_of(version: u8, field: &[u8]) -> Option<u32>
     ensures rom { result ≡ rom_of version field.now }
 {
@@ -78,7 +78,7 @@ struct Tail {
 }
 
 /// With one base more, where there is room.
-#[tactic(auto, unfolding(crate::specs::Cards::with_base))]
+#[tactic(auto, unfolding(script_spec::specs::Cards::with_base))]
 fn with_base(mut tail: Tail, field: &[u8]) -> Option<Tail>
     requires open { tail.rom ≡ None }
     ensures tail { option_map tail_said result ≡ with_base (tail_said tail) field.now }
@@ -91,7 +91,7 @@ fn with_base(mut tail: Tail, field: &[u8]) -> Option<Tail>
 }
 
 /// With one field more. Nothing follows an expansion ROM.
-#[tactic(auto, unfolding(crate::specs::Cards::with_field, crate::specs::Cards::with_rom))]
+#[tactic(auto, unfolding(script_spec::specs::Cards::with_field, script_spec::specs::Cards::with_rom))]
 fn with_field(version: u8, tail: Tail, field: &[u8]) -> Option<Tail>
     ensures tail { option_map tail_said result ≡ with_field version (tail_said tail) field.now }
 {
@@ -108,7 +108,7 @@ fn with_field(version: u8, tail: Tail, field: &[u8]) -> Option<Tail>
 }
 
 /// The bases and the expansion ROM of all fields.
-#[tactic(auto, unfolding(crate::specs::Cards::with_fields))]
+#[tactic(auto, unfolding(script_spec::specs::Cards::with_fields))]
 fn tail_of(version: u8, fields: Fields<'_>) -> Option<Tail>
     ensures tail { option_map tail_said result ≡ with_fields version no_tail fields.entry }
 {
@@ -125,7 +125,7 @@ fn tail_of(version: u8, fields: Fields<'_>) -> Option<Tail>
 }
 
 /// The card of a line, by its fields after `card`.
-#[tactic(auto, unfolding(crate::specs::Cards::card_of))]
+#[tactic(auto, unfolding(script_spec::specs::Cards::card_of))]
 pub(crate) fn card_of(version: u8, words: Fields<'_>) -> Option<CardFields>
     ensures card { option_map card_said result ≡ card_of version words.entry }
 {

@@ -2,8 +2,8 @@
 
 ghost use Rattle.std.specs.Prelude.{◌≡◌, ◌*◌, ◌<◌, ◌^◌, IfSome};
 ghost use Rattle.board_base.specs.Access.{bytes_of};
-ghost use Rattle.script_lines.specs.Numbers.{hex_of};
-ghost use Rattle.script_lines.specs.Events.{IsSize, width_of, quad_of, size_of, width_with, is_wide, memory_event, kind_of, smm_of, read_of, write_of, in_of, out_of, look_of, ack_of, number_in, pulses_of, sector_of, event_of};
+ghost use Rattle.script_spec.specs.Numbers.{hex_of};
+ghost use Rattle.script_spec.specs.Events.{IsSize, width_of, quad_of, size_of, width_with, is_wide, memory_event, kind_of, smm_of, read_of, write_of, in_of, out_of, look_of, ack_of, number_in, pulses_of, sector_of, event_of};
 
 use crate::fields::Fields;
 use crate::item::is_word;
@@ -56,7 +56,7 @@ fn kind_of(field: &[u8]) -> Option<Kind>
 }
 
 /// Whether the access is made in system management mode, by the fields after the others.
-#[tactic(auto, unfolding(crate::specs::Events::smm_of))]
+#[tactic(auto, unfolding(script_spec::specs::Events::smm_of))]
 fn smm_of(flags: Fields<'_>) -> Option<bool>
     ensures smm { result ≡ smm_of flags.entry }
 {
@@ -99,7 +99,7 @@ fn is_wide(version: u8, bytes: u8, addr: u32) -> bool
 }
 
 /// An access to memory of `bytes` bytes.
-#[tactic(auto, unfolding(crate::specs::Events::memory_event))]
+#[tactic(auto, unfolding(script_spec::specs::Events::memory_event))]
 fn memory_event(version: u8, kind: Kind, bytes: u8, addr: u32, value: u64, smm: bool) -> Event
     requires size { IsSize version bytes }
     requires value { value < 16 ^ (2 * bytes) }
@@ -140,7 +140,7 @@ fn port_of(field: &[u8]) -> Option<u16>
 }
 
 /// `W ADDR` and the flag, after the word for a read or a fetch.
-#[tactic(auto, unfolding(crate::specs::Events::read_of))]
+#[tactic(auto, unfolding(script_spec::specs::Events::read_of))]
 fn read_of(version: u8, kind: Kind, words: Fields<'_>) -> Option<Event>
     ensures event { result ≡ read_of version kind words.entry }
 {
@@ -153,7 +153,7 @@ fn read_of(version: u8, kind: Kind, words: Fields<'_>) -> Option<Event>
 }
 
 /// `W ADDR VALUE` and the flag, after the word for a write.
-#[tactic(auto, unfolding(crate::specs::Events::write_of))]
+#[tactic(auto, unfolding(script_spec::specs::Events::write_of))]
 fn write_of(version: u8, words: Fields<'_>) -> Option<Event>
     ensures event { result ≡ write_of version words.entry }
 {
@@ -168,7 +168,7 @@ fn write_of(version: u8, words: Fields<'_>) -> Option<Event>
 }
 
 /// `W PORT`, after `in`.
-#[tactic(auto, unfolding(crate::specs::Events::in_of))]
+#[tactic(auto, unfolding(script_spec::specs::Events::in_of))]
 fn in_of(words: Fields<'_>) -> Option<Event>
     ensures event { result ≡ in_of words.entry }
 {
@@ -194,7 +194,7 @@ fn value_of(width: Width, field: &[u8]) -> Option<u32>
 }
 
 /// `W PORT VALUE`, after `out`.
-#[tactic(auto, unfolding(crate::specs::Events::out_of))]
+#[tactic(auto, unfolding(script_spec::specs::Events::out_of))]
 fn out_of(words: Fields<'_>) -> Option<Event>
     ensures event { result ≡ out_of words.entry }
 {
@@ -214,7 +214,7 @@ fn out_of(words: Fields<'_>) -> Option<Event>
 }
 
 /// `K ADDR` and the flag, after `look`.
-#[tactic(auto, unfolding(crate::specs::Events::look_of))]
+#[tactic(auto, unfolding(script_spec::specs::Events::look_of))]
 fn look_of(words: Fields<'_>) -> Option<Event>
     ensures event { result ≡ look_of words.entry }
 {
@@ -227,7 +227,7 @@ fn look_of(words: Fields<'_>) -> Option<Event>
 }
 
 /// `ack` has no more fields.
-#[tactic(auto, unfolding(crate::specs::Events::ack_of))]
+#[tactic(auto, unfolding(script_spec::specs::Events::ack_of))]
 fn ack_of(words: Fields<'_>) -> Option<Event>
     ensures event { result ≡ ack_of words.entry }
 {
@@ -236,7 +236,7 @@ fn ack_of(words: Fields<'_>) -> Option<Event>
 }
 
 /// The decimal that is the only field.
-#[tactic(auto, unfolding(crate::specs::Events::number_in))]
+#[tactic(auto, unfolding(script_spec::specs::Events::number_in))]
 pub(crate) fn number_in(words: Fields<'_>) -> Option<u32>
     ensures number { result ≡ number_in words.entry }
 {
@@ -259,7 +259,7 @@ fn sector_of(words: Fields<'_>) -> Option<Event>
 }
 
 /// The event of a statement that gives no moment and sets no line, by its verb and the fields after it.
-#[tactic(auto, unfolding(crate::specs::Events::event_of))]
+#[tactic(auto, unfolding(script_spec::specs::Events::event_of))]
 pub(crate) fn event_of(version: u8, verb: &[u8], words: Fields<'_>) -> Option<Event>
     ensures event { result ≡ event_of version verb.now words.entry }
 {

@@ -1,7 +1,7 @@
 //! Fields of a line.
 
 ghost use Rattle.std.specs.Prelude.{◌≡◌, ℕ, [], ◌∷◌, List, option_map, MatchOption};
-ghost use Rattle.script_lines.specs.Fields.{fields_of, only_of};
+ghost use Rattle.script_spec.specs.Fields.{fields_of, only_of};
 
 use std::marker::Model;
 
@@ -13,7 +13,7 @@ pub struct Fields<'a> {
 
 impl<'a> Model for Fields<'a> {
     ghost use Rattle.std.specs.Prelude.{ℕ, List, option_map};
-    ghost use Rattle.script_lines.specs.Fields.{fields_in};
+    ghost use Rattle.script_spec.specs.Fields.{fields_in};
 
     ghost Value = { List (List ℕ) };
 

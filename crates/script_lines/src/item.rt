@@ -4,9 +4,10 @@ ghost use Rattle.std.specs.Prelude.{◌≡◌, ℕ, option_map, bytes_eq, IfSome
 ghost use Rattle.std.specs.Option.{IfNone};
 ghost use Rattle.std.specs.List.{list_all};
 ghost use Rattle.script_spec.specs.Grammar.{SetCpus, SetMemory, SetRom, SetDisk, FitCard, HasForm, is_name_start, is_name_byte};
-ghost use Rattle.script_lines.specs.Events.{number_in};
-ghost use Rattle.script_lines.specs.Cards.{card_of};
-ghost use Rattle.script_lines.specs.Items.{moment_said, asked_said, line_said, HasNoForm, two_numbers_in, only_moment, moment_asked, wire_asked, line_asked, event_asked, asked_with, asked_of, is_name, name_in, phase_of, statement_of, item_with, item_of};
+ghost use Rattle.script_spec.specs.Events.{number_in};
+ghost use Rattle.script_spec.specs.Cards.{card_of};
+ghost use Rattle.script_spec.specs.Items.{two_numbers_in, only_moment, moment_asked, wire_asked, line_asked, event_asked, asked_with, asked_of, is_name, name_in, phase_of, statement_of, item_with, item_of};
+ghost use Rattle.script_lines.specs.Items.{moment_said, asked_said, line_said, HasNoForm};
 
 use crate::card::{CardFields, card_of};
 use crate::event::{event_of, number_in};
@@ -50,7 +51,7 @@ pub fn is_word(field: &[u8], word: &str) -> bool
 
 // ---- statements
 
-#[tactic(auto, unfolding(crate::specs::Items::two_numbers_in))]
+#[tactic(auto, unfolding(script_spec::specs::Items::two_numbers_in))]
 fn two_numbers_in(words: Fields<'_>) -> Option<(u32, u32)>
     ensures numbers { result ≡ two_numbers_in words.entry }
 {
@@ -62,7 +63,7 @@ fn two_numbers_in(words: Fields<'_>) -> Option<(u32, u32)>
     Some((first, second))
 }
 
-#[tactic(auto, unfolding(crate::specs::Items::only_moment))]
+#[tactic(auto, unfolding(script_spec::specs::Items::only_moment))]
 fn only_moment(words: Fields<'_>) -> Option<MomentFields>
     ensures moment { option_map moment_said result ≡ only_moment words.entry }
 {
@@ -70,7 +71,7 @@ fn only_moment(words: Fields<'_>) -> Option<MomentFields>
     moment_in(field)
 }
 
-#[tactic(auto, unfolding(crate::specs::Items::moment_asked))]
+#[tactic(auto, unfolding(script_spec::specs::Items::moment_asked))]
 fn moment_of(words: Fields<'_>) -> Option<Asked>
     ensures asked { (actor : ℕ) → option_map (asked_said actor) result ≡ moment_asked actor words.entry }
 {
@@ -78,7 +79,7 @@ fn moment_of(words: Fields<'_>) -> Option<Asked>
     Some(Asked::Moment(moment))
 }
 
-#[tactic(auto, unfolding(crate::specs::Items::wire_asked))]
+#[tactic(auto, unfolding(script_spec::specs::Items::wire_asked))]
 fn wire_of(words: Fields<'_>) -> Option<Asked>
     ensures asked { (actor : ℕ) → option_map (asked_said actor) result ≡ wire_asked actor words.entry }
 {
@@ -86,7 +87,7 @@ fn wire_of(words: Fields<'_>) -> Option<Asked>
     Some(Asked::Wire { dev, level })
 }
 
-#[tactic(auto, unfolding(crate::specs::Items::line_asked))]
+#[tactic(auto, unfolding(script_spec::specs::Items::line_asked))]
 fn line_of(words: Fields<'_>) -> Option<Asked>
     ensures asked { (actor : ℕ) → option_map (asked_said actor) result ≡ line_asked actor words.entry }
 {
@@ -94,7 +95,7 @@ fn line_of(words: Fields<'_>) -> Option<Asked>
     Some(Asked::Line { irq, level })
 }
 
-#[tactic(auto, unfolding(crate::specs::Items::event_asked))]
+#[tactic(auto, unfolding(script_spec::specs::Items::event_asked))]
 fn other_event(version: u8, verb: &[u8], words: Fields<'_>) -> Option<Asked>
     ensures asked { (actor : ℕ) → option_map (asked_said actor) result ≡ event_asked version actor verb.now words.entry }
 {
@@ -102,7 +103,7 @@ fn other_event(version: u8, verb: &[u8], words: Fields<'_>) -> Option<Asked>
     Some(Asked::Event(event))
 }
 
-#[tactic(auto, unfolding(crate::specs::Items::asked_with))]
+#[tactic(auto, unfolding(script_spec::specs::Items::asked_with))]
 fn asked_with(version: u8, verb: &[u8], words: Fields<'_>) -> Option<Asked>
     ensures asked { (actor : ℕ) → option_map (asked_said actor) result ≡ asked_with version actor verb.now words.entry }
 {
@@ -119,7 +120,7 @@ fn asked_with(version: u8, verb: &[u8], words: Fields<'_>) -> Option<Asked>
 }
 
 /// The event of a statement, by the fields of its line after the processor's number.
-#[tactic(auto, unfolding(crate::specs::Items::asked_of))]
+#[tactic(auto, unfolding(script_spec::specs::Items::asked_of))]
 fn asked_of(version: u8, words: Fields<'_>) -> Option<Asked>
     ensures asked { (actor : ℕ) → option_map (asked_said actor) result ≡ asked_of version actor words.entry }
 {
@@ -150,7 +151,7 @@ fn are_name_bytes(bytes: &[u8]) -> bool
 }
 
 /// Whether these bytes are a name of a file: 1 to 64 such bytes.
-#[tactic(auto, unfolding(crate::specs::Items::is_name))]
+#[tactic(auto, unfolding(script_spec::specs::Items::is_name))]
 fn is_name(bytes: &[u8]) -> bool
     ensures name { result ≡ is_name bytes.now }
 {
@@ -163,7 +164,7 @@ fn is_name(bytes: &[u8]) -> bool
 }
 
 /// The name that is the only field.
-#[tactic(auto, unfolding(crate::specs::Items::name_in))]
+#[tactic(auto, unfolding(script_spec::specs::Items::name_in))]
 fn name_in<'a>(words: Fields<'a>) -> Option<&'a [u8]>
     ensures name { option_map (λ name. name.now) result ≡ name_in words.entry }
 {
@@ -173,7 +174,7 @@ fn name_in<'a>(words: Fields<'a>) -> Option<&'a [u8]>
 
 // ---- all lines
 
-#[tactic(auto, unfolding(crate::specs::Items::phase_of))]
+#[tactic(auto, unfolding(script_spec::specs::Items::phase_of))]
 fn phase_of<'a>(words: Fields<'a>) -> Option<Item<'a>>
     ensures item { option_map line_said result ≡ phase_of words.entry }
 {
@@ -216,7 +217,7 @@ fn fitted_of<'a>(version: u8, words: Fields<'a>) -> Option<Item<'a>>
     Some(Item::Card(card))
 }
 
-#[tactic(auto, unfolding(crate::specs::Items::statement_of))]
+#[tactic(auto, unfolding(script_spec::specs::Items::statement_of))]
 fn statement_of<'a>(version: u8, actor: &[u8], words: Fields<'a>) -> Option<Item<'a>>
     ensures item { option_map line_said result ≡ statement_of version actor.now words.entry }
 {
@@ -225,7 +226,7 @@ fn statement_of<'a>(version: u8, actor: &[u8], words: Fields<'a>) -> Option<Item
     Some(Item::Statement { actor, asked })
 }
 
-#[tactic(auto, unfolding(crate::specs::Items::item_with))]
+#[tactic(auto, unfolding(script_spec::specs::Items::item_with))]
 fn item_with<'a>(version: u8, key: &[u8], words: Fields<'a>) -> Option<Item<'a>>
     ensures item { option_map line_said result ≡ item_with version key.now words.entry }
 {
@@ -251,7 +252,7 @@ fn item_with<'a>(version: u8, key: &[u8], words: Fields<'a>) -> Option<Item<'a>>
 }
 
 /// What a line says, by its fields.
-#[tactic(auto, unfolding(crate::specs::Items::item_of))]
+#[tactic(auto, unfolding(script_spec::specs::Items::item_of))]
 fn item_in<'a>(version: u8, fields: Fields<'a>) -> Option<Item<'a>>
     ensures item { option_map line_said result ≡ item_of version fields.entry }
 {

@@ -2,7 +2,7 @@
 
 ghost use Rattle.std.specs.Prelude.{◌≡◌, ◌<◌, IfSome, option_map};
 ghost use Rattle.script_lines.specs.Items.{moment_said};
-ghost use Rattle.script_lines.specs.Moments.{Three, part_of, year_of, date_of, time_of, moment_in};
+ghost use Rattle.script_spec.specs.Moments.{Three, part_of, year_of, date_of, time_of, moment_in};
 
 use crate::numbers::{after_mark, two_digits_of};
 
@@ -18,7 +18,7 @@ pub struct MomentFields {
 }
 
 /// Two digits after a mark, and what follows.
-#[tactic(auto, unfolding(crate::specs::Moments::part_of))]
+#[tactic(auto, unfolding(script_spec::specs::Moments::part_of))]
 fn part_of(mark: u8, text: &[u8]) -> Option<(u8, &[u8])>
     ensures part { option_map (λ p. (p.0, p.1.now)) result ≡ part_of mark text.now }
 {
@@ -27,7 +27,7 @@ fn part_of(mark: u8, text: &[u8]) -> Option<(u8, &[u8])>
 }
 
 /// The four digits of a year, and what follows.
-#[tactic(auto, unfolding(crate::specs::Moments::year_of))]
+#[tactic(auto, unfolding(script_spec::specs::Moments::year_of))]
 fn year_of(text: &[u8]) -> Option<(u16, &[u8])>
     ensures year { option_map (λ p. (p.0, p.1.now)) result ≡ year_of text.now }
 {
@@ -37,7 +37,7 @@ fn year_of(text: &[u8]) -> Option<(u16, &[u8])>
 }
 
 /// `YYYY-MM-DD`, and what follows.
-#[tactic(auto, unfolding(crate::specs::Moments::date_of))]
+#[tactic(auto, unfolding(script_spec::specs::Moments::date_of))]
 fn date_of(text: &[u8]) -> Option<(u16, u8, u8, &[u8])>
     ensures date { option_map (λ p. record { first = p.0; second = p.1; third = p.2; rest = p.3.now }) result ≡ date_of text.now }
 {
@@ -48,7 +48,7 @@ fn date_of(text: &[u8]) -> Option<(u16, u8, u8, &[u8])>
 }
 
 /// `THH:MM:SS`, and what follows.
-#[tactic(auto, unfolding(crate::specs::Moments::time_of))]
+#[tactic(auto, unfolding(script_spec::specs::Moments::time_of))]
 fn time_of(text: &[u8]) -> Option<(u8, u8, u8, &[u8])>
     ensures time { option_map (λ p. record { first = p.0; second = p.1; third = p.2; rest = p.3.now }) result ≡ time_of text.now }
 {
@@ -59,7 +59,7 @@ fn time_of(text: &[u8]) -> Option<(u8, u8, u8, &[u8])>
 }
 
 /// The moment that a field spells.
-#[tactic(auto, unfolding(crate::specs::Moments::moment_in, crate::specs::Moments::moment_with))]
+#[tactic(auto, unfolding(script_spec::specs::Moments::moment_in, script_spec::specs::Moments::moment_with))]
 pub(crate) fn moment_in(text: &[u8]) -> Option<MomentFields>
     ensures moment { option_map moment_said result ≡ moment_in text.now }
 {

@@ -1,7 +1,7 @@
 //! Numbers as a script writes them.
 
 ghost use Rattle.std.specs.Prelude.{◌≡◌, ◌<◌, ◌≤◌, ◌^◌, length, IfSome, option_map, Some, None, if◌then◌else◌};
-ghost use Rattle.script_lines.specs.Numbers.{digit_value, digit_of, number_of, hex_of, decimal_of, has_leading_zero, two_digits_of, after_mark};
+ghost use Rattle.script_spec.specs.Numbers.{digit_value, digit_of, number_of, hex_of, decimal_of, has_leading_zero, two_digits_of, after_mark};
 
 /// The base of hexadecimal numbers.
 const HEX: u64 = 16;
@@ -97,7 +97,7 @@ pub fn decimal_of(field: &[u8]) -> Option<u32>
 }
 
 /// The number of two decimal digits, and what stands after them.
-#[tactic(auto, unfolding(crate::specs::Numbers::two_digits_of))]
+#[tactic(auto, unfolding(script_spec::specs::Numbers::two_digits_of))]
 pub(crate) fn two_digits_of(text: &[u8]) -> Option<(u8, &[u8])>
     ensures number { option_map (λ p. (p.0, p.1.now)) result ≡ two_digits_of text.now }
     ensures below { IfSome result (λ p. p.0 < 100) }
@@ -111,7 +111,7 @@ pub(crate) fn two_digits_of(text: &[u8]) -> Option<(u8, &[u8])>
 }
 
 /// What stands after a byte.
-#[tactic(auto, unfolding(crate::specs::Numbers::after_mark))]
+#[tactic(auto, unfolding(script_spec::specs::Numbers::after_mark))]
 pub(crate) fn after_mark(mark: u8, text: &[u8]) -> Option<&[u8]>
     ensures rest { option_map (λ rest. rest.now) result ≡ after_mark mark text.now }
 {

@@ -40,16 +40,10 @@ six true true true true true true test = (refl, refl, refl, refl, refl, refl)
 
 moment_there : (m : Moment) → IsMomentForm m → is_moment m ≡ true → IsMoment m
 moment_there m form test =
-    let parts : (is_within 1980 2099 m.year ≡ true) × (is_within 1 12 m.month ≡ true)
-    × (is_within 1 (days_in_month m.year m.month) m.day ≡ true) × (leb m.hour 23 ≡ true) × (leb m.minute 59 ≡ true)
-    × (leb m.second 59 ≡ true) =
-    six (is_within 1980 2099 m.year) (is_within 1 12 m.month) (is_within 1 (days_in_month m.year m.month) m.day)
-    (leb m.hour 23) (leb m.minute 59) (leb m.second 59) test
-    in
-    let year : (1980 ≤ m.year) × (m.year ≤ 2099) = within 1980 2099 m.year parts.0 in
-    let month : (1 ≤ m.month) × (m.month ≤ 12) = within 1 12 m.month parts.1 in
-    let day : (1 ≤ m.day) × (m.day ≤ days_in_month m.year m.month) = within 1
-    (days_in_month m.year m.month) m.day parts.2 in
+    let parts = six _ _ _ _ _ _ test in
+    let year = within _ _ m.year parts.0 in
+    let month = within _ _ m.month parts.1 in
+    let day = within _ _ m.day parts.2 in
     record {
       date = record {
         year_low = year.0;
@@ -61,9 +55,9 @@ moment_there m form test =
       };
       weekday = form.weekday;
       time = record {
-        hour_high = leb-true m.hour 23 parts.3;
-        minute_high = leb-true m.minute 59 parts.4;
-        second_high = leb-true m.second 59 parts.5;
+        hour_high = leb-true m.hour _ parts.3;
+        minute_high = leb-true m.minute _ parts.4;
+        second_high = leb-true m.second _ parts.5;
       };
     }
 
@@ -83,7 +77,7 @@ event_in_range version setup before (Memory access) form range place there cards
 event_in_range version setup before (Wide access) form range place there cards = record {
   bytes = form.bytes;
   wide = form.wide;
-  ends = leb-true (access.addr + access.bytes) 0x1_0000_0000 place;
+  ends = leb-true (access.addr + access.bytes) _ place;
   fits = form.value;
 }
 event_in_range version setup before (Port access) form range place there cards = record {
@@ -92,14 +86,14 @@ event_in_range version setup before (Port access) form range place there cards =
 }
 event_in_range version setup before (LookAt kind addr smm) form range place there cards = tt
 event_in_range version setup before Ack form range place there cards = tt
-event_in_range version setup before (Pulses count) form range place there cards = within 1 1_000_000 count range
+event_in_range version setup before (Pulses count) form range place there cards = within _ _ count range
 event_in_range version setup before (Time moment) form range place there cards = moment_there moment form range
 event_in_range version setup before (Wire dev on) form range place there cards = cards dev there
 event_in_range version setup before (Line irq on) form range place there cards = range
 event_in_range version setup before (BadSector sector) form range place there cards = tt
 
 pub sector_in_range : (event : Event) → is_event_in_range event ≡ true → IsScriptSector event
-sector_in_range (BadSector sector) range = let e : sector ≤ 0xFFFF = leb-true sector 0xFFFF range in omega (arith, e)
+sector_in_range (BadSector sector) range = let e = leb-true sector _ range in omega (arith, e)
 sector_in_range (Memory access) range = tt
 sector_in_range (Wide access) range = tt
 sector_in_range (Port access) range = tt

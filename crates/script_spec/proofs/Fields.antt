@@ -1,11 +1,9 @@
--- A text is cut at a byte, and the spelling of a line is lowered away.
-use Rattle.std.proofs.Common.{ℕ, ◌≡◌, ◌+◌, ◌<◌, ◌⊎◌, true, false, not, cond, eqb, leb, List, [], ◌∷◌, ◌++◌, refl, ap, ◌∙◌, inl, inr, arith}
+-- A text is cut at a byte.
+use Rattle.std.proofs.Common.{ℕ, ◌≡◌, ◌<◌, ◌⊎◌, true, false, not, cond, eqb, List, [], ◌∷◌, ◌++◌, refl}
 use Rattle.std.specs.Prelude.{decimal}
-use Rattle.std.specs.List.{AllZip}
-use Rattle.std.proofs.lemmas.Bool.{eq-eqb, and_parts, leb-true, not-true}
-use Rattle.std.proofs.lemmas.List.{map-append}
-use Rattle.script_spec.specs.Grammar.{IsDecimal, StandsFor}
-use Rattle.script_spec.proofs.Digits.{lower, lowered, lower-above, lacks, lacks-digits, digits_of_decimal, lowered-digits}
+use Rattle.std.proofs.lemmas.Bool.{eq-eqb, and_parts, not-true}
+use Rattle.script_spec.specs.Grammar.{IsDecimal}
+use Rattle.script_spec.proofs.Digits.{lacks, lacks-digits, digits_of_decimal}
 
 -- the bytes up to the first of this kind, and those after it
 abbrev pub front : ℕ → List ℕ → List ℕ
@@ -42,35 +40,3 @@ lacks-append byte (c ∷ cs) ys one two =
 
 pub lacks-decimal : (byte n : ℕ) → (byte < 48) ⊎ (57 < byte) → IsDecimal n → lacks byte (decimal n) ≡ true
 lacks-decimal byte n outside small = lacks-digits byte (decimal n) outside (digits_of_decimal n small)
-
-pub lowered-field : (n : ℕ) (rest : List ℕ) → IsDecimal n → lowered (decimal n ++ rest) ≡ decimal n ++ lowered rest
-lowered-field n rest small =
-    map-append lower (decimal n) rest
-    ∙ ap (λ (field : List ℕ). field ++ lowered rest) (lowered-digits (decimal n) (digits_of_decimal n small))
-
-pub lowered-decimal : (n : ℕ) → IsDecimal n → lowered (decimal n) ≡ decimal n
-lowered-decimal n small = lowered-digits (decimal n) (digits_of_decimal n small)
-
--- ---- spelling
-
-lower-stands : (written byte : ℕ) → StandsFor written byte → lower written ≡ lower byte
-lower-stands written byte stands =
-    elim stands [
-      | inl same ↦ ap lower same
-      | inr small ↦
-          rw (small.1, small.0)
-          (lower-above (byte + 0x20) (omega (
-            arith,
-            leb-true 0x41 byte ((and_parts (leb 0x41 byte)
-                (leb byte 0x46) small.0).0),
-          )))
-    ]
-
-pub lowered-spelled : (line text : List ℕ) → AllZip StandsFor line text → lowered line ≡ lowered text
-lowered-spelled [] [] spelled = refl
-lowered-spelled [] (t ∷ text) spelled = absurd spelled
-lowered-spelled (c ∷ line) [] spelled = absurd spelled
-lowered-spelled (c ∷ line) (t ∷ text) spelled =
-    let first : lower c ≡ lower t = lower-stands c t spelled.0 in
-    let later : lowered line ≡ lowered text = lowered-spelled line text spelled.1 in
-    λ i. first i ∷ later i

@@ -1,12 +1,12 @@
 -- What holds of items that were read.
-use Rattle.std.proofs.Common.{ℕ, ◌≡◌, Bool, true, false, not, ◌&&◌, Option, Some, None, List, [], ◌∷◌, refl, sym, ap, inl, inr}
+use Rattle.std.proofs.Common.{ℕ, ◌≡◌, Bool, true, false, not, ◌&&◌, Option, Some, None, List, [], ◌∷◌, sym, ap, inl, inr}
 use Rattle.std.specs.Prelude.{unwrap_or}
 use Rattle.std.specs.Option.{option_map}
 use Rattle.std.specs.List.{find}
 use Rattle.std.proofs.lemmas.Bool.{not-false, cases_Bool}
 use Rattle.std.proofs.lemmas.Option.{none-some}
 use Rattle.script_spec.specs.Grammar.{Item, IsForm}
-use Rattle.script_spec.specs.Reasons.{reason, is_phase, is_misplaced, is_repeated, lacks_setup, is_in_range, is_placed, is_there, passes_limits, least_reason}
+use Rattle.script_spec.specs.Reasons.{Reason, reasons, is_phase, is_misplaced, is_repeated, lacks_setup, is_in_range, is_placed, is_there, passes_limits, least_reason}
 use Rattle.script_spec.specs.ScriptText.{AreRead}
 
 -- there is no reason to refuse an item after these
@@ -19,41 +19,30 @@ pub record NoReason (before : List Item) (item : Item) : Type 0 where
   pub there : is_there before item ≡ true
   pub limits : passes_limits (item ∷ before) ≡ false
 
-abbrev some_reason : (a b c d e f g : Bool) → Option ℕ
-some_reason a b c d e f g =
-    option_map (λ r. r.why) (find (λ r. r.holds)
-    (reason 4 a ∷ reason 5 b ∷ reason 6 c ∷ reason 7 d ∷ reason 8 e ∷ reason 9 f ∷ reason 10 g ∷ []))
+abbrev NoneHold : List Reason → Type 0
+NoneHold [] = Unit {0}
+NoneHold (r ∷ later) = (r.holds ≡ false) × NoneHold later
 
-all_fail :
-    (a b c d e f g : Bool) → some_reason a b c d e f g ≡ None →
-    (a ≡ false) × (b ≡ false) × (c ≡ false) × (d ≡ false) × (e ≡ false) × (f ≡ false) × (g ≡ false)
-all_fail true b c d e f g none = absurd (none-some 4 (sym none))
-all_fail false true c d e f g none = absurd (none-some 5 (sym none))
-all_fail false false true d e f g none = absurd (none-some 6 (sym none))
-all_fail false false false true e f g none = absurd (none-some 7 (sym none))
-all_fail false false false false true f g none = absurd (none-some 8 (sym none))
-all_fail false false false false false true g none = absurd (none-some 9 (sym none))
-all_fail false false false false false false true none = absurd (none-some 10 (sym none))
-all_fail false false false false false false false none = (refl, refl, refl, refl, refl, refl, refl)
+none_holds : (reasons : List Reason) → option_map (λ r. r.why) (find (λ r. r.holds) reasons) ≡ None → NoneHold reasons
+none_holds [] none = tt
+none_holds (r ∷ later) none =
+    elim (cases_Bool r.holds) [
+      | inl holds ↦ let found = rw holds at none in absurd (none-some r.why (sym found))
+      | inr fails ↦ let rest = rw fails at none in (fails, none_holds later rest)
+    ]
 
 pub no_reason : (before : List Item) (item : Item) → least_reason before item ≡ None → NoReason before item
 unfolding least_reason
 no_reason before item none =
-    let fail : (is_misplaced before item ≡ false) × (is_repeated before item ≡ false)
-    × ((is_phase item && lacks_setup before) ≡ false) × (not (is_in_range item) ≡ false) × (not
-    (is_placed item) ≡ false)
-    × (not (is_there before item) ≡ false) × (passes_limits (item ∷ before) ≡ false) =
-    all_fail (is_misplaced before item) (is_repeated before item) (is_phase item && lacks_setup before)
-    (not (is_in_range item)) (not (is_placed item)) (not (is_there before item)) (passes_limits (item ∷ before)) none
-    in
+    let fails = none_holds (reasons before item) none in
     record {
-      place = fail.0;
-      first = fail.1;
-      begun = fail.2;
-      range = not-false (is_in_range item) fail.3;
-      aligned = not-false (is_placed item) fail.4;
-      there = not-false (is_there before item) fail.5;
-      limits = fail.6;
+      place = fails.0;
+      first = fails.1.0;
+      begun = fails.1.1.0;
+      range = not-false (is_in_range item) fails.1.1.1.0;
+      aligned = not-false (is_placed item) fails.1.1.1.1.0;
+      there = not-false (is_there before item) fails.1.1.1.1.1.0;
+      limits = fails.1.1.1.1.1.1.0;
     }
 
 -- each item has a form, and there was no reason to refuse it

@@ -10,6 +10,7 @@ use Rattle.std.proofs.lemmas.List.Folds.{list_any_none}
 use Rattle.std.proofs.lemmas.List.Sums.{sum_by-cons, sum_by-append, length-filter}
 use Rattle.std.proofs.lemmas.List.Sorted.{All-permutation, IsPermutation-sym, IsPermutation-reverse, sum_by-IsPermutation}
 use Rattle.board_spec.specs.declared.event.Statement.{Statement}
+use Rattle.board_spec.specs.Limits.{most_statements, most_phases, most_pulses, most_card_memory}
 use Rattle.board_spec.specs.Setup.{Setup, Base, MemoryBase, IoBase, FittedCard, IsBase, IsExpansionRom, IsCard, Rises, memory_size, memory_of_cards}
 use Rattle.board_spec.specs.Bits.{is_within}
 use Rattle.board_spec.specs.InRange.{IsScripted}
@@ -157,19 +158,15 @@ has_cards items cards setup same is dev has =
 all_bases : (bases : List Base) → list_all is_base_in_range bases ≡ true → All IsBase bases
 all_bases [] test = All-nil IsBase
 all_bases (MemoryBase bits ∷ bases) test =
-    let both : (is_within 4 24 bits ≡ true) × (list_all is_base_in_range bases ≡ true) =
-    and_parts (is_within 4 24 bits) (list_all is_base_in_range bases) test
-    in
-    All-cons IsBase (MemoryBase bits) bases (within 4 24 bits both.0) (all_bases bases both.1)
+    let both = and_parts _ (list_all is_base_in_range bases) test in
+    All-cons IsBase (MemoryBase bits) bases (within _ _ bits both.0) (all_bases bases both.1)
 all_bases (IoBase bits ∷ bases) test =
-    let both : (is_within 2 8 bits ≡ true) × (list_all is_base_in_range bases ≡ true) =
-    and_parts (is_within 2 8 bits) (list_all is_base_in_range bases) test
-    in
-    All-cons IsBase (IoBase bits) bases (within 2 8 bits both.0) (all_bases bases both.1)
+    let both = and_parts _ (list_all is_base_in_range bases) test in
+    All-cons IsBase (IoBase bits) bases (within _ _ bits both.0) (all_bases bases both.1)
 
 rom_there : (rom : Option ℕ) → is_rom_in_range rom ≡ true → IsExpansionRom rom
 rom_there None test = tt
-rom_there (Some bits) test = within 11 24 bits test
+rom_there (Some bits) test = within _ _ bits test
 
 three : (a b c : Bool) → (a && b && c) ≡ true → (a ≡ true) × (b ≡ true) × (c ≡ true)
 three false b c test = absurd (false≢true test)
@@ -180,11 +177,8 @@ three true true true test = (refl, refl, refl)
 all_cards : (version : ℕ) (items : List Item) → AreGood version items → All IsCard (cards_of items)
 all_cards version [] good = All-nil IsCard
 all_cards version (FitCard card ∷ before) good =
-    let parts : (is_within 2 9 card.dev ≡ true) × (list_all is_base_in_range card.bases ≡ true) ×
-    (is_rom_in_range card.rom ≡ true) =
-    three (is_within 2 9 card.dev) (list_all is_base_in_range card.bases) (is_rom_in_range card.rom) good.1.range
-    in
-    let dev : (2 ≤ card.dev) × (card.dev ≤ 9) = within 2 9 card.dev parts.0 in
+    let parts = three _ (list_all is_base_in_range card.bases) (is_rom_in_range card.rom) good.1.range in
+    let dev = within _ _ card.dev parts.0 in
     All-cons IsCard card (cards_of before)
     (record {
       first = dev.0;
@@ -241,10 +235,10 @@ four false false true d test = absurd (true≢false test)
 four false false false true test = absurd (true≢false test)
 
 record IsWithinLimits (items : List Item) : Type 0 where
-  statements : length (filter is_statement items) ≤ 250_000
-  phases : length (filter is_phase items) ≤ 1_000
-  pulses : sum_by pulses_of items ≤ 100_000_000
-  memory : memory_of_cards (cards_of items) ≤ 0x400_0000
+  statements : length (filter is_statement items) ≤ most_statements
+  phases : length (filter is_phase items) ≤ most_phases
+  pulses : sum_by pulses_of items ≤ most_pulses
+  memory : memory_of_cards (cards_of items) ≤ most_card_memory
 
 within_limits : (version : ℕ) (items : List Item) → AreGood version items → IsWithinLimits items
 within_limits version [] good = record {
@@ -254,18 +248,12 @@ within_limits version [] good = record {
   memory = omega arith;
 }
 within_limits version (item ∷ before) good =
-    let items : List Item = item ∷ before in
-    let parts : (ltb 250_000 (length (filter is_statement items)) ≡ false) × (ltb 1_000 (length
-    (filter is_phase items)) ≡ false)
-    × (ltb 100_000_000 (sum_by pulses_of items) ≡ false) × (ltb 0x400_0000 (memory_of_cards (cards_of items)) ≡ false) =
-    four (ltb 250_000 (length (filter is_statement items))) (ltb 1_000 (length (filter is_phase items)))
-    (ltb 100_000_000 (sum_by pulses_of items)) (ltb 0x400_0000 (memory_of_cards (cards_of items))) good.1.limits
-    in
+    let parts = four _ _ _ _ good.1.limits in
     record {
-      statements = ltb-false 250_000 (length (filter is_statement items)) parts.0;
-      phases = ltb-false 1_000 (length (filter is_phase items)) parts.1;
-      pulses = ltb-false 100_000_000 (sum_by pulses_of items) parts.2;
-      memory = ltb-false 0x400_0000 (memory_of_cards (cards_of items)) parts.3;
+      statements = ltb-false most_statements _ parts.0;
+      phases = ltb-false most_phases _ parts.1;
+      pulses = ltb-false most_pulses _ parts.2;
+      memory = ltb-false most_card_memory _ parts.3;
     }
 
 -- ---- sums over items and over phases
@@ -360,14 +348,10 @@ in_range : (items : List Item) (script : Script) → AreGood script.version item
     IsSaidBy script items →
     IsInRangeScript script
 in_range items script good version said =
-    let cpus : IsForm script.version (SetCpus script.cpus) × (is_within 1 8 script.cpus ≡ true) =
-    found_good script.version items is_cpus (SetCpus script.cpus) good said.cpus
-    in
-    let count : (1 ≤ script.cpus) × (script.cpus ≤ 8) = within 1 8 script.cpus cpus.1 in
-    let memory : IsForm script.version (SetMemory script.mib) × (is_within 1 64 script.mib ≡ true) =
-    found_good script.version items is_memory (SetMemory script.mib) good said.memory
-    in
-    let mib : (1 ≤ script.mib) × (script.mib ≤ 64) = within 1 64 script.mib memory.1 in
+    let cpus = found_good script.version items is_cpus (SetCpus script.cpus) good said.cpus in
+    let count = within _ _ script.cpus cpus.1 in
+    let memory = found_good script.version items is_memory (SetMemory script.mib) good said.memory in
+    let mib = within _ _ script.mib memory.1 in
     let limits : IsWithinLimits items = within_limits script.version items good in
     let cards : All IsCard script.cards =
     All-permutation IsCard (cards_of items) script.cards said.cards (all_cards script.version items good)

@@ -1,10 +1,10 @@
 -- Each text is a script's, or bad.
-use Rattle.std.proofs.Common.{ℕ, ◌≡◌, ◌≢◌, ◌+◌, ◌<◌, ◌≤◌, ◌⊎◌, Bool, true, false, not, ◌&&◌, ◌||◌, cond, ltb, Option, Some, None, List, [], ◌∷◌, ◌++◌, length, map, reverse, get_or, All, filter, refl, sym, ap, ◌∙◌, inl, inr, append_assoc, append-nil, arith}
+use Rattle.std.proofs.Common.{ℕ, ◌≡◌, ◌≢◌, ◌<◌, ◌≤◌, ◌⊎◌, Bool, true, false, not, ◌&&◌, ◌||◌, cond, ltb, Option, Some, None, Result, Ok, Err, List, [], ◌∷◌, ◌++◌, map, reverse, get_or, All, filter, refl, sym, ap, ◌∙◌, inl, inr, append_assoc, append-nil, arith}
 use Rattle.std.specs.Prelude.{◌==◌}
 use Rattle.std.specs.Option.{option_map}
 use Rattle.std.specs.List.{find, list_any}
 use Rattle.std.specs.List.Sorted.{IsPermutation}
-use Rattle.std.proofs.lemmas.Bool.{true≢false, false≢true, or_right, or_from, and_parts, and_from, cases_Bool, cases_lt, ltb-true, ltb-false, eqb-false}
+use Rattle.std.proofs.lemmas.Bool.{true≢false, false≢true, or_right, or_from, and_parts, and_from, cases_Bool, ltb-true, ltb-false, eqb-false}
 use Rattle.std.proofs.lemmas.Grind.{flat_map-append}
 use Rattle.std.proofs.lemmas.List.{map-append, reverse-append}
 use Rattle.std.proofs.lemmas.List.Elements.{All-nil, All-cons, All-head, All-tail}
@@ -12,101 +12,13 @@ use Rattle.std.proofs.lemmas.List.Sorted.{All-permutation, IsPermutation-refl, I
 use Rattle.board_spec.specs.declared.event.Statement.{Statement}
 use Rattle.board_spec.specs.Setup.{FittedCard, Rises}
 use Rattle.script_spec.specs.Lines.{lines_of}
-use Rattle.script_spec.specs.Grammar.{Item, SetCpus, SetMemory, SetRom, SetDisk, FitCard, BeginPhase, Ask, AskLevel, HasForm}
-use Rattle.script_spec.specs.Reasons.{is_phase, is_setup, is_cpus, is_memory, is_rom, is_disk, cards_of, has_setup, lacks_setup, least_reason}
-use Rattle.script_spec.specs.ScriptText.{Script, most_bytes, is_skipped, IsSkipped, IsGoodLine, IsBadLine, AreRead, IsVersion, first_line, phase_items, IsSaidBy, IsScriptText, BeginsBadly, IsScriptBad}
+use Rattle.script_spec.specs.Grammar.{Item, SetCpus, SetMemory, SetRom, SetDisk, FitCard, BeginPhase, Ask, AskLevel}
+use Rattle.script_spec.specs.Reasons.{is_phase, is_setup, is_cpus, is_memory, is_rom, is_disk, cards_of, has_setup, lacks_setup}
+use Rattle.script_spec.specs.ScriptText.{Script, phase_items, IsSaidBy, IsScriptText, IsScriptBad}
 use Rattle.script_spec.specs.Laws.{SomeReading}
-use Rattle.script_spec.proofs.ReadingLaws.{same_head, not_nil}
 use Rattle.script_spec.proofs.GoodItems.{NoReason, AreGood, read_good}
 use Rattle.script_spec.proofs.RangeLaws.{none_any}
-use Rattle.script_spec.proofs.Decisions.{same_list, decided_form}
-
--- ---- one line
-
-abbrev OneLine : (version : ℕ) → List Item → List ℕ → Type 0
-OneLine version before line =
-    IsSkipped line ⊎ ((item : Item) × IsGoodLine version before line item) ⊎
-    ((why : ℕ) × IsBadLine version before line why)
-
-judged : (version : ℕ) (before : List Item) (line : List ℕ) (item : Item) (short : length line ≤ most_bytes)
-    (read : is_skipped line ≡ false) →
-    HasForm version line item → (reason : Option ℕ) → least_reason before item ≡ reason → OneLine version before line
-judged version before line item short read has None none =
-    inr (inl (item, record { short = short; read = read; has = has; none = none }))
-judged version before line item short read has (Some why) least =
-    inr (inr (why, inr (inr (record { short = short; read = read; item = item; has = has; least = least }))))
-
-read_line : (version : ℕ) (before : List Item) (line : List ℕ) → OneLine version before line
-read_line version before line =
-    elim (cases_lt most_bytes (length line)) [
-      | inl long ↦ inr (inr (2, inl (long, refl)))
-      | inr short ↦
-          elim (cases_Bool (is_skipped line)) [
-            | inl skipped ↦ inl (record { short = short; skipped = skipped })
-            | inr read ↦
-                elim (decided_form version line) [
-                  | inl has ↦ judged version before line has.0 short read has.1 (least_reason before has.0) refl
-                  | inr none ↦ inr (inr (3, inr (inl (record { short = short; read = read; none = none }, refl))))
-                ]
-          ]
-    ]
-
--- ---- the lines after the first
-
-record Stops (version : ℕ) (before : List Item) (lines : List (List ℕ)) : Type 0 where
-  good : List (List ℕ)
-  line : List ℕ
-  later : List (List ℕ)
-  cut : lines ≡ good ++ line ∷ later
-  items : List Item
-  read : AreRead version before good items
-  why : ℕ
-  bad : IsBadLine version items line why
-
-read_lines : (version : ℕ) (lines : List (List ℕ)) (before : List Item) →
-    ((items : List Item) × AreRead version before lines items) ⊎ Stops version before lines
-read_lines version [] before = inl (before, refl)
-read_lines version (line ∷ later) before =
-    elim (read_line version before line) [
-      | inl skipped ↦
-          elim (read_lines version later before) [
-            | inl read ↦ inl (read.0, inl (skipped, read.1))
-            | inr stops ↦ inr (record {
-              good = line ∷ stops.good;
-              line = stops.line;
-              later = stops.later;
-              cut = ap (λ ls. line ∷ ls) stops.cut;
-              items = stops.items;
-              read = inl (skipped, stops.read);
-              why = stops.why;
-              bad = stops.bad;
-            })
-          ]
-      | inr (inl good) ↦
-          elim (read_lines version later (good.0 ∷ before)) [
-            | inl read ↦ inl (read.0, inr (good.0, good.1, read.1))
-            | inr stops ↦ inr (record {
-              good = line ∷ stops.good;
-              line = stops.line;
-              later = stops.later;
-              cut = ap (λ ls. line ∷ ls) stops.cut;
-              items = stops.items;
-              read = inr (good.0, good.1, stops.read);
-              why = stops.why;
-              bad = stops.bad;
-            })
-          ]
-      | inr (inr bad) ↦ inr (record {
-        good = [];
-        line = line;
-        later = later;
-        cut = refl;
-        items = before;
-        read = refl;
-        why = bad.0;
-        bad = bad.1;
-      })
-    ]
+use Rattle.script_spec.proofs.Decision.{judged, AreGoodLines, AreJudged, judged_is}
 
 -- ---- the setup is whole
 
@@ -367,101 +279,28 @@ said_by version items good whole =
 abbrev Reading : List ℕ → Type 0
 Reading bytes = ((script : Script) × IsScriptText bytes script) ⊎ ((line : ℕ) × (why : ℕ) × IsScriptBad bytes line why)
 
-read_later : (bytes : List ℕ) (version : ℕ) (later : List (List ℕ)) → IsVersion version →
-    lines_of bytes ≡ first_line version ∷ later →
-    Reading bytes
-read_later bytes version later known lines =
-    elim (read_lines version later []) [
-      | inr stops ↦ inr (
-        length stops.good + 2,
-        stops.why,
-        inr (record {
-          version = version;
-          known = known;
-          good = stops.good;
-          rest = stops.line ∷ stops.later;
-          cut = lines ∙ ap (λ ls. first_line version ∷ ls) stops.cut;
-          items = stops.items;
-          read = stops.read;
-          bad = stops.bad;
-          place = refl;
-        }),
-      )
-      | inl read ↦
-          elim (cases_Bool (lacks_setup read.0)) [
-            | inl lacks ↦ inr (
-              length later + 2,
-              6,
-              inr (record {
-                version = version;
-                known = known;
-                good = later;
-                rest = [];
-                cut = lines ∙ ap (λ ls. first_line version ∷ ls) (sym (append-nil later));
-                items = read.0;
-                read = read.1;
-                bad = (lacks, refl);
-                place = refl;
-              }),
-            )
-            | inr whole ↦
-                let said : (script : Script) × (script.version ≡ version) × IsSaidBy script read.0 =
-                said_by version read.0 (read_good version later [] read.0 read.1 tt) whole
-                in
-                let same : version ≡ said.0.version = sym said.1 in
-                inl (
-                  said.0,
-                  record {
-                    version = rw (← same) known;
-                    later = later;
-                    lines = rw (← same) lines;
-                    items = read.0;
-                    read = rw (← same) read.1;
-                    whole = whole;
-                    said = said.2;
-                  },
-                )
-          ]
-    ]
-
-not_begun : (lines : List (List ℕ)) → ((later : List (List ℕ)) → lines ≢ first_line 1 ∷ later) →
-    ((later : List (List ℕ)) → lines ≢ first_line 2 ∷ later) →
-    BeginsBadly lines
-not_begun lines none other version later (inl one) e = none later (e ∙ ap (λ v. first_line v ∷ later) one)
-not_begun lines none other version later (inr two) e = other later (e ∙ ap (λ v. first_line v ∷ later) two)
-
-read_first : (bytes : List ℕ) (lines : List (List ℕ)) → lines_of bytes ≡ lines → Reading bytes
-read_first bytes [] is =
-    inr (
-      1,
-      1,
-      inl (
-        not_begun (lines_of bytes) (λ later e. not_nil (first_line 1) later (sym is
-            ∙ e)) (λ later e. not_nil (first_line 2) later (sym is ∙ e)),
-        refl,
-        refl,
-      ),
+pub text_said : (bytes : List ℕ) (version : ℕ) (items : List Item) → AreGoodLines (lines_of bytes) version items →
+    (script : Script) × IsScriptText bytes script
+text_said bytes version items good =
+    let said : (script : Script) × (script.version ≡ version) × IsSaidBy script items =
+    said_by version items (read_good version good.later [] items good.read tt) good.whole
+    in
+    let same : version ≡ said.0.version = sym said.1 in (
+      said.0,
+      record {
+        version = rw (← same) good.known;
+        later = good.later;
+        lines = rw (← same) good.cut;
+        items = items;
+        read = rw (← same) good.read;
+        whole = good.whole;
+        said = said.2;
+      },
     )
-read_first bytes (line ∷ later) is =
-    elim (same_list line (first_line 1)) [
-      | inl one ↦ read_later bytes 1 later (inl refl) (is ∙ ap (λ l. l ∷ later) one)
-      | inr not_one ↦
-          elim (same_list line (first_line 2)) [
-            | inl two ↦ read_later bytes 2 later (inr refl) (is ∙ ap (λ l. l ∷ later) two)
-            | inr not_two ↦
-                inr (
-                  1,
-                  1,
-                  inl (
-                    not_begun (lines_of bytes) (λ others e. not_one (same_head line (first_line 1) later others
-                        (sym is ∙ e)))
-                        (λ others e. not_two (same_head line (first_line 2) later others (sym is ∙ e))),
-                    refl,
-                    refl,
-                  ),
-                )
-          ]
-    ]
+
+reading_of : (bytes : List ℕ) (result : Result (ℕ × List Item) (ℕ × ℕ)) → AreJudged (lines_of bytes) result → Reading bytes
+reading_of bytes (Ok found) good = inl (text_said bytes found.0 found.1 good)
+reading_of bytes (Err end) bad = inr (end.0, end.1, bad)
 
 pub some_reading : SomeReading
-some_reading bytes = read_first bytes (lines_of bytes) refl
+some_reading bytes = reading_of bytes (judged (lines_of bytes)) (judged_is (lines_of bytes))

@@ -1,5 +1,5 @@
 -- A text says at most one script.
-use Rattle.std.proofs.Common.{ℕ, ◌≡◌, ◌<◌, ◌⊎◌, Option, Some, None, List, [], ◌∷◌, ◌++◌, get_or, map, All, refl, sym, ap, ◌∙◌, inl, inr, append-nil, arith}
+use Rattle.std.proofs.Common.{ℕ, ◌≡◌, ◌<◌, ◌⊎◌, Option, Some, None, Result, Ok, List, [], ◌∷◌, ◌++◌, get_or, map, All, refl, sym, ap, ◌∙◌, inl, inr, append-nil, arith}
 use Rattle.std.specs.Option.{option_map}
 use Rattle.std.specs.List.Sorted.{IsPermutation}
 use Rattle.std.proofs.lemmas.List.Elements.{All-head, All-tail, All-nil, All-cons}
@@ -8,9 +8,9 @@ use Rattle.board_spec.specs.declared.event.Statement.{Statement}
 use Rattle.board_spec.specs.Setup.{FittedCard, Rises}
 use Rattle.script_spec.specs.Grammar.{Item, SetCpus, SetMemory, SetRom, SetDisk, BeginPhase, Ask}
 use Rattle.script_spec.specs.Reasons.{cards_of}
-use Rattle.script_spec.specs.ScriptText.{Script, phase_items, IsSaidBy, first_line}
+use Rattle.script_spec.specs.ScriptText.{Script, phase_items, IsSaidBy}
 use Rattle.script_spec.specs.Laws.{OneScript}
-use Rattle.script_spec.proofs.ReadingLaws.{same_head, same_tail, read_once, one_version}
+use Rattle.script_spec.proofs.Decision.{text_decided}
 
 -- ---- cards in rising order
 
@@ -144,17 +144,14 @@ one_meaning items left right version one two =
     (one_order (cards_of items) left.cards right.cards one.cards two.cards one.rises two.rises)
     (one_cutting left.phases right.phases (sym one.phases ∙ two.phases))
 
+-- what is judged to be a script is one version and one list of items
+same_found : (one two : ℕ × List Item) → ◌≡◌ {A = Result (ℕ × List Item) (ℕ × ℕ)} (Ok one) (Ok two) → one ≡ two
+same_found one two e = cc
+
 pub one_script : OneScript
 one_script bytes script other one two =
-    let lines : first_line script.version ∷ one.later ≡ first_line other.version ∷ two.later = sym one.lines
-    ∙ two.lines in
-    let version : script.version ≡ other.version =
-    one_version script.version other.version one.version two.version
-    (same_head (first_line script.version) (first_line other.version) one.later two.later lines)
+    let same : (script.version, one.items) ≡ (other.version, two.items) =
+    same_found _ _ (sym (text_decided bytes script one) ∙ text_decided bytes other two)
     in
-    let later : one.later ≡ two.later = same_tail (first_line script.version)
-    (first_line other.version) one.later two.later lines in
-    let read = rw (version, later) at one.read in
-    let items : one.items ≡ two.items = read_once other.version two.later [] one.items two.items read two.read in
-    let said = rw items at one.said in
-    one_meaning two.items script other version said two.said
+    let said = rw (ap (λ (p : ℕ × List Item). p.1) same) at one.said in
+    one_meaning two.items script other (ap (λ (p : ℕ × List Item). p.0) same) said two.said

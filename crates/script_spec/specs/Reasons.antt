@@ -77,6 +77,16 @@ lacks_setup before = not (list_any is_phase before) && not (has_setup before)
 
 -- ---- 7: a number is out of range, or the calendar has no such moment
 
+-- the most processors and MiB of a script, and the most pulses of a statement
+abbrev pub largest_cpus : ℕ
+largest_cpus = 8
+
+abbrev pub largest_mib : ℕ
+largest_mib = 64
+
+abbrev pub largest_pulses : ℕ
+largest_pulses = 1_000_000
+
 abbrev pub is_base_in_range : Base → Bool
 is_base_in_range (MemoryBase bits) = is_within 4 24 bits
 is_base_in_range (IoBase bits) = is_within 2 8 bits
@@ -94,7 +104,7 @@ is_moment m =
     && nat_le m.hour 23 && nat_le m.minute 59 && nat_le m.second 59
 
 abbrev pub is_event_in_range : Event → Bool
-is_event_in_range (Pulses count) = is_within 1 1_000_000 count
+is_event_in_range (Pulses count) = is_within 1 largest_pulses count
 is_event_in_range (Time moment) = is_moment moment
 is_event_in_range (Wire dev on) = is_within 2 9 dev
 is_event_in_range (Line irq on) = is_free_line irq
@@ -102,8 +112,8 @@ is_event_in_range (BadSector sector) = nat_le sector 0xFFFF
 is_event_in_range _ = true
 
 abbrev pub is_in_range : Item → Bool
-is_in_range (SetCpus count) = is_within 1 8 count
-is_in_range (SetMemory mib) = is_within 1 64 mib
+is_in_range (SetCpus count) = is_within 1 largest_cpus count
+is_in_range (SetMemory mib) = is_within 1 largest_mib mib
 is_in_range (FitCard card) = is_card_in_range card
 is_in_range (Ask statement) = is_event_in_range statement.event
 is_in_range (AskLevel actor verb number level) = false

@@ -5,7 +5,7 @@ use Rattle.board_spec.specs.Limits.{most_statements, most_phases, most_pulses, m
 use Rattle.board_spec.specs.Setup.{Setup, IsCardList, memory_of_cards}
 use Rattle.board_spec.specs.InRange.{IsScripted}
 use Rattle.script_spec.specs.Grammar.{IsName}
-use Rattle.script_spec.specs.Reasons.{pulses_of_event}
+use Rattle.script_spec.specs.Reasons.{largest_cpus, largest_mib, pulses_of_event}
 use Rattle.script_spec.specs.ScriptText.{Script, IsVersion}
 
 abbrev pub IsDiskName : Option (List ℕ) → Type 0
@@ -20,9 +20,9 @@ statements_in script = flat_map (λ phase. phase) script.phases
 pub record IsInRangeScript (script : Script) : Type 0 where
   pub version : IsVersion script.version
   pub some_cpus : 1 ≤ script.cpus
-  pub most_cpus : script.cpus ≤ 8
+  pub most_cpus : script.cpus ≤ largest_cpus
   pub some_memory : 1 ≤ script.mib
-  pub most_memory : script.mib ≤ 64
+  pub most_memory : script.mib ≤ largest_mib
   pub rom : IsName script.rom
   pub disk : IsDiskName script.disk
   pub cards : IsCardList script.cards

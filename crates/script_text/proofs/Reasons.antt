@@ -17,7 +17,8 @@ use Rattle.script_spec.specs.Reasons.{reason, is_phase, is_statement, is_setup, 
 use Rattle.script_spec.proofs.ReadingLaws.{same_some}
 use Rattle.script_lines.specs.declared.item.Asked.{Asked}
 use Rattle.script_lines.specs.declared.item.Asked.TheVariants.{Event as AnEvent, Moment as AMoment, Wire as WireAt, Line as LineAt}
-use Rattle.script_lines.specs.Items.{ask, asked_said, moment_said}
+use Rattle.script_spec.specs.Items.{ask}
+use Rattle.script_lines.specs.Items.{asked_said, moment_said}
 use Rattle.script_text.specs.declared.fault.Reason.{Reason}
 use Rattle.script_text.specs.declared.reading.Reading.{Reading}
 use Rattle.script_text.specs.Valid.{in_case}

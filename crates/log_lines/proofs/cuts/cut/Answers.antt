@@ -1,7 +1,7 @@
 use Rattle.std.proofs.Common.{sym, ◌∙◌, rules, tests}
 use Rattle.std.proofs.lemmas.Iterator.{YieldsList-from_slice}
 use Rattle.std.proofs.lemmas.Iterator.Search.{position_from_yields_List}
-use Rattle.log_lines.proofs.CutLemmas.{is_mark, cut_at, uncut}
+use Rattle.log_lines.proofs.CutPlaces.{is_mark, cut_at, uncut}
 use Rattle.log_lines.proofs.cuts.cut.Goals as goal
 
 pub returns-in-Some-clause-parts : goal.returns-in-Some-clause-parts

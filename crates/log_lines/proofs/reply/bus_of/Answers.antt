@@ -1,4 +1,4 @@
-use Rattle.log_lines.proofs.ReplyBack.{narrow_value}
+use Rattle.script_spec.proofs.ReplyBack.{narrow_value}
 use Rattle.log_lines.proofs.reply.bus_of.Goals as goal
 
 pub narrowed-requires : goal.narrowed-requires

@@ -1,7 +1,7 @@
 use Rattle.std.proofs.Common.{◌∙◌, ap}
-use Rattle.script_lines.specs.Fields.{fields_of}
-use Rattle.log_lines.specs.Replies.{reply_in}
-use Rattle.log_lines.proofs.ReplyBack.{reply_read}
+use Rattle.script_spec.specs.Fields.{fields_of}
+use Rattle.script_spec.specs.Replies.{reply_in}
+use Rattle.script_spec.proofs.ReplyBack.{reply_read}
 use Rattle.log_lines.proofs.reply.read_reply.Goals as goal
 
 pub returns-clause-found : goal.returns-clause-found

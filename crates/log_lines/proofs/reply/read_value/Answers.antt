@@ -1,5 +1,5 @@
 use Rattle.std.proofs.Common.{sym}
-use Rattle.script_lines.proofs.NumberTexts.{hex_read}
+use Rattle.script_spec.proofs.NumberTexts.{hex_read}
 use Rattle.log_lines.proofs.reply.read_value.Goals as goal
 
 pub returns-clause-fits : goal.returns-clause-fits

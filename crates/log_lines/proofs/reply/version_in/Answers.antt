@@ -1,4 +1,4 @@
-use Rattle.log_lines.proofs.ReplyBack.{decimal_below}
+use Rattle.script_spec.proofs.ReplyBack.{decimal_below}
 use Rattle.log_lines.proofs.reply.version_in.Goals as goal
 
 pub returns-clause-below : goal.returns-clause-below

@@ -1,6 +1,6 @@
 use Rattle.std.proofs.Common.{subst}
 use Rattle.script_spec.specs.WellFormed.{IsReplyValue}
-use Rattle.log_lines.proofs.ReplyBack.{writes_is, wide_shape}
+use Rattle.script_spec.proofs.ReplyBack.{writes_is, wide_shape}
 use Rattle.log_lines.proofs.reply.wide_of.Goals as goal
 
 pub returns-clause-shape : goal.returns-clause-shape

@@ -1,5 +1,5 @@
 use Rattle.std.proofs.Common.{◌≡◌, length}
-use Rattle.script_lines.specs.Cards.{with_fields, no_tail}
+use Rattle.script_spec.specs.Cards.{with_fields, no_tail}
 use Rattle.script_lines.specs.Items.{tail_said}
 use Rattle.script_lines.proofs.card.tail_of.Given as goal
 

@@ -1,5 +1,5 @@
 use Rattle.std.proofs.Common.{◌≡◌, ◌<◌, ◌^◌, drop}
-use Rattle.script_lines.specs.Numbers.{number_after}
+use Rattle.script_spec.specs.Numbers.{number_after}
 use Rattle.script_lines.proofs.numbers.number_of.Given as goal
 
 abbrev pub invariant-loop-byte : goal.invariant-loop-byte

@@ -13,8 +13,8 @@ use Rattle.board_spec.specs.Bits.{byte, is_within}
 use Rattle.board_spec.specs.Text.{hex_digit, hex_number}
 use Rattle.script_spec.specs.Grammar.{IsDecimal, StandsFor}
 use Rattle.script_spec.proofs.Digits.{own}
-use Rattle.script_lines.specs.Numbers.{digit_value, digit_of, number_after, number_of, hex_of, has_leading_zero, decimal_of}
-use Rattle.script_lines.proofs.Chains.{some_is, guarded, then_said, both, is_within_is}
+use Rattle.script_spec.specs.Numbers.{digit_value, digit_of, number_after, number_of, hex_of, has_leading_zero, decimal_of}
+use Rattle.script_spec.proofs.Chains.{some_is, guarded, then_said, both, is_within_is}
 
 -- ---- one digit
 

@@ -9,8 +9,8 @@ use Rattle.board_base.specs.declared.target.Target.{Target}
 use Rattle.board_base.specs.declared.target.Target.TheVariants as targets
 use Rattle.board_base.specs.declared.target.Denial.{Denial}
 use Rattle.board_base.specs.declared.target.Denial.TheVariants.{Register, Confadd, NoRegister}
-use Rattle.script_lines.specs.Numbers.{hex_of, ◌>>=◌}
-use Rattle.log_lines.specs.Cuts.{cut, digit_in}
+use Rattle.script_spec.specs.Numbers.{hex_of, ◌>>=◌}
+use Rattle.script_spec.specs.Cuts.{cut, digit_in}
 
 -- ---- registers and denials
 

@@ -2,7 +2,7 @@
 use Rattle.std.specs.Prelude.{ℕ, ◌+◌, ◌*◌, List, [], ◌∷◌, Option, Some, None}
 use Rattle.board_base.specs.declared.moment.Moment.{Moment}
 use Rattle.board_base.specs.Calendar.{moment_of}
-use Rattle.script_lines.specs.Numbers.{two_digits_of, after_mark, ◌>>=◌}
+use Rattle.script_spec.specs.Numbers.{two_digits_of, after_mark, ◌>>=◌}
 
 -- two digits after a mark, and what follows
 unfoldable pub part_of : (mark : ℕ) → List ℕ → Option (ℕ × List ℕ)

@@ -9,11 +9,11 @@ use Rattle.std.proofs.lemmas.List.Elements.{All-nil, All-cons}
 use Rattle.board_spec.specs.Setup.{Base, MemoryBase, IoBase, FittedCard}
 use Rattle.board_spec.specs.Text.{space}
 use Rattle.script_spec.specs.Grammar.{IsBaseForm, IsRomForm, IsCardForm, base_text, rom_text, card_text}
-use Rattle.script_lines.specs.Numbers.{decimal_of}
-use Rattle.script_lines.specs.Cards.{base_of, Tail, rom_of, has_room, with_base, with_rom, with_field, with_fields, no_tail, vga_of, card_of}
-use Rattle.script_lines.proofs.Chains.{some_is, guarded, then_said, mapped}
-use Rattle.script_lines.proofs.NumberTexts.{decimal_read}
-use Rattle.script_lines.proofs.Joins.{word_is}
+use Rattle.script_spec.specs.Numbers.{decimal_of}
+use Rattle.script_spec.specs.Cards.{base_of, Tail, rom_of, has_room, with_base, with_rom, with_field, with_fields, no_tail, vga_of, card_of}
+use Rattle.script_spec.proofs.Chains.{some_is, guarded, then_said, mapped}
+use Rattle.script_spec.proofs.NumberTexts.{decimal_read}
+use Rattle.script_spec.proofs.Joins.{word_is}
 
 -- each word after a space
 abbrev pub spaced : List (List ℕ) → List ℕ

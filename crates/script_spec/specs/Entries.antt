@@ -1,8 +1,8 @@
 -- A line is taken apart: the reader's way through it.
 use Rattle.std.specs.Prelude.{ℕ, ◌-◌, List, length, take, Option, Some}
 use Rattle.board_spec.specs.Text.{space}
-use Rattle.script_lines.specs.Numbers.{decimal_of, ◌>>=◌}
-use Rattle.log_lines.specs.Cuts.{cut, byte_in}
+use Rattle.script_spec.specs.Numbers.{decimal_of, ◌>>=◌}
+use Rattle.script_spec.specs.Cuts.{cut, byte_in}
 
 -- `n A.S STATEMENT = REPLY`: what stands before the point, between it and the space before `=`, and after `=`
 pub record Pieces : Type 0 where

@@ -1,10 +1,10 @@
 -- A reply is read back from its words, and what is read has the shape of its event.
-use Rattle.std.proofs.Common.{◌≡◌, ℕ, zero, suc, ◌+◌, ◌-◌, ◌^◌, ◌<◌, ◌≤◌, ◌↔◌, Bool, true, false, eqb, Option, Some, None, List, [], ◌∷◌, ◌++◌, length, All, flat_map, refl, sym, ap, ◌∙◌, inl, inr, append-nil, arith, lit<}
+use Rattle.std.proofs.Common.{◌≡◌, ℕ, zero, suc, ◌+◌, ◌-◌, ◌^◌, ◌<◌, ◌≤◌, ◌↔◌, Bool, true, false, eqb, Option, Some, None, List, [], ◌∷◌, ◌++◌, length, All, flat_map, refl, sym, ap, ◌∙◌, inl, inr, append_assoc, append-nil, arith, lit<}
 use Rattle.std.specs.Prelude.{decimal, IfSome, IsTrue}
 use Rattle.std.specs.Option.{option_map}
 use Rattle.std.proofs.Math.Nat.{pow-le-pow_right}
 use Rattle.std.proofs.lemmas.Bool.{cases_Bool, eq-eqb, eqb-true, true≢false}
-use Rattle.std.proofs.lemmas.List.Elements.{All-nil, All-cons, All-head, All-tail}
+use Rattle.std.proofs.lemmas.List.Elements.{All-head, All-tail}
 use Rattle.board_base.specs.declared.access.Kind.{Kind}
 use Rattle.board_base.specs.declared.access.Kind.TheVariants.{Fetch, Read, Write}
 use Rattle.board_base.specs.declared.access.WideAccess.{WideAccess}
@@ -22,29 +22,42 @@ use Rattle.board_spec.specs.declared.event.Reply.TheVariants.{Bus, Parts as InPa
 use Rattle.board_spec.specs.Stored.{is_write}
 use Rattle.board_spec.specs.WideParts.{longest_at, parts_from, parts_of, parts_list}
 use Rattle.board_spec.specs.Text.{space, hex_long, area_text, target_text, denial_text}
-use Rattle.board_spec.specs.LogText.{value_bytes, value_text, reply_text}
+use Rattle.board_spec.specs.LogText.{value_bytes, value_text, answered_text, reply_text}
 use Rattle.script_spec.specs.Grammar.{IsDecimal}
 use Rattle.script_spec.specs.WellFormed.{FitsPart, IsReplyValue, IsBusReply, IsWideReply, IsLookReply, HasShape}
-use Rattle.script_spec.proofs.PlainText.{lacks-word, hex_number_word, decimal_word, area_word, target_word, denial_word}
+use Rattle.script_spec.proofs.PlainText.{is_word, lacks-word, hex_number_word, decimal_word, area_word, target_word, denial_word}
 use Rattle.script_spec.proofs.PlainLines.{value_word}
-use Rattle.script_spec.proofs.LineReading.{spaced, IsWord, split_words, four_parts}
-use Rattle.script_spec.proofs.ReplyReading.{words_of, parts_spaced, words_lack}
-use Rattle.script_lines.specs.Fields.{fields_of}
-use Rattle.script_lines.specs.Numbers.{hex_of, decimal_of}
-use Rattle.script_lines.proofs.NumberTexts.{decimal_read}
-use Rattle.script_lines.proofs.NumberBack.{decimal_back}
-use Rattle.log_lines.specs.Targets.{denial_of, area_of, target_of}
-use Rattle.log_lines.specs.Replies.{value_of, bus_of, part_of, last_parts, more_parts, parts_in, part_count, parts_with, wide_of, look_of, reply_of, reply_in}
-use Rattle.log_lines.proofs.TargetBack.{hex_read, denial_back, area_back, target_back}
+use Rattle.script_spec.proofs.Digits.{lacks}
+use Rattle.script_spec.proofs.CardTexts.{spaced, line_spaced}
+use Rattle.script_spec.proofs.Splits.{Lack, split_exact}
+use Rattle.script_spec.specs.Fields.{fields_of}
+use Rattle.script_spec.specs.Numbers.{hex_of, decimal_of}
+use Rattle.script_spec.proofs.NumberTexts.{decimal_read}
+use Rattle.script_spec.proofs.NumberBack.{decimal_back}
+use Rattle.script_spec.specs.Targets.{denial_of, area_of, target_of}
+use Rattle.script_spec.specs.Replies.{value_of, bus_of, part_of, last_parts, more_parts, parts_in, part_count, parts_with, wide_of, look_of, reply_of, reply_in}
+use Rattle.script_spec.proofs.TargetBack.{hex_read, denial_back, area_back, target_back}
 
 -- ---- the words of a reply
+
+abbrev words_of : List Part → List (List ℕ)
+words_of [] = []
+words_of (part ∷ later) = target_text part.target ∷ denial_text part.denial ∷ words_of later
 
 abbrev words_in : (bytes : ℕ) → Reply → List (List ℕ)
 words_in bytes (Bus value target denial) = value_text bytes value ∷ target_text target ∷ denial_text denial ∷ []
 words_in bytes (InParts parts value) = value_text bytes value ∷ words_of (parts_list parts)
 words_in bytes (Saw look) = decimal look.version ∷ hex_long look.lo ∷ hex_long look.hi ∷ area_text look.area ∷ []
 
-reply_spaced : (bytes : ℕ) (reply : Reply) → space ∷ reply_text bytes reply ≡ flat_map spaced (words_in bytes reply)
+parts_spaced : (parts : List Part) → flat_map (λ part. answered_text part.target part.denial) parts ≡ spaced (words_of parts)
+parts_spaced [] = refl
+parts_spaced (part ∷ later) =
+    append_assoc (space ∷ target_text part.target) (space ∷ denial_text part.denial) (flat_map
+    (λ p. answered_text p.target p.denial) later)
+    ∙ ap (λ (rest : List ℕ). (space ∷ target_text part.target) ++ ((space ∷ denial_text part.denial) ++ rest))
+    (parts_spaced later)
+
+reply_spaced : (bytes : ℕ) (reply : Reply) → space ∷ reply_text bytes reply ≡ spaced (words_in bytes reply)
 unfolding reply_text
 reply_spaced bytes (Bus value target denial) =
     ap (λ (rest : List ℕ). (space ∷ value_text bytes value) ++ ((space ∷ target_text target) ++ rest))
@@ -52,38 +65,34 @@ reply_spaced bytes (Bus value target denial) =
 reply_spaced bytes (InParts parts value) =
     ap (λ (rest : List ℕ). (space ∷ value_text bytes value) ++ rest) (parts_spaced (parts_list parts))
 reply_spaced bytes (Saw look) =
+    let version : List ℕ = decimal look.version in
+    let lo : List ℕ = space ∷ hex_long look.lo in
+    let hi : List ℕ = space ∷ hex_long look.hi in
     ap (λ (text : List ℕ). space ∷ text)
-    (four_parts (decimal look.version) (space ∷ hex_long look.lo) (space ∷ hex_long look.hi)
-    (space ∷ area_text look.area))
-    ∙ ap (λ (rest : List ℕ). (space ∷ decimal look.version) ++
-    ((space ∷ hex_long look.lo) ++ ((space ∷ hex_long look.hi) ++ rest)))
-    (sym (append-nil (space ∷ area_text look.area)))
+    (append_assoc (version ++ lo) hi (space ∷ area_text look.area) ∙ append_assoc version lo (hi ++ space ∷ area_text look.area))
+    ∙ ap (λ (rest : List ℕ). (space ∷ version) ++ (lo ++ (hi ++ rest))) (sym (append-nil (space ∷ area_text look.area)))
 
-reply_words : (bytes : ℕ) (reply : Reply) → All IsWord (words_in bytes reply)
-reply_words bytes (Bus value target denial) =
-    All-cons IsWord (value_text bytes value) (target_text target ∷ denial_text denial ∷ [])
-    (lacks-word space (value_text bytes value) refl (value_word bytes value))
-    (All-cons IsWord (target_text target) (denial_text denial ∷ [])
-    (lacks-word space (target_text target) refl (target_word target))
-    (All-cons IsWord (denial_text denial) [] (lacks-word space (denial_text denial) refl (denial_word denial))
-    (All-nil IsWord)))
-reply_words bytes (InParts parts value) =
-    All-cons IsWord (value_text bytes value) (words_of (parts_list parts))
-    (lacks-word space (value_text bytes value) refl (value_word bytes value))
-    (words_lack (parts_list parts))
-reply_words bytes (Saw look) =
-    let last : List (List ℕ) = area_text look.area ∷ [] in
-    All-cons IsWord (decimal look.version) (hex_long look.lo ∷ hex_long look.hi ∷ last)
-    (lacks-word space (decimal look.version) refl (decimal_word look.version))
-    (All-cons IsWord (hex_long look.lo) (hex_long look.hi ∷ last)
-    (lacks-word space (hex_long look.lo) refl (hex_number_word 4 look.lo))
-    (All-cons IsWord (hex_long look.hi) last (lacks-word space (hex_long look.hi) refl (hex_number_word 4 look.hi))
-    (All-cons IsWord (area_text look.area) [] (lacks-word space (area_text look.area) refl (area_word look.area))
-    (All-nil IsWord))))
+lack : (word : List ℕ) → is_word word ≡ true → lacks space word ≡ true
+lack word is = lacks-word space word refl is
 
+parts_lack : (parts : List Part) → Lack (words_of parts)
+parts_lack [] = tt
+parts_lack (part ∷ later) =
+    (lack (target_text part.target) (target_word part.target), (lack (denial_text part.denial) (denial_word part.denial), parts_lack later))
+
+words_lack : (bytes : ℕ) (reply : Reply) → Lack (words_in bytes reply)
+words_lack bytes (Bus value target denial) =
+    (lack (value_text bytes value) (value_word bytes value), (lack (target_text target) (target_word target), (lack (denial_text denial) (denial_word denial), tt)))
+words_lack bytes (InParts parts value) =
+    (lack (value_text bytes value) (value_word bytes value), parts_lack (parts_list parts))
+words_lack bytes (Saw look) =
+    (lack (decimal look.version) (decimal_word look.version), (lack (hex_long look.lo) (hex_number_word 4 look.lo), (lack (hex_long look.hi) (hex_number_word 4 look.hi), (lack (area_text look.area) (area_word look.area), tt))))
+
+-- the first field is empty
 reply_fields : (bytes : ℕ) (reply : Reply) → fields_of (space ∷ reply_text bytes reply) ≡ [] ∷ words_in bytes reply
-reply_fields bytes reply = ap fields_of (reply_spaced bytes reply) ∙ split_words (words_in bytes reply)
-    (reply_words bytes reply)
+reply_fields bytes reply =
+    ap fields_of (reply_spaced bytes reply ∙ sym (line_spaced [] (words_in bytes reply)))
+    ∙ split_exact [] (words_in bytes reply) (refl, words_lack bytes reply)
 
 -- ---- from its words
 

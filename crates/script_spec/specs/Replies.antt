@@ -13,8 +13,8 @@ use Rattle.board_spec.specs.declared.event.Reply.TheVariants.{Bus, Parts as InPa
 use Rattle.board_spec.specs.Stored.{is_write}
 use Rattle.board_spec.specs.WideParts.{longest_at, parts_list}
 use Rattle.board_spec.specs.Answer.{outside_answer}
-use Rattle.script_lines.specs.Numbers.{hex_of, decimal_of, ◌>>=◌}
-use Rattle.log_lines.specs.Targets.{denial_of, area_of, target_of}
+use Rattle.script_spec.specs.Numbers.{hex_of, decimal_of, ◌>>=◌}
+use Rattle.script_spec.specs.Targets.{denial_of, area_of, target_of}
 
 abbrev pub no_value : List ℕ → Option (Option ℕ)
 no_value field = if bytes_eq field (codes "-") then Some None else None

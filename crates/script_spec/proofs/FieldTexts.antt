@@ -11,9 +11,9 @@ use Rattle.board_spec.specs.LogText.{two_digits, moment_text}
 use Rattle.script_spec.specs.Grammar.{IsDecimal, is_name_byte}
 use Rattle.script_spec.proofs.Digits.{lacks, digits_of_decimal}
 use Rattle.script_spec.proofs.PlainText.{hex_number_word, decimal_word, lacks-word}
-use Rattle.script_lines.proofs.Chains.{is_within_is}
-use Rattle.script_lines.proofs.Joins.{word_is}
-use Rattle.script_lines.proofs.NumberBack.{is_plain}
+use Rattle.script_spec.proofs.Chains.{is_within_is}
+use Rattle.script_spec.proofs.Joins.{word_is}
+use Rattle.script_spec.proofs.NumberBack.{is_plain}
 
 -- what passes one test passes another
 all_so : (p q : ℕ → Bool) → ((b : ℕ) → p b ≡ true → q b ≡ true) → (bytes : List ℕ) → list_all p bytes ≡ true → list_all q bytes ≡ true

@@ -6,9 +6,9 @@ use Rattle.std.proofs.lemmas.List.{length-append}
 use Rattle.std.proofs.lemmas.List.Elements.{All-head, All-tail}
 use Rattle.board_spec.specs.Setup.{Base, MemoryBase, IoBase}
 use Rattle.script_spec.specs.Grammar.{IsBaseForm, IsRomForm}
-use Rattle.script_lines.specs.Cards.{base_of, rom_of, with_base, with_rom, with_field, with_fields}
-use Rattle.script_lines.proofs.NumberBack.{decimal_back}
-use Rattle.script_lines.proofs.CardTexts.{fresh}
+use Rattle.script_spec.specs.Cards.{base_of, rom_of, with_base, with_rom, with_field, with_fields}
+use Rattle.script_spec.proofs.NumberBack.{decimal_back}
+use Rattle.script_spec.proofs.CardTexts.{fresh}
 
 abbrev pub base_word : Base → List ℕ
 base_word (MemoryBase bits) = codes "m" ++ decimal bits

@@ -14,9 +14,9 @@ use Rattle.board_spec.specs.Bits.{byte, is_within}
 use Rattle.board_spec.specs.Text.{hex_digit, hex_number}
 use Rattle.script_spec.specs.Grammar.{IsDecimal, StandsFor}
 use Rattle.script_spec.proofs.Digits.{own, digits_of_decimal}
-use Rattle.script_lines.specs.Numbers.{digit_of, number_after, number_of, hex_of, has_leading_zero, decimal_of}
-use Rattle.script_lines.proofs.NumberTexts.{quotient, digit_again}
-use Rattle.script_lines.proofs.Joins.{Spells}
+use Rattle.script_spec.specs.Numbers.{digit_of, number_after, number_of, hex_of, has_leading_zero, decimal_of}
+use Rattle.script_spec.proofs.NumberTexts.{quotient, digit_again}
+use Rattle.script_spec.proofs.Joins.{Spells}
 
 -- ---- texts without capitals A to F stand for themselves alone
 

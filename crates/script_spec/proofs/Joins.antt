@@ -6,8 +6,8 @@ use Rattle.std.proofs.lemmas.Slice.Eq.{bytes_eq-Decides}
 use Rattle.board_spec.specs.Text.{space}
 use Rattle.board_spec.specs.LogText.{smm_text}
 use Rattle.script_spec.specs.Grammar.{StandsFor}
-use Rattle.script_lines.specs.Events.{smm_of}
-use Rattle.script_lines.proofs.Chains.{some_is, guarded}
+use Rattle.script_spec.specs.Events.{smm_of}
+use Rattle.script_spec.proofs.Chains.{some_is, guarded}
 
 abbrev pub Spells : List ℕ → List ℕ → Type 0
 Spells field text = AllZip StandsFor field text

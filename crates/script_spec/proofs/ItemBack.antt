@@ -8,15 +8,15 @@ use Rattle.board_spec.specs.Text.{space}
 use Rattle.board_spec.specs.LogText.{event_text}
 use Rattle.script_spec.specs.Grammar.{Item, SetCpus, SetMemory, SetRom, SetDisk, FitCard, BeginPhase, Ask, AskLevel, IsDecimal, IsForm, IsLevelForm, Says, HasForm, item_text}
 use Rattle.script_spec.proofs.Digits.{lacks}
-use Rattle.script_lines.specs.Fields.{fields_of}
-use Rattle.script_lines.specs.Items.{ask, wire_item, line_item, wire_asked, line_asked, asked_with, asked_of, statement_of, item_with, item_of}
-use Rattle.script_lines.proofs.Joins.{Spells, Reads}
-use Rattle.script_lines.proofs.ItemTexts.{level_joined}
-use Rattle.script_lines.proofs.Splits.{split}
-use Rattle.script_lines.proofs.NumberBack.{decimal_back}
-use Rattle.script_lines.proofs.FieldTexts.{lacks_decimal, no_word}
-use Rattle.script_lines.proofs.EventForms.{IsReadBack, event_back, number_is, two_back}
-use Rattle.script_lines.proofs.SetupBack.{IsLineBack, exact_back, cpus_back, memory_back, phase_back, rom_back, disk_back, card_back}
+use Rattle.script_spec.specs.Fields.{fields_of}
+use Rattle.script_spec.specs.Items.{ask, wire_item, line_item, wire_asked, line_asked, asked_with, asked_of, statement_of, item_with, item_of}
+use Rattle.script_spec.proofs.Joins.{Spells, Reads}
+use Rattle.script_spec.proofs.ItemTexts.{level_joined}
+use Rattle.script_spec.proofs.Splits.{split}
+use Rattle.script_spec.proofs.NumberBack.{decimal_back}
+use Rattle.script_spec.proofs.FieldTexts.{lacks_decimal, no_word}
+use Rattle.script_spec.proofs.EventForms.{IsReadBack, event_back, number_is, two_back}
+use Rattle.script_spec.proofs.SetupBack.{IsLineBack, exact_back, cpus_back, memory_back, phase_back, rom_back, disk_back, card_back}
 
 -- ---- statements
 

@@ -1,5 +1,5 @@
 -- A line that spells fields has just those fields.
-use Rattle.std.proofs.Common.{◌≡◌, ℕ, inl, inr, true, false, leb, List, [], ◌∷◌, ◌++◌, refl, sym, ap, subst, ◌∙◌, All, arith}
+use Rattle.std.proofs.Common.{◌≡◌, ℕ, inl, inr, Bool, true, false, eqb, leb, List, [], ◌∷◌, ◌++◌, refl, sym, ap, subst, ◌∙◌, All, arith}
 use Rattle.std.specs.List.{join_with_byte}
 use Rattle.std.proofs.lemmas.Bool.{and_parts, leb-true, ne_eqb, true≢false}
 use Rattle.std.proofs.lemmas.List.Elements.{All-nil, All-cons}
@@ -8,9 +8,11 @@ use Rattle.board_spec.specs.Text.{space}
 use Rattle.script_spec.specs.Grammar.{StandsFor}
 use Rattle.script_spec.proofs.Digits.{lacks}
 use Rattle.script_spec.proofs.Fields.{lacks-first, lacks-later}
-use Rattle.script_lines.specs.Fields.{fields_of}
-use Rattle.script_lines.proofs.FieldLemmas.{is_space}
-use Rattle.script_lines.proofs.Joins.{Spells, Reads}
+use Rattle.script_spec.specs.Fields.{fields_of}
+use Rattle.script_spec.proofs.Joins.{Spells, Reads}
+
+abbrev is_space : ℕ → Bool
+is_space byte = eqb byte 32
 
 no_space : (written byte : ℕ) → StandsFor written byte → is_space byte ≡ false → is_space written ≡ false
 no_space written byte (inl is) other = rw is other

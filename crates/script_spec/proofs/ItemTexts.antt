@@ -13,18 +13,18 @@ use Rattle.board_spec.specs.Text.{space}
 use Rattle.board_spec.specs.LogText.{event_text, moment_text, level_text}
 use Rattle.script_spec.specs.Grammar.{Item, IsEventForm, SetCpus, SetMemory, SetRom, SetDisk, FitCard, BeginPhase, AskLevel, IsDecimal, IsName, HasForm, item_text, is_name_start, is_name_byte}
 use Rattle.script_spec.proofs.Digits.{own}
-use Rattle.script_lines.specs.Fields.{fields_of}
-use Rattle.script_lines.specs.Numbers.{decimal_of}
-use Rattle.script_lines.specs.Events.{event_of, number_in}
-use Rattle.script_lines.specs.Cards.{card_of}
-use Rattle.script_lines.specs.Moments.{moment_in}
-use Rattle.script_lines.specs.Items.{ask, two_numbers_in, only_moment, moment_asked, wire_asked, line_asked, event_asked, asked_with, asked_of, is_name, name_in, phase_of, statement_of, item_with, item_of}
-use Rattle.script_lines.proofs.Chains.{some_is, guarded, then_said, mapped, both}
-use Rattle.script_lines.proofs.NumberTexts.{decimal_read}
-use Rattle.script_lines.proofs.Joins.{Spells, same, same_as, joined, zipped, word_is}
-use Rattle.script_lines.proofs.EventTexts.{IsRead, event_read, number_read}
-use Rattle.script_lines.proofs.MomentTexts.{moment_read}
-use Rattle.script_lines.proofs.CardTexts.{card_read}
+use Rattle.script_spec.specs.Fields.{fields_of}
+use Rattle.script_spec.specs.Numbers.{decimal_of}
+use Rattle.script_spec.specs.Events.{event_of, number_in}
+use Rattle.script_spec.specs.Cards.{card_of}
+use Rattle.script_spec.specs.Moments.{moment_in}
+use Rattle.script_spec.specs.Items.{ask, two_numbers_in, only_moment, moment_asked, wire_asked, line_asked, event_asked, asked_with, asked_of, is_name, name_in, phase_of, statement_of, item_with, item_of}
+use Rattle.script_spec.proofs.Chains.{some_is, guarded, then_said, mapped, both}
+use Rattle.script_spec.proofs.NumberTexts.{decimal_read}
+use Rattle.script_spec.proofs.Joins.{Spells, same, same_as, joined, zipped, word_is}
+use Rattle.script_spec.proofs.EventTexts.{IsRead, event_read, number_read}
+use Rattle.script_spec.proofs.MomentTexts.{moment_read}
+use Rattle.script_spec.proofs.CardTexts.{card_read}
 
 -- the line of these fields
 abbrev line : List (List ℕ) → List ℕ

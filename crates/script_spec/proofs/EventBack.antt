@@ -10,9 +10,9 @@ use Rattle.board_base.specs.Access.{bytes_of}
 use Rattle.board_spec.specs.declared.event.Event.TheVariants.{Port, Look as LookAt}
 use Rattle.board_spec.specs.Text.{hex_number}
 use Rattle.board_spec.specs.LogText.{size_text, width_text, kind_text}
-use Rattle.script_lines.specs.Events.{width_of, size_of, kind_of, smm_of, IsSize, memory_event, read_of, write_of, in_of, out_of, look_of}
-use Rattle.script_lines.proofs.Joins.{Spells, Reads, smm_words}
-use Rattle.script_lines.proofs.NumberBack.{plain_is, hex_back}
+use Rattle.script_spec.specs.Events.{width_of, size_of, kind_of, smm_of, IsSize, memory_event, read_of, write_of, in_of, out_of, look_of}
+use Rattle.script_spec.proofs.Joins.{Spells, Reads, smm_words}
+use Rattle.script_spec.proofs.NumberBack.{plain_is, hex_back}
 
 -- ---- letters
 

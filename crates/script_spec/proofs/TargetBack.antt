@@ -1,8 +1,9 @@
 -- A word of a reply is read as what it names.
-use Rattle.std.proofs.Common.{◌≡◌, ℕ, zero, suc, ◌+◌, ◌*◌, ◌/◌, ◌%◌, ◌^◌, ◌<◌, ◌⊎◌, true, Option, Some, None, List, [], ◌∷◌, ◌++◌, refl, sym, ap, ◌∙◌, inl, inr, append_assoc, arith}
+use Rattle.std.proofs.Common.{◌≡◌, ℕ, zero, suc, ◌+◌, ◌*◌, ◌/◌, ◌%◌, ◌^◌, ◌<◌, ◌⊎◌, true, false, cond, eqb, ltb, Option, Some, None, List, [], ◌∷◌, ◌++◌, refl, sym, ap, ◌∙◌, inl, inr, append_assoc, arith}
 use Rattle.std.specs.Prelude.{codes, decimal}
 use Rattle.std.specs.Fmt.{digits}
 use Rattle.std.specs.Option.{option_map}
+use Rattle.std.proofs.lemmas.Bool.{lt-ltb, le-ltb, ne_eqb, cases_lt}
 use Rattle.std.proofs.lemmas.Fmt.{decimal_digit}
 use Rattle.board_base.specs.declared.target.Reg.{Reg}
 use Rattle.board_base.specs.declared.target.Dev.{Dev}
@@ -18,14 +19,13 @@ use Rattle.board_spec.specs.Text.{hex_digit, hex_byte, hex_number, hex_long, hex
 use Rattle.script_spec.specs.WellFormed.{FitsReg, FitsArea, FitsDevice, FitsTarget, FitsDenial}
 use Rattle.script_spec.proofs.Digits.{lacks}
 use Rattle.script_spec.proofs.Fields.{lacks-append, lacks-decimal}
-use Rattle.script_spec.proofs.ReplyReading.{digit_not}
-use Rattle.script_lines.specs.Numbers.{digit_of, number_after, hex_of}
-use Rattle.script_lines.proofs.Joins.{same}
-use Rattle.script_lines.proofs.NumberTexts.{digit_again}
-use Rattle.script_lines.proofs.NumberBack.{digit_so, hex_digit_read, hex_after, hex_back}
-use Rattle.log_lines.specs.Cuts.{cut, digit_in}
-use Rattle.log_lines.specs.Targets.{register_of, denial_with, denial_of, base_of, placed_area, area_of, card_of, placed_target, device_of, target_of}
-use Rattle.log_lines.proofs.CutLemmas.{cut_field}
+use Rattle.script_spec.specs.Numbers.{digit_of, number_after, hex_of}
+use Rattle.script_spec.proofs.Joins.{same}
+use Rattle.script_spec.proofs.NumberTexts.{digit_again}
+use Rattle.script_spec.proofs.NumberBack.{digit_so, hex_digit_read, hex_after, hex_back}
+use Rattle.script_spec.specs.Cuts.{cut, digit_in}
+use Rattle.script_spec.specs.Targets.{register_of, denial_with, denial_of, base_of, placed_area, area_of, card_of, placed_target, device_of, target_of}
+use Rattle.script_spec.proofs.CutLemmas.{cut_field}
 
 -- ---- numbers
 
@@ -61,6 +61,16 @@ digit_back n small =
     rw (decimal_digit n small) (digit_so (48 + n) n (omega arith) (omega (arith, small)) (omega arith) small)
 
 -- ---- registers and denials
+
+digit_is_not : (d mark : ℕ) → d < 16 → (mark < 0x30) ⊎ (0x46 < mark) → cond (ltb d 10) (0x30 + d) (0x37 + d) ≡ mark → ⊥
+digit_is_not d mark small outside =
+    elim (cases_lt d 10) [
+      | inl digit ↦ rw (lt-ltb d 10 digit) (λ same. grind (arith, outside, same))
+      | inr letter ↦ rw (le-ltb d 10 letter) (λ same. grind (arith, outside, same))
+    ]
+
+digit_not : (n mark : ℕ) → (mark < 0x30) ⊎ (0x46 < mark) → eqb (hex_digit n) mark ≡ false
+digit_not n mark outside = ne_eqb (hex_digit n) mark (digit_is_not (n % 0x10) mark (omega arith) outside)
 
 hex_lacks : (mark n : ℕ) → (mark < 0x30) ⊎ (0x46 < mark) → lacks mark (hex_digit n ∷ []) ≡ true
 hex_lacks mark n outside = rw (digit_not n mark outside) refl

@@ -15,11 +15,11 @@ use Rattle.board_spec.specs.InRange.{FitsBytes}
 use Rattle.board_spec.specs.Text.{space, hex_number}
 use Rattle.board_spec.specs.LogText.{size_text, width_text, kind_text, memory_text, event_text}
 use Rattle.script_spec.specs.Grammar.{IsDecimal, IsEventForm}
-use Rattle.script_lines.specs.Numbers.{hex_of}
-use Rattle.script_lines.specs.Events.{width_of, quad_of, size_of, kind_of, smm_of, IsSize, width_with, is_wide, memory_event, read_of, write_of, in_of, out_of, look_of, ack_of, number_in, pulses_of, sector_of, event_of}
-use Rattle.script_lines.proofs.Chains.{some_is, guarded, then_said, both}
-use Rattle.script_lines.proofs.NumberTexts.{decimal_read, hex_read}
-use Rattle.script_lines.proofs.Joins.{Reads, same, same_as, word_is, smm_words, smm_read, access_joined, write_joined, look_joined, port_joined, out_joined}
+use Rattle.script_spec.specs.Numbers.{hex_of}
+use Rattle.script_spec.specs.Events.{width_of, quad_of, size_of, kind_of, smm_of, IsSize, width_with, is_wide, memory_event, read_of, write_of, in_of, out_of, look_of, ack_of, number_in, pulses_of, sector_of, event_of}
+use Rattle.script_spec.proofs.Chains.{some_is, guarded, then_said, both}
+use Rattle.script_spec.proofs.NumberTexts.{decimal_read, hex_read}
+use Rattle.script_spec.proofs.Joins.{Reads, same, same_as, word_is, smm_words, smm_read, access_joined, write_joined, look_joined, port_joined, out_joined}
 
 -- fields spell an event
 pub record IsRead (version : ℕ) (fields : List (List ℕ)) (event : Event) : Type 0 where

@@ -19,15 +19,15 @@ use Rattle.board_spec.specs.Text.{space, hex_number}
 use Rattle.board_spec.specs.LogText.{size_text, width_text, kind_text, level_text, memory_text, moment_text, event_text}
 use Rattle.script_spec.specs.Grammar.{Item, IsDecimal, IsWideForm, IsMomentForm, IsEventForm}
 use Rattle.script_spec.proofs.Digits.{lacks, digits_of_decimal}
-use Rattle.script_lines.specs.Events.{IsSize, memory_event, read_of, ack_of, number_in, event_of}
-use Rattle.script_lines.specs.Items.{ask, wire_item, line_item, two_numbers_in, only_moment, moment_asked, wire_asked, line_asked, event_asked, asked_with, asked_of}
-use Rattle.script_lines.proofs.Joins.{Spells, Reads, smm_words, access_joined, write_joined, look_joined, port_joined, out_joined}
-use Rattle.script_lines.proofs.Splits.{Lack}
-use Rattle.script_lines.proofs.ItemTexts.{zero_text, one_text}
-use Rattle.script_lines.proofs.NumberBack.{is_plain, plain_is, plain-digits, decimal_back}
-use Rattle.script_lines.proofs.EventBack.{read_spelled, write_spelled, in_spelled, out_spelled, look_spelled}
-use Rattle.script_lines.proofs.MomentBack.{moment_back}
-use Rattle.script_lines.proofs.FieldTexts.{lacks_decimal, lacks_hex, lacks_moment, plain_moment}
+use Rattle.script_spec.specs.Events.{IsSize, memory_event, read_of, ack_of, number_in, event_of}
+use Rattle.script_spec.specs.Items.{ask, wire_item, line_item, two_numbers_in, only_moment, moment_asked, wire_asked, line_asked, event_asked, asked_with, asked_of}
+use Rattle.script_spec.proofs.Joins.{Spells, Reads, smm_words, access_joined, write_joined, look_joined, port_joined, out_joined}
+use Rattle.script_spec.proofs.Splits.{Lack}
+use Rattle.script_spec.proofs.ItemTexts.{zero_text, one_text}
+use Rattle.script_spec.proofs.NumberBack.{is_plain, plain_is, plain-digits, decimal_back}
+use Rattle.script_spec.proofs.EventBack.{read_spelled, write_spelled, in_spelled, out_spelled, look_spelled}
+use Rattle.script_spec.proofs.MomentBack.{moment_back}
+use Rattle.script_spec.proofs.FieldTexts.{lacks_decimal, lacks_hex, lacks_moment, plain_moment}
 
 -- the fields of an event after the processor's number, which are read as it
 pub record IsReadBack (version actor : ℕ) (event : Event) : Type 0 where

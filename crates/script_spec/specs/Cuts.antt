@@ -1,6 +1,6 @@
 -- A text is cut at a mark.
 use Rattle.std.specs.Prelude.{ℕ, ◌==◌, nat_lt, List, [], ◌∷◌, if◌then◌else◌, Option, Some, None, option_map}
-use Rattle.script_lines.specs.Numbers.{digit_of}
+use Rattle.script_spec.specs.Numbers.{digit_of}
 
 -- what stands before the first mark, and after it
 unfoldable pub cut : (mark : ℕ) → List ℕ → Option (List ℕ × List ℕ)

@@ -5,9 +5,9 @@ use Rattle.board_base.specs.declared.moment.Moment.{Moment}
 use Rattle.board_base.specs.Calendar.{moment_of}
 use Rattle.board_spec.specs.LogText.{two_digits, moment_text}
 use Rattle.script_spec.specs.Grammar.{IsMomentForm}
-use Rattle.script_lines.specs.Numbers.{two_digits_of, after_mark}
-use Rattle.script_lines.specs.Moments.{part_of, year_of, date_of, time_of, moment_with, moment_in}
-use Rattle.script_lines.proofs.NumberBack.{digit_so}
+use Rattle.script_spec.specs.Numbers.{two_digits_of, after_mark}
+use Rattle.script_spec.specs.Moments.{part_of, year_of, date_of, time_of, moment_with, moment_in}
+use Rattle.script_spec.proofs.NumberBack.{digit_so}
 
 two_back : (n : ℕ) (rest : List ℕ) → n < 100 → two_digits_of (two_digits n ++ rest) ≡ Some (n, rest)
 unfolding two_digits_of

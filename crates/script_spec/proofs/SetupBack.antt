@@ -8,15 +8,15 @@ use Rattle.board_spec.specs.Setup.{Base, MemoryBase, IoBase, FittedCard}
 use Rattle.board_spec.specs.Text.{space}
 use Rattle.script_spec.specs.Grammar.{Item, SetCpus, SetMemory, SetRom, SetDisk, FitCard, BeginPhase, IsDecimal, IsName, IsCardForm, base_text, rom_text, item_text, is_name_start, is_name_byte}
 use Rattle.script_spec.proofs.Digits.{lacks}
-use Rattle.script_lines.specs.Events.{number_in}
-use Rattle.script_lines.specs.Cards.{card_of}
-use Rattle.script_lines.specs.Fields.{fields_of}
-use Rattle.script_lines.specs.Items.{is_name, name_in, phase_of, item_with, item_of}
-use Rattle.script_lines.proofs.Splits.{Lack, split_exact}
-use Rattle.script_lines.proofs.NumberBack.{decimal_back}
-use Rattle.script_lines.proofs.CardTexts.{spaced, line_spaced, kind_word, card_parts}
-use Rattle.script_lines.proofs.CardBack.{base_word, rom_words, tail_back}
-use Rattle.script_lines.proofs.FieldTexts.{lacks_decimal, lacks_name}
+use Rattle.script_spec.specs.Events.{number_in}
+use Rattle.script_spec.specs.Cards.{card_of}
+use Rattle.script_spec.specs.Fields.{fields_of}
+use Rattle.script_spec.specs.Items.{is_name, name_in, phase_of, item_with, item_of}
+use Rattle.script_spec.proofs.Splits.{Lack, split_exact}
+use Rattle.script_spec.proofs.NumberBack.{decimal_back}
+use Rattle.script_spec.proofs.CardTexts.{spaced, line_spaced, kind_word, card_parts}
+use Rattle.script_spec.proofs.CardBack.{base_word, rom_words, tail_back}
+use Rattle.script_spec.proofs.FieldTexts.{lacks_decimal, lacks_name}
 
 -- a line is read as this item
 abbrev pub IsLineBack : (version : ℕ) → (line : List ℕ) → Item → Type 0

@@ -8,7 +8,7 @@ use Rattle.board_base.specs.declared.access.Kind.{Kind}
 use Rattle.board_base.specs.declared.access.Kind.TheVariants.{Fetch, Read, Write}
 use Rattle.board_spec.specs.declared.event.Event.{Event}
 use Rattle.board_spec.specs.declared.event.Event.TheVariants.{Memory, Wide, Port, Look as LookAt, Ack, Pulses, BadSector}
-use Rattle.script_lines.specs.Numbers.{hex_of, decimal_of, ◌>>=◌}
+use Rattle.script_spec.specs.Numbers.{hex_of, decimal_of, ◌>>=◌}
 
 -- ---- fields
 

@@ -5,10 +5,10 @@ use Rattle.board_base.specs.declared.moment.Moment.{Moment}
 use Rattle.board_base.specs.Calendar.{moment_of}
 use Rattle.board_spec.specs.LogText.{two_digits, moment_text}
 use Rattle.script_spec.specs.Grammar.{IsMomentForm}
-use Rattle.script_lines.specs.Numbers.{digit_of, two_digits_of, after_mark}
-use Rattle.script_lines.specs.Moments.{part_of, year_of, Three, date_of, time_of, moment_with, moment_in}
-use Rattle.script_lines.proofs.Chains.{some_is, guarded, then_said}
-use Rattle.script_lines.proofs.NumberTexts.{ten_is}
+use Rattle.script_spec.specs.Numbers.{digit_of, two_digits_of, after_mark}
+use Rattle.script_spec.specs.Moments.{part_of, year_of, Three, date_of, time_of, moment_with, moment_in}
+use Rattle.script_spec.proofs.Chains.{some_is, guarded, then_said}
+use Rattle.script_spec.proofs.NumberTexts.{ten_is}
 
 digits_again : (high low n : ℕ) → high < 10 → low < 10 → n ≡ high * 10 + low → (0x30 + n / 10 % 10 ≡ 48 + high) × (0x30 + n % 10 ≡ 48 + low)
 digits_again high low n a b is = (omega (arith, is), omega (arith, is))

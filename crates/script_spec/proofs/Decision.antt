@@ -1,0 +1,326 @@
+-- What a text says is found line by line: the items of a script, or the first bad line and the least reason.
+use Rattle.std.proofs.Common.{ℕ, ◌≡◌, ◌⊎◌, ◌+◌, Bool, true, false, Option, Some, None, Result, Ok, Err, List, [], ◌∷◌, ◌++◌, length, refl, sym, ap, subst, ◌∙◌, inl, inr, append-nil, arith}
+use Rattle.std.specs.Fmt.{digits}
+use Rattle.std.specs.Prelude.{◌<◌, nat_lt, if◌then◌else◌, bytes_eq, ◌≤◌}
+use Rattle.std.proofs.lemmas.Bool.{cases_Bool, cases_lt, lt-ltb, le-ltb, true≢false}
+use Rattle.std.proofs.lemmas.Slice.Eq.{bytes_eq-Decides}
+use Rattle.script_spec.specs.Lines.{lines_of}
+use Rattle.script_spec.specs.Grammar.{Item, HasForm}
+use Rattle.script_spec.specs.Items.{read_line}
+use Rattle.script_spec.specs.Reasons.{lacks_setup, least_reason}
+use Rattle.script_spec.specs.ScriptText.{most_bytes, is_skipped, IsBadLine, AreRead, EndsBadly, IsVersion, first_line, BeginsBadly, IsBadLater, Script, IsScriptText}
+use Rattle.script_spec.proofs.LineReading.{read_says, nothing_said}
+use Rattle.script_spec.proofs.Lists.{same_head, not_nil}
+use Rattle.script_spec.proofs.ItemBack.{line_back}
+
+-- ---- one line, after the items before it
+
+abbrev pub judged_item : List Item → Item → Option ℕ → Result (List Item) ℕ
+judged_item before item None = Ok (item ∷ before)
+judged_item before item (Some why) = Err why
+
+abbrev pub judged_form : List Item → Option Item → Result (List Item) ℕ
+judged_form before None = Err 3
+judged_form before (Some item) = judged_item before item (least_reason before item)
+
+abbrev pub judged_line : (version : ℕ) → List Item → List ℕ → Result (List Item) ℕ
+judged_line version before line =
+    if nat_lt most_bytes (length line) then Err 2 else
+    if is_skipped line then Ok before else judged_form before (read_line version line)
+
+abbrev IsLine : (version : ℕ) → List Item → List ℕ → Result (List Item) ℕ → Type 0
+IsLine version before line (Ok items) = AreRead version before (line ∷ []) items
+IsLine version before line (Err why) = IsBadLine version before line why
+
+reason_is : (version : ℕ) (before : List Item) (line : List ℕ) (item : Item) → length line ≤ most_bytes →
+    is_skipped line ≡ false → read_line version line ≡ Some item → (reason : Option ℕ) →
+    least_reason before item ≡ reason → IsLine version before line (judged_item before item reason)
+reason_is version before line item short read e None none =
+    inr (item, record { short = short; read = read; has = read_says version line item e; none = none }, refl)
+reason_is version before line item short read e (Some why) least =
+    inr (inr (record { short = short; read = read; item = item; has = read_says version line item e; least = least }))
+
+form_is : (version : ℕ) (before : List Item) (line : List ℕ) → length line ≤ most_bytes → is_skipped line ≡ false →
+    (found : Option Item) → read_line version line ≡ found → IsLine version before line (judged_form before found)
+form_is version before line short read None e =
+    inr (inl (record { short = short; read = read; none = nothing_said version line e }, refl))
+form_is version before line short read (Some item) e =
+    reason_is version before line item short read e (least_reason before item) refl
+
+line_is : (version : ℕ) (before : List Item) (line : List ℕ) → IsLine version before line (judged_line version before line)
+line_is version before line =
+    elim (cases_lt most_bytes (length line)) [
+      | inl long ↦ rw (lt-ltb most_bytes (length line) long) (inl (long, refl))
+      | inr short ↦
+          rw (le-ltb most_bytes (length line) short) (
+          elim (cases_Bool (is_skipped line)) [
+            | inl skipped ↦ rw skipped (inl (record { short = short; skipped = skipped }, refl))
+            | inr read ↦ rw read (form_is version before line short read (read_line version line) refl)
+          ]
+          )
+    ]
+
+-- ---- the lines after the first, of which the next has this number
+
+abbrev goes_on : Result (List Item) ℕ → (number : ℕ) → (List Item → Result (List Item) (ℕ × ℕ)) → Result (List Item) (ℕ × ℕ)
+goes_on (Ok items) number later = later items
+goes_on (Err why) number later = Err (number, why)
+
+unfoldable pub judged_lines : (version : ℕ) → List Item → (number : ℕ) → List (List ℕ) → Result (List Item) (ℕ × ℕ)
+judged_lines version before number [] = if lacks_setup before then Err (number, 6) else Ok before
+judged_lines version before number (line ∷ later) =
+    goes_on (judged_line version before line) number (λ items. judged_lines version items (number + 1) later)
+
+record Stops (version : ℕ) (before : List Item) (lines : List (List ℕ)) (number : ℕ) (end : ℕ × ℕ) : Type 0 where
+  good : List (List ℕ)
+  rest : List (List ℕ)
+  cut : lines ≡ good ++ rest
+  items : List Item
+  read : AreRead version before good items
+  bad : EndsBadly version items rest end.1
+  place : end.0 ≡ length good + number
+
+abbrev AreLines : (version : ℕ) → List Item → List (List ℕ) → (number : ℕ) → Result (List Item) (ℕ × ℕ) → Type 0
+AreLines version before lines number (Ok items) = AreRead version before lines items × (lacks_setup items ≡ false)
+AreLines version before lines number (Err end) = Stops version before lines number end
+
+after_line : (version : ℕ) (line : List ℕ) (later : List (List ℕ)) (before items ends : List Item) →
+    AreRead version before (line ∷ []) items → AreRead version items later ends → AreRead version before (line ∷ later) ends
+after_line version line later before items ends (inl skipped) read =
+    inl (skipped.0, subst (λ (b : List Item). AreRead version b later ends) skipped.1 read)
+after_line version line later before items ends (inr one) read =
+    inr (one.0, one.1, subst (λ (b : List Item). AreRead version b later ends) one.2 read)
+
+later_are : (version number : ℕ) (line : List ℕ) (later : List (List ℕ)) (before items : List Item) →
+    AreRead version before (line ∷ []) items → (result : Result (List Item) (ℕ × ℕ)) →
+    AreLines version items later (number + 1) result → AreLines version before (line ∷ later) number result
+later_are version number line later before items one (Ok ends) all =
+    (after_line version line later before items ends one all.0, all.1)
+later_are version number line later before items one (Err end) stops = record {
+  good = line ∷ stops.good;
+  rest = stops.rest;
+  cut = ap (λ ls. line ∷ ls) stops.cut;
+  items = stops.items;
+  read = after_line version line stops.good before items stops.items one stops.read;
+  bad = stops.bad;
+  place = let e : end.0 ≡ length stops.good + (number + 1) = stops.place in omega (arith, e);
+}
+
+next_are : (version number : ℕ) (line : List ℕ) (later : List (List ℕ)) (before : List Item)
+    (next : List Item → Result (List Item) (ℕ × ℕ)) (result : Result (List Item) ℕ) → IsLine version before line result →
+    ((items : List Item) → AreLines version items later (number + 1) (next items)) →
+    AreLines version before (line ∷ later) number (goes_on result number next)
+next_are version number line later before next (Ok items) one rest =
+    later_are version number line later before items one (next items) (rest items)
+next_are version number line later before next (Err why) bad rest = record {
+  good = [];
+  rest = line ∷ later;
+  cut = refl;
+  items = before;
+  read = refl;
+  bad = bad;
+  place = omega arith;
+}
+
+lines_are : (version number : ℕ) (lines : List (List ℕ)) (before : List Item) →
+    AreLines version before lines number (judged_lines version before number lines)
+unfolding judged_lines
+lines_are version number [] before =
+    elim (cases_Bool (lacks_setup before)) [
+      | inl lacks ↦ rw lacks (record {
+        good = [];
+        rest = [];
+        cut = refl;
+        items = before;
+        read = refl;
+        bad = (lacks, refl);
+        place = omega arith;
+      })
+      | inr whole ↦ rw whole (refl, whole)
+    ]
+lines_are version number (line ∷ later) before =
+    next_are version number line later before (λ items. judged_lines version items (number + 1) later)
+    (judged_line version before line) (line_is version before line) (λ items. lines_are version (number + 1) later items)
+
+-- ---- the whole
+
+-- a version, and the items of the lines after the first
+abbrev with_version : (version : ℕ) → Result (List Item) (ℕ × ℕ) → Result (ℕ × List Item) (ℕ × ℕ)
+with_version version (Ok items) = Ok (version, items)
+with_version version (Err end) = Err end
+
+abbrev pub judged : List (List ℕ) → Result (ℕ × List Item) (ℕ × ℕ)
+judged [] = Err (1, 1)
+judged (first ∷ later) =
+    if bytes_eq first (first_line 1) then with_version 1 (judged_lines 1 [] 2 later) else
+    if bytes_eq first (first_line 2) then with_version 2 (judged_lines 2 [] 2 later) else Err (1, 1)
+
+-- the lines of a script
+pub record AreGoodLines (lines : List (List ℕ)) (version : ℕ) (items : List Item) : Type 0 where
+  pub known : IsVersion version
+  pub later : List (List ℕ)
+  pub cut : lines ≡ first_line version ∷ later
+  pub read : AreRead version [] later items
+  pub whole : lacks_setup items ≡ false
+
+abbrev pub AreJudged : List (List ℕ) → Result (ℕ × List Item) (ℕ × ℕ) → Type 0
+AreJudged lines (Ok found) = AreGoodLines lines found.0 found.1
+AreJudged lines (Err end) = (BeginsBadly lines × (end.0 ≡ 1) × (end.1 ≡ 1)) ⊎ IsBadLater lines end.0 end.1
+
+version_is : (version : ℕ) (first : List ℕ) (later : List (List ℕ)) → IsVersion version → first ≡ first_line version →
+    (result : Result (List Item) (ℕ × ℕ)) → AreLines version [] later 2 result →
+    AreJudged (first ∷ later) (with_version version result)
+version_is version first later known is (Ok items) all = record {
+  known = known;
+  later = later;
+  cut = ap (λ l. l ∷ later) is;
+  read = all.0;
+  whole = all.1;
+}
+version_is version first later known is (Err end) stops = inr (record {
+  version = version;
+  known = known;
+  good = stops.good;
+  rest = stops.rest;
+  cut = ap (λ l. l ∷ later) is ∙ ap (λ ls. first_line version ∷ ls) stops.cut;
+  items = stops.items;
+  read = stops.read;
+  bad = stops.bad;
+  place = stops.place;
+})
+
+no_version : (first : List ℕ) (later : List (List ℕ)) → bytes_eq first (first_line 1) ≡ false →
+    bytes_eq first (first_line 2) ≡ false → BeginsBadly (first ∷ later)
+no_version first later one two version rest (inl is) e =
+    true≢false (sym ((bytes_eq-Decides first (first_line 1)).1
+    (same_head first (first_line version) later rest e ∙ ap first_line is)) ∙ one)
+no_version first later one two version rest (inr is) e =
+    true≢false (sym ((bytes_eq-Decides first (first_line 2)).1
+    (same_head first (first_line version) later rest e ∙ ap first_line is)) ∙ two)
+
+pub judged_is : (lines : List (List ℕ)) → AreJudged lines (judged lines)
+judged_is [] = inl (λ version later known e. not_nil (first_line version) later e, refl, refl)
+judged_is (first ∷ later) =
+    elim (cases_Bool (bytes_eq first (first_line 1))) [
+      | inl one ↦
+          rw one (version_is 1 first later (inl refl) ((bytes_eq-Decides first (first_line 1)).0 one)
+          (judged_lines 1 [] 2 later) (lines_are 1 2 later []))
+      | inr not_one ↦
+          rw not_one (
+          elim (cases_Bool (bytes_eq first (first_line 2))) [
+            | inl two ↦
+                rw two (version_is 2 first later (inr refl) ((bytes_eq-Decides first (first_line 2)).0 two)
+                (judged_lines 2 [] 2 later) (lines_are 2 2 later []))
+            | inr not_two ↦ rw not_two (inl (no_version first later not_one not_two, refl, refl))
+          ]
+          )
+    ]
+
+-- ---- what holds is decided so
+
+long_line : (version : ℕ) (before : List Item) (line : List ℕ) → most_bytes < length line →
+    judged_line version before line ≡ Err 2
+long_line version before line long = rw (lt-ltb most_bytes (length line) long) refl
+
+read_so : (version : ℕ) (before : List Item) (line : List ℕ) → length line ≤ most_bytes → is_skipped line ≡ false →
+    judged_line version before line ≡ judged_form before (read_line version line)
+read_so version before line short read = rw (le-ltb most_bytes (length line) short, read) refl
+
+item_so : (version : ℕ) (before : List Item) (line : List ℕ) (item : Item) → length line ≤ most_bytes →
+    is_skipped line ≡ false → HasForm version line item →
+    judged_line version before line ≡ judged_item before item (least_reason before item)
+item_so version before line item short read has =
+    read_so version before line short read ∙ ap (judged_form before) (line_back version line item has)
+
+-- a line of which nothing is read has no form
+no_form : (version : ℕ) (line : List ℕ) (found : Option Item) → read_line version line ≡ found →
+    ((item : Item) → ¬ HasForm version line item) → found ≡ None
+no_form version line None e none = refl
+no_form version line (Some item) e none = absurd (none item (read_says version line item e))
+
+line_decided : (version : ℕ) (before items : List Item) (line : List ℕ) → AreRead version before (line ∷ []) items →
+    judged_line version before line ≡ Ok items
+line_decided version before items line (inl skipped) =
+    rw (le-ltb most_bytes (length line) skipped.0.short, skipped.0.skipped) (ap (λ is. Ok is) (sym skipped.1))
+line_decided version before items line (inr one) =
+    item_so version before line one.0 one.1.short one.1.read one.1.has
+    ∙ ap (judged_item before one.0) one.1.none ∙ ap (λ is. Ok is) (sym one.2)
+
+bad_line : (version : ℕ) (before : List Item) (line : List ℕ) (why : ℕ) → IsBadLine version before line why →
+    judged_line version before line ≡ Err why
+bad_line version before line why (inl long) = long_line version before line long.0 ∙ ap (λ w. Err w) (sym long.1)
+bad_line version before line why (inr (inl none)) =
+    read_so version before line none.0.short none.0.read
+    ∙ ap (judged_form before) (no_form version line (read_line version line) refl none.0.none) ∙ ap (λ w. Err w) (sym none.1)
+bad_line version before line why (inr (inr refused)) =
+    item_so version before line refused.item refused.short refused.read refused.has
+    ∙ ap (judged_item before refused.item) refused.least
+
+-- a line that is read first
+first_read : (version : ℕ) (line : List ℕ) (later : List (List ℕ)) (before items : List Item) →
+    AreRead version before (line ∷ later) items →
+    (next : List Item) × AreRead version before (line ∷ []) next × AreRead version next later items
+first_read version line later before items (inl skipped) = (before, inl (skipped.0, refl), skipped.1)
+first_read version line later before items (inr one) = (one.0 ∷ before, inr (one.0, one.1, refl), one.2)
+
+-- the lines that are read first leave the rest to be judged
+front_decided : (version number : ℕ) (good rest : List (List ℕ)) (before items : List Item) →
+    AreRead version before good items →
+    judged_lines version before number (good ++ rest) ≡ judged_lines version items (number + length good) rest
+unfolding judged_lines
+front_decided version number [] rest before items read =
+    let e : number ≡ number + 0 = omega arith in
+    ap (λ is. judged_lines version is number rest) (sym read) ∙ ap (λ n. judged_lines version items n rest) e
+front_decided version number (line ∷ good) rest before items read =
+    let one = first_read version line good before items read in
+    let e : number + 1 + length good ≡ number + length (line ∷ good) = omega arith in
+    rw (line_decided version before one.0 line one.1)
+    (front_decided version (number + 1) good rest one.0 items one.2 ∙ ap (λ n. judged_lines version items n rest) e)
+
+end_decided : (version number : ℕ) (items : List Item) (rest : List (List ℕ)) (why : ℕ) → EndsBadly version items rest why →
+    judged_lines version items number rest ≡ Err (number, why)
+unfolding judged_lines
+end_decided version number items [] why bad = rw bad.0 (ap (λ w. Err (number, w)) (sym bad.1))
+end_decided version number items (line ∷ later) why bad = rw (bad_line version items line why bad) refl
+
+-- the version of a first line
+first_decided : (version : ℕ) (later : List (List ℕ)) → IsVersion version →
+    judged (first_line version ∷ later) ≡ with_version version (judged_lines version [] 2 later)
+unfolding digits
+first_decided version later (inl one) = rw one refl
+first_decided version later (inr two) = rw two refl
+
+pub text_decided : (bytes : List ℕ) (script : Script) → (text : IsScriptText bytes script) →
+    judged (lines_of bytes) ≡ Ok (script.version, text.items)
+unfolding judged_lines
+text_decided bytes script text =
+    let whole : judged_lines script.version [] 2 text.later ≡ Ok text.items =
+    ap (judged_lines script.version [] 2) (sym (append-nil text.later))
+    ∙ front_decided script.version 2 text.later [] [] text.items text.read ∙ rw text.whole refl
+    in
+    ap judged text.lines ∙ first_decided script.version text.later text.version
+    ∙ ap (with_version script.version) whole
+
+-- lines of no version
+begins_badly : (lines : List (List ℕ)) → BeginsBadly lines → judged lines ≡ Err (1, 1)
+begins_badly [] none = refl
+begins_badly (first ∷ later) none =
+    elim (cases_Bool (bytes_eq first (first_line 1))) [
+      | inl one ↦ absurd (none 1 later (inl refl) (ap (λ l. l ∷ later) ((bytes_eq-Decides first (first_line 1)).0 one)))
+      | inr not_one ↦
+          elim (cases_Bool (bytes_eq first (first_line 2))) [
+            | inl two ↦ absurd (none 2 later (inr refl) (ap (λ l. l ∷ later) ((bytes_eq-Decides first (first_line 2)).0 two)))
+            | inr not_two ↦ rw (not_one, not_two) refl
+          ]
+    ]
+
+pub bad_decided : (lines : List (List ℕ)) (line why : ℕ) →
+    (BeginsBadly lines × (line ≡ 1) × (why ≡ 1)) ⊎ IsBadLater lines line why → judged lines ≡ Err (line, why)
+bad_decided lines line why (inl bad) = begins_badly lines bad.0 ∙ rw (bad.1, bad.2) refl
+bad_decided lines line why (inr bad) =
+    let place : 2 + length bad.good ≡ line = let e : line ≡ length bad.good + 2 = bad.place in omega (arith, e) in
+    ap judged bad.cut ∙ first_decided bad.version (bad.good ++ bad.rest) bad.known
+    ∙ ap (with_version bad.version)
+    (front_decided bad.version 2 bad.good bad.rest [] bad.items bad.read
+    ∙ end_decided bad.version (2 + length bad.good) bad.items bad.rest why bad.bad
+    ∙ ap (λ n. Err (n, why)) place)

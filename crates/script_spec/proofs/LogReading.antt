@@ -1,0 +1,130 @@
+-- A line of the log is taken apart, and its entry is read from it.
+use Rattle.std.proofs.Common.{◌≡◌, ℕ, ◌<◌, true, Option, Some, None, List, [], ◌∷◌, ◌++◌, refl, sym, ap, ◌∙◌, inl, inr, append_assoc, arith}
+use Rattle.std.specs.Prelude.{codes, decimal}
+use Rattle.std.proofs.lemmas.Bool.{lt-ltb}
+use Rattle.std.proofs.lemmas.Grind.{common_steps}
+use Rattle.board_spec.specs.declared.event.Event.{Event}
+use Rattle.board_spec.specs.declared.event.Statement.{Statement}
+use Rattle.board_spec.specs.declared.event.Entry.{Entry}
+use Rattle.board_spec.specs.Text.{space}
+use Rattle.board_spec.specs.LogText.{event_text, value_bytes, reply_text, line_text}
+use Rattle.script_spec.specs.Grammar.{Item, Ask, HasForm, item_text}
+use Rattle.script_spec.specs.WellFormed.{IsWellFormed}
+use Rattle.script_spec.specs.Fields.{fields_of}
+use Rattle.script_spec.specs.Numbers.{◌>>=◌}
+use Rattle.script_spec.specs.Items.{ask, read_line}
+use Rattle.script_spec.specs.Cuts.{cut}
+use Rattle.script_spec.specs.Replies.{reply_in}
+use Rattle.script_spec.specs.Entries.{Pieces, but_last, pieces_of, actor_of}
+use Rattle.script_spec.proofs.Digits.{lacks}
+use Rattle.script_spec.proofs.Fields.{lacks-append, lacks-decimal}
+use Rattle.script_spec.proofs.PlainText.{lacks-word, lacks-plain, decimal_word}
+use Rattle.script_spec.proofs.PlainLines.{event_plain}
+use Rattle.script_spec.proofs.Joins.{same}
+use Rattle.script_spec.proofs.NumberBack.{decimal_back}
+use Rattle.script_spec.proofs.CutLemmas.{cut_field}
+use Rattle.script_spec.proofs.ItemBack.{line_back}
+use Rattle.script_spec.proofs.ReplyBack.{reply_read}
+
+pub seven_parts : (a b c d e f g : List ℕ) → a ++ b ++ c ++ d ++ e ++ f ++ g ≡ a ++ (b ++ (c ++ (d ++ (e ++ (f ++ g)))))
+seven_parts a b c d e f g =
+    append_assoc (a ++ b ++ c ++ d ++ e) f g
+    ∙ append_assoc (a ++ b ++ c ++ d) e (f ++ g)
+    ∙ append_assoc (a ++ b ++ c) d (e ++ (f ++ g))
+    ∙ append_assoc (a ++ b) c (d ++ (e ++ (f ++ g)))
+    ∙ append_assoc a b (c ++ (d ++ (e ++ (f ++ g))))
+
+-- `S STATEMENT`
+abbrev pub asked_text : (seq : ℕ) → Event → List ℕ
+asked_text seq event = decimal seq ++ space ∷ event_text event
+
+abbrev pub replied_text : Entry → List ℕ
+replied_text entry = space ∷ reply_text (value_bytes entry.event) entry.reply
+
+abbrev pub pieces : Entry → Pieces
+pieces entry = record {
+  actor = decimal entry.actor;
+  asked = asked_text entry.seq entry.event;
+  replied = replied_text entry;
+}
+
+but_last_push : (xs : List ℕ) (c : ℕ) → but_last (xs ++ c ∷ []) ≡ xs
+but_last_push xs c = grind (arith, common_steps)
+
+pieces_said : (line number rest actor later asked replied : List ℕ) → cut space line ≡ Some (number, rest)
+    → cut 0x2E rest ≡ Some (actor, later) → cut 0x3D later ≡ Some (asked ++ space ∷ [], replied)
+    → pieces_of line ≡ Some (record { actor = actor; asked = asked; replied = replied })
+unfolding pieces_of
+pieces_said line number rest actor later asked replied one two three =
+    rw (one, two, three) (ap (λ (text : List ℕ). Some (record { actor = actor; asked = text; replied = replied }))
+    (but_last_push asked space))
+
+-- what stands after the point, cut before its `=`
+later_parts : (seq event reply : List ℕ)
+    → seq ++ (space ∷ event ++ (codes " = " ++ reply)) ≡ (seq ++ space ∷ event ++ space ∷ []) ++ 0x3D ∷ (space ∷ reply)
+later_parts seq event reply =
+    ap (λ (text : List ℕ). seq ++ (space ∷ text)) (sym (append_assoc event (space ∷ []) (0x3D ∷ space ∷ reply)))
+    ∙ sym (append_assoc seq (space ∷ event ++ space ∷ []) (0x3D ∷ space ∷ reply))
+    ∙ ap (λ (text : List ℕ). text ++ 0x3D ∷ space ∷ reply) (sym (append_assoc seq (space ∷ event) (space ∷ [])))
+
+pub line_pieces : (version n : ℕ) (entry : Entry) → IsWellFormed version entry
+    → pieces_of (line_text n entry) ≡ Some (pieces entry)
+unfolding line_text
+line_pieces version n entry formed =
+    let event : List ℕ = event_text entry.event in
+    let reply : List ℕ = reply_text (value_bytes entry.event) entry.reply in
+    let asked : List ℕ = asked_text entry.seq entry.event in
+    let later : List ℕ = decimal entry.seq ++ (space ∷ event ++ (codes " = " ++ reply)) in
+    let rest : List ℕ = decimal entry.actor ++ 0x2E ∷ later in
+    let lack : lacks 0x3D (asked ++ space ∷ []) ≡ true =
+    lacks-append 0x3D asked (space ∷ [])
+    (lacks-append 0x3D (decimal entry.seq) (space ∷ event) (lacks-decimal 0x3D entry.seq (inr (omega arith)) formed.seq)
+    (lacks-plain 0x3D event refl (event_plain entry.event)))
+    refl
+    in
+    ap pieces_of
+    (seven_parts (decimal n) (space ∷ decimal entry.actor) (codes ".") (decimal entry.seq) (space ∷ event)
+    (codes " = ") reply)
+    ∙ pieces_said (decimal n ++ space ∷ rest) (decimal n) rest (decimal entry.actor) later asked (space ∷ reply)
+    (cut_field space (decimal n) rest (lacks-word space (decimal n) refl (decimal_word n)))
+    (cut_field 0x2E (decimal entry.actor) later (lacks-decimal 0x2E entry.actor (inl (omega arith))
+    (omega (arith, formed.actor))))
+    (ap (cut 0x3D) (later_parts (decimal entry.seq) event reply) ∙ cut_field 0x3D (asked ++ space ∷ [])
+    (space ∷ reply) lack)
+
+pub actor_said : (actor : ℕ) → actor < 0x100 → actor_of (decimal actor) ≡ Some actor
+unfolding actor_of
+actor_said actor small = rw (decimal_back actor (omega (arith, small)), lt-ltb actor 0x100 small) refl
+
+pub asked_said : (version : ℕ) (entry : Entry) → IsWellFormed version entry
+    → HasForm version (asked_text entry.seq entry.event) (ask entry.seq entry.event)
+unfolding item_text
+asked_said version entry formed = record { form = (formed.seq, formed.form); says = same (asked_text entry.seq entry.event) }
+
+-- ---- an entry is read from its line
+
+abbrev asked_in : Item → Option Statement
+asked_in (Ask statement) = Some statement
+asked_in _ = None
+
+unfoldable pub entry_in : (version : ℕ) → List ℕ → Option Entry
+entry_in version line = do
+  pieces ← pieces_of line
+  actor ← actor_of pieces.actor
+  item ← read_line version pieces.asked
+  asked ← asked_in item
+  reply ← reply_in asked.event (fields_of pieces.replied)
+  Some (record { actor = actor; seq = asked.actor; event = asked.event; reply = reply })
+
+entry_said : (version : ℕ) (entry : Entry) (line : List ℕ) → pieces_of line ≡ Some (pieces entry)
+    → actor_of (decimal entry.actor) ≡ Some entry.actor
+    → read_line version (asked_text entry.seq entry.event) ≡ Some (ask entry.seq entry.event)
+    → reply_in entry.event (fields_of (replied_text entry)) ≡ Some entry.reply → entry_in version line ≡ Some entry
+unfolding entry_in
+entry_said version entry line one two three four = rw (one, two, three, four) refl
+
+pub entry_read : (version n : ℕ) (entry : Entry) → IsWellFormed version entry → entry_in version (line_text n entry) ≡ Some entry
+entry_read version n entry formed =
+    entry_said version entry (line_text n entry) (line_pieces version n entry formed) (actor_said entry.actor formed.actor)
+    (line_back version (asked_text entry.seq entry.event) (ask entry.seq entry.event) (asked_said version entry formed))
+    (reply_read entry.event entry.reply formed.shape)
