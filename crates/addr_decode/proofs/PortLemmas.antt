@@ -1,39 +1,46 @@
 -- The ports in the order of the code are those of the definitions.
-use Rattle.std.proofs.Common.{◌≡◌, ◌≢◌, ℕ, List, ◌/◌, Bool, true, false, ◌&&◌, ◌||◌, Option, Some, None, refl, inl, inr, ◌∙◌, sym, ap}
-use Rattle.std.specs.Prelude.{[], ◌∷◌, ◌==◌, is_some, option_map, if◌then◌else◌}
-use Rattle.std.proofs.Math.Bool.{and-true, and-false, or-false}
+use Rattle.std.proofs.Common.{◌≡◌, ◌≢◌, ℕ, List, ◌/◌, Bool, true, false, Option, Some, None, refl, inl, inr, ◌∙◌, sym, ap}
+use Rattle.std.specs.Prelude.{is_some, option_map, if◌then◌else◌}
 use Rattle.std.proofs.lemmas.Bool.{cases_Bool, cond-false, ne_eqb, true_from_ne_false}
 use Rattle.board_base.specs.declared.access.Width.{Width}
-use Rattle.board_base.specs.declared.access.Width.TheVariants.{One, Two, Four}
 use Rattle.board_base.specs.declared.target.Dev.{Dev}
-use Rattle.board_base.specs.declared.target.Dev.TheVariants.{Confadd as AddressPort, Reset, Pic0, Pic1, Pit, System, Keyboard, Clock, Elcr}
 use Rattle.board_base.specs.declared.target.Reg.{Reg}
 use Rattle.board_base.specs.declared.target.Target.{Target}
 use Rattle.board_base.specs.declared.target.Target.TheVariants.{Config, Abort}
 use Rattle.board_base.specs.declared.target.Denial.{Denial}
 use Rattle.board_base.specs.declared.target.Denial.TheVariants.{Register, NoRegister}
 use Rattle.board_base.specs.Access.{bytes_of}
+use Rattle.device_spec.specs.declared.port.Select.{Select}
+use Rattle.device_spec.specs.declared.port.Select.TheVariants.{Always, XbcsBit0, XbcsBit1, IdeChannel}
+use Rattle.device_spec.specs.PortTable.{device_at, select_of}
 use Rattle.board_spec.specs.Setup.{Setup, FittedCard, card_at}
-use Rattle.board_spec.specs.Ranges.{lies_in}
-use Rattle.board_spec.specs.PortNames.{clock_ports, disk_ports, master_ports, slave_ports, timer_ports, elcr_ports, disk_control_port, disk_data_port, config_address_port, reset_control_port, system_port, keyboard_data_port, keyboard_command_port}
 use Rattle.board_spec.specs.Bits.{is_bit}
 use Rattle.board_spec.specs.Registers.{is_enabled, is_config_port, config_register}
-use Rattle.board_spec.specs.Decode.{Bytes, first_of, line_where}
+use Rattle.board_spec.specs.Decode.{Bytes}
 use Rattle.board_spec.specs.RegisterNames.{ide_command as command_register, idetim_high, xbcs as select_register}
-use Rattle.board_spec.specs.Ports.{Decoded, device, config_port, byte_device, is_ata_port, selected_by, disk_port, other_port, port_target_of}
+use Rattle.board_spec.specs.Ports.{config_port, by_xbcs, by_channel, selected_by, device_port, port_target_of}
 use Rattle.board_spec.specs.RegisterTable.{Line, card_function, function_at, function_exists}
 use Rattle.cfg_ports.specs.declared.conf_add.Selected.{Selected}
 use Rattle.cfg_ports.specs.Selection.{existing}
 use Rattle.addr_decode.specs.declared.onboard.Onboard.{Onboard}
-use Rattle.addr_decode.specs.declared.onboard.Onboard.TheVariants.{Answers, Absent}
-use Rattle.addr_decode.specs.Onboard.{if_selected, disk_by, byte_port, onboard_at}
+use Rattle.addr_decode.specs.Onboard.{if_selected, if_decoded, by_select, response_of}
 use Rattle.addr_decode.specs.MapRegs.{IsChannelOf}
-use Rattle.addr_decode.specs.Ports.{as_decoded, after_onboard, ports_in_order}
+use Rattle.addr_decode.specs.Ports.{as_decoded, after_onboard}
 
-disk_in_order : (setup : Setup) (bytes : Bytes) (disk : Bool) (timing port : ℕ) → timing / 0x100 ≡ bytes idetim_high →
-    disk_port setup bytes disk port ≡ after_onboard setup bytes port (disk_by disk (bytes command_register) timing)
-disk_in_order setup bytes false timing port is = refl
-disk_in_order setup bytes true timing port is =
+xbcs_in_order :
+    (setup : Setup) (bytes : Bytes) (bit : ℕ) (dev : Dev) (port : ℕ) →
+    by_xbcs bit dev setup bytes port
+    ≡ after_onboard setup bytes port (if_selected (is_bit (bytes select_register) bit) dev (Register select_register))
+xbcs_in_order setup bytes bit dev port =
+    elim (cases_Bool (is_bit (bytes select_register) bit)) [ inl on ↦ rw on refl | inr off ↦ rw off refl ]
+
+channel_in_order :
+    (setup : Setup) (bytes : Bytes) (disk : Bool) (dev : Dev) (timing port : ℕ) →
+    timing / 0x100 ≡ bytes idetim_high →
+    by_channel disk dev setup bytes port
+    ≡ after_onboard setup bytes port (if_decoded disk dev (bytes command_register) timing)
+channel_in_order setup bytes false dev timing port is = refl
+channel_in_order setup bytes true dev timing port is =
     rw is
     elim (cases_Bool (is_bit (bytes command_register) 0)) [
       | inl on ↦
@@ -44,192 +51,53 @@ disk_in_order setup bytes true timing port is =
       | inr off ↦ rw off refl
     ]
 
-selected_in_order : (setup : Setup) (bytes : Bytes) (bit : ℕ) (dev : Dev) (port : ℕ) →
-    selected_by bit dev setup bytes port
-    ≡ after_onboard setup bytes port (if_selected (is_bit (bytes select_register) bit) dev (Register select_register))
-selected_in_order setup bytes bit dev port =
-    elim (cases_Bool (is_bit (bytes select_register) bit)) [ inl on ↦ rw on refl | inr off ↦ rw off refl ]
-
-abbrev chain :
-    (reset pic0 pic1 pit system elcr keyboard clock disk : Bool) → (at_keyboard at_clock at_disk : Onboard) → Onboard
-chain reset pic0 pic1 pit system elcr keyboard clock disk at_keyboard at_clock at_disk =
-    if reset then Answers Reset else
-    if pic0 then Answers Pic0 else
-    if pic1 then Answers Pic1 else
-    if pit then Answers Pit else
-    if system then Answers System else
-    if elcr then Answers Elcr else
-    if keyboard then at_keyboard else if clock then at_clock else if disk then at_disk else Absent
-
-abbrev lines :
-    (reset pic0 pic1 pit system elcr keyboard clock disk : Bool) → (at_keyboard at_clock at_disk other : Decoded) →
-    Decoded
-lines reset pic0 pic1 pit system elcr keyboard clock disk at_keyboard at_clock at_disk other =
-    first_of
-    (option_map device
-    (first_of
-    (line_where reset (Some Reset)
-    ∷ line_where pic0 (Some Pic0)
-    ∷ line_where pic1 (Some Pic1)
-    ∷ line_where pit (Some Pit)
-    ∷ line_where system (Some System)
-    ∷ line_where elcr (Some Elcr)
-    ∷ [])
-    None)
-    ∷ line_where keyboard at_keyboard
-    ∷ line_where clock at_clock
-    ∷ line_where disk at_disk
-    ∷ [])
-    other
-
-lines_in_order :
-    (setup : Setup) (bytes : Bytes) (port : ℕ) (reset pic0 pic1 pit system elcr keyboard clock disk : Bool)
-    (at_keyboard at_clock at_disk : Onboard) →
-    lines reset pic0 pic1 pit system elcr keyboard clock disk (after_onboard setup bytes port at_keyboard)
-    (after_onboard setup bytes port at_clock)
-    (after_onboard setup bytes port at_disk) (other_port setup bytes port)
-    ≡ after_onboard setup bytes port
-    (chain reset pic0 pic1 pit system elcr keyboard clock disk at_keyboard at_clock at_disk)
-lines_in_order setup bytes port true pic0 pic1 pit system elcr keyboard clock disk k c d = refl
-lines_in_order setup bytes port false true pic1 pit system elcr keyboard clock disk k c d = refl
-lines_in_order setup bytes port false false true pit system elcr keyboard clock disk k c d = refl
-lines_in_order setup bytes port false false false true system elcr keyboard clock disk k c d = refl
-lines_in_order setup bytes port false false false false true elcr keyboard clock disk k c d = refl
-lines_in_order setup bytes port false false false false false true keyboard clock disk k c d = refl
-lines_in_order setup bytes port false false false false false false true clock disk k c d = refl
-lines_in_order setup bytes port false false false false false false false true disk k c d = refl
-lines_in_order setup bytes port false false false false false false false false true k c d = refl
-lines_in_order setup bytes port false false false false false false false false false k c d = refl
-
-ata_byte : (port : ℕ) → is_ata_port port 1 ≡ (lies_in disk_ports port || port == disk_control_port)
-ata_byte port =
-    rw (and-false (port == disk_data_port), and-true (lies_in disk_ports port || port == disk_control_port)) refl
-
-ata_two : (port : ℕ) → is_ata_port port 2 ≡ (port == disk_data_port)
-ata_two port =
-    rw (and-true (port == disk_data_port), and-false (lies_in disk_ports port || port == disk_control_port))
-    (or-false (port == disk_data_port))
-
-ata_four : (port : ℕ) → is_ata_port port 4 ≡ (port == disk_data_port)
-ata_four port =
-    rw (and-true (port == disk_data_port), and-false (lies_in disk_ports port || port == disk_control_port))
-    (or-false (port == disk_data_port))
-
-data_in_order :
-    (setup : Setup) (bytes : Bytes) (port : ℕ) (at_data : Bool) (at_disk : Onboard) →
-    first_of (line_where at_data (after_onboard setup bytes port at_disk) ∷ []) (other_port setup bytes port)
-    ≡ after_onboard setup bytes port (if at_data then at_disk else Absent)
-data_in_order setup bytes port true at_disk = refl
-data_in_order setup bytes port false at_disk = refl
-
-abbrev from_fourth : Setup → Bytes → Bool → ℕ → Width → Decoded
-from_fourth setup bytes disk port width =
-    first_of
-    ((if bytes_of width == 1 then option_map device (byte_device port) else None)
-    ∷ line_where ((port == keyboard_data_port || port == keyboard_command_port) && bytes_of width == 1)
-    (selected_by 1 Keyboard setup bytes port)
-    ∷ line_where (lies_in clock_ports port && bytes_of width == 1) (selected_by 0 Clock setup bytes port)
-    ∷ line_where (is_ata_port port (bytes_of width)) (disk_port setup bytes disk port)
-    ∷ [])
-    (other_port setup bytes port)
-
-onboard_in_order :
-    (setup : Setup) (bytes : Bytes) (disk : Bool) (timing port : ℕ) (width : Width) →
+select_in_order :
+    (setup : Setup) (bytes : Bytes) (select : Select) (disk : Bool) (dev : Dev) (timing port : ℕ) →
     timing / 0x100 ≡ bytes idetim_high →
-    from_fourth setup bytes disk port width
+    selected_by select disk dev setup bytes port
     ≡ after_onboard setup bytes port
-    (onboard_at (bytes select_register) (disk_by disk (bytes command_register) timing) port width)
-unfolding byte_port
-onboard_in_order setup bytes disk timing port One is =
-    rw (
-      and-true (port == keyboard_data_port || port == keyboard_command_port),
-      and-true (lies_in clock_ports port),
-      ata_byte port,
-      selected_in_order setup bytes 1 Keyboard port,
-      selected_in_order setup bytes 0 Clock port,
-      disk_in_order setup bytes disk timing port is,
-    )
-    (lines_in_order setup bytes port (port == reset_control_port) (lies_in master_ports port)
-    (lies_in slave_ports port) (lies_in timer_ports port) (port == system_port)
-    (lies_in elcr_ports port) (port == keyboard_data_port || port == keyboard_command_port) (lies_in clock_ports port)
-    (lies_in disk_ports port || port == disk_control_port)
-    (if_selected (is_bit (bytes select_register) 1) Keyboard (Register select_register))
-    (if_selected (is_bit (bytes select_register) 0) Clock (Register select_register))
-    (disk_by disk (bytes command_register) timing))
-onboard_in_order setup bytes disk timing port Two is =
-    rw (
-      and-false (port == keyboard_data_port || port == keyboard_command_port),
-      and-false (lies_in clock_ports port),
-      ata_two port,
-      disk_in_order setup bytes disk timing port is,
-    )
-    (data_in_order setup bytes port (port == disk_data_port) (disk_by disk (bytes command_register) timing))
-onboard_in_order setup bytes disk timing port Four is =
-    rw (
-      and-false (port == keyboard_data_port || port == keyboard_command_port),
-      and-false (lies_in clock_ports port),
-      ata_four port,
-      disk_in_order setup bytes disk timing port is,
-    )
-    (data_in_order setup bytes port (port == disk_data_port) (disk_by disk (bytes command_register) timing))
-
-pub in_order :
-    (setup : Setup) (bytes : Bytes) (address : ℕ) (disk : Bool) (timing port : ℕ) (width : Width) →
-    timing / 0x100 ≡ bytes idetim_high →
-    port_target_of setup bytes address disk port width ≡ ports_in_order setup bytes address disk timing port width
-unfolding port_target_of ports_in_order
-in_order setup bytes address disk timing port width is =
-    elim (cases_Bool (port == config_address_port && bytes_of width == 4)) [
-      | inl at_address ↦ rw at_address refl
-      | inr other ↦
-          elim (cases_Bool (is_config_port port)) [
-            | inl config ↦ rw (other, config) refl
-            | inr not_config ↦ rw (other, not_config) (onboard_in_order setup bytes disk timing port width is)
-          ]
-    ]
+    (by_select select dev (bytes select_register) disk (bytes command_register) timing)
+select_in_order setup bytes Always disk dev timing port is = refl
+select_in_order setup bytes XbcsBit0 disk dev timing port is = xbcs_in_order setup bytes 0 dev port
+select_in_order setup bytes XbcsBit1 disk dev timing port is = xbcs_in_order setup bytes 1 dev port
+select_in_order setup bytes IdeChannel disk dev timing port is = channel_in_order setup bytes disk dev timing port is
 
 -- ---- what each part of the code gives
 
-pub address_target :
-    (setup : Setup) (bytes : Bytes) (address : ℕ) (disk : Bool) (port : ℕ) (width : Width) → true
-    ≡ (port == config_address_port && bytes_of width == 4) →
-    device AddressPort ≡ port_target_of setup bytes address disk port width
-unfolding port_target_of
-address_target setup bytes address disk port width here = rw (← here) refl
-
 pub config_target :
-    (setup : Setup) (bytes : Bytes) (address : ℕ) (disk : Bool) (port : ℕ) (width : Width) → false
-    ≡ (port == config_address_port && bytes_of width == 4) →
+    (setup : Setup) (bytes : Bytes) (address : ℕ) (disk : Bool) (port : ℕ) (width : Width) →
     true ≡ is_config_port port →
     config_port address (config_register setup address port) ≡ port_target_of setup bytes address disk port width
 unfolding port_target_of
-config_target setup bytes address disk port width other here = rw (← other, ← here) refl
+config_target setup bytes address disk port width here = rw (← here) refl
+
+found_in_order :
+    (setup : Setup) (bytes : Bytes) (found : Option Dev) (disk : Bool) (timing port : ℕ) →
+    timing / 0x100 ≡ bytes idetim_high →
+    device_port found disk setup bytes port
+    ≡ after_onboard setup bytes port
+    (response_of found (bytes select_register) disk (bytes command_register) timing)
+found_in_order setup bytes None disk timing port is = refl
+found_in_order setup bytes (Some dev) disk timing port is =
+    select_in_order setup bytes (select_of dev) disk dev timing port is
 
 pub onboard_target :
     (setup : Setup) (bytes : Bytes) (address : ℕ) (disk : Bool) (port : ℕ) (width : Width) (xbcs : ℕ)
-    (ide_command idetim : ℕ) (at_disk told : Onboard) →
-    false ≡ (port == config_address_port && bytes_of width == 4) → false ≡ is_config_port port →
+    (ide_command idetim : ℕ) (response : Onboard) →
+    false ≡ is_config_port port →
     xbcs ≡ bytes select_register → IsChannelOf bytes ide_command idetim →
-    at_disk ≡ disk_by disk ide_command idetim → told ≡ onboard_at xbcs at_disk port width →
-    after_onboard setup bytes port told ≡ port_target_of setup bytes address disk port width
-unfolding ports_in_order
-onboard_target setup bytes address disk port width xbcs ide_command idetim at_disk told other not_config same_xbcs is_ide disk_is told_is =
-    sym (in_order setup bytes address disk idetim port width is_ide.timing
-    ∙ cond-false (port == config_address_port && bytes_of width == 4) (device AddressPort)
-    (if is_config_port port then config_port address (config_register setup address port) else after_onboard setup
-    bytes port (onboard_at (bytes select_register) (disk_by disk (bytes command_register) idetim) port width))
-    (sym other)
-    ∙ cond-false (is_config_port port) (config_port address (config_register setup address port))
-    (after_onboard setup bytes port
-    (onboard_at (bytes select_register) (disk_by disk (bytes command_register) idetim) port width))
-    (sym not_config)
-    ∙ ap
-    (λ (n : ℕ). after_onboard setup bytes port (onboard_at (bytes select_register) (disk_by disk n idetim) port width))
-    (sym is_ide.command)
-    ∙ ap (λ (n : ℕ). after_onboard setup bytes port (onboard_at n (disk_by disk ide_command idetim) port width))
-    (sym same_xbcs)
-    ∙ ap (λ (it : Onboard). after_onboard setup bytes port (onboard_at xbcs it port width)) (sym disk_is)
-    ∙ ap (λ (it : Onboard). after_onboard setup bytes port it) (sym told_is))
+    response ≡ response_of (device_at port (bytes_of width)) xbcs disk ide_command idetim →
+    after_onboard setup bytes port response ≡ port_target_of setup bytes address disk port width
+unfolding port_target_of
+onboard_target setup bytes address disk port width xbcs ide_command idetim response not_config same_xbcs is_ide is =
+    let found : Option Dev = device_at port (bytes_of width) in
+    ap (λ (it : Onboard). after_onboard setup bytes port it)
+    (is
+    ∙ ap (λ (n : ℕ). response_of found n disk ide_command idetim) same_xbcs
+    ∙ ap (λ (n : ℕ). response_of found (bytes select_register) disk n idetim) is_ide.command)
+    ∙ sym (found_in_order setup bytes found disk idetim port is_ide.timing)
+    ∙ sym (cond-false (is_config_port port) (config_port address (config_register setup address port))
+    (device_port found disk setup bytes port) (sym not_config))
 
 by_existence : (address : ℕ) (exists' : Bool) (reg : Reg) → is_enabled address ≡ true →
     as_decoded (if exists' then (Config reg, None) else (Abort, Some NoRegister))

@@ -1,19 +1,17 @@
 //! The board's own devices: which port is whose, and whether the registers select it.
 ghost use Rattle.std.specs.Prelude.{◌≡◌};
-ghost use Rattle.board_base.specs.declared.target.Dev.TheVariants.{Keyboard, Clock};
-ghost use Rattle.board_base.specs.declared.target.Denial.TheVariants.{Register};
+ghost use Rattle.board_base.specs.Access.{bytes_of};
 ghost use Rattle.board_spec.specs.Bits.{is_bit};
 ghost use Rattle.board_spec.specs.RegisterNames.{xbcs as select_register};
-ghost use Rattle.addr_decode.specs.Onboard.{if_selected, disk_by, byte_port, wide_port, onboard_at};
+ghost use Rattle.board_base.specs.declared.target.Denial.TheVariants.{Register};
+ghost use Rattle.device_spec.specs.PortTable.{device_at, select_of};
+ghost use Rattle.addr_decode.specs.Onboard.{if_selected, if_decoded, by_select, response_of};
 
 use crate::denied_by::{ide_function, isa_bridge};
+use crate::ports::PortRegs;
 use board_base::{Denial, Dev, Width};
 use board_spec::offset::{COMMAND, IDETIM, XBCS};
-use board_spec::port::{
-    CLOCK_DATA, CLOCK_INDEX, DISK_CONTROL, DISK_DATA, DISK_ERROR, DISK_STATUS, ELCR, ELCR_HIGH,
-    KEYBOARD_COMMAND, KEYBOARD_DATA, MASTER, MASTER_ODD, RESET_CONTROL, SLAVE, SLAVE_ODD, SYSTEM,
-    TIMER, TIMER_CONTROL,
-};
+use device_spec::port::{Select, device_at, select_of};
 use xbus_select::{decodes_ide_channel, enables_ide_ports, selects_clock, selects_keyboard};
 
 /// How the board's own devices respond to a port access.
@@ -27,78 +25,51 @@ pub enum Onboard {
     Absent,
 }
 
-/// How the board's own devices respond at a port, by XBCS and by the response of the disk.
-pub fn onboard_at(xbcs: u8, disk: Onboard, port: u16, width: Width) -> Onboard
-    ensures onboard { result ≡ onboard_at xbcs disk port width }
+/// How the board's own devices respond at a port.
+pub fn onboard_at(xbcs: u8, ports: &PortRegs, port: u16, width: Width) -> Onboard
+    ensures response { result ≡ response_of (device_at port (bytes_of width))
+        xbcs ports.now.disk ports.now.ide_command ports.now.idetim }
 {
-    match width {
-        Width::One => byte_port(xbcs, disk, port),
-        Width::Two | Width::Four => wide_port(disk, port),
+    match device_at(port, width) {
+        Some(dev) => at_its_port(dev, xbcs, ports),
+        None => Onboard::Absent,
     }
 }
 
-/// How the board's own devices respond to an access of one byte.
-#[tactic(auto, unfolding(crate::specs::Onboard::byte_port))]
-fn byte_port(xbcs: u8, disk: Onboard, port: u16) -> Onboard
-    ensures onboard { result ≡ byte_port xbcs disk port }
+/// How a device responds at its port, by what selects it.
+fn at_its_port(dev: Dev, xbcs: u8, ports: &PortRegs) -> Onboard
+    ensures response { result ≡ by_select (select_of dev) dev xbcs ports.now.disk ports.now.ide_command ports.now.idetim }
 {
-    match port {
-        RESET_CONTROL => Onboard::Answers(Dev::Reset),
-        MASTER..=MASTER_ODD => Onboard::Answers(Dev::Pic0),
-        SLAVE..=SLAVE_ODD => Onboard::Answers(Dev::Pic1),
-        TIMER..=TIMER_CONTROL => Onboard::Answers(Dev::Pit),
-        SYSTEM => Onboard::Answers(Dev::System),
-        ELCR..=ELCR_HIGH => Onboard::Answers(Dev::Elcr),
-        KEYBOARD_DATA | KEYBOARD_COMMAND => keyboard(xbcs),
-        CLOCK_INDEX..=CLOCK_DATA => clock(xbcs),
-        DISK_ERROR..=DISK_STATUS | DISK_CONTROL => disk,
-        _ => Onboard::Absent,
+    match select_of(dev) {
+        Select::Always => Onboard::Answers(dev),
+        Select::XbcsBit0 => if_selected(selects_clock(xbcs), dev),
+        Select::XbcsBit1 => if_selected(selects_keyboard(xbcs), dev),
+        Select::IdeChannel => if_decoded(dev, ports),
     }
 }
 
-/// How the board's own devices respond to an access of two or four bytes, which only the disk's data register takes.
-fn wide_port(disk: Onboard, port: u16) -> Onboard
-    ensures onboard { result ≡ wide_port disk port }
+/// A device that XBCS selects.
+fn if_selected(selected: bool, dev: Dev) -> Onboard
+    ensures selected { result ≡ if_selected selected dev (Register select_register) }
 {
-    if port == DISK_DATA {
-        disk
-    } else {
-        Onboard::Absent
+    if selected {
+        return Onboard::Answers(dev);
     }
-}
-
-/// The keyboard controller, where XBCS selects it.
-fn keyboard(xbcs: u8) -> Onboard
-    ensures selected { result ≡ if_selected (is_bit xbcs 1) Keyboard (Register select_register) }
-{
-    if !selects_keyboard(xbcs) {
-        return Onboard::Denied(isa_bridge(XBCS));
-    }
-    Onboard::Answers(Dev::Keyboard)
-}
-
-/// The clock, where XBCS selects it.
-fn clock(xbcs: u8) -> Onboard
-    ensures selected { result ≡ if_selected (is_bit xbcs 0) Clock (Register select_register) }
-{
-    if !selects_clock(xbcs) {
-        return Onboard::Denied(isa_bridge(XBCS));
-    }
-    Onboard::Answers(Dev::Clock)
+    Onboard::Denied(isa_bridge(XBCS))
 }
 
 /// The disk, where one is fitted: bit 0 of the IDE command and bit 15 of IDETIM select it.
-pub fn disk_by(disk: bool, ide_command: u8, idetim: u16) -> Onboard
-    ensures onboard { result ≡ disk_by disk ide_command idetim }
+fn if_decoded(dev: Dev, ports: &PortRegs) -> Onboard
+    ensures decoded { result ≡ if_decoded ports.now.disk dev ports.now.ide_command ports.now.idetim }
 {
-    if !disk {
+    if !ports.disk {
         return Onboard::Denied(Denial::NoRegister);
     }
-    if !enables_ide_ports(ide_command) {
+    if !enables_ide_ports(ports.ide_command) {
         return Onboard::Denied(ide_function(COMMAND));
     }
-    if !decodes_ide_channel(idetim) {
+    if !decodes_ide_channel(ports.idetim) {
         return Onboard::Denied(ide_function(IDETIM));
     }
-    Onboard::Answers(Dev::Ata)
+    Onboard::Answers(dev)
 }

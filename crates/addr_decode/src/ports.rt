@@ -1,11 +1,9 @@
 //! The ports of the 82371SB and of the cards: what an access to a port reaches, and what denies it.
-ghost use Rattle.std.specs.Prelude.{◌≡◌, ◌≢◌, ◌%◌, ◌^◌, ◌==◌, ◌&&◌, IsTrue, IfSome, Some, None, is_some, option_map, unwrap_or, if◌then◌else◌};
-ghost use Rattle.board_base.specs.Access.{bytes_of};
+ghost use Rattle.std.specs.Prelude.{◌≡◌, ◌≢◌, ◌%◌, ◌^◌, IsTrue, IfSome, Some, None, is_some, option_map, unwrap_or, if◌then◌else◌};
 ghost use Rattle.board_spec.specs.Setup.{Setup};
 ghost use Rattle.board_spec.specs.RegisterTable.{function_at, function_exists};
 ghost use Rattle.board_spec.specs.Registers.{kept_address, config_register, is_config_port};
 ghost use Rattle.board_spec.specs.Decode.{Bytes, command_of, io_claim, io_shut};
-ghost use Rattle.board_spec.specs.PortNames.{config_address_port};
 ghost use Rattle.board_spec.specs.Ports.{port_target_of, config_port, unselected, other_port};
 ghost use Rattle.pci_bars.specs.Cards.{AreCards, AreDecoded, AreFitted};
 ghost use Rattle.addr_decode.specs.MapRegs.{IsChannelOf, StandsFor, map_bytes};
@@ -13,12 +11,12 @@ ghost use Rattle.addr_decode.specs.Ports.{as_decoded, IsDenied};
 
 use crate::cards::is_fitted;
 use crate::denied_by::card_command;
-use crate::onboard::{Onboard, disk_by, onboard_at};
+use crate::onboard::{Onboard, onboard_at};
 use crate::regs::MapRegs;
-use board_base::{Denial, Dev, Target, Width};
+use board_base::{Denial, Target, Width};
 use board_spec::offset::{HOST_BRIDGE, IDE, SOUTH_BRIDGE};
-use board_spec::port::{CONFIG_ADDRESS, CONFIG_DATA, CONFIG_DATA_END};
 use cfg_ports::{Selected, kept, select};
+use device_spec::port::{CONFIG_DATA, CONFIG_DATA_END};
 use pci_bars::{CardRegs, claim_io, offset_in, shut_io};
 
 /// What the ports depend on beside the registers of the address map: the configuration address, of which the
@@ -45,25 +43,14 @@ pub fn decode_port(
         → as_decoded result ≡ port_target_of setup bytes (kept_address ports.now.confadd) ports.now.disk port width }
     ensures denied { IsDenied result }
 {
-    if is_config_address(port, width) {
-        return answered(Target::Device(Dev::Confadd));
-    }
     if is_config_data(port) {
         return config_port(&regs.cards, ports.confadd, port);
     }
-    let disk = disk_by(ports.disk, ports.ide_command, ports.idetim);
-    match onboard_at(regs.xbcs, disk, port, width) {
+    match onboard_at(regs.xbcs, ports, port, width) {
         Onboard::Answers(dev) => answered(Target::Device(dev)),
         Onboard::Denied(denial) => claimed_or(&regs.cards, port, denial),
         Onboard::Absent => other_port(&regs.cards, port),
     }
-}
-
-/// Whether an access reaches the configuration address.
-fn is_config_address(port: u16, width: Width) -> bool
-    ensures address { result ≡ (port == config_address_port && bytes_of width == 4) }
-{
-    port == CONFIG_ADDRESS && width.bytes() == 4
 }
 
 /// Whether a port is one of those of the configuration data.

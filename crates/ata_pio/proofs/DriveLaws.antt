@@ -4,7 +4,7 @@ use Rattle.std.proofs.lemmas.Bool.{cond_both, ltb-true}
 use Rattle.board_base.specs.Bits.{is_bit}
 use Rattle.device_spec.specs.Ata.State.{Medium, Activity, Ready, Failed, Reading, Writing, Identifying, Drive, sectors_of, is_bad, is_drq}
 use Rattle.device_spec.specs.Ata.Address.{named, head_of, left_of}
-use Rattle.device_spec.specs.Ata.Commands.{found, readable, counted_down, moved_to, reads_found, writes_found, begin_read, begin_write, sector_read, sector_written, verified, is_feature, obeyed, begun, is_ignored, commanded, read_sectors, read_verify_sectors}
+use Rattle.device_spec.specs.Ata.Commands.{found, readable, counted_down, moved_to, reads_found, writes_found, begin_read, begin_write, sector_read, sector_written, verified, is_feature, obeyed, begun, is_ignored, commanded, read_sectors, read_verify_sectors, write_sectors, execute_device_diagnostic, initialize_device_parameters, flush_cache, identify_device, set_features}
 use Rattle.device_spec.specs.Ata.Steps.{after_activity_word, after_word, register_written, control_written}
 use Rattle.ata_pio.specs.Ata.Laws.{IsUnderWay}
 use Rattle.ata_pio.proofs.Verifies.{verified-fails, verified-end, verified-next}
@@ -89,13 +89,13 @@ unfolding obeyed
 obeyed-under_way m code d =
     let n = sectors_of m in
     either n (eqb code read_sectors) _ _ (begin_read-under_way m d)
-    (either n (eqb code 0x30) _ _ (begin_write-under_way m false d)
+    (either n (eqb code write_sectors) _ _ (begin_write-under_way m false d)
     (either n (eqb code read_verify_sectors) _ _ (over-under_way n (verified m (left_of d.registers) d).activity (verified-over m (left_of d.registers) d))
-    (either n (eqb code 0x90) _ _ tt
-    (either n (eqb code 0x91) _ _ (either n ((d.registers.count == 63) && (head_of d.registers == 15)) _ _ tt tt)
-    (either n (eqb code 0xE7) _ _ tt
-    (either n (eqb code 0xEC) _ _ tt
-    (either n (eqb code 0xEF) _ _ (either n (is_feature d.registers.features) _ _ tt tt) tt)))))))
+    (either n (eqb code execute_device_diagnostic) _ _ tt
+    (either n (eqb code initialize_device_parameters) _ _ (either n ((d.registers.count == 63) && (head_of d.registers == 15)) _ _ tt tt)
+    (either n (eqb code flush_cache) _ _ tt
+    (either n (eqb code identify_device) _ _ tt
+    (either n (eqb code set_features) _ _ (either n (is_feature d.registers.features) _ _ tt tt) tt)))))))
 
 pub commanded-under_way : (m : Medium) (code : ℕ) (d : Drive) → IsUnderWay (sectors_of m) d.activity → IsUnderWay (sectors_of m) (commanded m code d).activity
 unfolding commanded
