@@ -14,7 +14,12 @@ use Rattle.board_spec.specs.Bits.{is_within}
 use Rattle.board_spec.specs.Decode.{Bytes, Window, rom_window, vga_window}
 use Rattle.board_spec.specs.MapWrites.{reg_after}
 use Rattle.map_builder.specs.declared.range.Changed.{Changed}
-use Rattle.map_builder.specs.Changed.{decoded, base_windows, bridge_windows, isa_windows, card_windows, windows_of, windows_covered, after, changed_windows, both, joined, bounds}
+use Rattle.addr_decode.specs.declared.register.MapRegister.{MapRegister}
+use Rattle.addr_decode.specs.declared.register.MapRegister.TheVariants.{Pam, RowBoundary, Hole, Smram, ChipSelects, Card}
+use Rattle.addr_decode.specs.declared.register.CardRegister.{CardRegister}
+use Rattle.addr_decode.specs.declared.register.CardRegister.TheVariants.{Command, Base, ExpansionRom}
+use Rattle.addr_decode.specs.MapRegister.{map_register}
+use Rattle.map_builder.specs.Changed.{decoded, base_windows, pam_windows, card_windows, register_windows, name_windows, windows_of, windows_covered, after, changed_windows, both, joined, bounds}
 use Rattle.map_builder.proofs.WindowLemmas.{offsets}
 
 abbrev pub IsOrdered : Changed → Type 0
@@ -33,65 +38,37 @@ ordered_flat_map : (windows : ℕ → List Changed) (ks : List ℕ) → ((k : �
 ordered_flat_map windows [] each = tt
 ordered_flat_map windows (k ∷ ks) each = ordered_append (windows k) (flat_map windows ks) (each k) (ordered_flat_map windows ks each)
 
-bridge_ordered : (off : ℕ) → Ordered (bridge_windows off)
-bridge_ordered off =
-    elim (cases_Bool (off == 0x59)) [
-      | inl pam0 ↦ rw pam0 (omega arith, tt)
-      | inr not_pam0 ↦ rw not_pam0
-          (elim (cases_Bool (is_within 0x5A 0x5F off)) [
-            | inl pam ↦ rw pam (omega arith, tt)
-            | inr not_pam ↦ rw not_pam
-                (elim (cases_Bool (is_within 0x60 0x67 off)) [
-                  | inl drb ↦ rw drb (omega arith, tt)
-                  | inr not_drb ↦ rw not_drb
-                      (elim (cases_Bool (off == 0x68)) [
-                        | inl fdhc ↦ rw fdhc (omega arith, (omega arith, tt))
-                        | inr not_fdhc ↦ rw not_fdhc (elim (cases_Bool (off == 0x72)) [ inl smram ↦ rw smram (omega arith, tt) | inr none ↦ rw none tt ])
-                      ])
-                ])
-          ])
-    ]
-
-isa_ordered : (off : ℕ) → Ordered (isa_windows off)
-isa_ordered off = elim (cases_Bool (off == 0x4E)) [ inl xbcs ↦ rw xbcs (omega arith, (omega arith, tt)) | inr none ↦ rw none tt ]
-
 decoded_ordered : (windows : List Window) → Ordered (map decoded windows)
 decoded_ordered [] = tt
 decoded_ordered (window ∷ later) = (omega arith, decoded_ordered later)
 
-card_ordered : (bytes : Bytes) (off : ℕ) (card : FittedCard) → Ordered (card_windows bytes off card)
-card_ordered bytes off card =
-    elim (cases_Bool (off == 0x04)) [
-      | inl command ↦ rw command (decoded_ordered (base_windows bytes card ++ rom_window bytes card ++ vga_window card))
-      | inr not_command ↦ rw not_command
-          (elim (cases_Bool (is_within 0x10 0x27 off)) [
-            | inl base ↦ rw base (decoded_ordered (filter (λ window. window.base == (off - 0x10) / 4) (base_windows bytes card)))
-            | inr not_base ↦ rw not_base
-                (elim (cases_Bool (is_within 0x30 0x33 off)) [
-                  | inl rom ↦ rw rom (decoded_ordered (rom_window bytes card))
-                  | inr none ↦ rw none tt
-                ])
-          ])
-    ]
+card_ordered : (bytes : Bytes) (register : CardRegister) (card : FittedCard) → Ordered (card_windows bytes register card)
+card_ordered bytes Command card = decoded_ordered (base_windows bytes card ++ rom_window bytes card ++ vga_window card)
+card_ordered bytes (Base k) card = decoded_ordered (filter (λ window. window.base == k / 4) (base_windows bytes card))
+card_ordered bytes (ExpansionRom k) card = decoded_ordered (rom_window bytes card)
 
-device_ordered : (bytes : Bytes) (off : ℕ) (card : Option FittedCard) → Ordered (option_map_or (card_windows bytes off) card [])
-device_ordered bytes off None = tt
-device_ordered bytes off (Some card) = card_ordered bytes off card
+device_ordered : (bytes : Bytes) (register : CardRegister) (card : Option FittedCard) →
+    Ordered (option_map_or (card_windows bytes register) card [])
+device_ordered bytes register None = tt
+device_ordered bytes register (Some card) = card_ordered bytes register card
+
+pam_ordered : (number : ℕ) → IsOrdered (pam_windows number)
+pam_ordered number = elim (cases_Bool (number == 0)) [ inl first ↦ rw first (omega arith) | inr other ↦ rw other (omega arith) ]
+
+register_ordered : (setup : Setup) (bytes : Bytes) (register : MapRegister) → Ordered (register_windows setup bytes register)
+register_ordered setup bytes (Pam number) = (pam_ordered number, tt)
+register_ordered setup bytes (RowBoundary row) = (omega arith, tt)
+register_ordered setup bytes Hole = (omega arith, (omega arith, tt))
+register_ordered setup bytes Smram = (omega arith, tt)
+register_ordered setup bytes ChipSelects = (omega arith, (omega arith, tt))
+register_ordered setup bytes (Card dev register) = device_ordered bytes register (card_at setup dev)
+
+name_ordered : (setup : Setup) (bytes : Bytes) (name : Option MapRegister) → Ordered (name_windows setup bytes name)
+name_ordered setup bytes None = tt
+name_ordered setup bytes (Some register) = register_ordered setup bytes register
 
 windows_ordered : (setup : Setup) (bytes : Bytes) (reg : Reg) → Ordered (windows_of setup bytes reg)
-windows_ordered setup bytes reg =
-    elim (cases_Bool (reg.dev == 0 && reg.fun == 0)) [
-      | inl bridge ↦ rw bridge (bridge_ordered reg.off)
-      | inr not_bridge ↦ rw not_bridge
-          (elim (cases_Bool (reg.dev == 1 && reg.fun == 0)) [
-            | inl isa ↦ rw isa (isa_ordered reg.off)
-            | inr not_isa ↦ rw not_isa
-                (elim (cases_Bool (reg.fun == 0)) [
-                  | inl card ↦ rw card (device_ordered bytes reg.off (card_at setup reg.dev))
-                  | inr none ↦ rw none tt
-                ])
-          ])
-    ]
+windows_ordered setup bytes reg = name_ordered setup bytes (map_register setup.cards reg)
 
 pub covered_ordered : (setup : Setup) (bytes : Bytes) (change : MapChange) → Ordered (windows_covered setup bytes change)
 unfolding windows_covered

@@ -1,19 +1,25 @@
 -- After a change the ranges of a map are right again for each address outside the bounds of the changed windows.
-use Rattle.std.proofs.Common.{◌≡◌, ℕ, zero, suc, ◌+◌, ◌<◌, ◌≤◌, Bool, true, false, inl, inr, List, [], ◌∷◌, ◌++◌, length, get_or, take, Option, refl, sym, ◌∙◌, ap, subst, arith}
-use Rattle.std.proofs.lemmas.Bool.{cases_Bool}
-use Rattle.std.specs.Prelude.{IfSome, ◌==◌, ◌||◌, nat_le, flat_map}
+use Rattle.std.proofs.Common.{◌≡◌, ℕ, zero, suc, ◌+◌, ◌<◌, ◌≤◌, Bool, true, false, inl, inr, List, [], ◌∷◌, ◌++◌, length, get_or, take, Option, Some, None, refl, sym, ◌∙◌, ap, subst, arith}
+use Rattle.std.proofs.lemmas.Bool.{cases_Bool, true≢false, not-true}
+use Rattle.std.specs.Prelude.{IfSome, ◌||◌, not, flat_map, is_some, map}
+use Rattle.std.specs.List.{list_any}
 use Rattle.std.proofs.lemmas.Bool.Decides.{nat_tests}
 use Rattle.board_base.specs.declared.access.Width.{Width}
 use Rattle.board_base.specs.declared.target.Reg.{Reg}
 use Rattle.board_spec.specs.declared.map_change.MapChange.{MapChange}
 use Rattle.board_spec.specs.declared.map_change.MapChange.TheVariants.{Store, Reset}
-use Rattle.board_spec.specs.Setup.{Setup, IsCardList}
+use Rattle.board_spec.specs.Setup.{FittedCard, Setup, IsCardList}
 use Rattle.board_spec.specs.Ranges.{largest_top}
 use Rattle.board_spec.specs.MapWrites.{touches_map, reg_after}
 use Rattle.board_base.specs.Access.{bytes_of}
 use Rattle.board_spec.specs.Decode.{Bytes, top_of}
 use Rattle.board_spec.specs.FlatMap.{address_count, six_areas, MapRange, Tiles, IsFlatMapOf}
-use Rattle.pci_bars.specs.Cards.{AreFitted, cards_of}
+use Rattle.pci_bars.specs.Cards.{CardBytes, AreFitted, cards_of}
+use Rattle.addr_decode.proofs.CardLemmas.{no_low_card}
+use Rattle.addr_decode.proofs.NameLemmas.{names_touch}
+use Rattle.addr_decode.specs.declared.register.MapRegister.{MapRegister}
+use Rattle.addr_decode.specs.declared.register.MapRegister.TheVariants.{Pam, RowBoundary, Hole, Smram, ChipSelects, Card}
+use Rattle.addr_decode.specs.MapRegister.{map_register, names_from, names_of}
 use Rattle.addr_decode.specs.MapRegs.{MapBytes, StandsFor}
 use Rattle.addr_decode.specs.Edges.{edges_after}
 use Rattle.map_builder.specs.declared.range.Changed.{Changed}
@@ -22,14 +28,14 @@ use Rattle.board_spec.specs.Limits.{entry_limit}
 use Rattle.map_builder.specs.Build.{IsMapWhere, IsBeside}
 use Rattle.map_builder.specs.Sorted.{sorted, Rise, rows_in}
 use Rattle.map_builder.specs.Applied.{AreChanged}
-use Rattle.map_builder.specs.Changed.{after, bounds, is_fixed, windows_of, windows_covered, changed_windows, most_rows}
-use Rattle.map_builder.specs.Rows.{stores_rows, AreMoved}
+use Rattle.map_builder.specs.Changed.{after, bounds, is_card_name, rest_on_registers, name_windows, windows_covered, changed_windows, most_rows}
+use Rattle.map_builder.specs.Rows.{AreMoved}
 use Rattle.map_builder.specs.Unchanged.{IsHeldAt, IsSameByte}
 use Rattle.map_builder.proofs.FindLemmas.{tiles_below}
-use Rattle.map_builder.proofs.OutsideLemmas.{Outside, and_no}
+use Rattle.map_builder.proofs.OutsideLemmas.{Outside}
 use Rattle.map_builder.proofs.BoundsLemmas.{covered_ordered, changed_ordered, bounds_twice}
 use Rattle.map_builder.proofs.SortedLemmas.{rise_sorted, outside_sorted, beside_sorted, rows_few, sorted_twice}
-use Rattle.map_builder.proofs.MovedRows.{rows_keep, moved_rise, moved_within, moved_few}
+use Rattle.map_builder.proofs.MovedRows.{covers_rows, rows_keep, moved_rise, moved_within, moved_few}
 use Rattle.map_builder.proofs.UnchangedLemmas.{same_bytes, unchanged_keep}
 use Rattle.map_builder.proofs.KeptStores.{top_after, changes_keep}
 use Rattle.map_builder.proofs.SameBoards.{boards_same, untouched_areas}
@@ -112,26 +118,34 @@ pub record AreFound (setup : Setup) (bytes : Bytes) (change : MapChange) (all : 
   pub bounds_same : bounds all ≡ bounds (changed_windows setup bytes change)
   pub sorted_same : sorted all ≡ sorted (changed_windows setup bytes change)
 
--- those of a bridge do not rest on what the registers hold
-bridges_same : (setup : Setup) (bytes bytes' : Bytes) (reg : Reg) → nat_le reg.dev 1 ≡ true → windows_of setup bytes reg ≡ windows_of setup bytes' reg
-bridges_same setup bytes bytes' reg fixed =
-    elim (cases_Bool (reg.fun == 0)) [
-      | inr other ↦ rw (other, and_no (reg.dev == 0), and_no (reg.dev == 1)) refl
-      | inl first ↦
-          elim (cases_Bool (reg.dev == 0)) [
-            | inl host ↦ rw (first, host) refl
-            | inr not_host ↦
-                let south : (reg.dev == 1) ≡ true = grind (arith, nat_tests) in
-                rw (first, not_host, south) refl
-          ]
+-- those of registers of the bridges do not rest on what the registers hold
+name_fixed : (setup : Setup) (bytes bytes' : Bytes) (name : Option MapRegister) → is_card_name name ≡ false →
+    name_windows setup bytes name ≡ name_windows setup bytes' name
+name_fixed setup bytes bytes' None bridge = refl
+name_fixed setup bytes bytes' (Some (Pam number)) bridge = refl
+name_fixed setup bytes bytes' (Some (RowBoundary row)) bridge = refl
+name_fixed setup bytes bytes' (Some Hole) bridge = refl
+name_fixed setup bytes bytes' (Some Smram) bridge = refl
+name_fixed setup bytes bytes' (Some ChipSelects) bridge = refl
+name_fixed setup bytes bytes' (Some (Card dev register)) bridge = absurd (true≢false bridge)
+
+all_fixed : (setup : Setup) (bytes bytes' : Bytes) (name : ℕ → Option MapRegister) (ks : List ℕ) → rest_on_registers (map name ks) ≡ false →
+    flat_map (λ k. name_windows setup bytes (name k)) ks ≡ flat_map (λ k. name_windows setup bytes' (name k)) ks
+all_fixed setup bytes bytes' name [] bridges = refl
+all_fixed setup bytes bytes' name (k ∷ later) bridges =
+    elim (cases_Bool (is_card_name (name k))) [
+      | inl card ↦ let some : true ≡ false = rw card at bridges in absurd (true≢false some)
+      | inr bridge ↦
+          ap (λ (here : List Changed). here ++ flat_map (λ k. name_windows setup bytes (name k)) later) (name_fixed setup bytes bytes' (name k) bridge)
+          ∙ ap (λ (more : List Changed). name_windows setup bytes' (name k) ++ more) (all_fixed setup bytes bytes' name later (rw bridge at bridges))
     ]
 
-fixed_same : (setup : Setup) (bytes bytes' : Bytes) (change : MapChange) → is_fixed change ≡ true → windows_covered setup bytes change ≡ windows_covered setup bytes' change
+fixed_same : (setup : Setup) (bytes bytes' : Bytes) (change : MapChange) → rest_on_registers (names_of setup.cards change) ≡ false →
+    windows_covered setup bytes change ≡ windows_covered setup bytes' change
 unfolding windows_covered
 fixed_same setup bytes bytes' Reset fixed = refl
 fixed_same setup bytes bytes' (Store reg width value) fixed =
-    ap (λ (windows : ℕ → List Changed). flat_map windows (take (bytes_of width) (0 ∷ 1 ∷ 2 ∷ 3 ∷ [])))
-    (λ i k. bridges_same setup bytes bytes' (reg_after reg k) fixed i)
+    all_fixed setup bytes bytes' (λ k. map_register setup.cards (reg_after reg k)) (take (bytes_of width) (0 ∷ 1 ∷ 2 ∷ 3 ∷ [])) fixed
 
 kept_same : (old new : MapBytes) (setup : Setup) (bytes : Bytes) (change : MapChange) → StandsFor setup bytes old →
     StandsFor setup (after setup change bytes) new → KeepsByte old new change →
@@ -153,77 +167,83 @@ found_once setup bytes change all once same =
       sorted_same = ap sorted once ∙ sym (sorted_twice covered (covered_ordered setup bytes change)) ∙ sym (ap sorted twice);
     }
 
-are_found : (old new : MapBytes) (setup : Setup) (bytes : Bytes) (change : MapChange) (all : List Changed) (kept same : Bool) →
-    StandsFor setup bytes old → StandsFor setup (after setup change bytes) new → (kept ≡ true → KeepsByte old new change) →
-    same ≡ (kept || is_fixed change) → (same ≡ true → all ≡ windows_covered setup bytes change) →
+are_found : (old new : MapBytes) (setup : Setup) (bytes : Bytes) (change : MapChange) (names : List (Option MapRegister)) (all : List Changed) (kept same : Bool) →
+    names ≡ names_of setup.cards change → StandsFor setup bytes old → StandsFor setup (after setup change bytes) new → (kept ≡ true → KeepsByte old new change) →
+    same ≡ (kept || not (rest_on_registers names)) → (same ≡ true → all ≡ windows_covered setup bytes change) →
     (same ≡ false → all ≡ changed_windows setup bytes change) → AreFound setup bytes change all
-are_found old new setup bytes change all kept same stands now keeps same_is once twice =
+are_found old new setup bytes change names all kept same named stands now keeps same_is once twice =
     elim (cases_Bool same) [
       | inr move ↦ record { bounds_same = ap bounds (twice move); sorted_same = ap sorted (twice move) }
       | inl stay ↦
           elim (cases_Bool kept) [
             | inl is ↦ found_once setup bytes change all (once stay) (kept_same old new setup bytes change stands now (keeps is))
-            | inr not ↦
-                let fixed : is_fixed change ≡ true = rw not at (sym same_is ∙ stay) in
+            | inr not_kept ↦
+                let no_rest : rest_on_registers names ≡ false = not-true (rest_on_registers names) (rw not_kept at (sym same_is ∙ stay)) in
+                let fixed : rest_on_registers (names_of setup.cards change) ≡ false = rw (← named) no_rest in
                 found_once setup bytes change all (once stay) (fixed_same setup (after setup change bytes) bytes change fixed)
           ]
     ]
 
 -- as they are pushed: by what the registers held, and again by what they hold, unless that is known to be the same
-pub pushed_found : (old new : MapBytes) (change : MapChange) (none first all : List Changed) (kept same : Bool) →
-    (kept ≡ true → KeepsByte old new change) → same ≡ (kept || is_fixed change) → none ≡ [] →
+pub pushed_found : (old new : MapBytes) (change : MapChange) (names : List (Option MapRegister)) (none first all : List Changed) (kept same : Bool) →
+    names ≡ names_of (cards_of old.cards) change →
+    (kept ≡ true → KeepsByte old new change) → same ≡ (kept || not (rest_on_registers names)) → none ≡ [] →
     ((setup : Setup) (bytes : Bytes) → StandsFor setup bytes old → first ≡ none ++ windows_covered setup bytes change) →
     (same ≡ true → all ≡ first) →
     (same ≡ false → (setup : Setup) (bytes : Bytes) → StandsFor setup bytes new → all ≡ first ++ windows_covered setup bytes change) →
     (setup : Setup) (bytes : Bytes) → StandsFor setup bytes old → StandsFor setup (after setup change bytes) new → AreFound setup bytes change all
-pushed_found old new change none first all kept same keeps same_is none_is first_is once twice setup bytes stands now =
+pushed_found old new change names none first all kept same named keeps same_is none_is first_is once twice setup bytes stands now =
     let covered : first ≡ windows_covered setup bytes change =
     first_is setup bytes stands ∙ ap (λ (windows : List Changed). windows ++ windows_covered setup bytes change) none_is in
-    are_found old new setup bytes change all kept same stands now keeps same_is (λ stay. once stay ∙ covered)
+    are_found old new setup bytes change names all kept same
+    (named ∙ ap (λ (cards : List FittedCard). names_of cards change) (sym stands.cards.0)) stands now keeps same_is (λ stay. once stay ∙ covered)
     (λ move.
     twice move setup (after setup change bytes) now
     ∙ ap (λ (windows : List Changed). windows ++ windows_covered setup (after setup change bytes) change) covered)
 
 -- ---- the windows that are built anew: those that changed, or where rows alone are stored what moves of them
 
-pub build_rise : (setup : Setup) (bytes : Bytes) (change : MapChange) (all windows : List Changed) (old_rows new_rows : List ℕ) (kept : Bool) →
+pub build_rise : (setup : Setup) (bytes : Bytes) (change : MapChange) (all windows : List Changed) (old_rows new_rows : List ℕ) (kept alone : Bool) →
+    (alone ≡ true → covers_rows change ≡ true) →
     sorted all ≡ sorted (changed_windows setup bytes change) → (kept ≡ true → windows ≡ []) →
-    (kept ≡ false → stores_rows change ≡ false → windows ≡ sorted all) → (kept ≡ false → stores_rows change ≡ true → AreMoved old_rows new_rows windows) → Rise windows
-build_rise setup bytes change all windows old_rows new_rows true all_is none others rows = rw (none refl) tt
-build_rise setup bytes change all windows old_rows new_rows false all_is none others rows =
-    elim (cases_Bool (stores_rows change)) [
+    (kept ≡ false → alone ≡ false → windows ≡ sorted all) → (kept ≡ false → alone ≡ true → AreMoved old_rows new_rows windows) → Rise windows
+build_rise setup bytes change all windows old_rows new_rows true alone is_rows all_is none others rows = rw (none refl) tt
+build_rise setup bytes change all windows old_rows new_rows false alone is_rows all_is none others rows =
+    elim (cases_Bool alone) [
       | inl is ↦ moved_rise old_rows new_rows windows (rows refl is)
       | inr not ↦
           subst Rise (sym (others refl not ∙ all_is)) (rise_sorted (changed_windows setup bytes change) (changed_ordered setup bytes change))
     ]
 
-pub build_few : (setup : Setup) (bytes : Bytes) (change : MapChange) (all windows : List Changed) (old_rows new_rows : List ℕ) (kept : Bool) →
+pub build_few : (setup : Setup) (bytes : Bytes) (change : MapChange) (all windows : List Changed) (old_rows new_rows : List ℕ) (kept alone : Bool) →
+    (alone ≡ true → covers_rows change ≡ true) →
     sorted all ≡ sorted (changed_windows setup bytes change) → (kept ≡ true → windows ≡ []) →
-    (kept ≡ false → stores_rows change ≡ false → windows ≡ sorted all) → (kept ≡ false → stores_rows change ≡ true → AreMoved old_rows new_rows windows) →
+    (kept ≡ false → alone ≡ false → windows ≡ sorted all) → (kept ≡ false → alone ≡ true → AreMoved old_rows new_rows windows) →
     rows_in (edges_after setup (after setup change bytes)) windows ≤ most_rows setup bytes change
-build_few setup bytes change all windows old_rows new_rows true all_is none others rows = rw (none refl) (omega arith)
-build_few setup bytes change all windows old_rows new_rows false all_is none others rows =
+build_few setup bytes change all windows old_rows new_rows true alone is_rows all_is none others rows = rw (none refl) (omega arith)
+build_few setup bytes change all windows old_rows new_rows false alone is_rows all_is none others rows =
     let new : Bytes = after setup change bytes in
-    elim (cases_Bool (stores_rows change)) [
-      | inl is ↦ moved_few setup bytes new change old_rows new_rows windows is (rows refl is)
+    elim (cases_Bool alone) [
+      | inl is ↦ moved_few setup bytes new change old_rows new_rows windows (is_rows is) (rows refl is)
       | inr not ↦
           rw (others refl not ∙ all_is) (rows_few setup new (changed_windows setup bytes change) (changed_ordered setup bytes change))
     ]
 
 -- beside them each address keeps its areas
 build_keeps : (old new : MapBytes) (setup : Setup) (bytes : Bytes) (change : MapChange) (addr : ℕ) → IsCardList setup.cards → top_of bytes ≤ largest_top →
-    StandsFor setup bytes old → StandsFor setup (after setup change bytes) new → (all windows : List Changed) (kept : Bool) →
+    StandsFor setup bytes old → StandsFor setup (after setup change bytes) new → (all windows : List Changed) (kept alone : Bool) →
+    (alone ≡ true → covers_rows change ≡ true) →
     sorted all ≡ sorted (changed_windows setup bytes change) → (kept ≡ true → KeepsByte old new change) →
-    (kept ≡ false → stores_rows change ≡ false → windows ≡ sorted all) → (kept ≡ false → stores_rows change ≡ true → AreMoved old.drb new.drb windows) →
+    (kept ≡ false → alone ≡ false → windows ≡ sorted all) → (kept ≡ false → alone ≡ true → AreMoved old.drb new.drb windows) →
     addr < address_count → IsBeside windows addr → six_areas setup (after setup change bytes) addr ≡ six_areas setup bytes addr
-build_keeps old new setup bytes change addr cards top stands now all windows kept all_is same others rows address out =
+build_keeps old new setup bytes change addr cards top stands now all windows kept alone is_rows all_is same others rows address out =
     elim (cases_Bool kept) [
       | inl is_kept ↦
           let byte = same is_kept in
           unchanged_keep setup bytes change addr byte.byte cards (byte.before setup bytes stands) (byte.later setup (after setup change bytes) now)
       | inr not_kept ↦
-          elim (cases_Bool (stores_rows change)) [
-            | inl is ↦ rows_keep old new setup bytes change addr is cards stands now ((rows not_kept is).beside addr out)
+          elim (cases_Bool alone) [
+            | inl is ↦ rows_keep old new setup bytes change addr (is_rows is) cards stands now ((rows not_kept is).beside addr out)
             | inr not ↦
                 changes_keep setup bytes change addr cards top address
                 (outside_sorted addr (changed_windows setup bytes change) (subst (Outside addr) (others not_kept not ∙ all_is) out))
@@ -232,10 +252,11 @@ build_keeps old new setup bytes change addr cards top stands now all windows kep
 
 -- beside them the ranges are a map of the new registers
 pub build_beside : (old new : MapBytes) (change : MapChange) (ranges : List MapRange) (is_map : IsMapOf old ranges) →
-    StandsFor is_map.board.setup (after is_map.board.setup change is_map.board.bytes) new → (all windows : List Changed) (kept : Bool) →
+    StandsFor is_map.board.setup (after is_map.board.setup change is_map.board.bytes) new → (all windows : List Changed) (kept alone : Bool) →
+    (alone ≡ true → covers_rows change ≡ true) →
     sorted all ≡ sorted (changed_windows is_map.board.setup is_map.board.bytes change) → (kept ≡ true → KeepsByte old new change) →
-    (kept ≡ false → stores_rows change ≡ false → windows ≡ sorted all) → (kept ≡ false → stores_rows change ≡ true → AreMoved old.drb new.drb windows) → IsMapWhere new (IsBeside windows) ranges
-build_beside old new change ranges is_map stands all windows kept all_is same others rows =
+    (kept ≡ false → alone ≡ false → windows ≡ sorted all) → (kept ≡ false → alone ≡ true → AreMoved old.drb new.drb windows) → IsMapWhere new (IsBeside windows) ranges
+build_beside old new change ranges is_map stands all windows kept alone is_rows all_is same others rows =
     let board = is_map.board in
     record {
       tiles = is_map.tiles;
@@ -244,41 +265,43 @@ build_beside old new change ranges is_map stands all windows kept all_is same ot
         at_each = λ addr low high out.
             still_right old new change ranges is_map stands (IsBeside windows)
             (λ addr address out.
-            build_keeps old new board.setup board.bytes change addr board.cards board.top board.stands stands all windows kept all_is same others rows address out)
+            build_keeps old new board.setup board.bytes change addr board.cards board.top board.stands stands all windows kept alone is_rows all_is same others rows address out)
             setup bytes now k d within addr low high out;
       };
     }
 
 -- they lie in those that change
-build_within : (setup : Setup) (bytes : Bytes) (change : MapChange) (addr : ℕ) (all windows : List Changed) (old_rows new_rows : List ℕ) (kept : Bool) →
+build_within : (setup : Setup) (bytes : Bytes) (change : MapChange) (addr : ℕ) (all windows : List Changed) (old_rows new_rows : List ℕ) (kept alone : Bool) →
+    (alone ≡ true → covers_rows change ≡ true) →
     sorted all ≡ sorted (changed_windows setup bytes change) → (kept ≡ true → windows ≡ []) →
-    (kept ≡ false → stores_rows change ≡ false → windows ≡ sorted all) → (kept ≡ false → stores_rows change ≡ true → AreMoved old_rows new_rows windows) →
+    (kept ≡ false → alone ≡ false → windows ≡ sorted all) → (kept ≡ false → alone ≡ true → AreMoved old_rows new_rows windows) →
     IsBeside (changed_windows setup bytes change) addr → IsBeside windows addr
-build_within setup bytes change addr all windows old_rows new_rows true all_is none others rows out = rw (none refl) tt
-build_within setup bytes change addr all windows old_rows new_rows false all_is none others rows out =
-    elim (cases_Bool (stores_rows change)) [
-      | inl is ↦ moved_within setup bytes change old_rows new_rows windows addr is (rows refl is) out
+build_within setup bytes change addr all windows old_rows new_rows true alone is_rows all_is none others rows out = rw (none refl) tt
+build_within setup bytes change addr all windows old_rows new_rows false alone is_rows all_is none others rows out =
+    elim (cases_Bool alone) [
+      | inl is ↦ moved_within setup bytes change old_rows new_rows windows addr (is_rows is) (rows refl is) out
       | inr not ↦
           subst (Outside addr) (sym (others refl not ∙ all_is)) (beside_sorted addr (changed_windows setup bytes change) out)
     ]
 
 -- so they are what a change changed, of each board that has the registers
 pub are_changed : (old new : MapBytes) (change : MapChange) (board : HasBoard old) → StandsFor board.setup (after board.setup change board.bytes) new →
-    (all windows : List Changed) (kept : Bool) →
+    (all windows : List Changed) (kept alone : Bool) →
+    (alone ≡ true → covers_rows change ≡ true) →
     ((setup : Setup) (bytes : Bytes) → StandsFor setup bytes old → sorted all ≡ sorted (changed_windows setup bytes change)) →
     (kept ≡ true → KeepsByte old new change) → (kept ≡ true → windows ≡ []) →
-    (kept ≡ false → stores_rows change ≡ false → windows ≡ sorted all) → (kept ≡ false → stores_rows change ≡ true → AreMoved old.drb new.drb windows) →
+    (kept ≡ false → alone ≡ false → windows ≡ sorted all) → (kept ≡ false → alone ≡ true → AreMoved old.drb new.drb windows) →
     (setup : Setup) (bytes : Bytes) → StandsFor setup bytes old → StandsFor setup (after setup change bytes) new → AreChanged setup bytes change windows
-are_changed old new change board stands all windows kept all_is same none others rows setup bytes here now =
+are_changed old new change board stands all windows kept alone is_rows all_is same none others rows setup bytes here now =
     let same_all = all_is setup bytes here in
     record {
-      rise = build_rise setup bytes change all windows old.drb new.drb kept same_all none others rows;
+      rise = build_rise setup bytes change all windows old.drb new.drb kept alone is_rows same_all none others rows;
       beside = λ addr address out.
           sym (boards_same new board.setup setup (after board.setup change board.bytes) (after setup change bytes) board.cards stands now addr)
-          ∙ build_keeps old new board.setup board.bytes change addr board.cards board.top board.stands stands all windows kept
+          ∙ build_keeps old new board.setup board.bytes change addr board.cards board.top board.stands stands all windows kept alone is_rows
           (all_is board.setup board.bytes board.stands) same others rows address out
           ∙ boards_same old board.setup setup board.bytes bytes board.cards board.stands here addr;
-      within = λ addr out. build_within setup bytes change addr all windows old.drb new.drb kept same_all none others rows out;
+      within = λ addr out. build_within setup bytes change addr all windows old.drb new.drb kept alone is_rows same_all none others rows out;
     }
 
 -- a change that covers no byte on which the map depends leaves the map
@@ -289,16 +312,14 @@ untouched_map old new change ranges is_map stands not fitted =
     same_map old new change ranges is_map stands (λ addr. Unit {0})
     (λ addr address out. untouched_areas is_map.board.setup is_map.board.bytes change is_map.board.cards not addr) (λ addr. tt) fitted
 
--- of a board its cards alone say whether a store touches the map
-touched_by_cards : (setup setup' : Setup) (reg : Reg) (width : Width) (value : ℕ) → setup.cards ≡ setup'.cards →
-    touches_map setup (Store reg width 0) ≡ touches_map setup' (Store reg width value)
-touched_by_cards setup setup' reg width value same = rw same refl
-
-pub touched_alike : (regs : MapBytes) (board : HasBoard regs) (setup : Setup) (reg : Reg) (width : Width) (value : ℕ) (touched : Bool) →
-    setup.cards ≡ cards_of regs.cards → touched ≡ touches_map board.setup (Store reg width 0) →
-    touched ≡ touches_map setup (Store reg width value)
-touched_alike regs board setup reg width value touched same is =
-    is ∙ touched_by_cards board.setup setup reg width value (board.stands.cards.0 ∙ sym same)
+-- the names of the registers that a store covers say whether it touches the map of a board with these cards
+pub names_touched : (setup : Setup) (cards : List CardBytes) (reg : Reg) (width : Width) (value : ℕ) (names : List (Option MapRegister)) →
+    AreFitted cards → setup.cards ≡ cards_of cards → names ≡ names_from (cards_of cards) reg width →
+    list_any is_some names ≡ touches_map setup (Store reg width value)
+names_touched setup cards reg width value names fitted same named =
+    ap (λ (list : List (Option MapRegister)). list_any is_some list) named
+    ∙ ap (λ (specs : List FittedCard). list_any is_some (names_from specs reg width)) (sym same)
+    ∙ names_touch setup reg width value (no_low_card setup cards 0 (omega arith) fitted.each same) (no_low_card setup cards 1 (omega arith) fitted.each same)
 
 -- below the limit of a history's entries the next version is one more
 pub next_below : (version : ℕ) → version < entry_limit → next_version version ≡ version + 1

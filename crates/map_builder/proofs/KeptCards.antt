@@ -1,6 +1,7 @@
 -- The card that answers at an address is the same before and after a change that moves no window round it.
 use Rattle.std.proofs.Common.{◌≡◌, ℕ, zero, suc, ◌+◌, ◌-◌, ◌*◌, ◌/◌, ◌<◌, ◌≤◌, ◌⊎◌, inl, inr, Bool, true, false, cond, List, [], ◌∷◌, ◌++◌, length, map, get_or, Option, Some, None, refl, sym, ◌∙◌, ap, subst, arith}
-use Rattle.std.specs.Prelude.{◌==◌, ◌&&◌, All, find, flat_map, slice_get, if◌then◌else◌}
+use Rattle.std.proofs.Math.Bool.{and-true}
+use Rattle.std.specs.Prelude.{◌==◌, ◌&&◌, All, find, flat_map, slice_get, if◌then◌else◌, is_some, option_map, option_and_then}
 use Rattle.std.specs.Option.{option_map_or}
 use Rattle.std.specs.List.{AllByRecursion}
 use Rattle.std.proofs.lemmas.Bool.{cases_Bool, cases_lt, cond-true, cond-false, eq-eqb, ne_eqb}
@@ -15,7 +16,11 @@ use Rattle.board_spec.specs.Bits.{is_bit, is_within}
 use Rattle.board_spec.specs.Decode.{Bytes, Window, base_value, is_covered, rom_value, rom_window, rom_window_of, is_rom_on, vga_window, memory_windows, is_enabled_for, memory_claim}
 use Rattle.board_spec.specs.RegisterNames.{card_register}
 use Rattle.pci_bars.specs.Cards.{CardBytes}
-use Rattle.map_builder.specs.Changed.{decoded, base_windows, card_windows, windows_of}
+use Rattle.addr_decode.specs.declared.register.CardRegister.{CardRegister}
+use Rattle.addr_decode.specs.declared.register.CardRegister.TheVariants.{Command, Base as BaseByte, ExpansionRom}
+use Rattle.addr_decode.specs.declared.register.MapRegister.TheVariants.{Card}
+use Rattle.addr_decode.specs.MapRegister.{IsCardNumber, in_card}
+use Rattle.map_builder.specs.Changed.{decoded, base_windows, card_windows, name_windows, windows_of}
 use Rattle.map_builder.specs.Held.{held_by, card_held}
 use Rattle.map_builder.proofs.OutsideLemmas.{Outside, outside_left, outside_right, not_covered, none_covered, and_no}
 use Rattle.map_builder.proofs.DeviceLemmas.{from_base, Hold, HoldRom, card_is, windows_of_card}
@@ -49,26 +54,34 @@ rom_holds : (bytes : Bytes) (dev : ℕ) (rom : Option ℕ) → HoldRom bytes dev
 rom_holds bytes dev None = refl
 rom_holds bytes dev (Some bits) = refl
 
-state_is : (bytes : Bytes) (card : FittedCard) (off : ℕ) → length card.bases ≤ 6 → card_windows bytes off card ≡ card_held off (state bytes card)
+state_is : (bytes : Bytes) (card : FittedCard) (register : CardRegister) → IsCardNumber register → length card.bases ≤ 6 →
+    card_windows bytes register card ≡ card_held register (state bytes card)
 unfolding state
-state_is bytes card off few = card_is bytes (state bytes card) off few (values_hold bytes card.dev) (rom_holds bytes card.dev card.rom)
+state_is bytes card register number few =
+    card_is bytes (state bytes card) register number few (values_hold bytes card.dev) (rom_holds bytes card.dev card.rom)
 
-base_held : (bytes : Bytes) (card : FittedCard) (off k : ℕ) (base : Base) → 0x10 + 4 * k ≤ off → off ≤ 0x13 + 4 * k → k < 6 → slice_get card.bases k ≡ Some base →
-    card_held off (state bytes card) ≡ held_by base (base_value bytes card.dev k)
+base_held : (bytes : Bytes) (card : FittedCard) (j k : ℕ) (base : Base) → j / 4 ≡ k → k < 6 → slice_get card.bases k ≡ Some base →
+    card_held (BaseByte j) (state bytes card) ≡ held_by base (base_value bytes card.dev k)
 unfolding state
-base_held bytes card off k base from to below at =
-    let other : (off == 0x04) ≡ false = ne_eqb off 0x04 (omega arith) in
+base_held bytes card j k base number below at = rw (number, at, sym (values_hold bytes card.dev k below)) refl
+
+-- ---- the names of a card's registers
+
+named_base : (card : FittedCard) (off : ℕ) → 0x10 ≤ off → off ≤ 0x27 → in_card off card ≡ Some (BaseByte (off - 0x10))
+named_base card off from to =
     let bases : is_within 0x10 0x27 off ≡ true = grind (arith, nat_tests) in
-    let number : (off - 0x10) / 4 ≡ k = omega arith in
-    rw (other, bases, number, at, sym (values_hold bytes card.dev k below)) refl
+    rw (ne_eqb off 0x04 (omega arith), bases) refl
 
--- the four registers of the expansion ROM
-rom_governed : (bytes : Bytes) (card : FittedCard) (off : ℕ) → 0x30 ≤ off → off ≤ 0x33 → card_windows bytes off card ≡ map decoded (rom_window bytes card)
-rom_governed bytes card off from to =
-    let other : (off == 0x04) ≡ false = ne_eqb off 0x04 (omega arith) in
-    let no_base : is_within 0x10 0x27 off ≡ false = grind (arith, nat_tests) in
+named_rom : (card : FittedCard) (off : ℕ) → 0x30 ≤ off → off ≤ 0x33 →
+    in_card off card ≡ (if is_some card.rom then Some (ExpansionRom (off - 0x30)) else None)
+named_rom card off from to =
+    let bases : is_within 0x10 0x27 off ≡ false = grind (arith, nat_tests) in
     let rom : is_within 0x30 0x33 off ≡ true = grind (arith, nat_tests) in
-    rw (other, no_base, rom) refl
+    rw (ne_eqb off 0x04 (omega arith), bases, rom, and-true (is_some card.rom)) refl
+
+no_rom_window : (bytes : Bytes) (dev : ℕ) (rom : Option ℕ) → is_some rom ≡ false → map decoded (rom_window_of bytes dev rom) ≡ []
+no_rom_window bytes dev None none = refl
+no_rom_window bytes dev (Some bits) none = absurd (cc)
 
 -- the expansion ROM where it is selected
 abbrev rom_part : Bytes → FittedCard → List Window
@@ -117,18 +130,41 @@ module _ (setup : Setup) (bytes new : Bytes) (addr : ℕ)
       (base_value new dev k ≡ base_value bytes dev k)
       ⊎ (Outside addr (held_by base (base_value bytes dev k)) × Outside addr (held_by base (base_value new dev k)))
 
-  windows_at : (registers : Bytes) (card : FittedCard) (off : ℕ) → IsFitted setup card →
-      windows_of setup registers (card_register card.dev off) ≡ card_windows registers off card
-  windows_at registers card off is =
+  windows_at : (registers : Bytes) (card : FittedCard) (off : ℕ) (named : Option CardRegister) → IsFitted setup card → in_card off card ≡ named →
+      windows_of setup registers (card_register card.dev off) ≡ name_windows setup registers (option_map (Card card.dev) named)
+  windows_at registers card off named is name =
       windows_of_card setup registers (card_register card.dev off) (omega (arith, is.first)) (omega (arith, is.first)) refl
-      ∙ ap (λ (at : Option FittedCard). option_map_or (card_windows registers off) at []) is.at
+      ∙ ap (λ (at : Option FittedCard). name_windows setup registers (option_map (Card card.dev) (option_and_then (in_card off) at))) is.at
+      ∙ ap (λ (found : Option CardRegister). name_windows setup registers (option_map (Card card.dev) found)) name
+
+  windows_named : (registers : Bytes) (card : FittedCard) (off : ℕ) (register : CardRegister) → IsFitted setup card → in_card off card ≡ Some register →
+      windows_of setup registers (card_register card.dev off) ≡ card_windows registers register card
+  windows_named registers card off register is name =
+      windows_at registers card off (Some register) is name
+      ∙ ap (λ (at : Option FittedCard). option_map_or (card_windows registers register) at []) is.at
+
+  -- the four registers of the expansion ROM
+  rom_governed : (registers : Bytes) (card : FittedCard) (off : ℕ) → IsFitted setup card → 0x30 ≤ off → off ≤ 0x33 →
+      windows_of setup registers (card_register card.dev off) ≡ map decoded (rom_window registers card)
+  rom_governed registers card off is from to =
+      elim (cases_Bool (is_some card.rom)) [
+        | inl some ↦
+            windows_named registers card off (ExpansionRom (off - 0x30)) is
+            (let named : in_card off card ≡ Some (ExpansionRom (off - 0x30)) = named_rom card off from to ∙ rw some refl in named)
+        | inr none ↦
+            windows_at registers card off None is
+            (let named : in_card off card ≡ None = named_rom card off from to ∙ rw none refl in named)
+            ∙ sym (no_rom_window registers card.dev card.rom none)
+      ]
 
   outside_base : (registers : Bytes) (card : FittedCard) (off k : ℕ) (base : Base) → IsFitted setup card → 0x10 + 4 * k ≤ off → off ≤ 0x13 + 4 * k → k < 6 →
       slice_get card.bases k ≡ Some base → Outside addr (windows_of setup registers (card_register card.dev off)) →
       Outside addr (held_by base (base_value registers card.dev k))
   outside_base registers card off k base is from to below at out =
       subst (Outside addr)
-      (windows_at registers card off is ∙ state_is registers card off is.few ∙ base_held registers card off k base from to below at) out
+      (windows_named registers card off (BaseByte (off - 0x10)) is (named_base card off (omega arith) (omega arith))
+      ∙ state_is registers card (BaseByte (off - 0x10)) (omega arith) is.few
+      ∙ base_held registers card (off - 0x10) k base (omega arith) below at) out
 
   base_moved : (card : FittedCard) (off k : ℕ) (base : Base) → IsFitted setup card → 0x10 + 4 * k ≤ off → off ≤ 0x13 + 4 * k → k < 6 →
       slice_get card.bases k ≡ Some base →
@@ -206,8 +242,8 @@ module _ (setup : Setup) (bytes new : Bytes) (addr : ℕ)
         | inl before ↦
             elim (kept card.dev (0x30 + n) is.first) [
               | inr out ↦ inr (
-                subst (Outside addr) (windows_at bytes card (0x30 + n) is ∙ rom_governed bytes card (0x30 + n) (omega arith) (omega arith)) out.0,
-                subst (Outside addr) (windows_at new card (0x30 + n) is ∙ rom_governed new card (0x30 + n) (omega arith) (omega arith)) out.1,
+                subst (Outside addr) (rom_governed bytes card (0x30 + n) is (omega arith) (omega arith)) out.0,
+                subst (Outside addr) (rom_governed new card (0x30 + n) is (omega arith) (omega arith)) out.1,
               )
               | inl here ↦ inl (λ j below.
                   elim (cases_lt j n) [
@@ -281,7 +317,7 @@ module _ (setup : Setup) (bytes new : Bytes) (addr : ℕ)
       let bases : List Window = base_windows registers card in
       let rom : List Window = rom_window registers card in
       let vga : List Window = vga_window card in
-      let all : Outside addr (map decoded (bases ++ rom ++ vga)) = subst (Outside addr) (windows_at registers card 0x04 is) out in
+      let all : Outside addr (map decoded (bases ++ rom ++ vga)) = subst (Outside addr) (windows_named registers card 0x04 Command is refl) out in
       let parts : Outside addr (map decoded (bases ++ rom) ++ map decoded vga) = subst (Outside addr) (map-append decoded (bases ++ rom) vga) all in
       let first : Outside addr (map decoded bases ++ map decoded rom) =
       subst (Outside addr) (map-append decoded bases rom) (outside_left addr (map decoded (bases ++ rom)) (map decoded vga) parts) in

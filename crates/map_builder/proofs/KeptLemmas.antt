@@ -11,7 +11,8 @@ use Rattle.board_spec.specs.Bits.{is_bit, is_within}
 use Rattle.board_spec.specs.Decode.{Bytes, boundary, top_of, row_of, is_in, hole_of, is_high_window, nibble, is_open, is_shadow_range, is_shadowed, is_smram_range, is_rom_selected, pam_register, area_of}
 use Rattle.board_spec.specs.RegisterNames.{bridge, isa, card_register}
 use Rattle.board_spec.specs.FlatMap.{six_areas}
-use Rattle.map_builder.specs.Changed.{from_to, bridge_windows, IsOutside}
+use Rattle.addr_decode.specs.MapRegister.{map_register}
+use Rattle.map_builder.specs.Changed.{from_to, pam_windows, windows_of, IsOutside}
 use Rattle.map_builder.proofs.OutsideLemmas.{Outside, and_no}
 use Rattle.map_builder.proofs.KeptCards.{Kept, claim_same}
 
@@ -65,38 +66,45 @@ pam_is : (addr : ℕ) → bridge (pam_offset addr) ≡ pam_register addr
 unfolding pam_offset
 pam_is addr = elim (cases_Bool (nat_le 0xF_0000 addr)) [ inl high ↦ rw high refl | inr low ↦ rw low refl ]
 
-pam_window_low : (off addr : ℕ) → off ≡ 0x5A + (addr - 0xC_0000) / 0x8000 → 0xC_0000 ≤ addr → addr < 0xF_0000 → Outside addr (bridge_windows off) → ⊥
-pam_window_low off addr is above below out =
-    let not_first : (off == 0x59) ≡ false = ne_eqb off 0x59 (omega arith) in
-    let within : is_within 0x5A 0x5F off ≡ true = grind (arith, nat_tests) in
-    let windows : bridge_windows off ≡ from_to (0xC_0000 + 0x8000 * (off - 0x5A)) (0xC_7FFF + 0x8000 * (off - 0x5A)) ∷ [] = rw (not_first, within) refl in
-    let here : Outside addr (from_to (0xC_0000 + 0x8000 * (off - 0x5A)) (0xC_7FFF + 0x8000 * (off - 0x5A)) ∷ []) = subst (Outside addr) windows out in
+pam_window : (setup : Setup) (bytes : Bytes) (off : ℕ) → 0x59 ≤ off → off ≤ 0x5F → windows_of setup bytes (bridge off) ≡ pam_windows (off - 0x59) ∷ []
+unfolding map_register
+pam_window setup bytes off from to = let within : is_within 0x59 0x5F off ≡ true = grind (arith, nat_tests) in rw within refl
+
+pam_window_low : (number addr : ℕ) → number ≡ 1 + (addr - 0xC_0000) / 0x8000 → 0xC_0000 ≤ addr → addr < 0xF_0000 →
+    Outside addr (pam_windows number ∷ []) → ⊥
+pam_window_low number addr is above below out =
+    let other : (number == 0) ≡ false = ne_eqb number 0 (omega arith) in
+    let here : Outside addr (from_to (0xC_0000 + 0x8000 * (number - 1)) (0xC_7FFF + 0x8000 * (number - 1)) ∷ []) = rw other at out in
     elim here.0 [ inl lower ↦ omega arith | inr higher ↦ omega arith ]
 
-in_pam_window : (addr : ℕ) → is_shadow_range addr ≡ true → Outside addr (bridge_windows (pam_offset addr)) → ⊥
+in_pam_window : (setup : Setup) (bytes : Bytes) (addr : ℕ) → is_shadow_range addr ≡ true →
+    Outside addr (windows_of setup bytes (bridge (pam_offset addr))) → ⊥
 unfolding pam_offset
-in_pam_window addr shadow out =
+in_pam_window setup bytes addr shadow out =
     let above : 0xC_0000 ≤ addr = grind (arith, nat_tests) in
     let below : addr ≤ 0xF_FFFF = grind (arith, nat_tests) in
     elim (cases_Bool (nat_le 0xF_0000 addr)) [
       | inl high ↦
           let from : 0xF_0000 ≤ addr = grind (arith, nat_tests) in
-          let here : Outside addr (bridge_windows 0x59) = rw high at out in
+          let there : Outside addr (windows_of setup bytes (bridge 0x59)) = rw high at out in
+          let here : Outside addr (pam_windows 0 ∷ []) = subst (Outside addr) (pam_window setup bytes 0x59 (omega arith) (omega arith)) there in
           elim here.0 [ inl lower ↦ omega arith | inr higher ↦ omega arith ]
       | inr low ↦
           let from : addr < 0xF_0000 = grind (arith, nat_tests) in
-          let here : Outside addr (bridge_windows (0x5A + (addr - 0xC_0000) / 0x8000)) = rw low at out in
-          pam_window_low (0x5A + (addr - 0xC_0000) / 0x8000) addr refl above from here
+          let off : ℕ = 0x5A + (addr - 0xC_0000) / 0x8000 in
+          let there : Outside addr (windows_of setup bytes (bridge off)) = rw low at out in
+          pam_window_low (off - 0x59) addr (omega arith) above from
+          (subst (Outside addr) (pam_window setup bytes off (omega arith) (omega arith)) there)
     ]
 
 -- ---- rows of DRAM
 
-pub row_window : (row : ℕ) → row < 8 → bridge_windows (0x60 + row) ≡ from_to 0 0x7F7F_FFFF ∷ []
-row_window row below =
-    let not_pam0 : (0x60 + row == 0x59) ≡ false = ne_eqb (0x60 + row) 0x59 (omega arith) in
-    let not_pam : is_within 0x5A 0x5F (0x60 + row) ≡ false = grind (arith, nat_tests) in
+pub row_window : (setup : Setup) (bytes : Bytes) (row : ℕ) → row < 8 → windows_of setup bytes (bridge (0x60 + row)) ≡ from_to 0 0x7F7F_FFFF ∷ []
+unfolding map_register
+row_window setup bytes row below =
+    let not_pam : is_within 0x59 0x5F (0x60 + row) ≡ false = grind (arith, nat_tests) in
     let within : is_within 0x60 0x67 (0x60 + row) ≡ true = grind (arith, nat_tests) in
-    rw (not_pam0, not_pam, within) refl
+    rw (not_pam, within) refl
 
 no_row : (bytes : Bytes) (addr : ℕ) → top_of bytes ≤ 0x7F80_0000 → 0x7F80_0000 ≤ addr → row_of bytes addr ≡ None
 unfolding row_of
@@ -108,7 +116,7 @@ module _ (setup : Setup) (bytes new : Bytes) (addr : ℕ) (kept : (reg : Reg) �
       elim (kept (bridge (0x60 + row))) [
         | inl same ↦ inl (ap (λ byte. byte * 0x80_0000) same)
         | inr out ↦
-            let here : Outside addr (from_to 0 0x7F7F_FFFF ∷ []) = subst (Outside addr) (row_window row below) out.0 in
+            let here : Outside addr (from_to 0 0x7F7F_FFFF ∷ []) = subst (Outside addr) (row_window setup bytes row below) out.0 in
             elim here.0 [ inl lower ↦ absurd (omega arith) | inr higher ↦ inr (omega arith) ]
       ]
 
@@ -159,6 +167,7 @@ not_of_pam addr shadow =
 module _ (setup : Setup) (bytes new : Bytes) (addr : ℕ) (kept : (reg : Reg) → is_boundary reg ≡ false → Kept setup bytes new addr reg)
     (row_same : row_of new addr ≡ row_of bytes addr) where
   hole_same : is_in (hole_of (new (bridge 0x68))) addr ≡ is_in (hole_of (bytes (bridge 0x68))) addr
+  unfolding map_register
   hole_same =
       elim (kept (bridge 0x68) refl) [
         | inl same ↦ ap (λ fdhc. is_in (hole_of fdhc) addr) same
@@ -166,6 +175,7 @@ module _ (setup : Setup) (bytes new : Bytes) (addr : ℕ) (kept : (reg : Reg) �
       ]
 
   rom_same : is_rom_selected (new (isa 0x4E)) addr ≡ is_rom_selected (bytes (isa 0x4E)) addr
+  unfolding map_register
   rom_same =
       elim (kept (isa 0x4E) refl) [
         | inl same ↦ ap (λ xbcs. is_rom_selected xbcs addr) same
@@ -173,6 +183,7 @@ module _ (setup : Setup) (bytes new : Bytes) (addr : ℕ) (kept : (reg : Reg) �
       ]
 
   smram_same : (new (bridge 0x72) ≡ bytes (bridge 0x72)) ⊎ (is_smram_range addr ≡ false)
+  unfolding map_register
   smram_same =
       elim (kept (bridge 0x72) refl) [ inl same ↦ inl same | inr out ↦ inr (outside_range addr 0xA_0000 0xB_FFFF out.0.0) ]
 
@@ -185,7 +196,7 @@ module _ (setup : Setup) (bytes new : Bytes) (addr : ℕ) (kept : (reg : Reg) �
               | inl same ↦
                   let here : new (pam_register addr) ≡ bytes (pam_register addr) = subst (λ (reg : Reg). new reg ≡ bytes reg) (pam_is addr) same in
                   rw within (ap (λ pam. is_open (nibble pam (is_high_window addr)) kind) here)
-              | inr out ↦ absurd (in_pam_window addr within out.0)
+              | inr out ↦ absurd (in_pam_window setup bytes addr within out.0)
             ]
       ]
 

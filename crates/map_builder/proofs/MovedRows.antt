@@ -1,8 +1,8 @@
 -- What a store to the boundaries of the rows of DRAM moves, and that no more rows are looked up for it than the bound says.
 use Rattle.std.proofs.Common.{◌≡◌, ℕ, zero, suc, ◌⊎◌, Bool, ◌+◌, ◌-◌, ◌*◌, ◌<◌, ◌≤◌, inl, inr, true, false, List, [], ◌∷◌, ◌++◌, take, refl, sym, ◌∙◌, ap, subst, arith, lit<}
-use Rattle.std.specs.Prelude.{◌==◌, nat_lt, if◌then◌else◌, Option, None, min, max, slice_index, find, flat_map}
+use Rattle.std.specs.Prelude.{◌==◌, ◌&&◌, nat_le, nat_lt, if◌then◌else◌, Option, Some, None, min, max, slice_index, find, flat_map}
 use Rattle.std.specs.List.{AllByRecursion, list_any}
-use Rattle.std.proofs.lemmas.Bool.{cases_Bool, cases_lt, false≢true}
+use Rattle.std.proofs.lemmas.Bool.{cases_Bool, cases_lt, false≢true, and_parts}
 use Rattle.std.proofs.lemmas.Bool.Decides.{nat_tests}
 use Rattle.board_base.specs.declared.access.Width.{Width}
 use Rattle.board_base.specs.declared.access.Width.TheVariants.{One, Two, Four}
@@ -11,24 +11,90 @@ use Rattle.board_base.specs.Access.{bytes_of}
 use Rattle.board_base.proofs.WidthLemmas.{some_bytes}
 use Rattle.board_spec.specs.declared.map_change.MapChange.{MapChange}
 use Rattle.board_spec.specs.declared.map_change.MapChange.TheVariants.{Store, Reset}
-use Rattle.board_spec.specs.Setup.{Setup, IsCardList}
+use Rattle.board_spec.specs.Setup.{FittedCard, Setup, IsCardList}
 use Rattle.board_spec.specs.Registers.{covers}
 use Rattle.board_spec.specs.Decode.{Bytes, boundary, row_of}
+use Rattle.board_spec.specs.RegisterNames.{bridge}
 use Rattle.board_spec.specs.MapWrites.{reg_after}
 use Rattle.board_spec.specs.FlatMap.{six_areas}
+use Rattle.addr_decode.specs.declared.register.MapRegister.{MapRegister}
+use Rattle.addr_decode.specs.declared.register.MapRegister.TheVariants.{Pam, RowBoundary, Hole, Smram, ChipSelects, Card}
+use Rattle.addr_decode.specs.MapRegister.{map_register, names_of}
+use Rattle.addr_decode.proofs.NameLemmas.{is_name}
+use Rattle.addr_decode.proofs.StoreLemmas.{in_function_0}
 use Rattle.addr_decode.specs.MapRegs.{MapBytes, StandsFor}
 use Rattle.addr_decode.specs.Edges.{edges_of, edges_after}
 use Rattle.map_builder.specs.declared.range.Changed.{Changed}
-use Rattle.map_builder.specs.Changed.{from_to, windows_of, windows_covered, bridge_windows, after, changed_windows, is_above_first, is_inside, edges_inside, is_window, count_of, IsOutside}
-use Rattle.map_builder.specs.Rows.{stores_rows, is_below, IsHidden, StaysOrHidden, RowStays, IsInRows, AreMoved}
+use Rattle.map_builder.specs.Changed.{from_to, windows_of, windows_covered, after, changed_windows, is_above_first, is_inside, edges_inside, is_window, count_of, IsOutside}
+use Rattle.map_builder.specs.Rows.{is_row_name, stores_rows, is_below, IsHidden, StaysOrHidden, RowStays, IsInRows, AreMoved}
 use Rattle.map_builder.specs.Sorted.{Rise, rows_in}
 use Rattle.map_builder.proofs.KeptLemmas.{is_boundary, areas_same, row_window}
 use Rattle.map_builder.proofs.SortedLemmas.{filter_more, one_window}
 
+-- ---- the registers that such a store covers
+
+-- a change covers boundaries of rows, DRB0 to DRB7, and no other register, by its place and width
+abbrev pub covers_rows : MapChange → Bool
+covers_rows Reset = false
+covers_rows (Store reg width value) =
+    reg.dev == 0 && reg.fun == 0 && nat_le 0x60 reg.off && nat_le (reg.off + bytes_of width) 0x68
+
+record IsRowAt (at : Reg) (k : ℕ) : Type 0 where
+  pub dev : at.dev ≡ 0
+  pub fun : at.fun ≡ 0
+  pub from : 0x60 ≤ at.off + k
+  pub to : at.off + k < 0x68
+
+row_placed : (cards : List FittedCard) (at : Reg) (k row : ℕ) → map_register cards (reg_after at k) ≡ Some (RowBoundary row) → IsRowAt at k
+row_placed cards at k row is =
+    let name = is_name cards (reg_after at k) (RowBoundary row) is in
+    let number : row < 8 = name.number in
+    let off : 0x60 + row ≡ at.off + k = ap (λ (reg : Reg). reg.off) name.place in
+    record {
+      dev = sym (ap (λ (reg : Reg). reg.dev) name.place);
+      fun = sym (ap (λ (reg : Reg). reg.fun) name.place);
+      from = omega arith;
+      to = omega arith;
+    }
+
+row_named : (cards : List FittedCard) (at : Reg) (k : ℕ) (name : Option MapRegister) → map_register cards (reg_after at k) ≡ name →
+    is_row_name name ≡ true → IsRowAt at k
+row_named cards at k (Some (RowBoundary row)) is row_is = row_placed cards at k row is
+row_named cards at k None is row_is = absurd (false≢true row_is)
+row_named cards at k (Some (Pam number)) is row_is = absurd (false≢true row_is)
+row_named cards at k (Some Hole) is row_is = absurd (false≢true row_is)
+row_named cards at k (Some Smram) is row_is = absurd (false≢true row_is)
+row_named cards at k (Some ChipSelects) is row_is = absurd (false≢true row_is)
+row_named cards at k (Some (Card dev register)) is row_is = absurd (false≢true row_is)
+
+row_at : (cards : List FittedCard) (at : Reg) (k : ℕ) → is_row_name (map_register cards (reg_after at k)) ≡ true → IsRowAt at k
+row_at cards at k is = row_named cards at k (map_register cards (reg_after at k)) refl is
+
+rows_between : (at : Reg) (width : Width) (value last : ℕ) → last + 1 ≡ bytes_of width → IsRowAt at 0 → IsRowAt at last →
+    covers_rows (Store at width value) ≡ true
+rows_between at width value last count first end =
+    let from : nat_le 0x60 at.off ≡ true = let low = first.from in grind (arith, nat_tests) in
+    let to : nat_le (at.off + bytes_of width) 0x68 ≡ true = let high = end.to in grind (arith, nat_tests) in
+    rw (first.dev, first.fun, from, to) refl
+
+-- where the names of the registers that it covers are of rows alone
+pub rows_by_names : (cards : List FittedCard) (change : MapChange) → stores_rows (names_of cards change) ≡ true → covers_rows change ≡ true
+rows_by_names cards Reset is = absurd (false≢true is)
+rows_by_names cards (Store at One value) is =
+    let first = row_at cards at 0 (and_parts _ _ (and_parts _ _ is).1).0 in
+    rows_between at One value 0 refl first first
+rows_by_names cards (Store at Two value) is =
+    let each = and_parts _ _ (and_parts _ _ is).1 in
+    rows_between at Two value 1 refl (row_at cards at 0 each.0) (row_at cards at 1 (and_parts _ _ each.1).0)
+rows_by_names cards (Store at Four value) is =
+    let each = and_parts _ _ (and_parts _ _ is).1 in
+    let third = and_parts _ _ (and_parts _ _ each.1).1 in
+    rows_between at Four value 3 refl (row_at cards at 0 each.0) (row_at cards at 3 (and_parts _ _ third.1).0)
+
 -- ---- the areas outside of what moves
 
 -- a register beside the boundaries is not covered
-beside : (at : Reg) (width : Width) (value : ℕ) (reg : Reg) → stores_rows (Store at width value) ≡ true → is_boundary reg ≡ false → covers at width reg ≡ false
+beside : (at : Reg) (width : Width) (value : ℕ) (reg : Reg) → covers_rows (Store at width value) ≡ true → is_boundary reg ≡ false → covers at width reg ≡ false
 beside at width value reg rows other =
     elim (cases_Bool (covers at width reg)) [
       | inr not ↦ not
@@ -127,7 +193,7 @@ row_kept old new setup bytes later addr stands stands' stays =
           ]
     ]))
 
-pub rows_keep : (old new : MapBytes) (setup : Setup) (bytes : Bytes) (change : MapChange) (addr : ℕ) → stores_rows change ≡ true → IsCardList setup.cards →
+pub rows_keep : (old new : MapBytes) (setup : Setup) (bytes : Bytes) (change : MapChange) (addr : ℕ) → covers_rows change ≡ true → IsCardList setup.cards →
     StandsFor setup bytes old → StandsFor setup (after setup change bytes) new → RowStays old.drb new.drb addr →
     six_areas setup (after setup change bytes) addr ≡ six_areas setup bytes addr
 rows_keep old new setup bytes Reset addr rows list stands stands' stays = absurd (false≢true rows)
@@ -158,19 +224,21 @@ first_offset windows One more first = first_of (windows 0) (flat_map windows ([]
 first_offset windows Two more first = first_of (windows 0) (flat_map windows (1 ∷ [])) more first
 first_offset windows Four more first = first_of (windows 0) (flat_map windows (1 ∷ 2 ∷ 3 ∷ [])) more first
 
-begins : (setup : Setup) (bytes : Bytes) (change : MapChange) → stores_rows change ≡ true → BeginsWithRows (changed_windows setup bytes change)
+begins : (setup : Setup) (bytes : Bytes) (change : MapChange) → covers_rows change ≡ true → BeginsWithRows (changed_windows setup bytes change)
 unfolding windows_covered
 begins setup bytes Reset rows = absurd (false≢true rows)
 begins setup bytes (Store at width value) rows =
-    let dev : (at.dev == 0) ≡ true = grind (arith, nat_tests) in
-    let fun : (at.fun == 0) ≡ true = grind (arith, nat_tests) in
+    let dev : at.dev ≡ 0 = grind (arith, nat_tests) in
+    let fun : at.fun ≡ 0 = grind (arith, nat_tests) in
     let first : 0x60 ≤ at.off = grind (arith, nat_tests) in
     let last : at.off + bytes_of width ≤ 0x68 = grind (arith, nat_tests) in
     let place : 0x60 + (at.off - 0x60) ≡ at.off + 0 = omega arith in
-    let window : bridge_windows (at.off + 0) ≡ from_to 0 0x7F7F_FFFF ∷ [] =
-    subst (λ (off : ℕ). bridge_windows off ≡ from_to 0 0x7F7F_FFFF ∷ []) place (row_window (at.off - 0x60) (omega (arith, some_bytes width))) in
+    let window : windows_of setup bytes (bridge (at.off + 0)) ≡ from_to 0 0x7F7F_FFFF ∷ [] =
+    subst (λ (off : ℕ). windows_of setup bytes (bridge off) ≡ from_to 0 0x7F7F_FFFF ∷ []) place
+    (row_window setup bytes (at.off - 0x60) (omega (arith, some_bytes width))) in
     first_offset (λ k. windows_of setup bytes (reg_after at k)) width
-    (windows_covered setup (after setup (Store at width value) bytes) (Store at width value)) (rw (dev, fun) window)
+    (windows_covered setup (after setup (Store at width value) bytes) (Store at width value))
+    (subst (λ (reg : Reg). windows_of setup bytes reg ≡ from_to 0 0x7F7F_FFFF ∷ []) (in_function_0 (reg_after at 0) 0 dev fun) window)
 
 count_some : (window : Changed) (later : List Changed) → 1 ≤ count_of (window ∷ later)
 unfolding count_of
@@ -200,7 +268,7 @@ few_in_rows setup bytes window windows within begin =
       count_some (from_to 0 0x7F7F_FFFF) begin.rest,
     ))
 
-pub moved_few : (setup : Setup) (bytes new : Bytes) (change : MapChange) (old_rows new_rows : List ℕ) (windows : List Changed) → stores_rows change ≡ true →
+pub moved_few : (setup : Setup) (bytes new : Bytes) (change : MapChange) (old_rows new_rows : List ℕ) (windows : List Changed) → covers_rows change ≡ true →
     AreMoved old_rows new_rows windows →
     rows_in (edges_after setup new) windows ≤ count_of (changed_windows setup bytes change) + edges_inside setup new (changed_windows setup bytes change)
 moved_few setup bytes new change old_rows new_rows [] rows moved = omega arith
@@ -214,7 +282,7 @@ past_rows addr window within (inl below) = absurd (omega (arith, below))
 past_rows addr window within (inr above) = inr (let high = within.1 in omega (arith, high, above))
 
 pub moved_within : (setup : Setup) (bytes : Bytes) (change : MapChange) (old_rows new_rows : List ℕ) (windows : List Changed) (addr : ℕ) →
-    stores_rows change ≡ true → AreMoved old_rows new_rows windows → AllByRecursion (IsOutside addr) (changed_windows setup bytes change) →
+    covers_rows change ≡ true → AreMoved old_rows new_rows windows → AllByRecursion (IsOutside addr) (changed_windows setup bytes change) →
     AllByRecursion (IsOutside addr) windows
 moved_within setup bytes change old_rows new_rows [] addr rows moved out = tt
 moved_within setup bytes change old_rows new_rows (window ∷ []) addr rows moved out =

@@ -1,17 +1,19 @@
 -- A store of one byte to a register that keeps its byte changes no area.
-use Rattle.std.proofs.Common.{◌≡◌, ℕ, ◌+◌, ◌*◌, inl, inr, refl, sym, ◌∙◌, ap, subst, arith}
-use Rattle.std.specs.Prelude.{nat_lt}
+use Rattle.std.proofs.Common.{◌≡◌, ℕ, ◌+◌, ◌*◌, List, Option, None, length, get_or, inl, inr, refl, sym, ◌∙◌, ap, subst, arith}
+use Rattle.std.specs.Prelude.{nat_lt, IfSome}
 use Rattle.std.proofs.lemmas.Bool.{cases_Bool}
 use Rattle.std.proofs.lemmas.Bool.Decides.{nat_tests}
 use Rattle.board_base.specs.declared.access.Width.TheVariants.{One, Two, Four}
 use Rattle.board_base.specs.declared.target.Reg.{Reg}
 use Rattle.board_spec.specs.declared.map_change.MapChange.{MapChange}
 use Rattle.board_spec.specs.declared.map_change.MapChange.TheVariants.{Store, Reset}
-use Rattle.board_spec.specs.Setup.{Setup, IsCardList}
+use Rattle.board_spec.specs.Setup.{FittedCard, Setup, IsCardList}
 use Rattle.board_spec.specs.Registers.{covers}
 use Rattle.board_spec.specs.Decode.{Bytes}
 use Rattle.board_spec.specs.RegisterNames.{bridge}
 use Rattle.board_spec.specs.FlatMap.{six_areas}
+use Rattle.addr_decode.specs.declared.register.MapRegister.{MapRegister}
+use Rattle.addr_decode.specs.MapRegister.{map_register, names_of}
 use Rattle.map_builder.specs.Changed.{after}
 use Rattle.map_builder.specs.Unchanged.{IsHeldAt}
 use Rattle.map_builder.proofs.KeptStores.{same_register}
@@ -41,3 +43,20 @@ unchanged_keep setup bytes change addr held list before later =
     areas_same setup bytes (after setup change bytes) addr (λ reg other. inl (same reg))
     (row_stays bytes (after setup change bytes) addr (λ row below. ap (λ (byte : ℕ). nat_lt addr (byte * 0x80_0000)) (same (bridge (0x60 + row)))))
     list
+
+-- the byte of the one register that a change names is the byte that it stores to
+pub held_alone : (bytes : Bytes) (change : MapChange) (cards : List FittedCard) (names : List (Option MapRegister)) (found : Option ℕ) →
+    length names ≡ 1 → names ≡ names_of cards change →
+    ((reg : Reg) → get_or names 0 None ≡ map_register cards reg → IfSome found (λ held. held ≡ bytes reg)) →
+    IfSome found (IsHeldAt change bytes)
+held_alone bytes Reset cards names found one named is =
+    let none : length names ≡ 0 = ap (λ (list : List (Option MapRegister)). length list) named in absurd (omega arith)
+held_alone bytes (Store at Two value) cards names found one named is =
+    let two : length names ≡ 2 = ap (λ (list : List (Option MapRegister)). length list) named in absurd (omega arith)
+held_alone bytes (Store at Four value) cards names found one named is =
+    let four : length names ≡ 4 = ap (λ (list : List (Option MapRegister)). length list) named in absurd (omega arith)
+held_alone bytes (Store at One value) cards names found one named is =
+    let place : at.off + 0 ≡ at.off = omega arith in
+    is at
+    (ap (λ (list : List (Option MapRegister)). get_or list 0 None) named
+    ∙ ap (λ (off : ℕ). map_register cards (record at { off = off })) place)

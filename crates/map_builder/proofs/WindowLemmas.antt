@@ -1,8 +1,9 @@
 -- The windows that registers govern, as the code finds them.
 use Rattle.std.proofs.Common.{◌≡◌, ℕ, zero, suc, ◌+◌, ◌-◌, ◌*◌, ◌/◌, ◌^◌, ◌<◌, ◌≤◌, List, [], ◌∷◌, ◌++◌, length, map, drop, get_or, refl, sym, ◌∙◌, ap, arith, mul_comm, append_assoc}
-use Rattle.std.specs.Prelude.{slice_get, slice_index, flat_map, take}
+use Rattle.std.specs.Prelude.{Option, None, slice_get, slice_index, flat_map, take}
+use Rattle.std.specs.List.{AllByRecursion}
 use Rattle.std.specs.Option.{option_map_or}
-use Rattle.std.proofs.lemmas.List.{drop_all, drop_more, take_more, append-nil}
+use Rattle.std.proofs.lemmas.List.{drop_all, drop_more, take_all, take_more, append-nil}
 use Rattle.std.proofs.lemmas.Grind.{flat_map-append}
 use Rattle.std.proofs.lemmas.Option.{slice_get-map, slice_get_past}
 use Rattle.std.proofs.lemmas.Nat.{mul-add-lt, pow-add, pow_pos}
@@ -11,13 +12,17 @@ use Rattle.board_base.specs.declared.access.Width.{Width}
 use Rattle.board_base.specs.declared.access.Width.TheVariants.{One}
 use Rattle.board_base.specs.declared.target.Reg.{Reg}
 use Rattle.board_base.specs.Access.{bytes_of}
-use Rattle.board_spec.specs.Setup.{Setup}
+use Rattle.board_spec.specs.Setup.{FittedCard, Setup}
 use Rattle.board_spec.specs.Decode.{Bytes}
 use Rattle.board_spec.specs.MapWrites.{reg_after}
 use Rattle.pci_bars.specs.declared.spec.BaseSpec.{BaseSpec}
 use Rattle.pci_bars.specs.Bases.{base_of}
 use Rattle.map_builder.specs.declared.range.Changed.{Changed}
-use Rattle.map_builder.specs.Changed.{windows_of}
+use Rattle.board_spec.specs.declared.map_change.MapChange.{MapChange}
+use Rattle.board_spec.specs.declared.map_change.MapChange.TheVariants.{Store}
+use Rattle.addr_decode.specs.declared.register.MapRegister.{MapRegister}
+use Rattle.addr_decode.specs.MapRegister.{IsNumberedName, map_register, names_of}
+use Rattle.map_builder.specs.Changed.{name_windows, windows_covered}
 use Rattle.map_builder.specs.Held.{held_by, held_from, held_at}
 
 -- the last address of a block is an address
@@ -36,34 +41,46 @@ block_fits inside bits address few =
 abbrev pub offsets : List ℕ
 offsets = 0 ∷ 1 ∷ 2 ∷ 3 ∷ []
 
-offset_is : (k : ℕ) → k < 4 → get_or offsets k 0 ≡ k
-offset_is zero below = refl
-offset_is (suc zero) below = refl
-offset_is (suc (suc zero)) below = refl
-offset_is (suc (suc (suc zero))) below = refl
-offset_is (suc (suc (suc (suc k)))) below = absurd (omega arith)
+windows_of_names : (windows : Option MapRegister → List Changed) (name : ℕ → Option MapRegister) (ks : List ℕ) →
+    flat_map windows (map name ks) ≡ flat_map (λ k. windows (name k)) ks
+windows_of_names windows name [] = refl
+windows_of_names windows name (k ∷ later) = ap (λ (more : List Changed). windows (name k) ++ more) (windows_of_names windows name later)
 
--- one more register
-pub covered_on : (windows : ℕ → List Changed) (k : ℕ) (first found next : List Changed) → k < 4 →
-    found ≡ first ++ flat_map windows (take k offsets) → next ≡ found ++ windows k → next ≡ first ++ flat_map windows (take (k + 1) offsets)
-covered_on windows k first found next below found_is next_is =
-    rw (
-      next_is,
-      found_is,
-      take_more offsets k 0 below,
-      offset_is k below,
-      flat_map-append windows (take k offsets) (k ∷ []),
-      append-nil (windows k),
-      append_assoc first (flat_map windows (take k offsets)) (windows k),
-    ) refl
+-- the windows of the names of a store are those that it covers
+pub covered_by_names : (setup : Setup) (bytes : Bytes) (change : MapChange) (reg : Reg) (width : Width) (value : ℕ)
+    (cards : List FittedCard) (names : List (Option MapRegister)) → change ≡ Store reg width value → setup.cards ≡ cards →
+    names ≡ names_of cards change → flat_map (name_windows setup bytes) names ≡ windows_covered setup bytes change
+unfolding windows_covered
+covered_by_names setup bytes change reg width value cards names is same named =
+    rw (named, ← same, is)
+    (windows_of_names (name_windows setup bytes) (λ k. map_register setup.cards (reg_after reg k)) (take (bytes_of width) offsets))
 
--- a store of one byte covers its register alone
-pub one_covered : (setup : Setup) (bytes : Bytes) (reg : Reg) (width : Width) → width ≡ One →
-    windows_of setup bytes reg ≡ flat_map (λ k. windows_of setup bytes (reg_after reg k)) (take (bytes_of width) offsets)
-one_covered setup bytes reg width is =
-    let same : reg.off + 0 ≡ reg.off = omega arith in
-    rw (is, append-nil (windows_of setup bytes (reg_after reg 0)))
-    (ap (λ (off : ℕ). windows_of setup bytes (record reg { off = off })) (sym same))
+-- one more name
+pub pushed_on : (windows : Option MapRegister → List Changed) (names : List (Option MapRegister)) (k : ℕ)
+    (first found next : List Changed) → k < length names → found ≡ first ++ flat_map windows (take k names) →
+    next ≡ found ++ windows (get_or names k None) → next ≡ first ++ flat_map windows (take (k + 1) names)
+pushed_on windows names k first found next below found_is next_is =
+    let here : Option MapRegister = get_or names k None in
+    let whole : flat_map windows (take (k + 1) names) ≡ flat_map windows (take k names) ++ windows here =
+    ap (λ (list : List (Option MapRegister)). flat_map windows list) (take_more names k None below)
+    ∙ flat_map-append windows (take k names) (here ∷ [])
+    ∙ ap (λ (more : List Changed). flat_map windows (take k names) ++ more) (append-nil (windows here)) in
+    next_is
+    ∙ ap (λ (list : List Changed). list ++ windows here) found_is
+    ∙ append_assoc first (flat_map windows (take k names)) (windows here)
+    ∙ ap (λ (more : List Changed). first ++ more) (sym whole)
+
+-- all of them
+pub pushed_all : (windows : Option MapRegister → List Changed) (names : List (Option MapRegister)) (k : ℕ) (first found : List Changed) →
+    length names ≤ k → found ≡ first ++ flat_map windows (take k names) → found ≡ first ++ flat_map windows names
+pushed_all windows names k first found all found_is =
+    found_is ∙ ap (λ (list : List (Option MapRegister)). first ++ flat_map windows list) (take_all k names all)
+
+pub numbered_at : (names : List (Option MapRegister)) (k : ℕ) (d : Option MapRegister) → k < length names →
+    AllByRecursion IsNumberedName names → IsNumberedName (get_or names k d)
+numbered_at [] k d below each = absurd (omega arith)
+numbered_at (name ∷ later) zero d below each = each.0
+numbered_at (name ∷ later) (suc k) d below each = numbered_at later k d (omega arith) each.1
 
 -- one more base
 pub held_on : (bases : List BaseSpec) (values : List ℕ) (k : ℕ) (d : BaseSpec) (found next : List Changed) → k < length bases →

@@ -1,5 +1,5 @@
 -- The windows of the address map that each register byte governs, and the bounds of those that a change may change.
-use Rattle.std.specs.Prelude.{ℕ, ◌+◌, ◌-◌, ◌*◌, ◌/◌, ◌^◌, ◌<◌, ◌⊎◌, ◌==◌, nat_lt, nat_le, min, max, Bool, true, ◌&&◌, length, if◌then◌else◌, List, [], ◌∷◌, ◌++◌, take, map, filter, flat_map, Option, Some, None, unwrap_or}
+use Rattle.std.specs.Prelude.{ℕ, ◌+◌, ◌-◌, ◌*◌, ◌/◌, ◌^◌, ◌<◌, ◌⊎◌, ◌==◌, nat_lt, nat_le, min, max, Bool, false, ◌&&◌, length, if◌then◌else◌, List, [], ◌∷◌, ◌++◌, take, map, filter, flat_map, Option, Some, None, unwrap_or}
 use Rattle.std.specs.Option.{option_map_or}
 use Rattle.std.specs.List.{enumerate_from, list_any}
 use Rattle.board_base.specs.declared.target.Reg.{Reg}
@@ -7,13 +7,16 @@ use Rattle.board_base.specs.Access.{bytes_of}
 use Rattle.board_spec.specs.declared.map_change.MapChange.{MapChange}
 use Rattle.board_spec.specs.declared.map_change.MapChange.TheVariants.{Store, Reset}
 use Rattle.board_spec.specs.Setup.{FittedCard, Setup, card_at}
-use Rattle.board_spec.specs.Bits.{is_within}
 use Rattle.board_spec.specs.Decode.{Bytes, Window, memory_window, rom_window, vga_window}
-use Rattle.board_spec.specs.RegisterNames.{pam, drb, fdhc, smram, xbcs, card_command, base_register, expansion_rom}
 use Rattle.board_spec.specs.Ranges.{smram_range, expansion_range, system_bios, hole_at_512_kib, hole_at_15_mib, lower_bios, selectable_bios, largest_top}
 use Rattle.board_spec.specs.FlatMap.{address_count}
 use Rattle.board_spec.specs.Registers.{changed_byte}
 use Rattle.board_spec.specs.MapWrites.{reg_after}
+use Rattle.addr_decode.specs.declared.register.MapRegister.{MapRegister}
+use Rattle.addr_decode.specs.declared.register.MapRegister.TheVariants.{Pam, RowBoundary, Hole, Smram, ChipSelects, Card}
+use Rattle.addr_decode.specs.declared.register.CardRegister.{CardRegister}
+use Rattle.addr_decode.specs.declared.register.CardRegister.TheVariants.{Command, Base, ExpansionRom}
+use Rattle.addr_decode.specs.MapRegister.{is_of_card, map_register}
 use Rattle.addr_decode.specs.Edges.{edges_of, first_address}
 use Rattle.map_builder.specs.declared.range.Changed.{Changed}
 
@@ -35,35 +38,11 @@ everything = from_to 0 (address_count - 1)
 abbrev pub pam_size : ℕ
 pam_size = 0x8000
 
--- those of PAM1 to PAM6
-abbrev pub pam_windows : (off : ℕ) → Changed
-pam_windows off =
-    from_to (expansion_range.0 + pam_size * (off - (pam 1).off)) (expansion_range.0 + (pam_size - 1) + pam_size * (off - (pam 1).off))
-
--- 00.0. PAM0: the system BIOS. PAM1 to PAM6: two shadow windows of 16 KiB each. The boundaries: every address that a row
--- can have. FDHC: the two holes. SMRAM: where it can lie
-abbrev pub bridge_windows : (off : ℕ) → List Changed
-bridge_windows off =
-    if off == (pam 0).off then whole system_bios ∷ [] else
-    if is_within (pam 1).off (pam 6).off off then pam_windows off ∷ [] else
-    if is_within (drb 0).off (drb 7).off off then from_to 0 (largest_top - 1) ∷ [] else
-    if off == fdhc.off then whole hole_at_512_kib ∷ whole hole_at_15_mib ∷ [] else
-    if off == smram.off then whole smram_range ∷ [] else []
-
--- 01.0. XBCS: the ranges of the ROM that it selects
-abbrev pub isa_windows : (off : ℕ) → List Changed
-isa_windows off = if off == xbcs.off then whole lower_bios ∷ whole selectable_bios ∷ [] else []
-
--- the bytes of the base registers of a card, the number of the base that a byte is of, and the bytes of the register of
--- its expansion ROM
-abbrev pub is_of_bases : (off : ℕ) → Bool
-is_of_bases off = is_within (base_register 0 0).off ((base_register 0 5).off + 3) off
-
-abbrev pub base_number : (off : ℕ) → ℕ
-base_number off = (off - (base_register 0 0).off) / 4
-
-abbrev pub is_of_rom : (off : ℕ) → Bool
-is_of_rom off = is_within (expansion_rom 0).off ((expansion_rom 0).off + 3) off
+-- those of PAM0, the system BIOS, and of PAM1 to PAM6, two shadow windows of 16 KiB each
+abbrev pub pam_windows : (number : ℕ) → Changed
+pam_windows number =
+    if number == 0 then whole system_bios
+    else from_to (expansion_range.0 + pam_size * (number - 1)) (expansion_range.0 + (pam_size - 1) + pam_size * (number - 1))
 
 -- what a window of a card decodes
 abbrev pub decoded : Window → Changed
@@ -76,20 +55,28 @@ base_windows bytes card =
 
 -- a card. The command: every memory base, the expansion ROM, selected or not, and the VGA window. A base register:
 -- the base, where it is for memory. The ROM's register: the ROM
-abbrev pub card_windows : Bytes → (off : ℕ) → FittedCard → List Changed
-card_windows bytes off card =
-    if off == (card_command card.dev).off
-    then map decoded (base_windows bytes card ++ rom_window bytes card ++ vga_window card) else
-    if is_of_bases off
-    then map decoded (filter (λ window. window.base == base_number off) (base_windows bytes card)) else
-    if is_of_rom off then map decoded (rom_window bytes card) else []
+abbrev pub card_windows : Bytes → CardRegister → FittedCard → List Changed
+card_windows bytes Command card = map decoded (base_windows bytes card ++ rom_window bytes card ++ vga_window card)
+card_windows bytes (Base k) card = map decoded (filter (λ window. window.base == k / 4) (base_windows bytes card))
+card_windows bytes (ExpansionRom k) card = map decoded (rom_window bytes card)
 
--- where the registers hold these bytes
+-- where the registers hold these bytes. The boundaries: every address that a row can have. FDHC: the two holes. SMRAM:
+-- where it can lie. XBCS: the ranges of the ROM that it selects
+abbrev pub register_windows : Setup → Bytes → MapRegister → List Changed
+register_windows setup bytes (Pam number) = pam_windows number ∷ []
+register_windows setup bytes (RowBoundary row) = from_to 0 (largest_top - 1) ∷ []
+register_windows setup bytes Hole = whole hole_at_512_kib ∷ whole hole_at_15_mib ∷ []
+register_windows setup bytes Smram = whole smram_range ∷ []
+register_windows setup bytes ChipSelects = whole lower_bios ∷ whole selectable_bios ∷ []
+register_windows setup bytes (Card dev register) = option_map_or (card_windows bytes register) (card_at setup dev) []
+
+-- a register without a name governs none
+abbrev pub name_windows : Setup → Bytes → Option MapRegister → List Changed
+name_windows setup bytes None = []
+name_windows setup bytes (Some register) = register_windows setup bytes register
+
 abbrev pub windows_of : Setup → Bytes → Reg → List Changed
-windows_of setup bytes reg =
-    if reg.dev == 0 && reg.fun == 0 then bridge_windows reg.off else
-    if reg.dev == 1 && reg.fun == 0 then isa_windows reg.off else
-    if reg.fun == 0 then option_map_or (card_windows bytes reg.off) (card_at setup reg.dev) [] else []
+windows_of setup bytes reg = name_windows setup bytes (map_register setup.cards reg)
 
 -- ---- the windows that a change may change
 
@@ -107,10 +94,13 @@ after setup change bytes = λ reg. changed_byte setup change reg (bytes reg)
 abbrev pub changed_windows : Setup → Bytes → MapChange → List Changed
 changed_windows setup bytes change = windows_covered setup bytes change ++ windows_covered setup (after setup change bytes) change
 
--- no window that a change covers rests on what the registers hold: a hard reset, and a store to a bridge
-abbrev pub is_fixed : MapChange → Bool
-is_fixed Reset = true
-is_fixed (Store reg width value) = nat_le reg.dev 1
+-- the windows of registers with these names rest on what the registers hold: one of them is of a card
+abbrev pub is_card_name : Option MapRegister → Bool
+is_card_name None = false
+is_card_name (Some register) = is_of_card register
+
+abbrev pub rest_on_registers : List (Option MapRegister) → Bool
+rest_on_registers names = list_any is_card_name names
 
 -- ---- their bounds
 

@@ -2,11 +2,12 @@
 use Rattle.std.specs.Prelude.{ℕ, ◌+◌, ◌-◌, ◌*◌, ◌/◌, ◌^◌, List, [], ◌∷◌, ◌++◌, Option, Some, None, slice_get, slice_index, find, ◌==◌, Bool, if◌then◌else◌}
 use Rattle.std.specs.Option.{option_map_or}
 use Rattle.board_spec.specs.Setup.{Base, MemoryBase, IoBase}
-use Rattle.board_spec.specs.RegisterNames.{card_command}
 use Rattle.board_spec.specs.Ranges.{smram_range}
 use Rattle.pci_bars.specs.Cards.{CardBytes}
 use Rattle.map_builder.specs.declared.range.Changed.{Changed}
-use Rattle.map_builder.specs.Changed.{from_to, whole, is_of_bases, base_number, is_of_rom}
+use Rattle.addr_decode.specs.declared.register.CardRegister.{CardRegister}
+use Rattle.addr_decode.specs.declared.register.CardRegister.TheVariants.{Command, Base as BaseByte, ExpansionRom}
+use Rattle.map_builder.specs.Changed.{from_to, whole}
 
 -- the addresses that agree with one but in the low bits
 abbrev pub block : (inside bits : ℕ) → Changed
@@ -36,12 +37,11 @@ abbrev pub vga_held : Bool → List Changed
 vga_held vga = if vga then whole smram_range ∷ [] else []
 
 -- those that a register of a card governs
-abbrev pub card_held : (off : ℕ) → CardBytes → List Changed
-card_held off card =
-    if off == (card_command card.card.dev).off then held_from card.bases 0 card.card.bases ++ rom_held card.card.rom card.rom ++ vga_held card.card.vga else
-    if is_of_bases off then held_at card.bases card.card.bases (base_number off) else
-    if is_of_rom off then rom_held card.card.rom card.rom else []
+abbrev pub card_held : CardRegister → CardBytes → List Changed
+card_held Command card = held_from card.bases 0 card.card.bases ++ rom_held card.card.rom card.rom ++ vga_held card.card.vga
+card_held (BaseByte k) card = held_at card.bases card.card.bases (k / 4)
+card_held (ExpansionRom k) card = rom_held card.card.rom card.rom
 
 -- those of a card found by its device number
-abbrev pub device_held : (dev off : ℕ) → List CardBytes → List Changed
-device_held dev off cards = option_map_or (card_held off) (find (λ card. card.card.dev == dev) cards) []
+abbrev pub device_held : (dev : ℕ) → CardRegister → List CardBytes → List Changed
+device_held dev register cards = option_map_or (card_held register) (find (λ card. card.card.dev == dev) cards) []

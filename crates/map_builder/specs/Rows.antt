@@ -1,19 +1,19 @@
 -- What a store to the boundaries of the rows of DRAM moves: addresses between an old boundary and a new one.
-use Rattle.std.specs.Prelude.{ℕ, ◌≡◌, ◌+◌, ◌*◌, ◌<◌, ◌≤◌, ◌⊎◌, ◌==◌, nat_le, nat_lt, Bool, true, false, ◌&&◌, List, length, slice_index}
-use Rattle.std.specs.List.{AllByRecursion}
-use Rattle.board_base.specs.Access.{bytes_of}
-use Rattle.board_spec.specs.declared.map_change.MapChange.{MapChange}
-use Rattle.board_spec.specs.declared.map_change.MapChange.TheVariants.{Store, Reset}
-use Rattle.board_spec.specs.RegisterNames.{drb}
+use Rattle.std.specs.Prelude.{ℕ, ◌≡◌, ◌+◌, ◌*◌, ◌<◌, ◌≤◌, ◌⊎◌, nat_lt, Bool, true, false, ◌&&◌, List, length, slice_index, Option, Some}
+use Rattle.std.specs.List.{AllByRecursion, list_all, list_any}
 use Rattle.board_spec.specs.Ranges.{boundary_unit, largest_top}
+use Rattle.addr_decode.specs.declared.register.MapRegister.{MapRegister}
+use Rattle.addr_decode.specs.declared.register.MapRegister.TheVariants.{RowBoundary}
 use Rattle.map_builder.specs.declared.range.Changed.{Changed}
 use Rattle.map_builder.specs.Changed.{IsOutside}
 
--- a store covers boundaries of rows, DRB0 to DRB7, and no other register
-abbrev pub stores_rows : MapChange → Bool
-stores_rows Reset = false
-stores_rows (Store reg width value) =
-    reg.dev == 0 && reg.fun == 0 && nat_le (drb 0).off reg.off && nat_le (reg.off + bytes_of width) ((drb 7).off + 1)
+-- by the names of the registers that a change covers: some are boundaries of rows, and all are
+abbrev pub is_row_name : Option MapRegister → Bool
+is_row_name (Some (RowBoundary row)) = true
+is_row_name _ = false
+
+abbrev pub stores_rows : List (Option MapRegister) → Bool
+stores_rows names = list_any is_row_name names && list_all is_row_name names
 
 -- an address lies below the boundary of a row, where the registers of the boundaries hold these bytes
 abbrev pub is_below : (boundaries : List ℕ) → (addr row : ℕ) → Bool

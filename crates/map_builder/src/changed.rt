@@ -1,24 +1,17 @@
 //! The windows of addresses that a change of the registers covers: those in which it may change the areas.
-ghost use Rattle.std.specs.Prelude.{true, false, ◌||◌, ◌≡◌, ◌≤◌, ◌<◌, ◌+◌, ◌-◌, ◌*◌, ◌++◌, [], ◌∷◌, All, length, map};
-ghost use Rattle.board_spec.specs.declared.map_change.MapChange.TheVariants.{Store};
+ghost use Rattle.std.specs.Prelude.{true, false, not, ◌||◌, ◌≡◌, ◌≤◌, ◌<◌, ◌+◌, ◌-◌, ◌*◌, ◌++◌, [], ◌∷◌, All, length, map, flat_map};
 ghost use Rattle.board_spec.specs.Setup.{Setup, IsBase, IsCard, IsExpansionRom};
-ghost use Rattle.board_spec.specs.RegisterNames.{pam};
 ghost use Rattle.board_spec.specs.Decode.{Bytes};
-ghost use Rattle.board_spec.specs.MapWrites.{reg_after};
 ghost use Rattle.pci_bars.specs.Bases.{base_of};
-ghost use Rattle.pci_bars.specs.Cards.{AreCards, AreFitted};
+ghost use Rattle.pci_bars.specs.Cards.{AreCards, AreFitted, cards_of};
+ghost use Rattle.addr_decode.specs.MapRegister.{AreNumbered, IsCardNumber, IsNumbered, IsNumberedName, names_of};
 ghost use Rattle.addr_decode.specs.MapRegs.{StandsFor, map_bytes};
-ghost use Rattle.map_builder.specs.Changed.{pam_windows, bridge_windows as windows_of_bridge, isa_windows as windows_of_isa, windows_of as windows_by, windows_covered, from_to, is_fixed};
+ghost use Rattle.map_builder.specs.Changed.{pam_windows, register_windows, name_windows, windows_covered, from_to, is_card_name, rest_on_registers};
 ghost use Rattle.map_builder.specs.Held.{block, held_by, held_from, held_at, rom_held, vga_held, card_held, device_held};
 
 use crate::list::FixedList;
 use crate::range::{Changed, LAST_ADDRESS};
-use addr_decode::{MapChange, MapRegs};
-use board_base::{Reg, Width};
-use board_spec::offset::{
-    BASE0, BASE5_END, COMMAND, DRB0, DRB7, EXPANSION_ROM, EXPANSION_ROM_END, FDHC, HOST_BRIDGE,
-    PAM0, PAM6, SMRAM, SOUTH_BRIDGE, XBCS,
-};
+use addr_decode::{CardRegister, MapChange, MapRegister, MapRegs};
 use board_spec::range::{
     AddressRange, EXPANSION_RANGE, HOLE_AT_15_MIB, HOLE_AT_512_KIB, LARGEST_TOP, LOWER_BIOS,
     SELECTABLE_BIOS, SMRAM_RANGE, SYSTEM_BIOS,
@@ -30,8 +23,6 @@ pub const EVERYTHING: Changed = Changed {
     lo: 0,
     hi: LAST_ADDRESS,
 };
-/// The first PAM register that governs two shadow windows.
-const PAM1: u8 = PAM0 + 1;
 /// The addresses that can belong to a row of DRAM.
 const ROWS: Changed = Changed {
     lo: 0,
@@ -43,26 +34,39 @@ const PAM_SIZE: u32 = 0x8000;
 /// Windows that a change covers. There is room for those of four register bytes, before the change and after it.
 pub type Covered = FixedList<Changed, 64>;
 
-/// Adds the windows that a change covers, as the registers are now: those of each register byte that it stores to. A
-/// hard reset covers every address.
+/// Adds the windows that a change covers, as the registers are now: those of each register byte that it stores to, by
+/// their names. A hard reset covers every address.
 #[tactic(auto, unfolding(crate::specs::Changed::windows_covered))]
-pub fn push_covered(windows: &mut Covered, regs: &MapRegs, change: &MapChange)
+pub fn push_covered(
+    windows: &mut Covered,
+    regs: &MapRegs,
+    change: &MapChange,
+    names: &[Option<MapRegister>],
+)
     requires cards { AreFitted regs.now.cards.items }
+    requires names { names.now ≡ names_of (cards_of regs.now.cards.items) change.now }
     requires room { length windows.old.items ≤ 32 }
     ensures few { length windows.new.items ≤ length windows.old.items + 32 }
     ensures windows { (setup : Setup) (bytes : Bytes) → StandsFor setup bytes (map_bytes regs.now)
         → windows.new.items ≡ windows.old.items ++ windows_covered setup bytes change.now }
 {
     match change {
-        MapChange::Store { reg, width, .. } => push_of_store(windows, regs, *reg, *width),
+        MapChange::Store { .. } => push_of_names(windows, regs, names),
         MapChange::Reset => windows.push(EVERYTHING),
     }
 }
 
 /// Adds the windows that a change covers, as the registers are after it, unless `same` says that they are those from
 /// before.
-pub fn push_again(windows: &mut Covered, same: bool, regs: &MapRegs, change: &MapChange)
+pub fn push_again(
+    windows: &mut Covered,
+    same: bool,
+    regs: &MapRegs,
+    change: &MapChange,
+    names: &[Option<MapRegister>],
+)
     requires cards { AreFitted regs.now.cards.items }
+    requires names { names.now ≡ names_of (cards_of regs.now.cards.items) change.now }
     requires room { length windows.old.items ≤ 32 }
     ensures few { length windows.new.items ≤ length windows.old.items + 32 }
     ensures same { same ≡ true → windows.new.items ≡ windows.old.items }
@@ -70,85 +74,80 @@ pub fn push_again(windows: &mut Covered, same: bool, regs: &MapRegs, change: &Ma
         → windows.new.items ≡ windows.old.items ++ windows_covered setup bytes change.now }
 {
     if !same {
-        push_covered(windows, regs, change);
+        push_covered(windows, regs, change, names);
     }
 }
 
-/// Whether the windows that a change covers are known to be the same after it as before: because the register keeps its
-/// byte (`kept`), or because no register's value moves them.
-pub fn keeps_windows(kept: bool, change: &MapChange) -> bool
-    ensures keeps { result ≡ (kept || is_fixed change.now) }
+/// Whether the windows of registers with these names are known to be the same after a change as before: because the
+/// register keeps its byte (`kept`), or because no register's value moves them, as only those of cards do.
+pub fn keeps_windows(kept: bool, names: &[Option<MapRegister>]) -> bool
+    ensures keeps { result ≡ (kept || not (rest_on_registers names.now)) }
 {
-    kept || is_fixed(change)
+    kept || !rest_on_registers(names)
 }
 
-/// Whether no register's value moves the windows that a change covers: those of a hard reset, and of a store to device
-/// 0 or 1.
-fn is_fixed(change: &MapChange) -> bool
-    ensures fixed { result ≡ is_fixed change.now }
+/// Whether one of the registers with these names is of a card.
+fn rest_on_registers(names: &[Option<MapRegister>]) -> bool
+    ensures rest { result ≡ rest_on_registers names.now }
 {
-    match change {
-        MapChange::Store { reg, .. } => reg.dev <= SOUTH_BRIDGE,
-        MapChange::Reset => true,
+    names.iter().any(|name| is_card_name(*name))
+}
+
+/// Whether a name is that of a register of a card.
+fn is_card_name(name: Option<MapRegister>) -> bool
+    ensures card { result ≡ is_card_name name }
+{
+    match name {
+        Some(register) => register.is_of_card(),
+        None => false,
     }
 }
 
-/// Adds the windows of each register byte that a store goes to.
-fn push_of_store(windows: &mut Covered, regs: &MapRegs, reg: Reg, width: Width)
+/// Adds the windows of the registers with these names.
+fn push_of_names(windows: &mut Covered, regs: &MapRegs, names: &[Option<MapRegister>])
     requires cards { AreFitted regs.now.cards.items }
+    requires names { AreNumbered names.now }
     requires room { length windows.old.items ≤ 32 }
     ensures few { length windows.new.items ≤ length windows.old.items + 32 }
     ensures windows { (setup : Setup) (bytes : Bytes) → StandsFor setup bytes (map_bytes regs.now)
-        → windows.new.items ≡ windows.old.items ++ windows_covered setup bytes (Store reg width 0) }
+        → windows.new.items ≡ windows.old.items ++ flat_map (name_windows setup bytes) names.now }
 {
-    match width {
-        Width::One => push_of_register(windows, regs, reg),
-        Width::Two | Width::Four => push_of_wide_store(windows, regs, reg, width),
+    for name in names {
+        push_of_name(windows, regs, *name);
     }
 }
 
-/// Adds the windows of each of the two or four register bytes that a store goes to.
-fn push_of_wide_store(windows: &mut Covered, regs: &MapRegs, reg: Reg, width: Width)
+/// Adds the windows of the register with a name.
+fn push_of_name(windows: &mut Covered, regs: &MapRegs, name: Option<MapRegister>)
     requires cards { AreFitted regs.now.cards.items }
-    requires room { length windows.old.items ≤ 32 }
-    ensures few { length windows.new.items ≤ length windows.old.items + 32 }
-    ensures windows { (setup : Setup) (bytes : Bytes) → StandsFor setup bytes (map_bytes regs.now)
-        → windows.new.items ≡ windows.old.items ++ windows_covered setup bytes (Store reg width 0) }
-{
-    for k in 0..width.bytes() as u8 {
-        push_after(windows, regs, reg, k);
-    }
-}
-
-/// Adds the windows of the register `k` offsets above another. Past offset FFh there is none.
-fn push_after(windows: &mut Covered, regs: &MapRegs, reg: Reg, k: u8)
-    requires cards { AreFitted regs.now.cards.items }
+    requires number { IsNumberedName name }
     requires room { length windows.old.items ≤ 56 }
     ensures few { length windows.new.items ≤ length windows.old.items + 8 }
     ensures windows { (setup : Setup) (bytes : Bytes) → StandsFor setup bytes (map_bytes regs.now)
-        → windows.new.items ≡ windows.old.items ++ windows_by setup bytes (reg_after reg k) }
+        → windows.new.items ≡ windows.old.items ++ name_windows setup bytes name }
 {
-    match reg.off.checked_add(k) {
-        Some(off) => push_of_register(windows, regs, Reg { off, ..reg }),
+    match name {
+        Some(register) => push_of_register(windows, regs, register),
         None => {}
     }
 }
 
 /// Adds the windows of a register: the addresses whose areas can depend on it.
-fn push_of_register(windows: &mut Covered, regs: &MapRegs, reg: Reg)
+fn push_of_register(windows: &mut Covered, regs: &MapRegs, register: MapRegister)
     requires cards { AreFitted regs.now.cards.items }
+    requires number { IsNumbered register }
     requires room { length windows.old.items ≤ 56 }
     ensures few { length windows.new.items ≤ length windows.old.items + 8 }
     ensures windows { (setup : Setup) (bytes : Bytes) → StandsFor setup bytes (map_bytes regs.now)
-        → windows.new.items ≡ windows.old.items ++ windows_by setup bytes reg }
+        → windows.new.items ≡ windows.old.items ++ register_windows setup bytes register }
 {
-    if reg.fun != 0 {
-        return;
-    }
-    match reg.dev {
-        HOST_BRIDGE => push_of_bridge(windows, reg.off),
-        SOUTH_BRIDGE => push_of_isa(windows, reg.off),
-        dev => push_of_device(windows, &regs.cards, dev, reg.off),
+    match register {
+        MapRegister::Pam(number) => windows.push(windows_of_pam(number)),
+        MapRegister::RowBoundary(_) => windows.push(ROWS),
+        MapRegister::Hole => push_two(windows, HOLE_AT_512_KIB, HOLE_AT_15_MIB),
+        MapRegister::Smram => push_range(windows, SMRAM_RANGE),
+        MapRegister::ChipSelects => push_two(windows, LOWER_BIOS, SELECTABLE_BIOS),
+        MapRegister::Card(dev, register) => push_of_device(windows, &regs.cards, dev, register),
     }
 }
 
@@ -163,22 +162,6 @@ fn push_range(windows: &mut Covered, range: AddressRange)
     });
 }
 
-/// Adds the windows of a register of the host bridge.
-fn push_of_bridge(windows: &mut Covered, off: u8)
-    requires room { length windows.old.items ≤ 56 }
-    ensures few { length windows.new.items ≤ length windows.old.items + 8 }
-    ensures windows { windows.new.items ≡ windows.old.items ++ windows_of_bridge off }
-{
-    match off {
-        PAM0 => push_range(windows, SYSTEM_BIOS),
-        PAM1..=PAM6 => windows.push(windows_of_pam(off)),
-        DRB0..=DRB7 => windows.push(ROWS),
-        FDHC => push_two(windows, HOLE_AT_512_KIB, HOLE_AT_15_MIB),
-        SMRAM => push_range(windows, SMRAM_RANGE),
-        _ => {}
-    }
-}
-
 /// Adds two ranges as windows.
 fn push_two(windows: &mut Covered, first: AddressRange, second: AddressRange)
     requires room { length windows.old.items ≤ 62 }
@@ -189,55 +172,50 @@ fn push_two(windows: &mut Covered, first: AddressRange, second: AddressRange)
     push_range(windows, second);
 }
 
-/// The two shadow windows of a PAM register after PAM0.
-fn windows_of_pam(off: u8) -> Changed
-    requires first { (pam 1).off ≤ off }
-    requires last { off ≤ (pam 6).off }
-    ensures windows { result ≡ pam_windows off }
+/// The shadow windows of a PAM register: that of PAM0, and the two of PAM1 to PAM6.
+fn windows_of_pam(number: u8) -> Changed
+    requires number { number < 7 }
+    ensures windows { result ≡ pam_windows number }
 {
-    let lo = EXPANSION_RANGE.first + PAM_SIZE * u32::from(off - PAM1);
+    if number == 0 {
+        return Changed {
+            lo: SYSTEM_BIOS.first,
+            hi: SYSTEM_BIOS.last,
+        };
+    }
+    let lo = EXPANSION_RANGE.first + PAM_SIZE * u32::from(number - 1);
     Changed {
         lo,
         hi: lo + (PAM_SIZE - 1),
     }
 }
 
-/// Adds the windows of a register of the ISA bridge.
-fn push_of_isa(windows: &mut Covered, off: u8)
-    requires room { length windows.old.items ≤ 56 }
-    ensures few { length windows.new.items ≤ length windows.old.items + 8 }
-    ensures windows { windows.new.items ≡ windows.old.items ++ windows_of_isa off }
-{
-    if off == XBCS {
-        push_two(windows, LOWER_BIOS, SELECTABLE_BIOS);
-    }
-}
-
 /// Adds the windows of a register of the card at a device number. Where there is no such card there is none.
-fn push_of_device(windows: &mut Covered, cards: &[CardRegs], dev: u8, off: u8)
+fn push_of_device(windows: &mut Covered, cards: &[CardRegs], dev: u8, register: CardRegister)
     requires cards { AreCards cards.now }
+    requires number { IsCardNumber register }
     requires room { length windows.old.items ≤ 56 }
     ensures few { length windows.new.items ≤ length windows.old.items + 8 }
-    ensures windows { windows.new.items ≡ windows.old.items ++ device_held dev off cards.now }
+    ensures windows { windows.new.items ≡ windows.old.items ++ device_held dev register cards.now }
 {
     match card_at(cards, dev) {
-        Some(card) => push_of_card(windows, card, off),
+        Some(card) => push_of_card(windows, card, register),
         None => {}
     }
 }
 
 /// Adds the windows of a register of a card.
-fn push_of_card(windows: &mut Covered, card: &CardRegs, off: u8)
+fn push_of_card(windows: &mut Covered, card: &CardRegs, register: CardRegister)
     requires card { IsCard card.now.card }
+    requires number { IsCardNumber register }
     requires room { length windows.old.items ≤ 56 }
     ensures few { length windows.new.items ≤ length windows.old.items + 8 }
-    ensures windows { windows.new.items ≡ windows.old.items ++ card_held off card.now }
+    ensures windows { windows.new.items ≡ windows.old.items ++ card_held register card.now }
 {
-    match off {
-        COMMAND => push_of_command(windows, card),
-        BASE0..=BASE5_END => push_base_of(windows, card, usize::from((off - BASE0) / 4)),
-        EXPANSION_ROM..=EXPANSION_ROM_END => push_rom_of(windows, card),
-        _ => {}
+    match register {
+        CardRegister::Command => push_of_command(windows, card),
+        CardRegister::Base(index) => push_base_of(windows, card, usize::from(index / 4)),
+        CardRegister::ExpansionRom(_) => push_rom_of(windows, card),
     }
 }
 

@@ -8,6 +8,7 @@ ghost use Rattle.board_spec.specs.Registers.{changed_byte};
 ghost use Rattle.board_spec.specs.Decode.{Bytes};
 ghost use Rattle.board_spec.specs.FlatMap.{Tiles, IsFlatMapOf, IsSpan};
 ghost use Rattle.pci_bars.specs.Cards.{AreCardsOf, AreFitted, cards_of};
+ghost use Rattle.addr_decode.specs.MapRegister.{AreNumbered, names_of};
 ghost use Rattle.addr_decode.specs.MapRegs.{StandsFor, map_bytes};
 ghost use Rattle.map_builder.specs.Map.{range_of, most_ranges, next_version, HasBoard, IsMapOf};
 ghost use Rattle.map_builder.specs.Changed.{most_rows};
@@ -19,10 +20,10 @@ use crate::find::span_of;
 use crate::list::FixedList;
 use crate::range::{Changed, Range, Span};
 use crate::rows::choose_windows;
-use crate::unchanged::{held_at, is_same_byte};
+use crate::unchanged::{byte_alone, is_same_byte};
 use crate::widths::hold_widths;
 use crate::windows::{Windows, bounds_of};
-use addr_decode::{MapChange, MapRegs, touches};
+use addr_decode::{MapChange, MapRegister, MapRegs, touch_map};
 use board_base::{Kind, Reg, Steps, Width};
 use std::marker::{Brand, Model};
 use std::sync::ledger::{Blank, Ledger};
@@ -158,18 +159,25 @@ impl FlatMap {
     pub fn apply(&mut self, change: &MapChange) -> Changed
         ensures applied { IsApplied self.old self.new change.now result }
     {
-        self.apply_uncounted::<Brand>(change, Blank::new(1))
+        let names = self.regs.names(change);
+        self.apply_uncounted::<Brand>(change, names.as_slice(), Blank::new(1))
     }
 
-    /// Makes a change as `apply` does, and counts nothing.
-    fn apply_uncounted<L: Ledger>(&mut self, change: &MapChange, blank: Blank) -> Changed
+    /// Makes a change as `apply` does, where the names of the registers that it stores to are known, and counts nothing.
+    fn apply_uncounted<L: Ledger>(
+        &mut self,
+        change: &MapChange,
+        names: &[Option<MapRegister>],
+        blank: Blank,
+    ) -> Changed
+        requires names { names.now ≡ names_of (cards_of self.old.regs.cards) change.now }
         requires name { blank.name ≡ L.name }
         requires parts { blank.parts ≡ L.parts }
         requires some_part { 0 < L.parts }
         ensures applied { IsApplied self.old self.new change.now result }
     {
         let mut steps = Steps::<L>::new(blank);
-        self.apply_counted(change, &mut steps)
+        self.apply_named(change, names, &mut steps)
     }
 
     /// Makes a change as `apply` does, and counts each row that is looked up as a step: at most one for each window,
@@ -179,18 +187,34 @@ impl FlatMap {
         ensures rows { (setup : Setup) (bytes : Bytes) → StandsFor setup bytes self.old.regs
             → steps.new ≤ steps.old + most_rows setup bytes change.now }
     {
+        let names = self.regs.names(change);
+        self.apply_named(change, names.as_slice(), steps)
+    }
+
+    /// Makes a change as `apply_counted` does, where the names of the registers that it stores to are known.
+    fn apply_named<L: Ledger>(
+        &mut self,
+        change: &MapChange,
+        names: &[Option<MapRegister>],
+        steps: &mut Steps<L>,
+    ) -> Changed
+        requires names { names.now ≡ names_of (cards_of self.old.regs.cards) change.now }
+        ensures applied { IsApplied self.old self.new change.now result }
+        ensures rows { (setup : Setup) (bytes : Bytes) → StandsFor setup bytes self.old.regs
+            → steps.new ≤ steps.old + most_rows setup bytes change.now }
+    {
         self.windows.truncate(0);
-        push_covered(&mut self.windows, &self.regs, change);
+        push_covered(&mut self.windows, &self.regs, change, names);
         let boundaries = self.regs.drb;
-        let before = held_at(&self.regs, change);
-        self.regs.apply(change);
-        let kept = is_same_byte(before, held_at(&self.regs, change));
-        let same = keeps_windows(kept, change);
-        push_again(&mut self.windows, same, &self.regs, change);
+        let before = byte_alone(&self.regs, names);
+        self.regs.apply_named(change, names);
+        let kept = is_same_byte(before, byte_alone(&self.regs, names));
+        let same = keeps_windows(kept, names);
+        push_again(&mut self.windows, same, &self.regs, change, names);
         choose_windows(
             &mut self.chosen,
             kept,
-            change,
+            names,
             self.windows.as_slice(),
             &boundaries,
             &self.regs.drb,
@@ -226,15 +250,17 @@ impl FlatMap {
             → IsFlatMapOf setup bytes self.new.ranges }
     {
         let change = MapChange::Store { reg, width, value };
-        if touches(&self.regs, reg, width) {
-            self.apply(&change);
+        let names = self.regs.names(&change);
+        if touch_map(names.as_slice()) {
+            self.apply_uncounted::<Brand>(&change, names.as_slice(), Blank::new(1));
         } else {
-            self.set_beside(&change);
+            self.set_beside(&change, names.as_slice());
         }
     }
 
     /// Stores to registers of which the map depends on none.
-    fn set_beside(&mut self, change: &MapChange)
+    fn set_beside(&mut self, change: &MapChange, names: &[Option<MapRegister>])
+        requires names { names.now ≡ names_of (cards_of self.old.regs.cards) change.now }
         requires beside { (setup : Setup) (bytes : Bytes) → StandsFor setup bytes self.old.regs → touches_map setup change.now ≡ false }
         ensures stands { (setup : Setup) (bytes : Bytes) → StandsFor setup bytes self.old.regs
             → StandsFor setup (λ r. changed_byte setup change.now r (bytes r)) self.new.regs }
@@ -246,7 +272,7 @@ impl FlatMap {
         ensures map { (setup : Setup) (bytes : Bytes) → StandsFor setup bytes self.new.regs
             → IsFlatMapOf setup bytes self.new.ranges }
     {
-        self.regs.apply(change);
+        self.regs.apply_named(change, names);
     }
 }
 

@@ -1,56 +1,72 @@
 //! The addresses whose row of DRAM a store to the row boundaries, DRB0 to DRB7, may change.
 ghost use Rattle.std.specs.Prelude.{◌≡◌, ◌≤◌, ◌<◌, ◌*◌, ◌-◌, ◌⊎◌, ℕ, false, true, [], length, IfSome};
+ghost use Rattle.std.specs.List.{list_all, list_any};
 ghost use Rattle.board_spec.specs.Ranges.{boundary_unit};
 ghost use Rattle.map_builder.specs.Changed.{IsOutside};
-ghost use Rattle.map_builder.specs.Rows.{stores_rows as stores_rows_by, AreMoved, IsInRows, RowStays};
+ghost use Rattle.map_builder.specs.Rows.{is_row_name, stores_rows as stores_rows_by, AreMoved, IsInRows, RowStays};
 ghost use Rattle.map_builder.specs.Sorted.{sorted as sorted_by};
 
 use crate::range::Changed;
 use crate::windows::{Windows, joined, sort_into};
-use addr_decode::MapChange;
-use board_spec::offset::{DRB0, DRB7, HOST_BRIDGE};
+use addr_decode::MapRegister;
 use board_spec::range::BOUNDARY_UNIT;
 
 /// The row that ends at the top of DRAM.
 const LAST_ROW: usize = 7;
 
 /// Sets `chosen` to the windows in which the areas are looked up anew, in rising order: `windows`, which the change
-/// covers; after a store to row boundaries alone the least window of all addresses whose row may change; none where the
+/// covers; after a store to row boundaries alone (by the `names` of the registers) the least window of all addresses whose row may change; none where the
 /// registers are known to keep what they hold (`kept`). What `chosen` held before does not matter.
 pub fn choose_windows(
     chosen: &mut Windows,
     kept: bool,
-    change: &MapChange,
+    names: &[Option<MapRegister>],
     windows: &[Changed],
     old: &[u8; 8],
     new: &[u8; 8],
 )
     requires count { length windows.now ≤ 64 }
     ensures none { kept ≡ true → chosen.new.items ≡ [] }
-    ensures others { kept ≡ false → stores_rows_by change.now ≡ false → chosen.new.items ≡ sorted_by windows.now }
-    ensures rows { kept ≡ false → stores_rows_by change.now ≡ true → AreMoved old.now new.now chosen.new.items }
+    ensures others { kept ≡ false → stores_rows_by names.now ≡ false → chosen.new.items ≡ sorted_by windows.now }
+    ensures rows { kept ≡ false → stores_rows_by names.now ≡ true → AreMoved old.now new.now chosen.new.items }
 {
     if kept {
         chosen.truncate(0);
-    } else if stores_rows(change) {
+    } else if stores_rows(names) {
         choose_moved(chosen, old, new);
     } else {
         sort_into(chosen, windows);
     }
 }
 
-/// Whether a change is a store to row boundaries and to no other register.
-fn stores_rows(change: &MapChange) -> bool
-    ensures rows { result ≡ stores_rows_by change.now }
+/// Whether a change is a store to row boundaries and to no other register, by the names of those that it stores to.
+fn stores_rows(names: &[Option<MapRegister>]) -> bool
+    ensures rows { result ≡ stores_rows_by names.now }
 {
-    match change {
-        MapChange::Store { reg, width, .. } => {
-            reg.dev == HOST_BRIDGE
-                && reg.fun == 0
-                && DRB0 <= reg.off
-                && u32::from(reg.off) + width.bytes() <= u32::from(DRB7) + 1
-        }
-        MapChange::Reset => false,
+    names_a_row(names) && names_rows_alone(names)
+}
+
+/// Whether one of these names is that of a row boundary.
+fn names_a_row(names: &[Option<MapRegister>]) -> bool
+    ensures any { result ≡ list_any is_row_name names.now }
+{
+    names.iter().any(|name| is_row_name(*name))
+}
+
+/// Whether each of these names is that of a row boundary.
+fn names_rows_alone(names: &[Option<MapRegister>]) -> bool
+    ensures all { result ≡ list_all is_row_name names.now }
+{
+    names.iter().all(|name| is_row_name(*name))
+}
+
+/// Whether a name is that of a row boundary.
+fn is_row_name(name: Option<MapRegister>) -> bool
+    ensures row { result ≡ is_row_name name }
+{
+    match name {
+        Some(MapRegister::RowBoundary(_)) => true,
+        _ => false,
     }
 }
 

@@ -1,0 +1,20 @@
+use Rattle.std.proofs.Common.{◌≡◌, ◌∙◌, ◌++◌, ap, List, Option, sym, subst}
+use Rattle.pci_bars.specs.Cards.{cards_of}
+use Rattle.addr_decode.specs.declared.register.MapRegister.{MapRegister}
+use Rattle.addr_decode.specs.MapRegister.{AreNumbered}
+use Rattle.addr_decode.proofs.NameLemmas.{names_numbered}
+use Rattle.map_builder.specs.declared.range.Changed.{Changed}
+use Rattle.map_builder.proofs.WindowLemmas.{covered_by_names}
+use Rattle.map_builder.proofs.changed.push_covered.Goals as goal
+
+pub push_of_names-requires-clause-names : goal.push_of_names-requires-clause-names
+push_of_names-requires-clause-names c =
+    subst (λ (names : List (Option MapRegister)). AreNumbered names) (sym c.requires.names)
+    (names_numbered (cards_of c.args.regs.now.cards.items) c.args.change.now)
+
+pub returns-in-Store-clause-windows : goal.returns-in-Store-clause-windows
+returns-in-Store-clause-windows c = λ setup bytes stands.
+    c.push_of_names.ensures.windows setup bytes stands
+    ∙ ap (λ (more : List Changed). c.args.windows.now.items ++ more)
+    (covered_by_names setup bytes c.args.change.now _ _ _ (cards_of c.args.regs.now.cards.items) c.args.names.now c.in-Store.is
+    stands.cards.0 c.requires.names)

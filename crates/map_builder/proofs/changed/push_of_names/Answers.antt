@@ -1,0 +1,25 @@
+use Rattle.std.proofs.Common.{None, arith}
+use Rattle.map_builder.specs.Changed.{name_windows}
+use Rattle.map_builder.proofs.WindowLemmas.{numbered_at, pushed_on, pushed_all}
+use Rattle.map_builder.proofs.changed.push_of_names.Goals as goal
+
+pub push_of_name-requires : goal.push_of_name-requires
+push_of_name-requires c = record {
+  cards = c.requires.cards;
+  number = numbered_at c.args.names.now c.loop-name.name-index None c.loop-name-test.true c.requires.names.each;
+  room = omega (arith, c.requires.names.few, c.requires.room, c.loop-name.invariant.few, c.loop-name-test.true);
+}
+
+pub loop-name-preserved : goal.loop-name-preserved
+loop-name-preserved c = record {
+  few = omega (arith, c.loop-name.invariant.few, c.push_of_name.ensures.few);
+  so_far = λ setup bytes stands.
+      pushed_on (name_windows setup bytes) c.args.names.now c.loop-name.name-index c.args.windows.now.items c.loop-name.windows.items
+      c.push_of_name.new.windows.items c.loop-name-test.true (c.loop-name.invariant.so_far setup bytes stands)
+      (c.push_of_name.ensures.windows setup bytes stands);
+}
+
+pub returns-clause-windows : goal.returns-clause-windows
+returns-clause-windows c = λ setup bytes stands.
+    pushed_all (name_windows setup bytes) c.args.names.now c.loop-name.name-index c.args.windows.now.items c.loop-name.windows.items
+    c.loop-name-test.false (c.loop-name.invariant.so_far setup bytes stands)

@@ -1,0 +1,15 @@
+use Rattle.pci_bars.specs.Cards.{cards_of}
+use Rattle.std.proofs.Common.{None, arith}
+use Rattle.map_builder.proofs.UnchangedLemmas.{held_alone}
+use Rattle.map_builder.proofs.WindowLemmas.{numbered_at}
+use Rattle.map_builder.proofs.unchanged.byte_alone.Goals as goal
+
+pub byte_of_name-requires-clause-number : goal.byte_of_name-requires-clause-number
+byte_of_name-requires-clause-number c = numbered_at c.args.names.now 0 None (omega arith) c.requires.names.each
+
+pub returns : goal.returns
+returns c = record {
+  held = λ change named setup bytes stands.
+      held_alone bytes change (cards_of c.args.regs.now.cards.items) c.args.names.now c.byte_of_name.result (omega arith) named
+      (λ reg name. c.byte_of_name.ensures.held reg name setup bytes stands);
+}
