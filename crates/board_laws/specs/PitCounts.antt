@@ -1,5 +1,5 @@
 -- Whole counts of the 8254, from the pulse that loads them on.
-use Rattle.std.specs.Prelude.{◌≡◌, ◌≢◌, ℕ, ◌-◌, ◌<◌, ◌≤◌, Bool, true, false, not, ◌&&◌, ◌||◌, Some}
+use Rattle.std.specs.Prelude.{◌≡◌, ◌≢◌, ℕ, ◌<◌, ◌≤◌, Bool, true, false, not, ◌&&◌, ◌||◌, Some}
 use Rattle.device_spec.specs.Pit.{Mode, TerminalCount, OneShot, RateGenerator, SquareWave, SoftwareStrobe, HardwareStrobe, CounterState, is_periodic, write, pulse}
 use Rattle.device_spec.specs.PitLaws.{pulses_of}
 use Rattle.device_spec.specs.PitPeriods.{IsAtLoad}

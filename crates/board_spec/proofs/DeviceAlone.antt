@@ -1,6 +1,6 @@
 -- What an event leaves of each device, and the levels of lines whose drivers stayed.
-use Rattle.std.proofs.Common.{◌≡◌, ◌≢◌, ℕ, ◌-◌, ◌%◌, Bool, false, ◌||◌, ◌&&◌, List, [], ◌∷◌, Option, Some, None, refl, ◌∙◌, ap, inl, inr}
-use Rattle.std.specs.Prelude.{◌==◌, if◌then◌else◌, map, option_map}
+use Rattle.std.proofs.Common.{◌≡◌, ◌≢◌, ℕ, Bool, false, ◌||◌, ◌&&◌, List, [], ◌∷◌, Option, Some, None, refl, ◌∙◌, ap, inl, inr}
+use Rattle.std.specs.Prelude.{◌==◌, map, option_map}
 use Rattle.std.specs.List.{list_any}
 use Rattle.std.specs.Option.{option_map_or}
 use Rattle.std.proofs.lemmas.Bool.{cases_Bool}

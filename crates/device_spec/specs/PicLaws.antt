@@ -1,5 +1,5 @@
 -- What the pair has seen of the lines.
-use Rattle.std.specs.Prelude.{◌≡◌, ℕ, Bool, List, ◌-◌}
+use Rattle.std.specs.Prelude.{◌≡◌, ℕ, Bool, List}
 use Rattle.device_spec.specs.Pair.{Pair, pair_after_lines}
 
 -- The levels that the lines have already change nothing when they are given again.
