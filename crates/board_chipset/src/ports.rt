@@ -15,7 +15,6 @@ use crate::state::State;
 use board_base::{Dev, PortAccess, Reg, Target};
 use board_devices::law_left_alone;
 use board_spec::Reply;
-use board_spec::offset::SOUTH_BRIDGE;
 
 /// The byte that a read of the keyboard controller's empty socket gives.
 const EMPTY_SOCKET: u32 = 0xFF;
@@ -113,8 +112,7 @@ fn write_register(state: &mut State, reg: Reg, access: &PortAccess)
         → IsEntryOf setup history access.now (Config reg) entry → IsStateOf setup (entry ∷ history) state.new }
 {
     law_left_alone();
-    state.registers.store(reg, access.width, access.value);
-    if reg.dev == SOUTH_BRIDGE {
+    if state.registers.store(reg, access.width, access.value) {
         state.devices.reroute(&state.registers.south.routes);
     }
 }
