@@ -14,7 +14,6 @@ ghost use Rattle.board_chipset.specs.Ports.{IsEntryOf, Reaching, reached};
 use crate::state::State;
 use board_base::{Dev, PortAccess, Reg, Target};
 use board_spec::Reply;
-use board_spec::offset::SOUTH_BRIDGE;
 
 /// The byte that a read of the keyboard controller's empty socket gives.
 const EMPTY_SOCKET: u32 = 0xFF;
@@ -108,8 +107,7 @@ fn write_register(state: &mut State, reg: Reg, access: &PortAccess)
     ensures board { (setup : Setup) (history : List Entry) (entry : Entry) → IsStateOf setup history state.old
         → IsEntryOf setup history access.now (Config reg) entry → IsStateOf setup (entry ∷ history) state.new }
 {
-    state.registers.store(reg, access.width, access.value);
-    if reg.dev == SOUTH_BRIDGE {
+    if state.registers.store(reg, access.width, access.value) {
         state.devices.reroute(&state.registers.south.routes);
     }
 }

@@ -97,16 +97,18 @@ impl Registers {
         self.address.write(value);
     }
 
-    /// Stores the bytes of a value in configuration space, the low one first, in rising offset.
-    pub fn store(&mut self, reg: Reg, width: Width, value: u32)
+    /// Stores the bytes of a value in configuration space, the low one first, in rising offset. Returns whether they go to
+    /// the 82371SB, which routes the PCI interrupts.
+    pub fn store(&mut self, reg: Reg, width: Width, value: u32) -> bool
         requires within { reg.off + bytes_of width ≤ 0x100 }
         ensures registers { (setup : Setup) (history : List Entry) (entry : Entry) → HasRegisters setup history self.old
             → Writes setup history entry.event None None (Some (Store reg width value))
             → HasRegisters setup (entry ∷ history) self.new }
         ensures south { reg.dev ≢ 1 → self.new.south ≡ self.old.south }
+        ensures other { result ≡ false → reg.dev ≢ 1 }
     {
         self.map.store(reg, width, value);
-        self.south.store(reg, width, value);
+        self.south.store(reg, width, value)
     }
 
     /// Writes reset control. Returns whether that makes a hard reset, which gives each register its value after a

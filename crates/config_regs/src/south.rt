@@ -1,5 +1,5 @@
 //! The registers of the 82371SB on which the memory map does not depend.
-ghost use Rattle.std.specs.Prelude.{◌≡◌, ◌≢◌, ◌+◌, ◌≤◌};
+ghost use Rattle.std.specs.Prelude.{◌≡◌, ◌≢◌, ◌+◌, ◌≤◌, true, false};
 ghost use Rattle.board_base.specs.Access.{bytes_of};
 ghost use Rattle.board_base.specs.declared.access.Width.TheVariants.{One};
 ghost use Rattle.board_spec.specs.declared.map_change.MapChange.TheVariants.{Store};
@@ -41,16 +41,21 @@ impl South {
         self.ide.reset();
     }
 
-    /// Stores the bytes of a value from a register on, the low one first. Where it is none of these, nothing happens.
-    pub fn store(&mut self, reg: Reg, width: Width, value: u32)
+    /// Stores the bytes of a value from a register on, the low one first, and returns whether it is a register of the
+    /// 82371SB. Where it is none of these, nothing happens.
+    pub fn store(&mut self, reg: Reg, width: Width, value: u32) -> bool
         requires within { reg.off + bytes_of width ≤ 0x100 }
         ensures stored { (setup : Setup) (bytes : Bytes) → IsSouthOf bytes self.old
             → IsSouthOf (λ r. changed_byte setup (Store reg width value) r (bytes r)) self.new }
         ensures beside { reg.dev ≢ 1 → self.new ≡ self.old }
+        ensures south { result ≡ true → reg.dev ≡ 1 }
+        ensures other { result ≡ false → reg.dev ≢ 1 }
     {
         if reg.dev == SOUTH_BRIDGE {
             self.store_bytes(reg.fun, reg.off, width, value);
+            return true;
         }
+        false
     }
 
     /// Stores the bytes of a value from an offset of a function on.

@@ -16,8 +16,8 @@ store-requires c =
           reaching.bus.aligned (reached_in reaching).1;
     }
 
-pub returns-then-reg-eq-SOUTH_BRIDGE : goal.returns-then-reg-eq-SOUTH_BRIDGE
-returns-then-reg-eq-SOUTH_BRIDGE c = record {
+pub returns-then-store : goal.returns-then-store
+returns-then-store c = record {
   board = λ setup history entry kept is.
       let writes = entry_writes refl c.requires.writes is in
       let registers : HasRegisters setup (entry ∷ history) c.store.new.self =
@@ -32,11 +32,11 @@ returns-then-reg-eq-SOUTH_BRIDGE c = record {
       };
 }
 
-pub returns-else-reg-eq-SOUTH_BRIDGE : goal.returns-else-reg-eq-SOUTH_BRIDGE
-returns-else-reg-eq-SOUTH_BRIDGE c = record {
+pub returns-else-store : goal.returns-else-store
+returns-else-store c = record {
   board = λ setup history entry kept is.
       let writes = entry_writes refl c.requires.writes is in
       registers_move leaves_devices kept is refl (λ cell. refl)
-      (c.store.ensures.registers setup history entry kept.registers writes) (c.store.ensures.south (omega arith))
+      (c.store.ensures.registers setup history entry kept.registers writes) (c.store.ensures.south (c.store.ensures.other c.if-store.false))
       (soft writes);
 }

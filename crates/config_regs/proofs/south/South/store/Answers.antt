@@ -1,4 +1,5 @@
 use Rattle.std.proofs.Common.{refl, subst, arith}
+use Rattle.std.proofs.lemmas.Bool.{true≢false, false≢true}
 use Rattle.board_base.specs.declared.target.Reg.{Reg}
 use Rattle.board_spec.specs.declared.map_change.MapChange.TheVariants.{Store}
 use Rattle.board_spec.specs.Registers.{changed_byte}
@@ -14,11 +15,15 @@ returns-then-reg-eq-SOUTH_BRIDGE c = record {
       c.store_bytes.new.self)
       (of_device c.args.reg 1 (omega arith)) (c.store_bytes.ensures.stored setup bytes is);
   beside = λ apart. absurd (omega arith);
+  south = λ is. omega arith;
+  other = λ no. absurd (true≢false no);
 }
 
-pub returns-else-reg-eq-SOUTH_BRIDGE : goal.returns-else-reg-eq-SOUTH_BRIDGE
-returns-else-reg-eq-SOUTH_BRIDGE c = record {
+pub returns : goal.returns
+returns c = record {
   stored =
       λ setup bytes is. other_device setup bytes c.args.reg c.args.width c.args.value c.args.self.now (omega arith) is;
   beside = λ apart. refl;
+  south = λ is. absurd (false≢true is);
+  other = λ no same. omega arith;
 }
