@@ -1,9 +1,7 @@
 -- The ranges of a map by their indices, and the span round an address.
 use Rattle.std.proofs.Common.{◌≡◌, ◌≢◌, ℕ, zero, suc, ◌+◌, ◌-◌, ◌<◌, ◌≤◌, ◌⊎◌, inl, inr, Bool, List, [], ◌∷◌, length, map, get_or, sym, ◌∙◌, ap, subst, arith}
-use Rattle.std.specs.List.Sorted.{IsNonDecreasingBy}
 use Rattle.std.proofs.lemmas.Bool.{cases_lt}
-use Rattle.std.proofs.lemmas.List.{get_or-map, get_or_default, length-map}
-use Rattle.std.proofs.lemmas.List.Sorted.{IsNonDecreasingBy-from_all_adjacent}
+use Rattle.std.proofs.lemmas.List.{get_or-map, length-map}
 use Rattle.board_base.specs.declared.access.Kind.{Kind}
 use Rattle.board_spec.specs.Setup.{Setup}
 use Rattle.board_spec.specs.Decode.{Bytes, area_of}
@@ -39,15 +37,6 @@ last_more : (range next : Range) (later : List Range) →
 last_more range next later rest zero at_end = absurd (omega arith)
 last_more range next later rest (suc k) at_end = rest k (omega arith)
 
-lowest : (ranges : List Range) (addr k : ℕ) → Placed 0 ranges → k < length ranges →
-    ((j : ℕ) → j < k → (range_at ranges j).hi < addr) → (range_at ranges k).lo ≤ addr
-lowest ranges addr zero is within before = omega (arith, is.first)
-lowest ranges addr (suc k) is within before =
-    let joined : (range_at ranges (k + 1)).lo ≡ (range_at ranges k).hi + 1 = is.next k (omega arith) in
-    let place : k + 1 ≡ suc k = omega arith in
-    let there : (range_at ranges (suc k)).lo ≡ (range_at ranges k).hi + 1 = rw place at joined in
-    omega (arith, before k (omega arith))
-
 pub tiles_below : (from : ℕ) (ranges : List MapRange) → Tiles from ranges → from ≤ address_count
 tiles_below from [] tiles = omega arith
 tiles_below from (range ∷ later) tiles = omega (arith, tiles_below (range.hi + 1) later tiles.2, tiles.0, tiles.1)
@@ -72,31 +61,73 @@ placed from (range ∷ next ∷ later) below tiles =
       last = last_more range next later rest.last;
     }
 
--- the index of the range that holds an address, by the last addresses before and from it on
-pub held : (ranges : List Range) (addr k : ℕ) → addr < address_count → Placed 0 ranges → k ≤ length ranges →
-    ((j : ℕ) → j < k → (range_at ranges j).hi < addr) → ((j : ℕ) → k ≤ j → j < length ranges → addr ≤ (range_at ranges j).hi) →
-    Holds ranges k addr
-held ranges addr k address is within before from =
-    elim (cases_lt k (length ranges)) [
-      | inr not_within ↦
-          let past : (range_at ranges (length ranges - 1)).hi < addr = before (length ranges - 1) (omega (arith, is.some)) in
-          absurd (omega (arith, is.last (length ranges - 1) (omega (arith, is.some))))
-      | inl inside ↦ record {
-        within = inside;
-        above = lowest ranges addr k is inside before;
-        below = from k (omega arith) inside;
-      }
-    ]
+-- an address lies in one of `left` ranges from an index on
+pub record IsSearched (ranges : List Range) (addr index left : ℕ) : Type 0 where
+  pub some : 1 ≤ left
+  pub within : index + left ≤ length ranges
+  pub above : (range_at ranges index).lo ≤ addr
+  pub edge : (index + left ≡ length ranges) ⊎ (addr < (range_at ranges (index + left)).lo)
 
-pub last_addresses_rise : (ranges : List Range) → Placed 0 ranges → IsNonDecreasingBy (λ (range : Range). range.hi) ranges
-last_addresses_rise ranges is =
-    IsNonDecreasingBy-from_all_adjacent (λ (range : Range). range.hi) ranges
-    (λ k d within.
-    let here : get_or ranges k d ≡ range_at ranges k = get_or_default ranges k d no_range (omega arith) in
-    let there : get_or ranges (k + 1) d ≡ range_at ranges (k + 1) = get_or_default ranges (k + 1) d no_range within in
-    let rises : (range_at ranges k).hi ≤ (range_at ranges (k + 1)).hi =
-    omega (arith, is.next k within, is.whole (k + 1) within) in
-    rw (here, there) rises)
+pub search_begins : (ranges : List Range) (addr : ℕ) → Placed 0 ranges → IsSearched ranges addr 0 (length ranges)
+search_begins ranges addr is = record {
+  some = omega (arith, is.some);
+  within = omega arith;
+  above = omega (arith, is.first);
+  edge = inl (omega arith);
+}
+
+pub search_taken : (ranges : List Range) (addr index left half : ℕ) → half < left → IsSearched ranges addr index left →
+    (range_at ranges (index + half)).lo ≤ addr → IsSearched ranges addr (index + half) (left - half)
+search_taken ranges addr index left half fewer is above =
+    let same : (index + half) + (left - half) ≡ index + left = omega arith in
+    record {
+      some = omega arith;
+      within = omega (arith, is.within);
+      above = above;
+      edge = subst (λ (n : ℕ). (n ≡ length ranges) ⊎ (addr < (range_at ranges n).lo)) (sym same) is.edge;
+    }
+
+pub search_left : (ranges : List Range) (addr index left half : ℕ) → Placed 0 ranges → 1 ≤ half → half < left → left ≤ half + half + 1 →
+    half + half ≤ left → IsSearched ranges addr index left → addr < (range_at ranges (index + half)).lo → IsSearched ranges addr index (left - half)
+search_left ranges addr index left half placed_is some fewer at_most at_least is below = record {
+  some = omega arith;
+  within = omega (arith, is.within);
+  above = is.above;
+  edge = elim (cases_lt half (left - half)) [
+    | inr not_more ↦
+        let same : index + half ≡ index + (left - half) = omega arith in
+        inr (subst (λ (n : ℕ). addr < (range_at ranges n).lo) same below)
+    | inl one_more ↦
+        let next : (index + half) + 1 ≡ index + (left - half) = omega arith in
+        let within : (index + half) + 1 < length ranges + 1 = omega (arith, is.within) in
+        elim (cases_lt ((index + half) + 1) (length ranges)) [
+          | inr at_end ↦ inl (omega (arith, within))
+          | inl inside ↦
+              let rises : addr < (range_at ranges ((index + half) + 1)).lo =
+              omega (arith, below, placed_is.next (index + half) inside, placed_is.whole (index + half) (omega (arith, inside))) in
+              inr (subst (λ (n : ℕ). addr < (range_at ranges n).lo) next rises)
+        ]
+  ];
+}
+
+pub search_ends : (ranges : List Range) (addr index left : ℕ) → addr < address_count → Placed 0 ranges → left ≤ 1 →
+    IsSearched ranges addr index left → Holds ranges index addr
+search_ends ranges addr index left address placed_is one is =
+    let last : left ≡ 1 = omega (arith, is.some) in
+    let edge : (index + 1 ≡ length ranges) ⊎ (addr < (range_at ranges (index + 1)).lo) =
+    subst (λ (n : ℕ). (index + n ≡ length ranges) ⊎ (addr < (range_at ranges (index + n)).lo)) last is.edge in
+    record {
+      within = omega (arith, is.within, is.some);
+      above = is.above;
+      below = elim edge [
+        | inl at_end ↦ omega (arith, placed_is.last index at_end)
+        | inr below ↦
+            elim (cases_lt (index + 1) (length ranges)) [
+              | inr past ↦ omega (arith, placed_is.last index (omega (arith, is.within, is.some)))
+              | inl inside ↦ omega (arith, below, placed_is.next index inside)
+            ]
+      ];
+    }
 
 -- ---- the span round an address
 

@@ -26,12 +26,33 @@ pub fn span_of(ranges: &[Range], addr: u32, kind: Kind, smm: bool) -> Span
     }
 }
 
-/// The index of the range that holds an address.
+impl Range {
+    /// The longest interval round an address in which this kind of access has one area, by the ranges of a map.
+    pub fn span_in(ranges: &[Range], addr: u32, kind: Kind, smm: bool) -> Span
+        requires tiles { Tiles 0 (map range_of ranges.now) }
+        ensures span { (setup : Setup) (bytes : Bytes) → IsFlatMapOf setup bytes (map range_of ranges.now)
+            → IsSpan setup bytes addr kind smm result.lo result.hi result.area }
+    {
+        span_of(ranges, addr, kind, smm)
+    }
+}
+
+/// The index of the range that holds an address: the last that begins at it or below it. Each step halves the ranges
+/// that are left.
 pub fn index_of(ranges: &[Range], addr: u32) -> usize
     requires tiles { Tiles 0 (map range_of ranges.now) }
     ensures holds { Holds ranges.now result addr }
 {
-    ranges.partition_point(|range| range.hi < addr)
+    let mut index = 0;
+    let mut left = ranges.len();
+    while left > 1 {
+        let half = left / 2;
+        if ranges[index + half].lo <= addr {
+            index += half;
+        }
+        left -= half;
+    }
+    index
 }
 
 /// The column of a kind of access among the six areas of a row: fetch, read and write outside SMM, and then in SMM.

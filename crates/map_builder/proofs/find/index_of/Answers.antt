@@ -1,18 +1,26 @@
-use Rattle.std.proofs.Common.{ltb, arith, rules}
-use Rattle.std.proofs.lemmas.Bool.{ltb-true, ltb-false}
-use Rattle.std.proofs.lemmas.List.Sorted.{IsPartitionPoint-from_clause, IsPartitionedBy-ltb}
-use Rattle.map_builder.specs.declared.range.Range.{Range}
-use Rattle.map_builder.specs.Find.{no_range}
-use Rattle.map_builder.proofs.FindLemmas.{Placed, placed, held, last_addresses_rise}
+use Rattle.std.proofs.Common.{ℕ, ◌/◌, arith}
+use Rattle.map_builder.proofs.FindLemmas.{placed, search_taken, search_left, search_ends}
 use Rattle.map_builder.proofs.find.index_of.Goals as goal
+use Rattle.map_builder.proofs.find.index_of.Goals.{then-ranges-index, else-ranges-index}
+
+pub loop-left-preserved : goal.loop-left-preserved
+loop-left-preserved c =
+    let left = c.loop-left.left in
+    let half : ℕ = left / 2 in
+    let is = placed 0 c.args.ranges.now (omega arith) c.requires.tiles in
+    let more = c.loop-left-test.true in
+    elim c.if-ranges-index.branch [
+      | then-ranges-index w ↦
+          rw w.index-is
+          (search_taken c.args.ranges.now c.args.addr c.loop-left.index left half (omega (arith, more)) c.loop-left.invariant w.if-ranges-index.true)
+      | else-ranges-index w ↦
+          rw w.index-is
+          (search_left c.args.ranges.now c.args.addr c.loop-left.index left half is (omega (arith, more)) (omega (arith, more)) (omega (arith, more)) (omega (arith, more))
+          c.loop-left.invariant (omega (arith, w.if-ranges-index.false)))
+    ]
 
 pub returns : goal.returns
-returns c =
-    let is : Placed 0 c.args.ranges.now = placed 0 c.args.ranges.now (omega arith) c.requires.tiles in
-    let parted = IsPartitionedBy-ltb (λ (range : Range). range.hi) c.args.ranges.now c.args.addr (last_addresses_rise c.args.ranges.now is) in
-    let point = IsPartitionPoint-from_clause (λ (range : Range). ltb range.hi c.args.addr) _ _ c.partition_point.ensures.partitioned parted (λ a r q k. search rules) in
-    record {
-      holds = held c.args.ranges.now c.args.addr c.partition_point.result (omega arith) is c.partition_point.ensures.bound
-          (λ j before. ltb-true _ _ (point.0 j no_range (omega arith) before))
-          (λ j from within. ltb-false _ _ (point.1 j no_range from within));
-    }
+returns c = record {
+  holds = search_ends c.args.ranges.now c.args.addr c.loop-left.index c.loop-left.left (omega arith)
+      (placed 0 c.args.ranges.now (omega arith) c.requires.tiles) (omega (arith, c.loop-left-test.false)) c.loop-left.invariant;
+}
