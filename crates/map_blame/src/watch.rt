@@ -3,7 +3,7 @@ ghost use Rattle.std.specs.Prelude.{◌≡◌, ◌<◌, ℕ, true, false, [], le
 ghost use Rattle.board_spec.specs.Limits.{entry_limit};
 ghost use Rattle.board_spec.specs.Setup.{Setup, IsCardList};
 ghost use Rattle.board_spec.specs.Decode.{Bytes};
-ghost use Rattle.board_spec.specs.FlatMap.{IsRight, Tiles};
+ghost use Rattle.board_spec.specs.FlatMap.{IsRight};
 ghost use Rattle.addr_decode.specs.MapRegs.{StandsFor};
 ghost use Rattle.map_builder.specs.Map.{range_of};
 ghost use Rattle.map_builder.specs.Find.{Holds};
@@ -14,7 +14,7 @@ ghost use Rattle.map_blame.specs.declared.watch.Watched.{Watched};
 use crate::blamed::Blamed;
 use board_base::NoMemory;
 use board_spec::MapChange;
-use map_builder::{Changed, FlatMap, Range};
+use map_builder::{Changed, FlatMap, Range, index_of};
 use std::alloc::Global;
 
 /// A range of the map at the end, since when it stands, and whether it does now.
@@ -144,10 +144,6 @@ fn stands(map: &FlatMap, range: &Range) -> bool
     let here = ranges[index_of(ranges, range.lo)];
     here.row == range.row && range.hi <= here.hi
 }
-
-/// The index of the range that holds an address.
-fn index_of(ranges: &[Range], addr: u32) -> usize
-    requires tiles { Tiles 0 (map range_of ranges.now) }
     ensures holds { Holds ranges.now result addr }
 {
     ranges.partition_point(|range| range.hi < addr)

@@ -13,5 +13,6 @@ mod unchanged;
 mod widths;
 mod windows;
 
+pub use find::index_of;
 pub use flat_map::FlatMap;
 pub use range::{Changed, Range, Span};
