@@ -6,7 +6,6 @@ ghost use Rattle.board_spec.specs.Decode.{Bytes};
 ghost use Rattle.board_spec.specs.FlatMap.{IsRight};
 ghost use Rattle.addr_decode.specs.MapRegs.{StandsFor};
 ghost use Rattle.map_builder.specs.Map.{range_of};
-ghost use Rattle.map_builder.specs.Find.{Holds};
 ghost use Rattle.map_blame.specs.Report.{AreBlamed};
 ghost use Rattle.map_blame.specs.Watch.{IsInterval, IsWatchable, IsAfter, IsWatched, IsNext};
 ghost use Rattle.map_blame.specs.declared.watch.Watched.{Watched};
@@ -143,8 +142,4 @@ fn stands(map: &FlatMap, range: &Range) -> bool
     let ranges = map.ranges();
     let here = ranges[index_of(ranges, range.lo)];
     here.row == range.row && range.hi <= here.hi
-}
-    ensures holds { Holds ranges.now result addr }
-{
-    ranges.partition_point(|range| range.hi < addr)
 }
