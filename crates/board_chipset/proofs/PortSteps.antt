@@ -19,7 +19,7 @@ use Rattle.board_spec.specs.Interrupts.{device_value}
 use Rattle.board_spec.specs.Ports.{Decoded}
 use Rattle.board_spec.specs.Answer.{port_value, bus_reply, port_answer}
 use Rattle.board_devices.specs.Devices.{DevicesValue, AreDevicesOf, AreRoutesOf}
-use Rattle.board_devices.specs.Events.{is_port_of, is_chip, PassesBy, Reaches}
+use Rattle.board_devices.specs.Events.{is_chip_port, is_chip, PassesBy, Reaches}
 use Rattle.board_devices.specs.Laws.{LeavesDevices}
 use Rattle.board_stores.specs.declared.stores.Stores.{Stores}
 use Rattle.board_stores.specs.Puts.{ArePut}
@@ -56,7 +56,7 @@ beside_of setup history access _ device config is = absurd is
 -- a device with ports of its own
 pub record IsChipAt (setup : Setup) (history : List Entry) (access : PortAccess) (dev : Dev) : Type 0 where
   pub beside : IsBeside setup (config_address history) access.port access.width
-  pub port : is_port_of dev access.port (bytes_of access.width) ≡ true
+  pub port : is_chip_port dev access.port (bytes_of access.width) ≡ true
 
 pub chip_at : (setup : Setup) (history : List Entry) (access : PortAccess) (dev : Dev) → dev ≢ AddressPort →
     dev ≢ Reset → dev ≢ Keyboard →
