@@ -12,7 +12,7 @@ use std::alloc::{AllocError, Global};
 use std::process::Abort;
 use std::test::Fail;
 
-const fn memory(kind: Kind, addr: u32, width: Width, value: u32) -> Event {
+fn memory(kind: Kind, addr: u32, width: Width, value: u32) -> Event {
     Event::Memory(Access {
         kind,
         addr,
@@ -22,7 +22,7 @@ const fn memory(kind: Kind, addr: u32, width: Width, value: u32) -> Event {
     })
 }
 
-const fn port(write: bool, port: u16, width: Width, value: u32) -> Event {
+fn port(write: bool, port: u16, width: Width, value: u32) -> Event {
     Event::Port(PortAccess {
         write,
         port,
@@ -31,7 +31,7 @@ const fn port(write: bool, port: u16, width: Width, value: u32) -> Event {
     })
 }
 
-const fn wide(kind: Kind, bytes: u8, addr: u32, value: u64) -> Event {
+fn wide(kind: Kind, bytes: u8, addr: u32, value: u64) -> Event {
     Event::Wide(WideAccess {
         kind,
         bytes,
@@ -42,7 +42,7 @@ const fn wide(kind: Kind, bytes: u8, addr: u32, value: u64) -> Event {
 }
 
 /// A date and an hour, whose weekday is from 1 for Sunday.
-const fn time(year: u16, month: u8, day: u8, weekday: u8, hour: u8) -> Event {
+fn time(year: u16, month: u8, day: u8, weekday: u8, hour: u8) -> Event {
     Event::Time(Moment {
         year,
         month,
@@ -54,109 +54,96 @@ const fn time(year: u16, month: u8, day: u8, weekday: u8, hour: u8) -> Event {
     })
 }
 
-const fn wire(dev: u8) -> Event {
+fn wire(dev: u8) -> Event {
     Event::Wire { dev, on: true }
 }
 
-const fn line(irq: u8) -> Event {
+fn line(irq: u8) -> Event {
     Event::Line { irq, on: true }
 }
 
 /// Of each field the last or first event that is in range, the next, which is not, and the field.
-const FIELDS: [(Event, Event, OutOfRange); 24] = [
-    (
-        memory(Kind::Read, 0x1000, Two, 0),
-        memory(Kind::Read, 0x1001, Two, 0),
-        Alignment,
-    ),
-    (
-        memory(Kind::Read, 0x1000, Four, 0),
-        memory(Kind::Read, 0x1002, Four, 0),
-        Alignment,
-    ),
-    (
-        memory(Kind::Write, 0x1000, One, 0xFF),
-        memory(Kind::Write, 0x1000, One, 0x100),
-        Value,
-    ),
-    (
-        memory(Kind::Write, 0x1000, Two, 0xFFFF),
-        memory(Kind::Write, 0x1000, Two, 0x1_0000),
-        Value,
-    ),
-    (
-        memory(Kind::Read, 0x1000, One, 0),
-        memory(Kind::Read, 0x1000, One, 1),
-        Value,
-    ),
-    (
-        memory(Kind::Fetch, 0x1000, Four, 0),
-        memory(Kind::Fetch, 0x1000, Four, 1),
-        Value,
-    ),
-    (
-        port(false, 0x1F0, Two, 0),
-        port(false, 0x1F1, Two, 0),
-        Alignment,
-    ),
-    (
-        port(false, 0xCFC, Four, 0),
-        port(false, 0xCFE, Four, 0),
-        Alignment,
-    ),
-    (
-        port(true, 0x80, One, 0xFF),
-        port(true, 0x80, One, 0x100),
-        Value,
-    ),
-    (port(false, 0x80, One, 0), port(false, 0x80, One, 1), Value),
-    (
-        wide(Kind::Read, 8, 0x1000, 0),
-        wide(Kind::Read, 9, 0x1000, 0),
-        Bytes,
-    ),
-    (
-        wide(Kind::Read, 2, 0x1001, 0),
-        wide(Kind::Read, 1, 0x1001, 0),
-        Bytes,
-    ),
-    (
-        wide(Kind::Read, 4, 0x1001, 0),
-        wide(Kind::Read, 4, 0x1000, 0),
-        Aligned,
-    ),
-    (
-        wide(Kind::Read, 8, 0xFFFF_FFF8, 0),
-        wide(Kind::Read, 8, 0xFFFF_FFF9, 0),
-        End,
-    ),
-    (
-        wide(Kind::Read, 4, 0xFFFF_FFFB, 0),
-        wide(Kind::Read, 4, 0xFFFF_FFFD, 0),
-        End,
-    ),
-    (
-        wide(Kind::Write, 2, 0x1001, 0xFFFF),
-        wide(Kind::Write, 2, 0x1001, 0x1_0000),
-        Value,
-    ),
-    (
-        wide(Kind::Write, 4, 0x1001, 0xFFFF_FFFF),
-        wide(Kind::Write, 4, 0x1001, 0x1_0000_0000),
-        Value,
-    ),
-    (
-        wide(Kind::Read, 8, 0x1000, 0),
-        wide(Kind::Read, 8, 0x1000, 1),
-        Value,
-    ),
-    (Event::Pulses(1), Event::Pulses(0), Pulses),
-    (Event::Pulses(1_000_000), Event::Pulses(1_000_001), Pulses),
-    (time(2024, 2, 29, 5, 23), time(2023, 2, 29, 4, 23), Date),
-    (time(2099, 12, 31, 5, 23), time(2099, 12, 31, 5, 24), Date),
-    (wire(4), wire(5), Device),
-    (line(7), line(8), Line),
-];
+fn rows() -> [(Event, Event, OutOfRange); 24] {
+    let (read, write) = (Kind::Read, Kind::Write);
+    [
+        (
+            memory(read, 0x1000, Two, 0),
+            memory(read, 0x1001, Two, 0),
+            Alignment,
+        ),
+        (
+            memory(read, 0x1000, Four, 0),
+            memory(read, 0x1002, Four, 0),
+            Alignment,
+        ),
+        (
+            memory(write, 0x1000, One, 0xFF),
+            memory(write, 0x1000, One, 0x100),
+            Value,
+        ),
+        (
+            memory(write, 0x1000, Two, 0xFFFF),
+            memory(write, 0x1000, Two, 0x1_0000),
+            Value,
+        ),
+        (
+            memory(read, 0x1000, One, 0),
+            memory(read, 0x1000, One, 1),
+            Value,
+        ),
+        (
+            memory(Kind::Fetch, 0x1000, Four, 0),
+            memory(Kind::Fetch, 0x1000, Four, 1),
+            Value,
+        ),
+        (
+            port(false, 0x1F0, Two, 0),
+            port(false, 0x1F1, Two, 0),
+            Alignment,
+        ),
+        (
+            port(false, 0xCFC, Four, 0),
+            port(false, 0xCFE, Four, 0),
+            Alignment,
+        ),
+        (
+            port(true, 0x80, One, 0xFF),
+            port(true, 0x80, One, 0x100),
+            Value,
+        ),
+        (port(false, 0x80, One, 0), port(false, 0x80, One, 1), Value),
+        (wide(read, 8, 0x1000, 0), wide(read, 9, 0x1000, 0), Bytes),
+        (wide(read, 2, 0x1001, 0), wide(read, 1, 0x1001, 0), Bytes),
+        (wide(read, 4, 0x1001, 0), wide(read, 4, 0x1000, 0), Aligned),
+        (
+            wide(read, 8, 0xFFFF_FFF8, 0),
+            wide(read, 8, 0xFFFF_FFF9, 0),
+            End,
+        ),
+        (
+            wide(read, 4, 0xFFFF_FFFB, 0),
+            wide(read, 4, 0xFFFF_FFFD, 0),
+            End,
+        ),
+        (
+            wide(write, 2, 0x1001, 0xFFFF),
+            wide(write, 2, 0x1001, 0x1_0000),
+            Value,
+        ),
+        (
+            wide(write, 4, 0x1001, 0xFFFF_FFFF),
+            wide(write, 4, 0x1001, 0x1_0000_0000),
+            Value,
+        ),
+        (wide(read, 8, 0x1000, 0), wide(read, 8, 0x1000, 1), Value),
+        (Event::Pulses(1), Event::Pulses(0), Pulses),
+        (Event::Pulses(1_000_000), Event::Pulses(1_000_001), Pulses),
+        (time(2024, 2, 29, 5, 23), time(2023, 2, 29, 4, 23), Date),
+        (time(2099, 12, 31, 5, 23), time(2099, 12, 31, 5, 24), Date),
+        (wire(4), wire(5), Device),
+        (line(7), line(8), Line),
+    ]
+}
 
 fn card(dev: u8, base: BaseSpec, rom: Option<u8>) -> CardSpec {
     let mut bases = ArrayVec::new();
@@ -198,7 +185,7 @@ fn chipset(alloc: Global) -> Result<Chipset, Fail> {
 #[test]
 fn each_field_is_tested(rt: HostRuntime) -> Result<(), Fail> {
     let mut chipset = chipset(rt.alloc())?;
-    for (good, bad, fault) in FIELDS {
+    for (good, bad, fault) in rows() {
         assert!(rt; chipset.is_in_range(&good), "{good:?}");
         assert!(rt; chipset.ask(&good).is_ok(), "{good:?}");
         assert!(rt; !chipset.is_in_range(&bad), "{bad:?}");

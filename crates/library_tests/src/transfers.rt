@@ -49,13 +49,36 @@ type Asked = (u8, u32, u32, u32);
 /// How it ends, how many bytes it moves, the status, and the table pointer.
 type Told = (End, u32, u8, u32);
 
-/// An end at an address that this register keeps from everybody.
-const fn abort(addr: u32, dev: u8, fun: u8, off: u8) -> End {
-    End::Abort {
-        addr,
-        denial: Denial::Register(Reg { dev, fun, off }),
-    }
-}
+// The registers that keep an address from everybody.
+const SMRAM: Denial = Denial::Register(Reg {
+    dev: 0,
+    fun: 0,
+    off: 0x72,
+});
+
+const DRB7: Denial = Denial::Register(Reg {
+    dev: 0,
+    fun: 0,
+    off: 0x67,
+});
+
+const FDHC: Denial = Denial::Register(Reg {
+    dev: 0,
+    fun: 0,
+    off: 0x68,
+});
+
+const PAM1: Denial = Denial::Register(Reg {
+    dev: 0,
+    fun: 0,
+    off: 0x5A,
+});
+
+const XBCS: Denial = Denial::Register(Reg {
+    dev: 1,
+    fun: 0,
+    off: 0x4E,
+});
 
 /// A card at device 2: a VGA adapter with a base of 4 KiB.
 fn card() -> CardSpec
@@ -300,7 +323,15 @@ const EACH_END: [Transfer; 5] = [
         4,
         &FROM_OPEN_SMRAM,
         (OUT, 0x1000, 0, 1),
-        (abort(0xA_0000, 0, 0, 0x72), 0, 0x02, 0x1008),
+        (
+            End::Abort {
+                addr: 0xA_0000,
+                denial: SMRAM,
+            },
+            0,
+            0x02,
+            0x1008,
+        ),
         &[Dram(0xA_0000, 0x1111_1111), Word(0, 0, 0x0101)],
     ),
     (
@@ -326,7 +357,15 @@ const WHAT_COMES_FIRST: [Transfer; 6] = [
         4,
         &[],
         (IN, 0x80_0000, 3, 1),
-        (abort(0x80_0000, 0, 0, 0x67), 0, 0x02, 0x80_0000),
+        (
+            End::Abort {
+                addr: 0x80_0000,
+                denial: DRB7,
+            },
+            0,
+            0x02,
+            0x80_0000,
+        ),
         &[],
     ),
     // Without a disk there is no sector.
@@ -342,7 +381,15 @@ const WHAT_COMES_FIRST: [Transfer; 6] = [
         4,
         &HALF_A_DESCRIPTOR,
         (IN, 0x7F_FFFC, 0, 1),
-        (abort(0x80_0000, 0, 0, 0x67), 0, 0x02, 0x7F_FFFC),
+        (
+            End::Abort {
+                addr: 0x80_0000,
+                denial: DRB7,
+            },
+            0,
+            0x02,
+            0x7F_FFFC,
+        ),
         &[],
     ),
     // The table ends before a further sector is tested.
@@ -358,7 +405,15 @@ const WHAT_COMES_FIRST: [Transfer; 6] = [
         4,
         &OWN_TABLE,
         (IN, 0x1000, 0, 1),
-        (abort(0x0101_0100, 0, 0, 0x67), 8, 0x02, 0x1010),
+        (
+            End::Abort {
+                addr: 0x0101_0100,
+                denial: DRB7,
+            },
+            8,
+            0x02,
+            0x1010,
+        ),
         &[Dram(0x1008, 0x0101_0101), Dram(0x2000, 0)],
     ),
 ];
@@ -408,14 +463,30 @@ const ACROSS_THE_MAP: [Transfer; 8] = [
         4,
         &INTO_THE_HOLE,
         (IN, 0x1000, 0, 1),
-        (abort(0x8_0000, 0, 0, 0x68), 256, 0x02, 0x1008),
+        (
+            End::Abort {
+                addr: 0x8_0000,
+                denial: FDHC,
+            },
+            256,
+            0x02,
+            0x1008,
+        ),
         &[Dram(0x7_FFFC, 0x0101_0101), Dram(0x8_0000, 0)],
     ),
     (
         4,
         &SHADOW_WINDOW,
         (IN, 0x1000, 2, 1),
-        (abort(0xC_4000, 0, 0, 0x5A), 256, 0x02, 0x1008),
+        (
+            End::Abort {
+                addr: 0xC_4000,
+                denial: PAM1,
+            },
+            256,
+            0x02,
+            0x1008,
+        ),
         &[
             Dram(0xC_3F00, 0x0303_0303),
             Dram(0xC_3FFC, 0x0303_0303),
@@ -490,7 +561,15 @@ const ACROSS_THE_MAP: [Transfer; 8] = [
         4,
         &TABLE_PAST_4_GIB,
         (IN, 0xFFFF_FFFC, 0, 1),
-        (abort(0xFFFE_FDFC, 1, 0, 0x4E), 0, 0x02, 0x4),
+        (
+            End::Abort {
+                addr: 0xFFFE_FDFC,
+                denial: XBCS,
+            },
+            0,
+            0x02,
+            0x4,
+        ),
         &[],
     ),
 ];
