@@ -29,13 +29,20 @@ const SHOWN: [&str; 5] = [
 /// Commands whose output is the longest log.
 const LOGS: [&str; 3] = ["replay longest", "run longest", "resume image setup"];
 
-/// Files with the most bytes that they may have, or with one more, and a command that reads them.
-const GROWN: [(&str, usize, &str); 7] = [
+/// Files with the most bytes that they may have, with one more, or with a number that no such file has, and a command that
+/// reads them.
+const GROWN: [(&str, usize, &str); 13] = [
     ("log", 0x400_0000, "check longest log"),
     ("log", 0x400_0001, "check longest log"),
     ("image", 0x280_0000, "resume image setup"),
     ("image", 0x280_0001, "resume image setup"),
     ("input", 0x10_0001, "serial ends input"),
+    ("disk", 513, "replay setup"),
+    ("rom", 0x8_0001, "replay setup"),
+    ("rom", 0x7_FFFF, "replay setup"),
+    ("rom", 0xFFFF, "replay setup"),
+    ("rom", 0, "replay setup"),
+    ("rom", 0x8_0000, "replay setup"),
     ("disk", 0x200_0001, "replay ends"),
     ("longest", 0x100_0001, "replay longest"),
 ];

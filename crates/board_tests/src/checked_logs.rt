@@ -1,4 +1,4 @@
-//! Logs of small scripts: those that the scripts allow, and where others differ.
+//! The log of a small script, each byte of which is changed in each way: the check names the line that differs.
 
 ghost use Rattle.std.specs.Prelude.{◌≡◌, ◌<◌, length, IfOk};
 ghost use Rattle.board_spec.specs.Setup.{Setup as Fitting};
@@ -7,21 +7,18 @@ ghost use Rattle.board_core.specs.Steps.{AreInRange};
 
 use crate::plain::plain_board;
 use CheckFault::Differs;
-use Request::{Ack, Look, Out, OutLong};
-use board_base::{Kind, PortAccess, Width};
+use Request::{Ack, Out};
+use board_base::{PortAccess, Width};
 use board_spec::{Event, Statement};
 use log_check::{CheckFault, check_log};
 use std::alloc::{AllocError, Global};
 use std::process::Abort;
 use std::test::Fail;
 
-/// What a processor asks: the write of a byte to a port, that of a doubleword to 0CF8h, where a read at an address
-/// would land, or an acknowledge.
+/// What a processor asks: the write of a byte to a port, or an acknowledge.
 #[derive(Clone, Copy)]
 enum Request {
     Out(u16, u8),
-    OutLong(u32),
-    Look(u32),
     Ack,
 }
 
@@ -34,13 +31,6 @@ struct Script {
     first: &'static [Line],
     second: &'static [Line],
 }
-
-/// Processor 0 names the register that makes the BIOS area a shadow, and then writes it while processor 1 looks.
-const SHADOWED: Script = Script {
-    mib: 8,
-    first: &[(0, OutLong(0x8000_0058))],
-    second: &[(0, Out(0xCFD, 0x10)), (1, Look(0xF_0000))],
-};
 
 /// The 8259As before and during their initialization.
 const INITIALIZED: Script = Script {
@@ -59,92 +49,9 @@ const INITIALIZED: Script = Script {
     second: &[],
 };
 
-const HEADING: &str = "access log 1\n";
-
-const NAMES: &str = "1 0.1 out d 0CF8 80000058 = - confadd -\n";
-
-const WRITES: &str = "2 0.2 out b 0CFD 10 = - config:00.0.59 -\n";
-
-const LOOKS_AFTER: &str = "3 1.1 look r 000F0000 = 1 000F0000 000FFFFF shadow:0\n";
-
-const LOOKS_BEFORE: &str = "2 1.1 look r 000F0000 = 0 000F0000 000FFFFF rom\n";
-
-const WRITES_AFTER: &str = "3 0.2 out b 0CFD 10 = - config:00.0.59 -\n";
-
-/// A script, the lines of a log, and the number of entries or the line that differs.
-type Row = (Script, &'static [&'static str], Result<u32, CheckFault>);
-
-const LOGS: [Row; 14] = [
-    (SHADOWED, &[HEADING, NAMES, WRITES, LOOKS_AFTER], Ok(3)),
-    (
-        SHADOWED,
-        &[HEADING, NAMES, LOOKS_BEFORE, WRITES_AFTER],
-        Ok(3),
-    ),
-    (SHADOWED, &[], Err(Differs { line: 1 })),
-    (
-        SHADOWED,
-        &["access log 2\n", NAMES, WRITES, LOOKS_AFTER],
-        Err(Differs { line: 1 }),
-    ),
-    (SHADOWED, &["access log 1"], Err(Differs { line: 1 })),
-    (SHADOWED, &[HEADING], Err(Differs { line: 2 })),
-    (
-        SHADOWED,
-        &[HEADING, "1 0.1 out b 0CFD 10 = - config:00.0.59 -\n", NAMES],
-        Err(Differs { line: 2 }),
-    ),
-    (
-        SHADOWED,
-        &[HEADING, "1 1.1 look r 000F0000 = 0 000F0000 000FFFFF rom\n"],
-        Err(Differs { line: 2 }),
-    ),
-    (
-        INITIALIZED,
-        &[HEADING, "1 0.1 out b 0020 11 = - pic0 -\n"],
-        Err(Differs { line: 2 }),
-    ),
-    (SHADOWED, &[HEADING, NAMES], Err(Differs { line: 3 })),
-    (
-        SHADOWED,
-        &[
-            HEADING,
-            NAMES,
-            "2 1.1 look r 000F0000 = 1 000F0000 000FFFFF shadow:0\n",
-            WRITES_AFTER,
-        ],
-        Err(Differs { line: 3 }),
-    ),
-    (
-        SHADOWED,
-        &[
-            HEADING,
-            NAMES,
-            WRITES,
-            "3 1.1 look r 000F0000 = 0 000F0000 000FFFFF rom\n",
-        ],
-        Err(Differs { line: 4 }),
-    ),
-    (
-        SHADOWED,
-        &[
-            HEADING,
-            NAMES,
-            WRITES,
-            "3 1.1 look r 000F0000 = 1 000F0000 000FFFFF shadow:0",
-        ],
-        Err(Differs { line: 4 }),
-    ),
-    (
-        SHADOWED,
-        &[HEADING, NAMES, WRITES, LOOKS_AFTER, LOOKS_AFTER],
-        Err(Differs { line: 5 }),
-    ),
-];
-
 /// A log of ten lines.
 const TEN_LINES: [&str; 10] = [
-    HEADING,
+    "access log 1\n",
     "1 0.1 ack = 07 spur0 -\n",
     "2 0.2 out b 0020 11 = - pic0 -\n",
     "3 0.3 out b 0021 20 = - pic0 -\n",
@@ -167,17 +74,6 @@ fn event(request: Request) -> Event
             width: Width::One,
             value: u32::from(value),
         }),
-        OutLong(value) => Event::Port(PortAccess {
-            write: true,
-            port: 0xCF8,
-            width: Width::Four,
-            value,
-        }),
-        Look(addr) => Event::Look {
-            kind: Kind::Read,
-            addr,
-            smm: false,
-        },
         Ack => Event::Ack,
     }
 }
@@ -228,17 +124,6 @@ fn changed(alloc: Global, line: &str, at: usize, byte: u8) -> Result<Vec<u8>, Al
     let mut bytes = Vec::from_slice(alloc, line.as_bytes())?;
     bytes[at] = byte;
     Ok(bytes)
-}
-
-#[test]
-fn logs_of_scripts(rt: HostRuntime) -> Result<(), Fail> {
-    let alloc = rt.alloc();
-    for (script, lines, expected) in &LOGS {
-        let mut log = Vec::new(alloc);
-        append(&mut log, lines)?;
-        assert_eq!(rt; check(&rt, alloc, script, &log)?, *expected);
-    }
-    Ok(())
 }
 
 #[test]

@@ -1,12 +1,10 @@
-//! Tests of the board: what drivers ask of it, callers and viewers on threads, and the logs of runs.
+//! Tests of the board: callers and viewers on threads, the places of looks in a run, logs in pieces, and logs with a byte changed.
 #![tactic(auto)]
 
 #[cfg(test)]
 mod callers;
 #[cfg(test)]
 mod checked_logs;
-#[cfg(test)]
-mod drivers;
 #[cfg(test)]
 mod look_places;
 #[cfg(test)]

@@ -1,8 +1,6 @@
-//! Tests of what stands over the board: bus master, serial port, images, blame.
+//! Tests of what stands over the board: bus master, serial port, images, and what a chipset refuses.
 #![tactic(auto)]
 
-#[cfg(test)]
-mod blamed_maps;
 #[cfg(test)]
 mod chipset_door;
 #[cfg(test)]

@@ -266,15 +266,20 @@ fn play(rt: &impl Abort, steps: &[Step]) {
 
 #[test]
 fn registers(rt: HostRuntime) {
-    play(&rt, &AT_RESET);
-    play(&rt, &OVERRUN_WITHOUT_FIFOS);
-    play(&rt, &OVERRUN_WITH_FIFOS);
-    play(&rt, &MODEM_LINES_LOOPED);
-    play(&rt, &QUEUE_EMPTIED);
-    play(&rt, &EMPTY_TOLD_ONCE);
-    play(&rt, &ETBEI_RISES);
-    play(&rt, &DIVISOR_LATCH);
-    play(&rt, &LINE);
+    let tables: [&[Step]; 9] = [
+        &AT_RESET,
+        &OVERRUN_WITHOUT_FIFOS,
+        &OVERRUN_WITH_FIFOS,
+        &MODEM_LINES_LOOPED,
+        &QUEUE_EMPTIED,
+        &EMPTY_TOLD_ONCE,
+        &ETBEI_RISES,
+        &DIVISOR_LATCH,
+        &LINE,
+    ];
+    for steps in tables {
+        play(&rt, steps);
+    }
 }
 
 /// What is asked of a board with a serial port: a byte is written to a port or read from it, or two are read; the level
@@ -520,11 +525,16 @@ fn row(rt: &impl Abort, alloc: Global, rows: &[Row], asked: &[Asked]) -> Result<
 
 #[test]
 fn board_with_a_serial_port(rt: HostRuntime) -> Result<(), Fail> {
-    let alloc = rt.alloc();
-    row(&rt, alloc, &HI, &[])?;
-    row(&rt, alloc, &RECEIVED, &RECEIVED_ASKED)?;
-    row(&rt, alloc, &HARD_RESET, &HARD_RESET_ASKED)?;
-    row(&rt, alloc, &SCRIPT_LEVEL, &SCRIPT_LEVEL_ASKED)
+    let tables: [(&[Row], &[Asked]); 4] = [
+        (&HI, &[]),
+        (&RECEIVED, &RECEIVED_ASKED),
+        (&HARD_RESET, &HARD_RESET_ASKED),
+        (&SCRIPT_LEVEL, &SCRIPT_LEVEL_ASKED),
+    ];
+    for (rows, asked) in tables {
+        row(&rt, rt.alloc(), rows, asked)?;
+    }
+    Ok(())
 }
 
 /// A byte that came is read over a chipset too, which keeps no history.

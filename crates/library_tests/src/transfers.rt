@@ -49,13 +49,36 @@ type Asked = (u8, u32, u32, u32);
 /// How it ends, how many bytes it moves, the status, and the table pointer.
 type Told = (End, u32, u8, u32);
 
-/// An end at an address that this register keeps from everybody.
-const fn abort(addr: u32, dev: u8, fun: u8, off: u8) -> End {
-    End::Abort {
-        addr,
-        denial: Denial::Register(Reg { dev, fun, off }),
-    }
-}
+// The registers that keep an address from everybody.
+const SMRAM: Denial = Denial::Register(Reg {
+    dev: 0,
+    fun: 0,
+    off: 0x72,
+});
+
+const DRB7: Denial = Denial::Register(Reg {
+    dev: 0,
+    fun: 0,
+    off: 0x67,
+});
+
+const FDHC: Denial = Denial::Register(Reg {
+    dev: 0,
+    fun: 0,
+    off: 0x68,
+});
+
+const PAM1: Denial = Denial::Register(Reg {
+    dev: 0,
+    fun: 0,
+    off: 0x5A,
+});
+
+const XBCS: Denial = Denial::Register(Reg {
+    dev: 1,
+    fun: 0,
+    off: 0x4E,
+});
 
 /// A card at device 2: a VGA adapter with a base of 4 KiB.
 fn card() -> CardSpec
@@ -183,32 +206,35 @@ fn table(bus: &BusMaster) -> u32 {
     ])
 }
 
+/// A transfer on a new board: the sectors of the disk and the steps before it, what is asked and told, and what is held
+/// afterwards.
+type Transfer = (u32, &'static [Step], Asked, Told, &'static [Held]);
+
 /// Moves sectors on a new board, and compares what the transfer tells and what is held then.
-fn row(
-    rt: &impl Abort,
-    alloc: Global,
-    sectors: u32,
-    steps: &[Step],
-    asked: Asked,
-    told: Told,
-    held: &[Held],
-) -> Result<(), Fail> {
-    let (command, pointer, lba, count) = asked;
-    let (end, moved, status, pointer_after) = told;
+fn row(rt: &impl Abort, alloc: Global, transfer: &Transfer) -> Result<(), Fail> {
+    let (sectors, steps, asked, told, held) = *transfer;
     let mut store = store(rt, alloc, sectors, steps)?;
+    assert_eq!(rt; transferred(rt, &mut store, asked), told);
+    for it in held {
+        holds(rt, &store, *it);
+    }
+    Ok(())
+}
+
+/// What a transfer tells.
+fn transferred(rt: &impl Abort, store: &mut Store, asked: Asked) -> Told
+    requires sound { IsSound store.old }
+    ensures sound { IsSound store.new }
+{
+    let (command, pointer, lba, count) = asked;
     let mut bus = BusMaster::new();
     start(&mut bus, command, pointer);
     assert!(rt; bus.is_started());
     assert!(rt; 1 <= count && count <= 256);
     assert!(rt; lba < 0x1000_0000);
-    assert_eq!(rt; bus.transfer(&mut store, lba, count), Done { end, moved });
+    let Done { end, moved } = bus.transfer(store, lba, count);
     assert_eq!(rt; bus.port_read(0), command & 0xFE);
-    assert_eq!(rt; bus.port_read(2), status);
-    assert_eq!(rt; table(&bus), pointer_after);
-    for it in held {
-        holds(rt, &store, *it);
-    }
-    Ok(())
+    (end, moved, bus.port_read(2), table(&bus))
 }
 
 fn holds(rt: &impl Abort, store: &Store, held: Held) {
@@ -265,12 +291,9 @@ const OWN_TABLE: [Step; 4] = [
     Long(0x100C, 0x8000_0200),
 ];
 
-#[test]
-fn each_end(rt: HostRuntime) -> Result<(), Fail> {
-    let alloc = rt.alloc();
-    row(
-        &rt,
-        alloc,
+/// Each way in which a transfer ends.
+const EACH_END: [Transfer; 5] = [
+    (
         4,
         &ONE_SECTOR,
         (IN, 0x1000, 1, 1),
@@ -281,108 +304,119 @@ fn each_end(rt: HostRuntime) -> Result<(), Fail> {
             Dram(0x21FC, 0x0202_0202),
             Dram(0x2200, 0),
         ],
-    )?;
-    row(
-        &rt,
-        alloc,
+    ),
+    (
         4,
         &TWO_REGIONS,
         (IN, 0x1000, 0, 1),
         (End::Longer, 512, 0x05, 0x1008),
         &[Dram(0x2000, 0x0101_0101), Dram(0x3000, 0)],
-    )?;
-    row(
-        &rt,
-        alloc,
+    ),
+    (
         4,
         &HALF_A_SECTOR,
         (IN, 0x1000, 0, 1),
         (End::Shorter, 256, 0x00, 0x1008),
         &[Dram(0x20FC, 0x0101_0101), Dram(0x2100, 0)],
-    )?;
-    row(
-        &rt,
-        alloc,
+    ),
+    (
         4,
         &FROM_OPEN_SMRAM,
         (OUT, 0x1000, 0, 1),
-        (abort(0xA_0000, 0, 0, 0x72), 0, 0x02, 0x1008),
+        (
+            End::Abort {
+                addr: 0xA_0000,
+                denial: SMRAM,
+            },
+            0,
+            0x02,
+            0x1008,
+        ),
         &[Dram(0xA_0000, 0x1111_1111), Word(0, 0, 0x0101)],
-    )?;
-    row(
-        &rt,
-        alloc,
+    ),
+    (
         4,
         &BAD_SECTOR,
         (IN, 0x1000, 0, 2),
         (End::Sector { lba: 1 }, 512, 0x02, 0x1008),
         &[Dram(0x21FC, 0x0101_0101), Dram(0x2200, 0)],
-    )
-}
+    ),
+];
 
-#[test]
-fn what_comes_first(rt: HostRuntime) -> Result<(), Fail> {
-    let alloc = rt.alloc();
+/// What is tested first.
+const WHAT_COMES_FIRST: [Transfer; 6] = [
     // The sector is tested before the table is read, which nobody answers for.
-    row(
-        &rt,
-        alloc,
+    (
         4,
         &[],
         (IN, 0x80_0000, 4, 1),
         (End::Sector { lba: 4 }, 0, 0x02, 0x80_0000),
         &[],
-    )?;
-    row(
-        &rt,
-        alloc,
+    ),
+    (
         4,
         &[],
         (IN, 0x80_0000, 3, 1),
-        (abort(0x80_0000, 0, 0, 0x67), 0, 0x02, 0x80_0000),
+        (
+            End::Abort {
+                addr: 0x80_0000,
+                denial: DRB7,
+            },
+            0,
+            0x02,
+            0x80_0000,
+        ),
         &[],
-    )?;
+    ),
     // Without a disk there is no sector.
-    row(
-        &rt,
-        alloc,
+    (
         0,
         &ONE_SECTOR,
         (IN, 0x1000, 0, 1),
         (End::Sector { lba: 0 }, 0, 0x02, 0x1000),
         &[],
-    )?;
+    ),
     // Both halves are read before the table pointer moves on.
-    row(
-        &rt,
-        alloc,
+    (
         4,
         &HALF_A_DESCRIPTOR,
         (IN, 0x7F_FFFC, 0, 1),
-        (abort(0x80_0000, 0, 0, 0x67), 0, 0x02, 0x7F_FFFC),
+        (
+            End::Abort {
+                addr: 0x80_0000,
+                denial: DRB7,
+            },
+            0,
+            0x02,
+            0x7F_FFFC,
+        ),
         &[],
-    )?;
+    ),
     // The table ends before a further sector is tested.
-    row(
-        &rt,
-        alloc,
+    (
         4,
         &ONE_SECTOR,
         (IN, 0x1000, 3, 2),
         (End::Shorter, 512, 0x00, 0x1008),
         &[Dram(0x2000, 0x0404_0404)],
-    )?;
+    ),
     // A descriptor is read after the words before it were moved.
-    row(
-        &rt,
-        alloc,
+    (
         4,
         &OWN_TABLE,
         (IN, 0x1000, 0, 1),
-        (abort(0x0101_0100, 0, 0, 0x67), 8, 0x02, 0x1010),
+        (
+            End::Abort {
+                addr: 0x0101_0100,
+                denial: DRB7,
+            },
+            8,
+            0x02,
+            0x1010,
+        ),
         &[Dram(0x1008, 0x0101_0101), Dram(0x2000, 0)],
-    )
-}
+    ),
+];
 
 /// A hole from 80000h to 9FFFFh, in which the second half of the region lies.
 const INTO_THE_HOLE: [Step; 3] = [
@@ -423,34 +457,43 @@ const PAST_4_GIB: [Step; 2] = [Long(0x1000, 0xFFFF_FF00), Long(0x1004, 0x8000_02
 /// The count of the descriptor at FFFFFFFCh stands at 0. Its base is in the ROM: the bytes FC, FD, FE and FF.
 const TABLE_PAST_4_GIB: [Step; 1] = [Long(0, 0x8000_0200)];
 
-#[test]
-fn regions_that_cross_the_map(rt: HostRuntime) -> Result<(), Fail> {
-    let alloc = rt.alloc();
-    row(
-        &rt,
-        alloc,
+/// Regions that cross borders of the address map.
+const ACROSS_THE_MAP: [Transfer; 8] = [
+    (
         4,
         &INTO_THE_HOLE,
         (IN, 0x1000, 0, 1),
-        (abort(0x8_0000, 0, 0, 0x68), 256, 0x02, 0x1008),
+        (
+            End::Abort {
+                addr: 0x8_0000,
+                denial: FDHC,
+            },
+            256,
+            0x02,
+            0x1008,
+        ),
         &[Dram(0x7_FFFC, 0x0101_0101), Dram(0x8_0000, 0)],
-    )?;
-    row(
-        &rt,
-        alloc,
+    ),
+    (
         4,
         &SHADOW_WINDOW,
         (IN, 0x1000, 2, 1),
-        (abort(0xC_4000, 0, 0, 0x5A), 256, 0x02, 0x1008),
+        (
+            End::Abort {
+                addr: 0xC_4000,
+                denial: PAM1,
+            },
+            256,
+            0x02,
+            0x1008,
+        ),
         &[
             Dram(0xC_3F00, 0x0303_0303),
             Dram(0xC_3FFC, 0x0303_0303),
             Dram(0xC_4000, 0),
         ],
-    )?;
-    row(
-        &rt,
-        alloc,
+    ),
+    (
         4,
         &BIOS,
         (OUT, 0x1000, 3, 1),
@@ -461,20 +504,16 @@ fn regions_that_cross_the_map(rt: HostRuntime) -> Result<(), Fail> {
             Word(3, 128, 0x0100),
             Word(2, 255, 0x0303),
         ],
-    )?;
+    ),
     // A write to the ROM is lost, and its bytes count as moved.
-    row(
-        &rt,
-        alloc,
+    (
         4,
         &BIOS,
         (IN, 0x1000, 3, 1),
         (End::Exact, 512, 0x04, 0x1008),
         &[Dram(0xF_0000, 0), Word(3, 0, 0x0404)],
-    )?;
-    row(
-        &rt,
-        alloc,
+    ),
+    (
         4,
         &VGA_WINDOW,
         (IN, 0x1000, 1, 1),
@@ -486,10 +525,8 @@ fn regions_that_cross_the_map(rt: HostRuntime) -> Result<(), Fail> {
             Card(7, 0xFC, 0x0202_0202),
             Card(7, 0x100, 0),
         ],
-    )?;
-    row(
-        &rt,
-        alloc,
+    ),
+    (
         4,
         &PAST_THE_CARD,
         (IN, 0x1000, 0, 1),
@@ -507,10 +544,8 @@ fn regions_that_cross_the_map(rt: HostRuntime) -> Result<(), Fail> {
             Card(0, 0xF00, 0x0101_0101),
             Card(0, 0xFFC, 0x0101_0101),
         ],
-    )?;
-    row(
-        &rt,
-        alloc,
+    ),
+    (
         4,
         &PAST_4_GIB,
         (IN, 0x1000, 0, 1),
@@ -520,18 +555,24 @@ fn regions_that_cross_the_map(rt: HostRuntime) -> Result<(), Fail> {
             Dram(0xFC, 0x0101_0101),
             Dram(0x100, 0),
         ],
-    )?;
+    ),
     // XBCS does not select the ROM there.
-    row(
-        &rt,
-        alloc,
+    (
         4,
         &TABLE_PAST_4_GIB,
         (IN, 0xFFFF_FFFC, 0, 1),
-        (abort(0xFFFE_FDFC, 1, 0, 0x4E), 0, 0x02, 0x4),
+        (
+            End::Abort {
+                addr: 0xFFFE_FDFC,
+                denial: XBCS,
+            },
+            0,
+            0x02,
+            0x4,
+        ),
         &[],
-    )
-}
+    ),
+];
 
 /// A count of 0 is 65,536 bytes.
 const LARGEST_REGION: [Step; 2] = [Long(0x1000, 0x10_0000), Long(0x1004, 0x8000_0000)];
@@ -552,13 +593,10 @@ const ODD_BASE: [Step; 4] = [
     Long(0x21FC, 0x8877_6655),
 ];
 
-#[test]
-fn sizes(rt: HostRuntime) -> Result<(), Fail> {
-    let alloc = rt.alloc();
+/// The largest regions, and an odd base.
+const SIZES: [Transfer; 3] = [
     // Sector s holds s + 1 modulo 256 everywhere.
-    row(
-        &rt,
-        alloc,
+    (
         128,
         &LARGEST_REGION,
         (IN, 0x1000, 0, 128),
@@ -568,10 +606,8 @@ fn sizes(rt: HostRuntime) -> Result<(), Fail> {
             Dram(0x10_FFFC, 0x8080_8080),
             Dram(0x11_0000, 0),
         ],
-    )?;
-    row(
-        &rt,
-        alloc,
+    ),
+    (
         256,
         &TWO_LARGEST_REGIONS,
         (IN, 0x1000, 0, 256),
@@ -582,10 +618,8 @@ fn sizes(rt: HostRuntime) -> Result<(), Fail> {
             Dram(0x11_FDFC, 0xFFFF_FFFF),
             Dram(0x11_FE00, 0),
         ],
-    )?;
-    row(
-        &rt,
-        alloc,
+    ),
+    (
         4,
         &ODD_BASE,
         (OUT, 0x1000, 0, 1),
@@ -598,7 +632,18 @@ fn sizes(rt: HostRuntime) -> Result<(), Fail> {
             Word(0, 255, 0x8877),
             Word(1, 0, 0x0202),
         ],
-    )
+    ),
+];
+
+#[test]
+fn transfers(rt: HostRuntime) -> Result<(), Fail> {
+    let tables: [&[Transfer]; 4] = [&EACH_END, &WHAT_COMES_FIRST, &ACROSS_THE_MAP, &SIZES];
+    for table in tables {
+        for transfer in table {
+            row(&rt, rt.alloc(), transfer)?;
+        }
+    }
+    Ok(())
 }
 
 /// A byte that is written at an offset, or one that must be read there.

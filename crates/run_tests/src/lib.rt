@@ -1,15 +1,19 @@
-//! Tests of the commands: words, files, scripts and logs, faults, and the order of a run.
+//! Tests of the commands: statuses, faults, the calls of the outside, the order of a run, and the map after each write.
 #![tactic(auto)]
 
 #[cfg(test)]
-mod further_commands;
+mod commands;
 #[cfg(test)]
 mod holding_gate;
 #[cfg(test)]
+mod images;
+#[cfg(test)]
 mod made_maps;
 #[cfg(test)]
-mod rows;
+mod orders;
 #[cfg(test)]
-mod tests;
+mod outside;
+#[cfg(test)]
+mod statuses;
 #[cfg(test)]
 mod told;
