@@ -7,6 +7,7 @@ use Rattle.std.proofs.lemmas.List.{length-set}
 use Rattle.board_base.specs.Bits.{is_bit}
 use Rattle.device_spec.specs.Clock.{CivilTime, Clock, bcd, number_byte, hour_byte, control_of, holds_time, is_binary, is_24_hour, time_bytes, put, tell, byte_at, alarm_fits, alarm_rings, control_reset, written, data_byte, control_written, update_interrupts, power_on, after_write, after_reset, after_moment, register_c, after_read}
 use Rattle.board_laws.specs.ClockLaws.{number_read, hour_read, Shows, IsShowable, ShowsTheMoment, HasAlarm, same_time_of_day, RingsAtItsTime, ReadingQuiets, ResetKeepsTheTime, MemoryKeeps, IsSound, StaysSound}
+use Rattle.device_spec.specs.PortNames.{clock_index_port, clock_data_port}
 
 -- two digits are read as they were written
 bcd_back : (n : ℕ) → n < 100 → bcd n / 16 * 10 + bcd n % 16 ≡ n
@@ -214,16 +215,16 @@ written_stops bytes k byte size was =
 
 sound_read : (clock : Clock) (port : ℕ) → IsSound clock → IsSound (after_read clock port)
 sound_read clock port was =
-    elim (cases_Bool ((port == 0x71) && (clock.index == register_c))) [
+    elim (cases_Bool ((port == clock_data_port) && (clock.index == register_c))) [
       | inl e ↦ rw e (record { size = was.size; within = was.within; no_update = was.no_update; stopped = was.stopped })
       | inr e ↦ rw e was
     ]
 
 sound_write : (clock : Clock) (port byte : ℕ) → IsSound clock → IsSound (after_write clock port byte)
 sound_write clock port byte was =
-    elim (cases_Bool (port == 0x70)) [
+    elim (cases_Bool (port == clock_index_port)) [
       | inl e ↦ rw e (record { size = was.size; within = omega arith; no_update = was.no_update; stopped = was.stopped })
-      | inr e ↦ elim (cases_Bool (port == 0x71)) [
+      | inr e ↦ elim (cases_Bool (port == clock_data_port)) [
         | inl f ↦ rw (e, f) (record {
           size = size_kept clock.bytes clock.index _ was.size;
           within = was.within;

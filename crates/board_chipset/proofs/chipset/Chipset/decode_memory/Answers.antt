@@ -1,6 +1,5 @@
-use Rattle.std.proofs.Common.{ap, sym, subst, length}
+use Rattle.std.proofs.Common.{sym}
 use Rattle.board_spec.specs.Registers.{byte_of}
-use Rattle.board_spec.specs.Setup.{IsRomSize}
 use Rattle.board_stores.proofs.MemoryLemmas.{part_answered}
 use Rattle.board_chipset.proofs.Lefts.{state_of}
 use Rattle.board_chipset.proofs.chipset.Chipset.decode_memory.Goals as goal
