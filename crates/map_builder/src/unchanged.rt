@@ -1,5 +1,5 @@
 //! The byte that a register has where a change stores one byte, so that it can be compared before and after.
-ghost use Rattle.std.specs.Prelude.{◌≡◌, IfSome, true};
+ghost use Rattle.std.specs.Prelude.{◌≡◌, IfSome, None, true, get_or, is_some, length};
 ghost use Rattle.board_base.specs.declared.target.Reg.{Reg};
 ghost use Rattle.board_spec.specs.declared.map_change.MapChange.{MapChange};
 ghost use Rattle.board_spec.specs.Setup.{Setup};
@@ -19,6 +19,7 @@ pub fn byte_alone(regs: &MapRegs, names: &[Option<MapRegister>]) -> Option<u8>
     ensures held { (change : MapChange) → names.now ≡ names_of (cards_of regs.now.cards.items) change
         → (setup : Setup) (bytes : Bytes) → StandsFor setup bytes (map_bytes regs.now)
         → IfSome result (IsHeldAt change bytes) }
+    ensures compared { length names.now ≡ 1 → is_some result ≡ is_some (get_or names.now 0 None) }
 {
     if names.len() != 1 {
         return None;
@@ -33,6 +34,7 @@ fn byte_of_name(regs: &MapRegs, name: Option<MapRegister>) -> Option<u8>
     ensures held { (reg : Reg) → name ≡ map_register (cards_of regs.now.cards.items) reg
         → (setup : Setup) (bytes : Bytes) → StandsFor setup bytes (map_bytes regs.now)
         → IfSome result (λ held. held ≡ bytes reg) }
+    ensures compared { is_some result ≡ is_some name }
 {
     match name {
         Some(register) => Some(regs.byte(register)),

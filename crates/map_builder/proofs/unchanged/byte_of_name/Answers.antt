@@ -1,4 +1,6 @@
-use Rattle.std.proofs.Common.{◌∙◌, sym, ap}
+use Rattle.std.proofs.Common.{◌∙◌, sym, ap, Option}
+use Rattle.std.specs.Prelude.{is_some}
+use Rattle.addr_decode.specs.declared.register.MapRegister.{MapRegister}
 use Rattle.pci_bars.specs.Cards.{cards_of}
 use Rattle.addr_decode.proofs.NameLemmas.{is_name, named_byte}
 use Rattle.map_builder.proofs.unchanged.byte_of_name.Goals as goal
@@ -10,4 +12,5 @@ returns-in-Some c = record {
       let name = sym named ∙ c.in-Some.is in
       c.byte.ensures.byte setup bytes stands (named_byte setup cards reg c.in-Some.register c.requires.cards stands.cards.0 name)
       ∙ ap bytes (is_name (cards_of cards) reg c.in-Some.register name).place;
+  compared = ap (λ (it : Option MapRegister). is_some it) (sym c.in-Some.is);
 }
